@@ -3,7 +3,7 @@
 
 Plays rows of the program `may` (lines of questions, and the status and the output that are wanted), and `./suites
 may` on
-a few files of its own. Looks whether the Rust code that README shows stands in crates/may/src, which the gate
+a few files of its own. Looks whether the Rust code that docs/LIBRARY.md shows stands in crates/may/src, which the gate
 proves. PROGRAM
 is a build of `may`; where none is named, that which `./suites may` takes. Prints what differs; status 1 where
 something does.
@@ -279,15 +279,15 @@ def plain(code: str) -> str:
 
 
 def shown_code_stands(tally: Tally) -> None:
-    with open(os.path.join(played.TOP, "README.md"), encoding="utf-8") as file:
+    with open(os.path.join(played.TOP, "docs", "LIBRARY.md"), encoding="utf-8") as file:
         code = re.findall(r"^```rust\n(.*?)^```", file.read(), re.M | re.S)
     sources = ""
     for name in sorted(os.listdir(os.path.join(played.TOP, "crates", "may", "src"))):
         with open(os.path.join(played.TOP, "crates", "may", "src", name), encoding="utf-8") as file:
             sources += plain(file.read())
-    tally.holds(code, "README shows no code")
+    tally.holds(code, "docs/LIBRARY.md shows no code")
     for block in code:
-        tally.holds(plain(block) in sources, f"this code of README stands in no file of crates/may/src:\n{block}")
+        tally.holds(plain(block) in sources, f"this of docs/LIBRARY.md stands in no file of crates/may/src:\n{block}")
 
 
 def main() -> int:

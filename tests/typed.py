@@ -1,11 +1,11 @@
 #!/usr/bin/env python3
 """tests/typed.py
 
-Types each command line that README.md and docs/FAULTS.md show, behind a `$` or of `./suites`, in blocks and in lines
-of text, at the top of the repository. Each has to end with status 0 (`may` with 1 where it shows a denial), and to
-print what is shown below it. Left out are those with a word to be filled in, as `./suites explain CODE`, those that
-take an hour or are the tests themselves, and `--is-fresh`, whose status is that of the build. Prints each that
-differs; status 1 where one does.
+Types each command line that README.md, docs/FAULTS.md and docs/SCRIPTS.md show, behind a `$` or of `./suites`, in
+blocks and in lines of text, at the top of the repository. Each has to end with status 0 (`may` with 1 where it shows
+a denial), and to print what is shown below it. Left out are those with a word to be filled in, as `./suites explain
+CODE`, those that take an hour or are the tests themselves, and `--is-fresh`, whose status is that of the build.
+Prints each that differs; status 1 where one does.
 """
 import re
 import subprocess
@@ -17,7 +17,7 @@ import played
 
 import shown
 
-DOCUMENTS = ("README.md", "docs/FAULTS.md")
+DOCUMENTS = ("README.md", "docs/FAULTS.md", "docs/SCRIPTS.md")
 COMMAND = re.compile(r"\$ (.*)|(?:\./suites |\.ci/run\b).*")
 # In a line of text a command alone, as `./suites trace`, names it.
 SPAN = re.compile(r"`(\./suites (?!\w+`)[^`]+)`")

@@ -270,7 +270,7 @@ def tells_version(copy: Copy) -> None:
     with open(os.path.join(copy.top, "CHANGELOG.md"), encoding="utf-8") as file:
         version = next(line[3:].strip() for line in file if line.startswith("## "))
     with open(os.path.join(played.TOP, "README.md"), encoding="utf-8") as file:
-        logic = re.search(r"whose logic is `(\w+)`", file.read())[1]
+        logic = re.search(r"\(logic `(\w+)`\)", file.read())[1]
     status, printed, _ = copy.at_once(["--version"])
     lines = printed.splitlines()
     copy.holds(

@@ -1,7 +1,7 @@
 #!/usr/bin/env python3
 """tools/forms_page.py [--check]
 
-Writes the tables of operations, events and jobs in README.md from the table of forms (crates/forms/stdout). With
+Writes the tables of operations, events and jobs in docs/SCRIPTS.md from the table of forms (crates/forms/stdout). With
 --check it writes nothing, and tells what differs. In both it tells where a text of help/, which the program prints,
 says a form or a sentence otherwise than the table. Status 1 where something differs.
 """
@@ -14,8 +14,8 @@ import console
 import forms
 import sources
 
-README, HELP = os.path.join(sources.TOP, "README.md"), os.path.join(sources.TOP, "help")
-# The heads of the tables of README.md, and what stands in them.
+PAGE, HELP = os.path.join(sources.TOP, "docs", "SCRIPTS.md"), os.path.join(sources.TOP, "help")
+# The heads of the tables of the page, and what stands in them.
 TABLES: dict[str, list[forms.Line] | list[forms.Operation]] = {
     "| Operation | Does |": list(forms.OPERATIONS.values()),
     "| Event | What happens |": list(forms.lines_of("play", "own").values()),
@@ -35,11 +35,11 @@ def text_of(path: str) -> str:
 
 
 def written(text: str) -> str:
-    """README.md with its tables as the table of forms has them."""
+    """The page with its tables as the table of forms has them."""
     for head, rows in TABLES.items():
         front, found, rest = text.partition(f"{head}\n|---|---|\n")
         if not found:
-            raise console.Stop(f"README.md has no table {head}")
+            raise console.Stop(f"docs/SCRIPTS.md has no table {head}")
         body = "".join(f"| `{row.form()}` | {row.does} |\n" for row in rows)
         text = front + found + body + ROWS.sub("", rest, 1)
     return text
@@ -81,14 +81,14 @@ def main() -> int:
     read = console.words(__doc__)
     read.add_argument("--check", action="store_true")
     given = read.parse_args()
-    text = text_of(README)
+    text = text_of(PAGE)
     new = written(text)
     wrong = [line for command in forms.COMMANDS for line in differing(command)]
     if given.check and new != text:
-        wrong += [f"README.md lacks: {line}" for line in new.split("\n") if line not in text.split("\n")]
-        wrong.append("README.md has other tables than the table of forms: tools/forms_page.py writes them")
+        wrong += [f"docs/SCRIPTS.md lacks: {line}" for line in new.split("\n") if line not in text.split("\n")]
+        wrong.append("docs/SCRIPTS.md has other tables than the table of forms: tools/forms_page.py writes them")
     elif new != text:
-        sources.write_whole(README, new)
+        sources.write_whole(PAGE, new)
     print(*wrong, sep="\n", end="\n" if wrong else "")
     rows = len(forms.LINES) + len(forms.OPERATIONS)
     print(f"{rows} forms, {len(wrong)} differ")

@@ -1,15 +1,15 @@
 #!/usr/bin/env python3
 """tools/shown.py [--help-texts]
 
-Looks whether all that README.md and examples/ show is played by the gate.
+Looks whether all that README.md, docs/SCRIPTS.md and examples/ show is played by the gate.
 
 Each file of examples/ has to be the input of a row of crates/rows/stdin, and one of examples/explore have its ways in
-tests/explored; each script, command and output that README.md shows has to be that of a row, and an output that of the
-script or the command before it. Each text of help/ but that of the tools has to be what a row of help prints: with
---help-texts it is written from that row. The picture and what is shown of `./suites trace` have to be
-those of the trace which the program of crates/trace is to print of the same script (its stdin and stdout). What differs
-is told, and the status is 1. The rows themselves are played by the program of crates/rows, and commands of tools, with
-what README.md shows of them, by tests/typed.py.
+tests/explored; each script, command and output that the two pages show has to be that of a row, and an output that of
+the script or the command before it; behind `| head -N` or `| tail -N` stand so many lines of it. Each text of help/
+but that of the tools has to be what a row of help prints: with --help-texts it is written from that row. The picture
+and what is shown of `./suites trace` have to be those of the trace which the program of crates/trace is to print of
+the same script (its stdin and stdout). What differs is told, and the status is 1. The rows themselves are played by
+the program of crates/rows, and commands of tools, with what the pages show of them, by tests/typed.py.
 """
 import os
 import re
@@ -25,7 +25,10 @@ import votes
 
 TOP = os.path.join(os.path.dirname(os.path.abspath(__file__)), "..")
 PICTURE, STORY = "docs/revocation.svg", "examples/play/revocation.script"
+PAGES = ("README.md", "docs/SCRIPTS.md")
 HELP, OF_TOOLS = "help", ("tools.txt", "explore.txt")
+# What is shown of an output.
+CUT = re.compile(rb" \| (head|tail) -(\d+)$")
 # The commands of which no row can tell the output.
 TOOLS = re.compile(rb"\$ \./suites (?:explain|trace|draw|show|votes|may|--version)\b")
 # Stories of `explore`, and where what it tells of them is kept; tests/explored.py compares.
@@ -70,7 +73,7 @@ def commands(block: list[bytes]) -> typing.Iterator[tuple[str, str]]:
     """The commands of the program in a block, as words and the name of their input."""
     for line in block:
         match = re.match(r"(?:\$ )?\./suites (.*?) < (\S+)", line.decode())
-        if match and not match[1].startswith(("trace", "explore --way")):
+        if match and not match[1].startswith(("trace", "draw", "show", "explore --way")):
             yield match[1], match[2]
 
 
@@ -111,6 +114,45 @@ def told_of_votes(block: list[bytes]) -> bytes | None:
     return None
 
 
+def cut(command: bytes, text: bytes) -> bytes:
+    """Of an output the lines that a command shows."""
+    found = CUT.search(command)
+    if not found:
+        return text
+    lines, count = text.splitlines(True), int(found[2])
+    return b"".join(lines[:count] if found[1] == b"head" else lines[-count:])
+
+
+def printed_by(block: list[bytes], known: list[tuple[str, bytes, bytes]], lost: list[str]) -> set[bytes]:
+    """What the commands of a block may print; a command of which no row is known is put with those that are lost."""
+    outputs = {text for text in (traced(block), told_of_votes(block)) if text is not None}
+    for words, name in commands(block):
+        those = {cut(block[0], printed) for word, given, printed in known if word == words and given == content(name)}
+        outputs |= those
+        if not those:
+            lost.append(f"no row has the words '{words}' and the input {name}")
+    return outputs
+
+
+def differing(page: str, known: list[tuple[str, bytes, bytes]]) -> typing.Iterator[str]:
+    """What a page shows that is of no row."""
+    outputs = set[bytes]()
+    for number, block in blocks(content(page)):
+        text, lost = b"\n".join(block) + b"\n", list[str]()
+        if re.match(rb"\$ |\./|\.ci/", block[0]):
+            outputs = printed_by(block, known, lost)
+            text = b"\n".join(block[1:]) + b"\n" if block[0].startswith(b"$ ") else b""
+            if text and text not in outputs and (outputs or not TOOLS.match(block[0])):
+                lost.append("this output is that of no row")
+        elif text in outputs:
+            outputs = set()
+        else:
+            outputs = {printed for _, given, printed in known if read_rows.said(given) == read_rows.said(text)}
+            if not outputs:
+                lost.append("this block is a script or an output of no row")
+        yield from (f"{page}:{number}: {line}" for line in lost)
+
+
 def main() -> int:
     read = console.words(__doc__)
     read.add_argument("--help-texts", action="store_true")
@@ -122,25 +164,8 @@ def main() -> int:
         for name in sorted(os.path.relpath(os.path.join(folder, name), TOP) for name in names):
             if content(name) not in inputs:
                 wrong.append(f"{name} is the input of no row")
-    outputs = set()
-    for number, block in blocks(content("README.md")):
-        text = b"\n".join(block) + b"\n"
-        if re.match(rb"\$ |\./|\.ci/", block[0]):
-            outputs = {traced(block), told_of_votes(block)} - {None}
-            for words, name in commands(block):
-                those = {printed for word, given, printed in known if word == words and given == content(name)}
-                outputs |= those
-                if not those:
-                    wrong.append(f"README.md:{number}: no row has the words '{words}' and the input {name}")
-            text = b"\n".join(block[1:]) + b"\n" if block[0].startswith(b"$ ") else b""
-            if text and text not in outputs and (outputs or not TOOLS.match(block[0])):
-                wrong.append(f"README.md:{number}: this output is that of no row")
-        elif text in outputs:
-            outputs = set()
-        else:
-            outputs = {printed for _, given, printed in known if read_rows.said(given) == read_rows.said(text)}
-            if not outputs:
-                wrong.append(f"README.md:{number}: this block is a script or an output of no row")
+    for page in PAGES:
+        wrong += differing(page, known)
     if content("crates/trace/stdin") != content(STORY):
         wrong.append(f"crates/trace/stdin is not {STORY}")
     if content(PICTURE).decode() != draw.picture_of(lines_of_trace()):

@@ -1,15 +1,15 @@
 #!/usr/bin/env python3
 """./suites --test [--long]
 
-Runs all tests that need no proof, side by side: the rows of crates/rows/stdin through the program that `./suites` runs
-(which it first makes, where there is none), the tests of libraries, runs and commands without their proofs (`rt try`),
-the examples of docs/FAULTS.md, the command lines that README.md and docs/FAULTS.md show, what `./suites votes` tells,
-pictures, what `explore` tells, random scripts of `play` against the plain table, and the checks of documents. With
---long those too that take minutes: every program that only tests and measurements have is compiled, instructions are
-counted, allocations are refused, reads and writes fail, inputs are cut off, lies are told about runs, and races between
-threads are looked for: some ten minutes more on four free processors. Prints a line for each part as it ends, of a part
-that fails also what it printed, and last how many passed and failed. Status 1 where one failed. The gate (.ci/run)
-begins with it.
+Runs all tests that need no proof, side by side: the rows of crates/rows/stdin through the program that `./suites`
+runs (which it first makes, where there is none), the tests of libraries, runs and commands without their proofs (`rt
+try`), the examples of docs/FAULTS.md, the command lines that README.md, docs/FAULTS.md and docs/SCRIPTS.md show, what
+`./suites votes` tells, pictures, what `explore` tells, random scripts of `play` against the plain table, and the
+checks of documents. With --long those too that take minutes: every program that only tests and measurements have is
+compiled, instructions are counted, allocations are refused, reads and writes fail, inputs are cut off, lies are told
+about runs, and races between threads are looked for: some ten minutes more on four free processors. Prints a line for
+each part as it ends, of a part that fails also what it printed, and last how many passed and failed. Status 1 where
+one failed. The gate (.ci/run) begins with it.
 """
 import os
 import re
@@ -85,7 +85,8 @@ class Part:
         if not self.process:
             return f"{self.title}: not run, since a part that it stands on failed"
         passed, failed = self.counts
-        skipped = "".join(f" ({line})" for line in self.text.splitlines() if line.startswith("skipped: "))
+        told = [line for line in self.text.splitlines() if line.startswith(("skipped: ", "told: "))]
+        skipped = "".join(f" ({line.removeprefix('told: ')})" for line in told)
         line = f"{self.title}: {passed} passed, {failed} failed, {time.monotonic() - self.begun:.0f} s{skipped}"
         return f"{line}\n{console.tail(self.text, 60)}status {self.process.returncode}" if failed else line
 
@@ -102,12 +103,13 @@ PROGRAM, TRACE, MAY = "the program", "the program of trace", "the program of may
 FORMS, EXPLORE = "the program of forms", "the program of explore"
 # What takes longest stands first, but for what tells at once that something is wrong.
 PARTS = (
-    Part("what README shows", tool("tools/shown.py")),
+    Part("what pages show", tool("tools/shown.py")),
     Part("what documents name", tool("tools/named.py")),
+    Part("words of pages", tool("tools/page_words.py")),
     Part("texts of wrong bodies", tool("tools/wrong_bodies.py", "--check")),
     Part("page of wrong bodies", tool("tools/wrong_bodies_page.py", "--check")),
     Part("table of public functions", tool("tools/proved_page.py", "--check")),
-    Part("forms in README and help", tool("tools/forms_page.py", "--check")),
+    Part("forms in pages and help", tool("tools/forms_page.py", "--check")),
     Part("words that need no build", tool("tests/wrapper.py")),
     Part("type hints", tool("tests/hints.py")),
     Part("tests of runs", **tried("run_tests")),
@@ -130,6 +132,8 @@ PARTS = (
         tool("tests/may-against-the-kernel.py", "--questions", "100", "--mounts", "--if-possible"),
         [MAY],
     ),
+    Part("the mount", tool("tests/mount.py"), [PROGRAM]),
+    Part("the mount against the kernel", tool("tests/mount-against-the-kernel.py"), [PROGRAM]),
     Part("what votes tells", tool("tests/votes.py"), [PROGRAM, TRACE]),
     Part("what votes tells of scripts", tool("tests/votes-left.py"), [PROGRAM, TRACE]),
     Part("pictures", tool("tests/drawn.py"), [TRACE]),

@@ -1,6 +1,6 @@
 """What a line of a script says, word by word, as its reader wrote it; and what the words of this service mean.
 
-The sentences are those of the table of forms and of a table of README.md, so that each stands once.
+The sentences are those of the table of forms and of docs/WORDS.md, so that each stands once.
 """
 import itertools
 import os
@@ -22,11 +22,9 @@ def text_of(*path: str) -> str:
 
 
 def words() -> dict[str, str]:
-    """The words of README.md's table, each with what it means; a word that is explained with another one has its
-    row."""
+    """The words of docs/WORDS.md, each with what it means; a word that is explained with another one has its row."""
     found: dict[str, str] = {}
-    table = text_of("README.md").partition("\n## Words\n")[2].partition("\n## ")[0]
-    rows = [row for row in map(ROW.match, table.split("\n")) if row and row[1].startswith("*")]
+    rows = [row for row in map(ROW.match, text_of("docs", "WORDS.md").split("\n")) if row and row[1].startswith("*")]
     for row in rows:
         for word in re.findall(r"\*([^*]+)\*", row[1]):
             found[word] = f"{row[1].replace('*', '')}: {row[2].replace('*', '')}"

@@ -1,19 +1,7 @@
 -- A course goes alike on rows that agree where they are known.
-use Rattle.std.proofs.Common.{◌≡◌, ℕ, true, false, cond, [], ◌∷◌, Option, Some, None, refl, sym, ap, subst, ◌∙◌}
-use Rattle.std.specs.Prelude.{not, ◌==◌, ◌&&◌, ◌||◌}
-use Rattle.std.proofs.lemmas.Option.{same_Some}
-use Rattle.std.proofs.lemmas.Bool.{eqb-true}
-use Rattle.suite_content.specs.Contents.{kind_of, empty_content}
-use Rattle.file_ops.specs.Rows.{Row, with_acl, with_votes, with_content}
-use Rattle.suite_prefix.specs.declared.lock_mode.LockMode.{LockMode}
-use Rattle.suite_prefix.specs.declared.lock_mode.LockMode.TheVariants.{Exclusive}
-use Rattle.file_exec.specs.declared.edit_log.Edit.{Edit}
-use Rattle.file_exec.specs.declared.edit_log.Edit.TheVariants.{SetAcl, SetVotes, SetContent, Make}
-use Rattle.file_exec.specs.Courses.{Course, Give, Refuse, Look, Read, Set}
-use Rattle.file_exec.specs.declared.need.Need.TheVariants.{Hold, Know}
-use Rattle.file_exec.specs.Following.{Edits, changed, seen, sets_content, is_set, emptied, content_in, head, looked, content_read, unless_set, needs, ending}
-use Rattle.file_exec.specs.KnownSuites.{KnownSuite}
-use Rattle.file_exec.specs.Known.{Known, known_of, row_in, known_rows, is_held, is_opened, first_unmet, Heard, heard, IsSoAt, AgreesWith}
+use Rattle.file_exec.proofs.Vocabulary.{◌≡◌, ℕ, true, false, cond, [], ◌∷◌, Option, Some, None, refl, sym, ap, subst, ◌∙◌, not, ◌==◌, ◌&&◌, ◌||◌, same_Some, eqb-true, kind_of, empty_content, Row, with_acl, with_votes, with_content}
+use Rattle.file_exec.proofs.Vocabulary.{LockMode, Exclusive, Edit, SetAcl, SetVotes, SetContent, Make, Course, Give, Refuse, Look, Read, Set, Hold, Know, Edits, changed, seen, sets_content, is_set, emptied, content_in, head, looked}
+use Rattle.file_exec.proofs.Vocabulary.{content_read, unless_set, needs, ending, KnownSuite, Known, known_of, row_in, known_rows, is_held, is_opened, first_unmet, Heard, heard, IsSoAt, AgreesWith}
 
 -- ---- edits of rows that look the same
 

@@ -1,19 +1,7 @@
 -- What is reached exclusively is held so.
-use Rattle.std.proofs.Common.{◌≡◌, ℕ, true, false, cond, List, Option, Some, None, Result, Ok, Err, refl, sym, ap, ◌∙◌}
-use Rattle.acl_core.specs.Identity.{Identity}
-use Rattle.suite_prefix.specs.declared.lock_mode.LockMode.{LockMode}
-use Rattle.suite_prefix.specs.declared.lock_mode.LockMode.TheVariants.{Exclusive}
-use Rattle.file_ops.specs.declared.refusal.Why.{Why}
-use Rattle.file_ops.specs.Operations.{Parent}
-use Rattle.file_ops.specs.Rows.{Row, root}
-use Rattle.file_ops.specs.Walks.{Object, names_in, to_change, permit, owner_only}
-use Rattle.file_exec.specs.Courses.{Course, Give, ◌>>=◌, ◌>>◌, rule, look}
+use Rattle.file_exec.proofs.Vocabulary.{◌≡◌, ℕ, true, false, cond, List, Option, Some, None, Result, Ok, Err, refl, sym, ap, ◌∙◌, Identity, LockMode, Exclusive, Why, Parent, Row, root, Object, names_in, to_change, permit, owner_only}
+use Rattle.file_exec.proofs.Vocabulary.{Course, Give, ◌>>=◌, ◌>>◌, rule, look, Hold, Edits, Ended, looked, Known, known_rows, is_met, Heard, Needs, Done, run, then_run, RunsOr}
 use Rattle.file_exec.specs.Operations as asked
-use Rattle.file_exec.specs.declared.need.Need.TheVariants.{Hold}
-use Rattle.file_exec.specs.Following.{Edits, Ended, looked}
-use Rattle.file_exec.specs.Known.{Known, known_rows, is_met, Heard, Needs, Done}
-use Rattle.file_exec.specs.Runs.{run, then_run}
-use Rattle.file_exec.specs.code.Steps.{RunsOr}
 use Rattle.file_exec.proofs.Running.{runs_in_turn}
 use Rattle.file_exec.proofs.Steps.{HoldsAll}
 

@@ -1,23 +1,8 @@
 -- The changes lead from the rows before to the rows after.
-use Rattle.std.proofs.Common.{◌⊎◌, inl, inr, ◌≡◌, ℕ, Bool, true, false, cond, [], ◌∷◌, Option, Some, None, refl, sym, ap, subst, ◌∙◌}
-use Rattle.std.specs.Prelude.{◌==◌, ◌&&◌, ◌||◌, option_map, is_some}
-use Rattle.std.specs.List.{list_all}
-use Rattle.std.specs.Cmp.{unsigned_tied}
-use Rattle.std.specs.Ordering.{nat_cmp}
-use Rattle.std.proofs.lemmas.Bool.{eqb-true}
-use Rattle.std.proofs.lemmas.Option.{same_Some}
-use Rattle.std.proofs.lemmas.Cmp.{nat_cmp_total}
-use Rattle.sorted_map.specs.Laws.{get-insert}
-use Rattle.sorted_map.specs.SortedMap.{get}
-use Rattle.suite_prefix.specs.declared.lock_mode.LockMode.TheVariants.{Exclusive}
-use Rattle.file_ops.specs.Rows.{Row, row_of, with_content}
-use Rattle.file_exec.specs.declared.changes.Change.{Change}
-use Rattle.file_exec.specs.declared.edit_log.Edit.{Edit}
-use Rattle.file_exec.specs.declared.edit_log.Edit.TheVariants.{SetAcl, SetVotes, SetContent, Make}
-use Rattle.file_exec.specs.Changes.{touches, makes, sets_acl, sets_votes, some, change_of, changes_at, with_change}
-use Rattle.file_exec.specs.Following.{Edits, changed, seen, sets_content, is_set, emptied, head, content_in, with_edits}
-use Rattle.file_exec.specs.Known.{Known, known_of, known_rows, is_held, is_opened, is_held_for}
-use Rattle.file_exec.specs.Laws.{TellsAt, ChangesBySuite, ChangesLeadOn}
+use Rattle.file_exec.proofs.Vocabulary.{◌⊎◌, inl, inr, ◌≡◌, ℕ, Bool, true, false, cond, [], ◌∷◌, Option, Some, None, refl, sym, ap, subst, ◌∙◌, ◌==◌, ◌&&◌, ◌||◌, option_map, is_some, list_all, unsigned_tied, nat_cmp, eqb-true}
+use Rattle.file_exec.proofs.Vocabulary.{same_Some, nat_cmp_total, get-insert, get, Exclusive, Row, row_of, with_content, Change, Edit, SetAcl, SetVotes, SetContent, Make, touches, makes, sets_acl, sets_votes, some, change_of}
+use Rattle.file_exec.proofs.Vocabulary.{changes_at, with_change, Edits, changed, seen, sets_content, is_set, emptied, head, content_in, with_edits, Known, known_of, known_rows, is_held, is_opened, is_held_for, TellsAt, ChangesBySuite}
+use Rattle.file_exec.proofs.Vocabulary.{ChangesLeadOn}
 use Rattle.file_exec.proofs.Alike.{head_seen, content_seen, held_head, opened_same}
 use Rattle.file_exec.proofs.StepOnTable.{row_of-with_edits}
 use Rattle.file_exec.proofs.VotesRead.{knows_whose_votes}

@@ -1,43 +1,13 @@
 -- Each operation walked once: what it reads it has looked at, and what it sets it has a licence for.
-use Rattle.std.proofs.Common.{◌≡◌, ℕ, zero, suc, ◌+◌, ◌≤◌, ◌<◌, Bool, true, false, cond, List, [], ◌∷◌, ◌++◌, length, drop, get_or, Option, Some, None, Result, Ok, Err, refl, sym, ap, subst, ◌∙◌, arith}
-use Rattle.std.specs.Prelude.{◌==◌, ◌||◌, not, nat_lt, nat_le, is_some}
-use Rattle.std.specs.List.{AllByRecursion}
-use Rattle.std.proofs.lemmas.Bool.{false≢true}
-use Rattle.std.proofs.lemmas.Bool.Decides.{nat_tests}
-use Rattle.std.proofs.lemmas.List.{length-drop, drop_more}
-use Rattle.acl_core.specs.Identity.{Identity}
-use Rattle.suite_content.specs.declared.content.Content.{Content}
-use Rattle.suite_content.specs.declared.content.Content.TheVariants.{Bytes, Names}
-use Rattle.suite_content.specs.Contents.{kind_of}
+use Rattle.file_exec.proofs.Vocabulary.{◌≡◌, ℕ, zero, suc, ◌+◌, ◌≤◌, ◌<◌, Bool, true, false, cond, List, [], ◌∷◌, ◌++◌, length, drop, get_or, Option, Some, None, Result, Ok, Err, refl, sym, ap, subst, ◌∙◌, arith, ◌==◌, ◌||◌, not}
+use Rattle.file_exec.proofs.Vocabulary.{nat_lt, nat_le, is_some, AllByRecursion, false≢true, nat_tests, length-drop, drop_more, Identity, Content, Bytes, Names, kind_of, max_content, max_names, LockMode, Shared, Exclusive, Answer}
+use Rattle.file_exec.proofs.Vocabulary.{Action, Op, Refusal, Why, Service, known_votes, votes_of_new, max_operations, gives_default, is_misplaced, refuse_if, last_name, is_used, names_of, Row, root, made_number, found_or, is_miscounted}
+use Rattle.file_exec.proofs.Vocabulary.{Object, bytes_in, names_in, to_read, to_write, to_search, to_change, permit, permit_others, owner_only, Edit, Need, Hold, Know, Course, Give, Refuse, Look, Read, Set, ◌>>=◌, rule, at_place, Edits}
+use Rattle.file_exec.proofs.Vocabulary.{is_set, looked, content_read, unless_set, needs, Ended, ending, KnownSuite, Known, known_of, row_in, known_rows, is_held, is_met, is_opened, first_unmet, heard, Needs, Done, exec_of, IsSoAt}
+use Rattle.file_exec.proofs.Vocabulary.{AgreesWith, IsTold, IsShown, MayChange, Licensed, writes_bytes, changes_lists, changes_votes, adds_name, makes_row, drops_name, HasLicence, AllLicensed, EditsAreLicensed}
 use Rattle.suite_content.specs.Folders as folders
-use Rattle.suite_content.specs.Limits.{max_content, max_names}
-use Rattle.suite_prefix.specs.declared.lock_mode.LockMode.{LockMode}
-use Rattle.suite_prefix.specs.declared.lock_mode.LockMode.TheVariants.{Shared, Exclusive}
-use Rattle.file_ops.specs.declared.answer.Answer.{Answer}
-use Rattle.file_ops.specs.declared.operation.Action.{Action}
 use Rattle.file_ops.specs.declared.operation.Action.TheVariants as action
-use Rattle.file_ops.specs.declared.operation.Op.{Op}
-use Rattle.file_ops.specs.declared.refusal.Refusal.{Refusal}
-use Rattle.file_ops.specs.declared.refusal.Why.{Why}
 use Rattle.file_ops.specs.declared.refusal.Why.TheVariants as why
-use Rattle.file_ops.specs.declared.service.Service.{Service}
-use Rattle.file_ops.specs.KnownVotes.{known_votes, votes_of_new}
-use Rattle.file_ops.specs.Limits.{max_operations}
-use Rattle.file_ops.specs.Lists.{gives_default, is_misplaced}
-use Rattle.file_ops.specs.Operations.{refuse_if, last_name, is_used}
-use Rattle.file_ops.specs.Paths.{names_of}
-use Rattle.file_ops.specs.Rows.{Row, root, made_number}
-use Rattle.file_ops.specs.Steps.{found_or}
-use Rattle.file_ops.specs.Transactions.{is_miscounted}
-use Rattle.file_ops.specs.Walks.{Object, bytes_in, names_in, to_read, to_write, to_search, to_change, permit, permit_others, owner_only}
-use Rattle.file_exec.specs.declared.edit_log.Edit.{Edit}
-use Rattle.file_exec.specs.declared.need.Need.{Need}
-use Rattle.file_exec.specs.declared.need.Need.TheVariants.{Hold, Know}
-use Rattle.file_exec.specs.Courses.{Course, Give, Refuse, Look, Read, Set, ◌>>=◌, rule, at_place}
-use Rattle.file_exec.specs.Following.{Edits, is_set, looked, content_read, unless_set, needs, Ended, ending}
-use Rattle.file_exec.specs.KnownSuites.{KnownSuite}
-use Rattle.file_exec.specs.Known.{Known, known_of, row_in, known_rows, is_held, is_met, is_opened, first_unmet, heard, Needs, Done, exec_of, IsSoAt, AgreesWith}
-use Rattle.file_exec.specs.Licensed.{IsTold, IsShown, MayChange, Licensed, writes_bytes, changes_lists, changes_votes, adds_name, makes_row, drops_name, HasLicence, AllLicensed, EditsAreLicensed}
 use Rattle.file_exec.specs.Operations as asked
 use Rattle.file_exec.proofs.Alike.{goes_alike}
 use Rattle.file_exec.proofs.Unmet.{met, done_unmet}

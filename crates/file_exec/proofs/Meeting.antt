@@ -1,24 +1,7 @@
 -- What the caller's steps come to.
-use Rattle.std.proofs.Common.{◌≡◌, ℕ, Bool, true, false, cond, Option, Some, None, arith, refl, sym, ap, subst, ◌∙◌}
-use Rattle.std.specs.Prelude.{◌==◌, option_map}
-use Rattle.std.specs.Option.{option_map_or}
-use Rattle.std.specs.Cmp.{unsigned_tied}
-use Rattle.std.specs.Ordering.{nat_cmp}
-use Rattle.std.proofs.lemmas.Bool.{eqb-true}
-use Rattle.std.proofs.lemmas.Bool.Decides.{nat_tests}
-use Rattle.std.proofs.lemmas.Cmp.{nat_cmp_total}
-use Rattle.sorted_map.specs.Laws.{get-replace}
-use Rattle.sorted_map.specs.SortedMap.{replace}
-use Rattle.suite_content.specs.Contents.{empty_content}
-use Rattle.suite_prefix.specs.declared.lock_mode.LockMode.{LockMode}
-use Rattle.suite_prefix.specs.declared.lock_mode.LockMode.TheVariants.{Shared, Exclusive}
-use Rattle.suite_prefix.specs.LockModes.{serves}
-use Rattle.file_ops.specs.Rows.{Row, with_content}
-use Rattle.file_exec.specs.KnownSuites.{KnownSuite}
-use Rattle.file_exec.specs.declared.need.Need.TheVariants.{Know}
-use Rattle.file_exec.specs.Following.{head}
-use Rattle.file_exec.specs.Known.{Known, known_of, opened, is_opened}
-use Rattle.file_exec.specs.Laws.{IsMore, IsMoreAt, MoreKnown, IsStep, FitsRow, OpeningMeets}
+use Rattle.file_exec.proofs.Vocabulary.{◌≡◌, ℕ, Bool, true, false, cond, Option, Some, None, arith, refl, sym, ap, subst, ◌∙◌, ◌==◌, option_map, option_map_or, unsigned_tied, nat_cmp, eqb-true, nat_tests, nat_cmp_total, get-replace}
+use Rattle.file_exec.proofs.Vocabulary.{replace, empty_content, LockMode, Shared, Exclusive, serves, Row, with_content, KnownSuite, Know, head, Known, known_of, opened, is_opened, IsMore, IsMoreAt, MoreKnown, IsStep, FitsRow}
+use Rattle.file_exec.proofs.Vocabulary.{OpeningMeets}
 
 -- nothing was changed
 is_more_itself : (known : Option KnownSuite) → IsMoreAt known known

@@ -1,19 +1,7 @@
 -- What knowing more comes to.
-use Rattle.std.proofs.Common.{◌≡◌, ◌<◌, ◌≤◌, Bool, true, false, cond, List, [], ◌∷◌, length, Option, Some, None, Result, refl, sym, ap, ◌∙◌, arith}
-use Rattle.std.specs.Prelude.{not, filter, find}
-use Rattle.std.proofs.lemmas.Option.{same_Some}
-use Rattle.suite_prefix.specs.declared.lock_mode.LockMode.{LockMode}
-use Rattle.suite_prefix.specs.declared.lock_mode.LockMode.TheVariants.{Shared, Exclusive}
-use Rattle.suite_prefix.specs.LockModes.{serves}
-use Rattle.file_ops.specs.Rows.{row_of}
-use Rattle.file_exec.specs.KnownSuites.{KnownSuite}
-use Rattle.file_exec.specs.declared.need.Need.{Need}
-use Rattle.file_exec.specs.declared.need.Need.TheVariants.{Hold, Know}
-use Rattle.file_exec.specs.Courses.{Course}
-use Rattle.file_exec.specs.Following.{Ended, needs, ending}
-use Rattle.file_exec.specs.Known.{Known, known_of, row_in, known_rows, is_held, is_opened, is_met, first_unmet, Needs, Done, heard, followed, IsSoAt, AgreesWith, on_table}
-use Rattle.file_exec.specs.Operations.{transaction}
-use Rattle.file_exec.specs.Laws.{IsMoreAt, MoreKnown, MoreKnownChangesNothing, AMetNeedIsProgress, DoneIsTheTables}
+use Rattle.file_exec.proofs.Vocabulary.{◌≡◌, ◌<◌, ◌≤◌, Bool, true, false, cond, List, [], ◌∷◌, length, Option, Some, None, Result, refl, sym, ap, ◌∙◌, arith, not, filter, find, same_Some, LockMode, Shared, Exclusive, serves, row_of}
+use Rattle.file_exec.proofs.Vocabulary.{KnownSuite, Need, Hold, Know, Course, Ended, needs, ending, Known, known_of, row_in, known_rows, is_held, is_opened, is_met, first_unmet, Needs, Done, heard, followed, IsSoAt, AgreesWith}
+use Rattle.file_exec.proofs.Vocabulary.{on_table, transaction, IsMoreAt, MoreKnown, MoreKnownChangesNothing, AMetNeedIsProgress, DoneIsTheTables}
 use Rattle.file_exec.proofs.Alike.{goes_alike}
 use Rattle.file_exec.proofs.OnTable.{on_transaction}
 

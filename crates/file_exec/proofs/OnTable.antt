@@ -1,40 +1,16 @@
 -- On a table a course is the operation that it stands for.
-use Rattle.std.proofs.Common.{◌≡◌, ℕ, true, false, cond, List, [], ◌∷◌, ◌++◌, Option, Some, None, Result, Ok, Err, refl, sym, ap, subst, ◌∙◌}
-use Rattle.std.specs.Prelude.{◌+◌, nat_le, length, is_some}
-use Rattle.acl_core.specs.Identity.{Identity}
-use Rattle.suite_content.specs.declared.content.Content.{Content}
-use Rattle.suite_content.specs.declared.content.Content.TheVariants.{Bytes, Names}
+use Rattle.file_exec.proofs.Vocabulary.{◌≡◌, ℕ, true, false, cond, List, [], ◌∷◌, ◌++◌, Option, Some, None, Result, Ok, Err, refl, sym, ap, subst, ◌∙◌, ◌+◌, nat_le, length, is_some, Identity, Content, Bytes, Names, LockMode, Shared}
+use Rattle.file_exec.proofs.Vocabulary.{Exclusive, Why, Row, Rows, row_of, with_row, new_row, made_number, root, found_or, ok_map, names_of, Op, Action, Refusal, max_names, on_table, IsTheTransaction, known_votes, votes_of_new, Service}
+use Rattle.file_exec.proofs.Vocabulary.{Init, Configuration, Lists, Kind, gives_default, is_misplaced, lists_of, Answer, Edit, SetAcl, SetVotes, SetContent, Make, Course, Give, Refuse, Look, Read, Set, ◌>>=◌, ◌>>◌, rule, look, set}
+use Rattle.file_exec.proofs.Vocabulary.{at_place, Edits, changed, head, content_in, looked, content_read, Ended, ending, put, with_edits}
 use Rattle.suite_content.specs.Folders as folders
-use Rattle.suite_prefix.specs.declared.lock_mode.LockMode.{LockMode}
-use Rattle.suite_prefix.specs.declared.lock_mode.LockMode.TheVariants.{Shared, Exclusive}
-use Rattle.file_ops.specs.declared.refusal.Why.{Why}
-use Rattle.file_ops.specs.Rows.{Row, Rows, row_of, with_row, new_row, made_number, root}
 use Rattle.file_ops.specs.declared.refusal.Why.TheVariants as why
 use Rattle.file_ops.specs.Steps as steps
-use Rattle.file_ops.specs.Steps.{found_or, ok_map}
 use Rattle.file_ops.specs.Walks as plain
 use Rattle.file_ops.specs.Operations as plain_ops
 use Rattle.file_ops.specs.Transactions as plain_all
-use Rattle.file_ops.specs.Paths.{names_of}
-use Rattle.file_ops.specs.declared.operation.Op.{Op}
-use Rattle.file_ops.specs.declared.operation.Action.{Action}
 use Rattle.file_ops.specs.declared.operation.Action.TheVariants as action
-use Rattle.file_ops.specs.declared.refusal.Refusal.{Refusal}
-use Rattle.suite_content.specs.Limits.{max_names}
-use Rattle.file_exec.specs.Known.{on_table, IsTheTransaction}
-use Rattle.file_ops.specs.KnownVotes.{known_votes, votes_of_new}
-use Rattle.file_ops.specs.declared.service.Service.{Service}
-use Rattle.file_ops.specs.declared.operation.Init.{Init}
-use Rattle.vote_core.specs.Quorums.{Configuration}
-use Rattle.acl_core.specs.declared.lists.Lists.{Lists}
-use Rattle.suite_content.specs.declared.content.Kind.{Kind}
-use Rattle.file_ops.specs.Lists.{gives_default, is_misplaced, lists_of}
-use Rattle.file_ops.specs.declared.answer.Answer.{Answer}
 use Rattle.file_ops.specs.declared.answer.Answer.TheVariants as answer
-use Rattle.file_exec.specs.declared.edit_log.Edit.{Edit}
-use Rattle.file_exec.specs.declared.edit_log.Edit.TheVariants.{SetAcl, SetVotes, SetContent, Make}
-use Rattle.file_exec.specs.Courses.{Course, Give, Refuse, Look, Read, Set, ◌>>=◌, ◌>>◌, rule, look, set, at_place}
-use Rattle.file_exec.specs.Following.{Edits, changed, head, content_in, looked, content_read, Ended, ending, put, with_edits}
 use Rattle.file_exec.specs.Operations as asked
 use Rattle.file_exec.proofs.StepOnTable.{ending_bind, go_on, outcome, outcome_on, unedited, On, on_rule, emptied_place, free, ruled, ruled_out, at_held, at_folder, at_file, at_kind, on_names, on_bytes}
 

@@ -1,30 +1,9 @@
 -- Operations of a transaction one after the other.
-use Rattle.std.proofs.Common.{◌≡◌, ℕ, zero, suc, ◌+◌, ◌≤◌, true, false, cond, List, [], ◌∷◌, ◌++◌, Some, Result, Ok, Err, length, get_or, take, arith, refl, sym, ap, subst, ◌∙◌, ◌<◌, ◌⊎◌, inl, inr}
-use Rattle.std.proofs.Math.Nat.{eq-zero-or-pos}
-use Rattle.std.specs.Prelude.{◌==◌, ◌||◌, IfOk, OnErr}
-use Rattle.std.proofs.lemmas.Bool.Decides.{nat_tests}
-use Rattle.std.specs.Result.{result_ok}
-use Rattle.acl_core.specs.Identity.{Identity}
-use Rattle.suite_prefix.specs.declared.lock_mode.LockMode.TheVariants.{Exclusive}
-use Rattle.file_ops.specs.declared.answer.Answer.{Answer}
-use Rattle.file_ops.specs.declared.operation.Op.{Op}
-use Rattle.file_ops.specs.declared.refusal.Refusal.{Refusal}
-use Rattle.file_ops.specs.declared.refusal.Why.{Why}
+use Rattle.file_exec.proofs.Vocabulary.{◌≡◌, ℕ, zero, suc, ◌+◌, ◌≤◌, true, false, cond, List, [], ◌∷◌, ◌++◌, Some, Result, Ok, Err, length, get_or, take, arith, refl, sym, ap, subst, ◌∙◌, ◌<◌, ◌⊎◌, inl, inr, eq-zero-or-pos, ◌==◌, ◌||◌}
+use Rattle.file_exec.proofs.Vocabulary.{IfOk, OnErr, nat_tests, result_ok, Identity, Exclusive, Answer, Op, Refusal, Why, Service, is_miscounted, Outcome, Hold, Know, Stop, Course, Give, Refuse, Look, Read, Set, at_place, Edits, Ended}
+use Rattle.file_exec.proofs.Vocabulary.{is_set, looked, content_read, operation, play, Known, known_rows, is_met, Heard, Needs, Done, is_given, exec_of, run, then_run, answered, end_of, Told, Runs}
 use Rattle.file_ops.specs.declared.refusal.Why.TheVariants as why
-use Rattle.file_ops.specs.declared.service.Service.{Service}
-use Rattle.file_ops.specs.Transactions.{is_miscounted}
-use Rattle.file_exec.specs.declared.executor.Outcome.{Outcome}
-use Rattle.file_exec.specs.declared.need.Need.TheVariants.{Hold, Know}
-use Rattle.file_exec.specs.declared.stop.Stop.{Stop}
 use Rattle.file_exec.specs.declared.stop.Stop.TheVariants as stop
-use Rattle.file_exec.specs.Courses.{Course, Give, Refuse, Look, Read, Set, at_place}
-use Rattle.file_exec.specs.Following.{Edits, Ended, is_set, looked, content_read}
-use Rattle.file_exec.specs.Operations.{operation, play}
-use Rattle.file_exec.specs.Known.{Known, known_rows, is_met, Heard, Needs, Done, is_given, exec_of}
-use Rattle.file_exec.specs.Runs.{run, then_run}
-use Rattle.file_exec.specs.Changes.{answered}
-use Rattle.file_exec.specs.code.Ends.{end_of}
-use Rattle.file_exec.specs.code.Steps.{Told, Runs}
 use Rattle.file_exec.proofs.Running.{runs_in_turn, exec_runs}
 
 -- what an operation at a place comes to, its refusal naming it

@@ -1,30 +1,8 @@
 -- How far a transaction came, and how it goes on from there.
-use Rattle.std.proofs.Common.{◌≡◌, ℕ, ◌+◌, ◌<◌, ◌≤◌, Bool, true, false, Option, Some, None, List, [], ◌∷◌, ◌++◌, length, get_or, take, drop, Result, Ok, Err, arith, refl, sym, ap, subst, ◌∙◌}
-use Rattle.std.specs.Prelude.{cond, not, ◌&&◌}
-use Rattle.std.proofs.lemmas.List.{take-append-drop, take_more, drop_more, length-take}
-use Rattle.acl_core.specs.Identity.{Identity}
-use Rattle.suite_content.specs.Contents.{kind_of}
-use Rattle.suite_content.specs.Folders.{same_names}
-use Rattle.suite_content.specs.code.Equality.{same_names_decides}
-use Rattle.suite_content.specs.declared.content.Kind.{Kind}
-use Rattle.suite_content.specs.declared.content.Kind.TheVariants.{File, Folder}
-use Rattle.file_ops.specs.declared.answer.Answer.{Answer}
-use Rattle.file_ops.specs.declared.operation.Op.{Op}
-use Rattle.file_ops.specs.declared.refusal.Refusal.{Refusal}
-use Rattle.file_ops.specs.declared.refusal.Why.{Why}
-use Rattle.file_ops.specs.declared.service.Service.{Service}
-use Rattle.file_ops.specs.Rows.{Row, root}
-use Rattle.file_exec.specs.Courses.{Course, Give, ◌>>=◌, at_place}
-use Rattle.file_exec.specs.Following.{Edits, Ended}
-use Rattle.file_exec.specs.Known.{Known, known_of, opened_suite, Heard, Needs, Done, is_given, exec_of}
-use Rattle.file_exec.specs.KnownSuites.{KnownSuite}
-use Rattle.file_exec.specs.Laws.{MoreKnown, FitsRow}
-use Rattle.file_exec.specs.Operations.{operation, play, walk}
-use Rattle.file_exec.specs.Reaching.{Reached, Leads, walked, walked_next, IsReached, UnbegunIsReached, ReachedStays, is_of_kind, fits_row, takes, TakingTellsMore}
-use Rattle.file_exec.specs.Runs.{run, then_run}
-use Rattle.file_exec.specs.code.Steps.{Runs}
-use Rattle.file_exec.specs.code.Ways.{LeadsTo, only_reads, from_root, point_after}
-use Rattle.file_exec.specs.declared.progress.WalkPoint.{WalkPoint}
+use Rattle.file_exec.proofs.Vocabulary.{◌≡◌, ℕ, ◌+◌, ◌<◌, ◌≤◌, Bool, true, false, Option, Some, None, List, [], ◌∷◌, ◌++◌, length, get_or, take, drop, Result, Ok, Err, arith, refl, sym, ap, subst, ◌∙◌, cond, not, ◌&&◌, take-append-drop}
+use Rattle.file_exec.proofs.Vocabulary.{take_more, drop_more, length-take, Identity, kind_of, same_names, same_names_decides, Kind, File, Folder, Answer, Op, Refusal, Why, Service, Row, root, Course, Give, ◌>>=◌, at_place, Edits, Ended}
+use Rattle.file_exec.proofs.Vocabulary.{Known, known_of, opened_suite, Heard, Needs, Done, is_given, exec_of, KnownSuite, MoreKnown, FitsRow, operation, play, walk, Reached, Leads, walked, walked_next, IsReached, UnbegunIsReached}
+use Rattle.file_exec.proofs.Vocabulary.{ReachedStays, is_of_kind, fits_row, takes, TakingTellsMore, run, then_run, Runs, LeadsTo, only_reads, from_root, point_after, WalkPoint}
 use Rattle.file_exec.proofs.Meeting.{opening_meets}
 use Rattle.file_exec.proofs.More.{done_stays}
 use Rattle.file_exec.proofs.Playing.{named, run_at_place, parts, one_more, begins, begun_first}

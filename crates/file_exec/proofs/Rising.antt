@@ -1,12 +1,6 @@
 -- The pairs of an ordered list, put one after the other into a map.
-use Rattle.std.proofs.Common.{◌≡◌, ℕ, ◌+◌, ◌<◌, zero, suc, add-one, take, get_or, Less, Greater, subst, List, [], ◌∷◌, length, sym, ap, ◌∙◌, arith}
-use Rattle.std.specs.Ordering.{nat_cmp}
-use Rattle.std.specs.List.{AllByRecursion}
-use Rattle.std.specs.Map.{keys_of}
-use Rattle.std.proofs.lemmas.Bool.Decides.{nat_tests}
-use Rattle.std.proofs.lemmas.Map.Keys.{sorted_head, sorted_tail}
-use Rattle.sorted_map.specs.SortedMap.{IsOrdered, insert}
-use Rattle.sorted_map.specs.Laws.{insert_step}
+use Rattle.file_exec.proofs.Vocabulary.{◌≡◌, ℕ, ◌+◌, ◌<◌, zero, suc, add-one, take, get_or, Less, Greater, subst, List, [], ◌∷◌, length, sym, ap, ◌∙◌, arith, nat_cmp, AllByRecursion, keys_of, nat_tests, sorted_head, sorted_tail}
+use Rattle.file_exec.proofs.Vocabulary.{IsOrdered, insert, insert_step}
 
 swapped : (key other : ℕ) → nat_cmp key other ≡ Less → nat_cmp other key ≡ Greater
 swapped key other less = grind (arith, nat_tests)

@@ -1,13 +1,6 @@
 -- To run a course is to follow it.
-use Rattle.std.proofs.Common.{◌≡◌, true, false, cond, [], ◌∷◌, Some, refl}
-use Rattle.std.specs.Prelude.{not, ◌||◌}
-use Rattle.suite_prefix.specs.declared.lock_mode.LockMode.TheVariants.{Exclusive}
-use Rattle.file_exec.specs.Courses.{Course, Give, Refuse, Look, Read, Set, ◌>>=◌}
-use Rattle.file_exec.specs.Operations.{transaction}
-use Rattle.file_exec.specs.declared.need.Need.TheVariants.{Hold, Know}
-use Rattle.file_exec.specs.Following.{Edits, is_set, looked, content_read, unless_set, needs, ending}
-use Rattle.file_exec.specs.Known.{Known, known_rows, is_met, first_unmet, Needs, heard}
-use Rattle.file_exec.specs.Runs.{run, then_run, ExecRuns}
+use Rattle.file_exec.proofs.Vocabulary.{◌≡◌, true, false, cond, [], ◌∷◌, Some, refl, not, ◌||◌, Exclusive, Course, Give, Refuse, Look, Read, Set, ◌>>=◌, transaction, Hold, Know, Edits, is_set, looked, content_read, unless_set, needs}
+use Rattle.file_exec.proofs.Vocabulary.{ending, Known, known_rows, is_met, first_unmet, Needs, heard, run, then_run, ExecRuns}
 
 -- two courses one after the other are run one after the other
 pub runs_in_turn : {A B E : Type 0} (known : Known) (edits : Edits) (first : Course A E) (next : A → Course B E) → run known edits (◌>>=◌ first next) ≡ then_run known next (run known edits first)

@@ -1,25 +1,10 @@
 -- On a table a step of a course is the step that it stands for, and what comes after edits sees them.
-use Rattle.std.proofs.Common.{◌≡◌, ℕ, Bool, true, false, cond, List, [], ◌∷◌, ◌++◌, Option, Some, None, Result, Ok, Err, refl, sym, ap, subst, ◌∙◌}
-use Rattle.std.specs.Prelude.{◌==◌}
-use Rattle.std.specs.Cmp.{unsigned_tied}
-use Rattle.std.proofs.lemmas.Bool.{eqb-true}
-use Rattle.std.proofs.lemmas.Cmp.{nat_cmp_total}
-use Rattle.sorted_map.specs.Laws.{get-insert}
-use Rattle.suite_content.specs.declared.content.Content.TheVariants.{Bytes, Names}
-use Rattle.suite_content.specs.Contents.{kind_of, empty_content}
-use Rattle.suite_prefix.specs.declared.lock_mode.LockMode.{LockMode}
-use Rattle.file_ops.specs.declared.refusal.Why.{Why}
-use Rattle.file_ops.specs.Rows.{Row, Rows, row_of}
+use Rattle.file_exec.proofs.Vocabulary.{◌≡◌, ℕ, Bool, true, false, cond, List, [], ◌∷◌, ◌++◌, Option, Some, None, Result, Ok, Err, refl, sym, ap, subst, ◌∙◌, ◌==◌, unsigned_tied, eqb-true, nat_cmp_total, get-insert, Bytes, Names}
+use Rattle.file_exec.proofs.Vocabulary.{kind_of, empty_content, LockMode, Why, Row, Rows, row_of, found_or, ok_map, Kind, File, Folder, Edit, SetAcl, SetVotes, SetContent, Make, Course, Give, Refuse, Look, Read, Set, ◌>>=◌, ◌>>◌, rule}
+use Rattle.file_exec.proofs.Vocabulary.{Edits, changed, seen, emptied, head, content_in, looked, content_read, Ended, ending, put, with_edits}
 use Rattle.file_ops.specs.declared.refusal.Why.TheVariants as why
 use Rattle.file_ops.specs.Steps as steps
-use Rattle.file_ops.specs.Steps.{found_or, ok_map}
 use Rattle.file_ops.specs.Walks as plain
-use Rattle.suite_content.specs.declared.content.Kind.{Kind}
-use Rattle.suite_content.specs.declared.content.Kind.TheVariants.{File, Folder}
-use Rattle.file_exec.specs.declared.edit_log.Edit.{Edit}
-use Rattle.file_exec.specs.declared.edit_log.Edit.TheVariants.{SetAcl, SetVotes, SetContent, Make}
-use Rattle.file_exec.specs.Courses.{Course, Give, Refuse, Look, Read, Set, ◌>>=◌, ◌>>◌, rule}
-use Rattle.file_exec.specs.Following.{Edits, changed, seen, emptied, head, content_in, looked, content_read, Ended, ending, put, with_edits}
 use Rattle.file_exec.specs.Operations as asked
 
 -- ---- edits

@@ -1,18 +1,7 @@
 -- The code of a course step by step.
-use Rattle.std.proofs.Common.{◌≡◌, ℕ, Bool, true, false, cond, ◌∷◌, Result, Ok, Err, refl, sym, ap, subst, ◌∙◌}
-use Rattle.std.proofs.lemmas.Bool.{false≢true}
-use Rattle.std.specs.Result.{IsErr, IsErrAnd}
-use Rattle.file_ops.specs.declared.refusal.Why.{Why}
-use Rattle.file_exec.specs.declared.stop.Stop.{Stop}
+use Rattle.file_exec.proofs.Vocabulary.{◌≡◌, ℕ, Bool, true, false, cond, ◌∷◌, Result, Ok, Err, refl, sym, ap, subst, ◌∙◌, false≢true, IsErr, IsErrAnd, Why, Stop, Edit, Course, Give, Set, ◌>>=◌, ◌>>◌, rule, set, Exclusive, Hold, Edits}
+use Rattle.file_exec.proofs.Vocabulary.{Known, is_met, Heard, Needs, Done, is_given, run, then_run, Told, RunsOr, Runs, set_both}
 use Rattle.file_exec.specs.declared.stop.Stop.TheVariants as stop
-use Rattle.file_exec.specs.declared.edit_log.Edit.{Edit}
-use Rattle.file_exec.specs.Courses.{Course, Give, Set, ◌>>=◌, ◌>>◌, rule, set}
-use Rattle.suite_prefix.specs.declared.lock_mode.LockMode.TheVariants.{Exclusive}
-use Rattle.file_exec.specs.declared.need.Need.TheVariants.{Hold}
-use Rattle.file_exec.specs.Following.{Edits}
-use Rattle.file_exec.specs.Known.{Known, is_met, Heard, Needs, Done, is_given}
-use Rattle.file_exec.specs.Runs.{run, then_run}
-use Rattle.file_exec.specs.code.Steps.{Told, RunsOr, Runs, set_both}
 use Rattle.file_exec.proofs.Running.{runs_in_turn}
 
 -- an error that `?` hands on

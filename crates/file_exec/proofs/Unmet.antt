@@ -1,16 +1,7 @@
 -- What is asked for is not known, and what is set is held.
-use Rattle.std.proofs.Common.{◌≡◌, ℕ, Bool, true, false, cond, List, [], ◌∷◌, Option, Some, None, Result, Ok, refl, sym, ap, ◌∙◌}
-use Rattle.std.specs.Prelude.{not, ◌&&◌}
-use Rattle.std.specs.List.{list_all}
-use Rattle.std.proofs.lemmas.Option.{same_Some}
-use Rattle.file_ops.specs.Rows.{Row}
-use Rattle.suite_prefix.specs.declared.lock_mode.LockMode.TheVariants.{Exclusive}
-use Rattle.file_exec.specs.Courses.{Course, Give, Refuse, Look, Read, Set}
-use Rattle.file_exec.specs.declared.need.Need.{Need}
-use Rattle.file_exec.specs.declared.need.Need.TheVariants.{Hold, Know}
-use Rattle.file_exec.specs.Following.{Edits, is_set, looked, content_read, unless_set, needs, Ended, ending}
-use Rattle.file_exec.specs.Operations.{transaction}
-use Rattle.file_exec.specs.Known.{Known, known_rows, is_met, first_unmet, Needs, Done, heard, is_held_for, SetsWhatIsHeld, NeedsWhatIsUnmet}
+use Rattle.file_exec.proofs.Vocabulary.{◌≡◌, ℕ, Bool, true, false, cond, List, [], ◌∷◌, Option, Some, None, Result, Ok, refl, sym, ap, ◌∙◌, not, ◌&&◌, list_all, same_Some, Row, Exclusive, Course, Give, Refuse, Look, Read, Set, Need}
+use Rattle.file_exec.proofs.Vocabulary.{Hold, Know, Edits, is_set, looked, content_read, unless_set, needs, Ended, ending, transaction, Known, known_rows, is_met, first_unmet, Needs, Done, heard, is_held_for, SetsWhatIsHeld}
+use Rattle.file_exec.proofs.Vocabulary.{NeedsWhatIsUnmet}
 
 -- where nothing is unmet, the first is met and nothing of the others is unmet
 pub met : (known : Known) (need : Need) (later : List Need) → first_unmet known (need ∷ later) ≡ None → (is_met known need ≡ true) × (first_unmet known later ≡ None)

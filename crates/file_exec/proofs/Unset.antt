@@ -1,25 +1,8 @@
 -- What the changes that the executor answers say of what was known.
-use Rattle.std.proofs.Common.{◌≡◌, ℕ, Bool, true, false, cond, List, [], ◌∷◌, Option, Some, None, Ok, Err, refl, sym, ap, ◌∙◌}
-use Rattle.std.specs.Prelude.{◌==◌, ◌&&◌, ◌||◌, is_some, option_map}
-use Rattle.std.specs.List.{list_all}
-use Rattle.std.specs.Ordering.{nat_cmp}
-use Rattle.std.proofs.lemmas.Bool.{eqb-true}
-use Rattle.std.proofs.lemmas.Option.{same_Some}
-use Rattle.sorted_map.specs.SortedMap.{get}
-use Rattle.vote_core.specs.Quorums.{Configuration}
-use Rattle.suite_prefix.specs.declared.lock_mode.LockMode.TheVariants.{Exclusive}
-use Rattle.file_ops.specs.declared.answer.Answer.{Answer}
-use Rattle.file_ops.specs.declared.refusal.Refusal.{Refusal}
-use Rattle.file_ops.specs.Rows.{Row}
-use Rattle.file_exec.specs.declared.changes.Change.{Change}
-use Rattle.file_exec.specs.declared.executor.Outcome.{Outcome}
+use Rattle.file_exec.proofs.Vocabulary.{◌≡◌, ℕ, Bool, true, false, cond, List, [], ◌∷◌, Option, Some, None, Ok, Err, refl, sym, ap, ◌∙◌, ◌==◌, ◌&&◌, ◌||◌, is_some, option_map, list_all, nat_cmp, eqb-true, same_Some, get, Configuration}
+use Rattle.file_exec.proofs.Vocabulary.{Exclusive, Answer, Refusal, Row, Change, Outcome, Edit, SetAcl, SetVotes, SetContent, Make, Edits, Ended, changed, seen, is_set, Known, known_of, known_rows, is_held, Heard, Needs, Done, exec_of}
+use Rattle.file_exec.proofs.Vocabulary.{is_held_for, sets_acl, sets_votes, makes, touches, some, change_of, changes_of, answered, ChangesAreHeld, UnsetVotesStay}
 use Rattle.file_exec.specs.declared.executor.Outcome.TheVariants as outcome
-use Rattle.file_exec.specs.declared.edit_log.Edit.{Edit}
-use Rattle.file_exec.specs.declared.edit_log.Edit.TheVariants.{SetAcl, SetVotes, SetContent, Make}
-use Rattle.file_exec.specs.Following.{Edits, Ended, changed, seen, is_set}
-use Rattle.file_exec.specs.Known.{Known, known_of, known_rows, is_held, Heard, Needs, Done, exec_of, is_held_for}
-use Rattle.file_exec.specs.Changes.{sets_acl, sets_votes, makes, touches, some, change_of, changes_of, answered}
-use Rattle.file_exec.specs.Laws.{ChangesAreHeld, UnsetVotesStay}
 use Rattle.file_exec.proofs.Leading.{changes_by_suite}
 use Rattle.file_exec.proofs.Unmet.{sets_what_is_held}
 

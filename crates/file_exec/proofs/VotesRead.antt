@@ -1,18 +1,6 @@
 -- The votes of a suite are set only where its content is known or set, since it is read before.
-use Rattle.std.proofs.Common.{◌≡◌, ◌⊎◌, inl, inr, ℕ, Bool, true, false, List, [], ◌∷◌, Option, Ok, refl, ap, subst}
-use Rattle.std.specs.Prelude.{◌==◌, ◌&&◌, ◌||◌}
-use Rattle.std.proofs.lemmas.Bool.{eqb-true}
-use Rattle.acl_core.specs.Identity.{Identity}
-use Rattle.file_ops.specs.declared.answer.Answer.{Answer}
-use Rattle.file_ops.specs.declared.operation.Action.{Action}
-use Rattle.file_ops.specs.declared.operation.Op.{Op}
-use Rattle.file_ops.specs.declared.service.Service.{Service}
-use Rattle.file_ops.specs.Rows.{Row}
-use Rattle.file_exec.specs.Changes.{sets_votes, some}
-use Rattle.file_exec.specs.declared.edit_log.Edit.{Edit}
-use Rattle.file_exec.specs.Following.{Edits, sets_content, is_set, Ended}
-use Rattle.file_exec.specs.Known.{Known, known_of, known_rows, is_opened, Done, exec_of}
-use Rattle.file_exec.specs.Licensed.{IsTold, Licensed, changes_votes, makes_row, AllLicensed}
+use Rattle.file_exec.proofs.Vocabulary.{◌≡◌, ◌⊎◌, inl, inr, ℕ, Bool, true, false, List, [], ◌∷◌, Option, Ok, refl, ap, subst, ◌==◌, ◌&&◌, ◌||◌, eqb-true, Identity, Answer, Action, Op, Service, Row, sets_votes, some, Edit, Edits}
+use Rattle.file_exec.proofs.Vocabulary.{sets_content, is_set, Ended, Known, known_of, known_rows, is_opened, Done, exec_of, IsTold, Licensed, changes_votes, makes_row, AllLicensed}
 use Rattle.file_exec.proofs.Licensing.{known_licensed}
 
 -- whoever sets votes sets the content too, or it is told

@@ -1,14 +1,6 @@
 -- Walks that go on from where they came.
-use Rattle.std.proofs.Common.{◌≡◌, ℕ, ◌+◌, ◌<◌, List, [], ◌∷◌, ◌++◌, length, get_or, take, drop, Ok, Err, refl, sym, ap, ◌∙◌}
-use Rattle.std.proofs.lemmas.List.{take-append-drop, take_more, drop_more}
-use Rattle.acl_core.specs.Identity.{Identity}
-use Rattle.file_ops.specs.declared.refusal.Why.{Why}
-use Rattle.file_ops.specs.Rows.{root}
-use Rattle.file_exec.specs.Following.{Edits, Ended}
-use Rattle.file_exec.specs.Known.{Known, Heard, Needs, Done}
-use Rattle.file_exec.specs.Operations.{step, walk}
-use Rattle.file_exec.specs.Reaching.{Leads}
-use Rattle.file_exec.specs.Runs.{run, then_run}
+use Rattle.file_exec.proofs.Vocabulary.{◌≡◌, ℕ, ◌+◌, ◌<◌, List, [], ◌∷◌, ◌++◌, length, get_or, take, drop, Ok, Err, refl, sym, ap, ◌∙◌, take-append-drop, take_more, drop_more, Identity, Why, root, Edits, Ended, Known, Heard, Needs}
+use Rattle.file_exec.proofs.Vocabulary.{Done, step, walk, Leads, run, then_run}
 use Rattle.file_exec.proofs.Running.{runs_in_turn}
 
 -- a walk along some names and then others is one walk after the other

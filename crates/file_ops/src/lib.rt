@@ -22,7 +22,7 @@
 //! **The caller owes** a transaction number below 2^60.
 //!
 //! **Files**: `service`, `path`, `operation`, `answer`, `refusal`, `audit`, `guarded`, `stored_names`, `stored`,
-//! `walk`, `edit`, `undo` (taking back needs no memory), `act`, `play`, `table`.
+//! `copies`, `walk`, `edit`, `undo` (taking back needs no memory), `act`, `play`, `table`.
 //!
 //! **Definitions** (`specs/`): `Steps`, `Limits`, `Paths`, `Rows`, `Lists`, `KnownVotes`, `Walks`, `Permitting`,
 //! `Operations`, `Transactions`.

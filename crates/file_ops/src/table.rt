@@ -129,7 +129,8 @@ impl Table {
         })
     }
 
-    /// Whether the files and folders are the same.
+    /// Whether the files and folders are the same. What is claimed is that they are, where it says so; not that it says
+    /// so wherever they are.
     pub fn same_rows(&self, other: &Table) -> bool
         ensures { IsTrue result → self.now.rows ≡ other.now.rows }
     {

@@ -1,25 +1,11 @@
 -- All responses of a job: whom it asked, whom it asks, and how many responses it took.
-use Rattle.std.proofs.Common.{◌≡◌, ℕ, ◌+◌, ◌*◌, Bool, true, false, cond, List, [], ◌∷◌, ◌++◌, length, Option, Some, None, refl, sym, ap, subst, ◌∙◌, arith}
-use Rattle.std.specs.Prelude.{◌==◌, ◌&&◌, nat_lt}
-use Rattle.std.proofs.lemmas.Bool.{false≢true}
-use Rattle.std.proofs.lemmas.Option.{none-some}
-use Rattle.vote_core.specs.Quorums.{Configuration}
-use Rattle.file_ops.specs.declared.service.Service.{Service}
-use Rattle.rep_core.specs.declared.lock.Lock.{Lock}
-use Rattle.rep_core.specs.declared.request.Request.{Request}
-use Rattle.rep_core.specs.declared.reply.Reply.{Reply}
+use Rattle.law_agents.proofs.Vocabulary.{◌≡◌, ℕ, ◌+◌, ◌*◌, Bool, true, false, cond, List, [], ◌∷◌, ◌++◌, length, Option, Some, None, refl, sym, ap, subst, ◌∙◌, arith, ◌==◌, ◌&&◌, nat_lt, false≢true, none-some, Configuration, Service}
+use Rattle.law_agents.proofs.Vocabulary.{Lock, Request, Reply, forgotten_has, Response, Replied, Lacked, Job, Transaction, Sweep, home_of, Fixed, TransactionRun, Sweeping, Listing, Resolving, Telling, Breaking, SweepRun, Doing, Running}
+use Rattle.law_agents.proofs.Vocabulary.{RunningSweep, After, GoesOn, Ends, Agent, Event, Take, Forget, next_in, next_of, take_in, take, begin, started, forget, is_idle, has_sense, max_jobs, after_all, Exchange, exchange_of, exchanges}
+use Rattle.law_agents.proofs.Vocabulary.{steps_in}
 use Rattle.rep_core.specs.declared.reply.Reply.TheVariants as reply
-use Rattle.weak_cache.proofs.Origins.{forgotten_has}
-use Rattle.txn_core.specs.declared.response.Response.{Response}
-use Rattle.txn_core.specs.declared.response.Response.TheVariants.{Replied, Lacked}
-use Rattle.txn_core.specs.declared.job.Job.{Job}
-use Rattle.txn_core.specs.declared.job.Job.TheVariants.{Transaction, Sweep}
-use Rattle.txn_core.specs.Doing.{home_of, Fixed, TransactionRun, Sweeping, Listing, Resolving, Telling, Breaking, SweepRun, Doing, Running, RunningSweep, After, GoesOn, Ends}
 use Rattle.txn_core.specs.Sweeps as sweep
 use Rattle.txn_core.specs.Agents as agents
-use Rattle.txn_core.specs.Agents.{Agent, Event, Take, Forget, next_in, next_of, take_in, take, begin, started, forget, is_idle, has_sense, max_jobs, after_all}
-use Rattle.txn_core.specs.Laws.{Exchange, exchange_of, exchanges}
-use Rattle.law_agents.specs.Steps.{steps_in}
 use Rattle.law_agents.proofs.Walk.{Goes, InPhase, CacheFine, Goes', l_execute}
 use Rattle.law_agents.proofs.Words.{ResponseSo, AsksSo, l_response, phase_asks}
 

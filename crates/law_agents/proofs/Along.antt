@@ -1,13 +1,7 @@
 -- What holds of a job's exchanges and of what its agent does: so at the begin and after each event, so always.
-use Rattle.std.proofs.Common.{◌≡◌, ℕ, List, [], ◌∷◌, ◌++◌, Option, Some, None, refl, sym, subst}
-use Rattle.std.proofs.lemmas.List.{append-nil, append_assoc}
-use Rattle.rep_core.specs.declared.request.Request.{Request}
-use Rattle.txn_core.specs.declared.response.Response.{Response}
-use Rattle.txn_core.specs.declared.job.Job.{Job}
-use Rattle.txn_core.specs.Doing.{Fixed, Doing, Running, RunningSweep}
-use Rattle.txn_core.specs.Agents.{Agent, Event, Take, Forget, next_in, next_of, take_in, begin, after_all}
-use Rattle.txn_core.specs.Laws.{Exchange, exchange_of, of_job}
-use Rattle.txn_core.proofs.Upheld.{after-append, exchanges-take, exchanges-forget}
+use Rattle.law_agents.proofs.Vocabulary.{◌≡◌, ℕ, List, [], ◌∷◌, ◌++◌, Option, Some, None, refl, sym, subst, append-nil, Request, Response, Job, Fixed, Doing, Running, RunningSweep, Agent, Event, Take, Forget, next_in, next_of, take_in}
+use Rattle.law_agents.proofs.Vocabulary.{begin, after_all, Exchange, exchange_of, of_job, after-append, exchanges-take, exchanges-forget}
+use Rattle.std.proofs.lemmas.List.{append_assoc}
 
 module _ (fixed : Fixed) (agent : Agent) (job : Job) (Holds : List Exchange → Option Doing → Type 0) where
   abbrev at : List Event → Agent

@@ -1,20 +1,7 @@
 -- What a collector asks, and when it has a quorum of nothing.
-use Rattle.std.proofs.Common.{◌≡◌, ℕ, ◌≤◌, ◌<◌, Bool, true, false, cond, List, [], ◌∷◌, ◌++◌, Option, Some, None, refl, sym, ap, subst, ◌∙◌, arith}
-use Rattle.std.specs.Prelude.{◌==◌, ◌&&◌, ◌||◌, not, nat_lt, nat_le, find, filter, map}
-use Rattle.std.specs.List.{list_any}
-use Rattle.std.proofs.lemmas.Bool.Decides.{nat_tests}
-use Rattle.vote_core.specs.Quorums.{Representative, Configuration, votes_in}
-use Rattle.suite_prefix.specs.declared.copies.Prefix.{Prefix}
-use Rattle.suite_prefix.specs.declared.lock_mode.LockMode.{LockMode}
-use Rattle.suite_prefix.specs.declared.lock_mode.LockMode.TheVariants.{Shared, Exclusive}
-use Rattle.suite_prefix.specs.LockModes.{serves}
-use Rattle.suite_collect.specs.declared.told.Said.{Said}
-use Rattle.suite_collect.specs.declared.told.Said.TheVariants.{Held, Busy, Down}
-use Rattle.suite_collect.specs.declared.told.Told.{Told}
-use Rattle.suite_collect.specs.Telling.{is_held, holds, newer, newest, shown}
-use Rattle.suite_collect.specs.Collecting.{Collector, all_told, counted, wanted, mode_or, needed, got, is_member, is_left, members_of, version, ask_or_short, asked_of, mode_asked, Ask, Current, Asked, Poll, Upgrade, next}
-use Rattle.rep_core.proofs.Finding.{find_some}
-use Rattle.txn_core.specs.Suites.{source_of}
+use Rattle.law_agents.proofs.Vocabulary.{◌≡◌, ℕ, ◌≤◌, ◌<◌, Bool, true, false, cond, List, [], ◌∷◌, ◌++◌, Option, Some, None, refl, sym, ap, subst, ◌∙◌, arith, ◌==◌, ◌&&◌, ◌||◌, not, nat_lt, nat_le, find, filter, map, list_any}
+use Rattle.law_agents.proofs.Vocabulary.{nat_tests, Representative, Configuration, votes_in, Prefix, LockMode, Shared, Exclusive, serves, Said, Held, Busy, Down, Told, is_held, holds, newer, newest, shown, Collector, all_told, counted}
+use Rattle.law_agents.proofs.Vocabulary.{wanted, mode_or, needed, got, is_member, is_left, members_of, version, ask_or_short, asked_of, mode_asked, Ask, Current, Asked, Poll, Upgrade, next, find_some, source_of}
 
 -- ---- its answers
 

@@ -1,20 +1,8 @@
 -- The votes that a transaction sets are those that it may.
-use Rattle.std.proofs.Common.{◌≡◌, ℕ, Bool, true, false, cond, List, [], ◌∷◌, Option, Some, None, Ok, Err, refl, subst}
-use Rattle.vote_core.specs.Quorums.{Configuration}
-use Rattle.acl_core.specs.Identity.{Identity}
-use Rattle.file_ops.specs.declared.answer.Answer.{Answer}
-use Rattle.file_ops.specs.declared.operation.Action.{Action}
-use Rattle.file_ops.specs.declared.operation.Op.{Op}
+use Rattle.law_agents.proofs.Vocabulary.{◌≡◌, ℕ, Bool, true, false, cond, List, [], ◌∷◌, Option, Some, None, Ok, Err, refl, subst, Configuration, Identity, Answer, Action, Op, Service, lists_unknown, known_votes, votes_of_new, Row}
+use Rattle.law_agents.proofs.Vocabulary.{Edit, SetAcl, SetVotes, SetContent, Make, Edits, Ended, Known, known_rows, Done, exec_of, votes_given, Licensed, writes_bytes, changes_lists, changes_votes, adds_name, makes_row, drops_name}
+use Rattle.law_agents.proofs.Vocabulary.{AllLicensed, known_licensed}
 use Rattle.file_ops.specs.declared.refusal.Why.TheVariants as why
-use Rattle.file_ops.specs.declared.service.Service.{Service}
-use Rattle.file_ops.specs.KnownVotes.{lists_unknown, known_votes, votes_of_new}
-use Rattle.file_ops.specs.Rows.{Row}
-use Rattle.file_exec.specs.declared.edit_log.Edit.{Edit}
-use Rattle.file_exec.specs.declared.edit_log.Edit.TheVariants.{SetAcl, SetVotes, SetContent, Make}
-use Rattle.file_exec.specs.Following.{Edits, Ended}
-use Rattle.file_exec.specs.Known.{Known, known_rows, Done, exec_of}
-use Rattle.file_exec.specs.Licensed.{votes_given, Licensed, writes_bytes, changes_lists, changes_votes, adds_name, makes_row, drops_name, AllLicensed}
-use Rattle.file_exec.proofs.Licensing.{known_licensed}
 
 -- an edit sets no votes but such
 abbrev pub Sets : (Configuration → Type 0) → Edit → Type 0

@@ -1,35 +1,12 @@
 -- A transaction ends as its home told.
-use Rattle.std.proofs.Common.{◌≡◌, ℕ, ◌+◌, true, false, cond, List, [], ◌∷◌, ◌++◌, Option, Some, None, refl, sym, ap, subst}
-use Rattle.std.specs.Prelude.{nat_lt, ◌&&◌}
-use Rattle.std.proofs.lemmas.Option.{same_Some}
-use Rattle.acl_core.specs.Identity.{Identity}
-use Rattle.file_ops.specs.declared.operation.Op.{Op}
-use Rattle.rep_core.specs.Fits.{is_prepared}
-use Rattle.rep_core.specs.declared.request.Request.{Request}
+use Rattle.law_agents.proofs.Vocabulary.{◌≡◌, ℕ, ◌+◌, true, false, cond, List, [], ◌∷◌, ◌++◌, Option, Some, None, refl, sym, ap, subst, nat_lt, ◌&&◌, same_Some, Identity, Op, is_prepared, Request, Verdict, Reply, Cache, Suites}
+use Rattle.law_agents.proofs.Vocabulary.{suite_of, parts_at, Response, Replied, Lacked, Cause, Lost, Ending, Undecided, Job, Transaction, Fixed, Task, home_of, Proposal, Phase, Gathering, Fetching, Widening, Preparing, Deciding}
+use Rattle.law_agents.proofs.Vocabulary.{Finishing, TransactionRun, Doing, Running, RunningSweep, After, GoesOn, Ends, lack_cause, tell_end, give_up, prepare, locked_at, prepared, after_response, request_in, changes_of, decision_of}
+use Rattle.law_agents.proofs.Vocabulary.{verdict_in, ending_by, cause_of_abort, Agent, Event, Take, next_in, next_of, end_of, take_in, begin, started, is_idle, has_sense, max_jobs, after_all, Exchange, exchange_of, of_job, is_decide}
+use Rattle.law_agents.proofs.Vocabulary.{said_by, told_verdict, task_of, asks_same, asked_as, fetched_as, exchanges-take, IsEarly, goes_response, goes_execute, EndsBy, EndsAsTold}
 use Rattle.rep_core.specs.declared.request.Request.TheVariants as request
-use Rattle.rep_core.specs.declared.reply.Verdict.{Verdict}
 use Rattle.rep_core.specs.declared.reply.Verdict.TheVariants as verdict
-use Rattle.rep_core.specs.declared.reply.Reply.{Reply}
-use Rattle.weak_cache.specs.Entries.{Cache}
-use Rattle.txn_core.specs.Suites.{Suites, suite_of}
-use Rattle.txn_core.specs.Writing.{parts_at}
-use Rattle.txn_core.specs.declared.response.Response.{Response}
-use Rattle.txn_core.specs.declared.response.Response.TheVariants.{Replied, Lacked}
-use Rattle.txn_core.specs.declared.ending.Cause.{Cause}
-use Rattle.txn_core.specs.declared.ending.Cause.TheVariants.{Lost}
-use Rattle.txn_core.specs.declared.ending.Ending.{Ending}
-use Rattle.txn_core.specs.declared.ending.Ending.TheVariants.{Undecided}
-use Rattle.txn_core.specs.declared.job.Job.{Job}
-use Rattle.txn_core.specs.declared.job.Job.TheVariants.{Transaction}
-use Rattle.txn_core.specs.Doing.{Fixed, Task, home_of, Proposal, Phase, Gathering, Fetching, Widening, Preparing, Deciding, Finishing, TransactionRun, Doing, Running, RunningSweep, After, GoesOn, Ends}
-use Rattle.txn_core.specs.Transactions.{lack_cause, tell_end, give_up, prepare, locked_at, prepared, after_response, request_in, changes_of, decision_of, verdict_in, ending_by, cause_of_abort}
 use Rattle.txn_core.specs.Agents as agents
-use Rattle.txn_core.specs.Agents.{Agent, Event, Take, next_in, next_of, end_of, take_in, begin, started, is_idle, has_sense, max_jobs, after_all}
-use Rattle.txn_core.specs.Laws.{Exchange, exchange_of, of_job, is_decide, said_by, told_verdict, task_of}
-use Rattle.txn_core.proofs.Asks.{asks_same, asked_as, fetched_as}
-use Rattle.txn_core.proofs.Upheld.{exchanges-take}
-use Rattle.txn_core.proofs.Walk.{IsEarly, goes_response, goes_execute}
-use Rattle.law_agents.specs.Endings.{EndsBy, EndsAsTold}
 use Rattle.law_agents.proofs.Along.{always}
 use Rattle.law_agents.proofs.Hearing.{push}
 

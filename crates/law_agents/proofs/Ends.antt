@@ -1,34 +1,16 @@
 -- The laws: an agent asks until its job is at an end, it asks whom it knows, and so the job is at an end in time.
-use Rattle.std.proofs.Common.{◌≡◌, inl, inr, ℕ, ◌+◌, ◌*◌, ◌<◌, ◌%◌, ◌/◌, Bool, true, false, cond, List, [], ◌∷◌, ◌++◌, length, Option, Some, None, refl, sym, ap, subst, ◌∙◌, arith}
-use Rattle.std.specs.Prelude.{◌==◌, ◌&&◌, ◌||◌, nat_lt, nat_le, is_some, IsSome, Contains}
-use Rattle.std.specs.List.{list_any, list_all}
+use Rattle.law_agents.proofs.Vocabulary.{◌≡◌, inl, inr, ℕ, ◌+◌, ◌*◌, ◌<◌, ◌%◌, ◌/◌, Bool, true, false, cond, List, [], ◌∷◌, ◌++◌, length, Option, Some, None, refl, sym, ap, subst, ◌∙◌, arith, ◌==◌, ◌&&◌, ◌||◌, nat_lt, nat_le, is_some}
+use Rattle.law_agents.proofs.Vocabulary.{IsSome, Contains, list_any, list_all, eq-eqb, false≢true, nat_tests, All-contains, Representative, Configuration, IsValid, Request, Reply, Has, any_has, contains_from, Entry, Cache, Response}
+use Rattle.law_agents.proofs.Vocabulary.{Replied, Lacked, Job, Transaction, Sweep, Fixed, home_of, Doing, Running, RunningSweep, Agent, Event, Take, Forget, next_in, next_of, take_in, take, begin, started, forget, is_idle, has_sense}
+use Rattle.law_agents.proofs.Vocabulary.{max_jobs, after_all, Exchange, exchange_of, exchanges, of_job, among, asks_only, names_of, names_only, listed, listed_in, ends_in_time, sweep_ends_in_time, IsNoCourse, no_course, exchanges-take}
+use Rattle.law_agents.proofs.Vocabulary.{agent_after, VotesAreValid, AsksUntilItEnds, names, names_in, is_known, AsksWhomItKnows, steps_in, names_next, EndsWithin, SweepEndsWithin, CachesStayValid, JobsEnd}
 use native.Mathlib.Nat.{mod-lt}
-use Rattle.std.proofs.lemmas.Bool.{eq-eqb, false≢true}
-use Rattle.std.proofs.lemmas.Bool.Decides.{nat_tests}
-use Rattle.std.proofs.lemmas.List.Elements.{All-contains}
-use Rattle.vote_core.specs.Quorums.{Representative, Configuration}
-use Rattle.vote_core.specs.Validity.{IsValid}
-use Rattle.rep_core.specs.declared.request.Request.{Request}
 use Rattle.rep_core.specs.declared.request.Request.TheVariants as request
-use Rattle.rep_core.specs.declared.reply.Reply.{Reply}
 use Rattle.rep_core.specs.declared.reply.Reply.TheVariants as reply
 use Rattle.rep_core.specs.declared.stamped.Lack.TheVariants as lack
-use Rattle.rep_core.proofs.Members.{Has, any_has, contains_from}
-use Rattle.weak_cache.specs.Entries.{Entry, Cache}
 use Rattle.weak_cache.proofs.Origins as origins
-use Rattle.txn_core.specs.declared.response.Response.{Response}
-use Rattle.txn_core.specs.declared.response.Response.TheVariants.{Replied, Lacked}
-use Rattle.txn_core.specs.declared.job.Job.{Job}
-use Rattle.txn_core.specs.declared.job.Job.TheVariants.{Transaction, Sweep}
-use Rattle.txn_core.specs.Doing.{Fixed, home_of, Doing, Running, RunningSweep}
 use Rattle.txn_core.specs.Sweeps as sweep
 use Rattle.txn_core.specs.Agents as agents
-use Rattle.txn_core.specs.Agents.{Agent, Event, Take, Forget, next_in, next_of, take_in, take, begin, started, forget, is_idle, has_sense, max_jobs, after_all}
-use Rattle.txn_core.specs.Laws.{Exchange, exchange_of, exchanges, of_job, among, asks_only, names_of, names_only, listed, listed_in}
-use Rattle.txn_core.proofs.Bound.{ends_in_time}
-use Rattle.txn_core.proofs.Swept.{sweep_ends_in_time, IsNoCourse, no_course}
-use Rattle.txn_core.proofs.Upheld.{exchanges-take}
-use Rattle.law_agents.specs.Steps.{agent_after, VotesAreValid, AsksUntilItEnds, names, names_in, is_known, AsksWhomItKnows, steps_in, names_next, EndsWithin, SweepEndsWithin, CachesStayValid, JobsEnd}
 use Rattle.law_agents.proofs.Collectors.{AllReps}
 use Rattle.law_agents.proofs.Walk.{Goes, CacheFine}
 use Rattle.law_agents.proofs.Words.{ResponseSo, AsksSo}

@@ -1,23 +1,10 @@
 -- A content is fetched at the source that the suite's first quorum gave.
-use Rattle.std.proofs.Common.{◌≡◌, ℕ, Bool, true, false, List, [], ◌∷◌, Option, Some, None, refl, sym, ap, subst, ◌∙◌}
-use Rattle.std.specs.Prelude.{◌==◌}
-use Rattle.std.proofs.lemmas.Bool.{eqb-true, false≢true}
-use Rattle.std.proofs.lemmas.Option.{same_Some}
-use Rattle.rep_core.specs.declared.request.Request.{Request}
+use Rattle.law_agents.proofs.Vocabulary.{◌≡◌, ℕ, Bool, true, false, List, [], ◌∷◌, Option, Some, None, refl, sym, ap, subst, ◌∙◌, ◌==◌, eqb-true, false≢true, same_Some, Request, ReadPoint, GatheredSuite, Suites, suite_of, parts_at, Job}
+use Rattle.law_agents.proofs.Vocabulary.{home_of, Fixed, Task, Phase, Gathering, Fetching, Widening, Preparing, Deciding, Finishing, Sweeping, Listing, Resolving, Telling, Breaking, SweepRun, Doing, Running, RunningSweep, fetched_at}
+use Rattle.law_agents.proofs.Vocabulary.{fetched_for, request_in, changes_of, decision_of, Agent, Event, next_in, begin, after_all, Exchange, of_job, asks_same, asked_as, StandsOn, self, Kept, Base_of, Started, Begins, DoingStands}
+use Rattle.law_agents.proofs.Vocabulary.{stands_after, started_is, IsFetching, FetchesInOrder}
 use Rattle.rep_core.specs.declared.request.Request.TheVariants as request
-use Rattle.txn_core.specs.Suites.{ReadPoint, GatheredSuite, Suites, suite_of}
-use Rattle.txn_core.specs.Writing.{parts_at}
-use Rattle.txn_core.specs.declared.job.Job.{Job}
-use Rattle.txn_core.specs.Doing.{home_of, Fixed, Task, Phase, Gathering, Fetching, Widening, Preparing, Deciding, Finishing, Sweeping, Listing, Resolving, Telling, Breaking, SweepRun, Doing, Running, RunningSweep}
-use Rattle.txn_core.specs.Transactions.{fetched_at, fetched_for, request_in, changes_of, decision_of}
 use Rattle.txn_core.specs.Sweeps as sweep
-use Rattle.txn_core.specs.Agents.{Agent, Event, next_in, begin, after_all}
-use Rattle.txn_core.specs.Laws.{Exchange, of_job}
-use Rattle.txn_core.proofs.Asks.{asks_same, asked_as}
-use Rattle.txn_core.proofs.Causes.{StandsOn}
-use Rattle.txn_core.proofs.Gathers.{self, Kept}
-use Rattle.txn_core.proofs.Upheld.{Base_of, Started, Begins, DoingStands, stands_after, started_is}
-use Rattle.law_agents.specs.Fetches.{IsFetching, FetchesInOrder}
 
 -- it is for the content of the suite
 abbrev fetches : ℕ → Request → Bool

@@ -1,62 +1,14 @@
 -- A lock is asked for of the first server that is left.
-use Rattle.std.proofs.Common.{◌≡◌, ℕ, ◌<◌, Bool, true, false, cond, inl, inr, List, [], ◌∷◌, ◌++◌, Option, Some, None, refl, sym, ap, subst, ◌∙◌, arith}
-use Rattle.std.specs.Prelude.{◌&&◌, not, nat_lt, nat_le, find}
-use Rattle.std.proofs.lemmas.Bool.{eqb-true, false≢true}
-use Rattle.std.proofs.lemmas.Bool.Decides.{nat_tests}
-use Rattle.std.proofs.lemmas.Option.{same_Some}
-use Rattle.vote_core.specs.Quorums.{Representative}
-use Rattle.suite_prefix.specs.declared.lock_mode.LockMode.{LockMode}
-use Rattle.suite_prefix.specs.declared.lock_mode.LockMode.TheVariants.{Shared}
-use Rattle.rep_core.specs.declared.request.Request.{Request}
+use Rattle.law_agents.proofs.Vocabulary.{◌≡◌, ℕ, ◌<◌, Bool, true, false, cond, inl, inr, List, [], ◌∷◌, ◌++◌, Option, Some, None, refl, sym, ap, subst, ◌∙◌, arith, ◌&&◌, not, nat_lt, nat_le, find, eqb-true, false≢true, nat_tests}
+use Rattle.law_agents.proofs.Vocabulary.{same_Some, Representative, LockMode, Shared, Request, Said, newest, has_told, Collector, told_since, votes_or, mode_or, all_told, counted, wanted, needed, got, is_member, is_left, asked_of}
+use Rattle.law_agents.proofs.Vocabulary.{ask_or_short, version, members_of, request_for, Asked, Poll, Upgrade, Next, Ask, Current, Short, next, GatheredSuite, Suites, suite_of, told_in, parts_at, Job, home_of, Fixed, Task, Phase}
+use Rattle.law_agents.proofs.Vocabulary.{Gathering, Fetching, Widening, Preparing, Deciding, Finishing, Sweeping, Listing, Resolving, Telling, Breaking, SweepRun, Doing, Running, RunningSweep, asked_by, asked_for, request_in}
+use Rattle.law_agents.proofs.Vocabulary.{changes_of, decision_of, Agent, Event, next_in, begin, after_all, Exchange, of_job, locks, told_of, has_said, holding, refusing, SetsVotes, asks_same, fetched_as, StandsOn, Wants, Sets, Are}
+use Rattle.law_agents.proofs.Vocabulary.{asks_lock, kind_of, told_said, votes_same, IsOf, is_wanted, sets, Base_of, Started, Begins, DoingStands, stands_after, started_is, number_of, CountsBy, IsGathering, GathersInOrder}
 use Rattle.rep_core.specs.declared.request.Request.TheVariants as request
-use Rattle.suite_collect.specs.declared.told.Said.{Said}
-use Rattle.suite_collect.specs.Telling.{newest, has_told}
-use Rattle.suite_collect.specs.Collecting.{
-  Collector,
-  told_since,
-  votes_or,
-  mode_or,
-  all_told,
-  counted,
-  wanted,
-  needed,
-  got,
-  is_member,
-  is_left,
-  asked_of,
-  ask_or_short,
-  version,
-  members_of,
-  request_for,
-  Asked,
-  Poll,
-  Upgrade,
-  Next,
-  Ask,
-  Current,
-  Short,
-  next,
-}
 use Rattle.suite_collect.specs.Collecting as collecting
-use Rattle.txn_core.specs.Suites.{GatheredSuite, Suites, suite_of, told_in}
-use Rattle.txn_core.specs.Writing.{parts_at}
-use Rattle.txn_core.specs.declared.job.Job.{Job}
-use Rattle.txn_core.specs.Doing.{home_of, Fixed, Task, Phase, Gathering, Fetching, Widening, Preparing, Deciding, Finishing, Sweeping, Listing, Resolving, Telling, Breaking, SweepRun, Doing, Running, RunningSweep}
-use Rattle.txn_core.specs.Transactions.{asked_by, asked_for, request_in, changes_of, decision_of}
 use Rattle.txn_core.specs.Sweeps as sweep
-use Rattle.txn_core.specs.Agents.{Agent, Event, next_in, begin, after_all}
-use Rattle.txn_core.specs.Laws.{Exchange, of_job, locks, told_of, has_said, holding, refusing}
-use Rattle.txn_core.specs.Undecided.{SetsVotes}
-use Rattle.txn_core.proofs.Asks.{asks_same, fetched_as}
-use Rattle.txn_core.proofs.Causes.{StandsOn}
-use Rattle.txn_core.proofs.Gathers.{Wants, Sets}
-use Rattle.txn_core.proofs.ToldLists.{Are, asks_lock}
-use Rattle.txn_core.proofs.Shown.{kind_of, told_said, votes_same}
-use Rattle.txn_core.proofs.Undecided.{IsOf, is_wanted, sets}
-use Rattle.txn_core.proofs.Upheld.{Base_of, Started, Begins, DoingStands, stands_after, started_is}
-use Rattle.law_agents.specs.Orders.{number_of}
 use Rattle.law_agents.specs.Gathers as law
-use Rattle.law_agents.specs.Gathers.{CountsBy, IsGathering, GathersInOrder}
 
 -- ---- what stands behind an Ask
 

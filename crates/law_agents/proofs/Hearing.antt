@@ -1,56 +1,11 @@
 -- One walk through what a transaction does with what it is told while it gathers, with what was told of each suite.
-use Rattle.std.proofs.Common.{◌≡◌, ℕ, Bool, true, false, cond, List, [], ◌∷◌, ◌++◌, Option, Some, None, Ok, Err, refl, sym, ap, subst, ◌∙◌}
-use Rattle.std.specs.Prelude.{◌==◌, length}
-use Rattle.std.proofs.lemmas.Bool.{eqb-true}
-use Rattle.suite_content.specs.declared.content.Content.{Content}
-use Rattle.rep_core.specs.declared.request.Request.{Request}
-use Rattle.rep_core.specs.declared.reply.Reply.{Reply}
-use Rattle.file_exec.specs.declared.need.Need.TheVariants.{Hold, Know}
+use Rattle.law_agents.proofs.Vocabulary.{◌≡◌, ℕ, Bool, true, false, cond, List, [], ◌∷◌, ◌++◌, Option, Some, None, Ok, Err, refl, sym, ap, subst, ◌∙◌, ◌==◌, length, eqb-true, Content, Request, Reply, Hold, Know, Said, Told, all_told}
+use Rattle.law_agents.proofs.Vocabulary.{tell, mode_of, Next, Ask, Current, Short, next, Cache, ReadPoint, GatheredSuite, Suites, suite_of, with_suite, told_in, settled, Response, Replied, Lacked, Cause, Lost, Granted, Fixed, Task}
+use Rattle.law_agents.proofs.Vocabulary.{Proposal, Phase, Gathering, Fetching, Widening, Preparing, Deciding, Finishing, TransactionRun, After, GoesOn, Step, Gathered, give_up, prepare, locked_at, short_cause, gather_by, widen_by}
+use Rattle.law_agents.proofs.Vocabulary.{widen_one, widened, widen_all, opened, heard_on, raised_or_new, keep_content, heard_of, said_to, proceed, execute, collected, hear, fetched, after_response, asked_for, request_in, given_in}
+use Rattle.law_agents.proofs.Vocabulary.{lack_cause, Exchange, locks, told_of, told_by, more_told, fetched_as, Are, are_with, are_same, are_opened, told_raised, all_told-tell, asks_lock, IsEarly}
 use Rattle.file_exec.specs.declared.executor.Outcome.{Outcome as Executed}
 use Rattle.file_exec.specs.declared.executor.Outcome.TheVariants as exec
-use Rattle.suite_collect.specs.declared.told.Said.{Said}
-use Rattle.suite_collect.specs.declared.told.Told.{Told}
-use Rattle.suite_collect.specs.Collecting.{all_told, tell, mode_of, Next, Ask, Current, Short, next}
-use Rattle.weak_cache.specs.Entries.{Cache}
-use Rattle.txn_core.specs.Suites.{ReadPoint, GatheredSuite, Suites, suite_of, with_suite, told_in, settled}
-use Rattle.txn_core.specs.declared.response.Response.{Response}
-use Rattle.txn_core.specs.declared.response.Response.TheVariants.{Replied, Lacked}
-use Rattle.txn_core.specs.declared.ending.Cause.{Cause}
-use Rattle.txn_core.specs.declared.ending.Cause.TheVariants.{Lost}
-use Rattle.txn_core.specs.Doing.{Granted, Fixed, Task, Proposal, Phase, Gathering, Fetching, Widening, Preparing, Deciding, Finishing, TransactionRun, After, GoesOn}
-use Rattle.txn_core.specs.Transactions.{
-  Step,
-  Gathered,
-  give_up,
-  prepare,
-  locked_at,
-  short_cause,
-  gather_by,
-  widen_by,
-  widen_one,
-  widened,
-  widen_all,
-  opened,
-  heard_on,
-  raised_or_new,
-  keep_content,
-  heard_of,
-  said_to,
-  proceed,
-  execute,
-  collected,
-  hear,
-  fetched,
-  after_response,
-  asked_for,
-  request_in,
-  given_in,
-  lack_cause,
-}
-use Rattle.txn_core.specs.Laws.{Exchange, locks, told_of, told_by, more_told}
-use Rattle.txn_core.proofs.Asks.{fetched_as}
-use Rattle.txn_core.proofs.ToldLists.{Are, are_with, are_same, are_opened, told_raised, all_told-tell, asks_lock}
-use Rattle.txn_core.proofs.Walk.{IsEarly}
 
 -- ---- what was told of each suite, with one exchange more
 

@@ -1,3 +1,4 @@
+mod Vocabulary
 pub mod Courses
 pub mod Collectors
 pub mod Walk

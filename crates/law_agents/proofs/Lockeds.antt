@@ -1,38 +1,11 @@
 -- The servers that hold locks for a transaction are those that were heard to hold one.
-use Rattle.std.proofs.Common.{◌≡◌, ℕ, Bool, true, false, cond, List, [], ◌∷◌, ◌++◌, Some, None, refl, sym, ap, ◌∙◌}
-use Rattle.std.specs.Prelude.{◌==◌, ◌&&◌, ◌||◌, filter}
-use Rattle.std.specs.Ordering.{nat_cmp}
-use Rattle.std.specs.BTreeMap.{is_at}
-use Rattle.std.specs.Cmp.{unsigned_tied}
-use Rattle.std.specs.Map.{keys_of}
-use Rattle.std.proofs.lemmas.Bool.{false≢true}
-use Rattle.std.proofs.lemmas.Cmp.{nat_cmp_total, eq_by_cmp_equiv}
-use Rattle.std.proofs.lemmas.List.Folds.{list_any-append}
-use Rattle.std.proofs.lemmas.Map.{lookup-none}
-use Rattle.std.proofs.lemmas.Map.Entries.{none_past_head}
-use Rattle.std.proofs.lemmas.Map.Keys.{IsDistinct-from_sorted, sorted_tail}
-use Rattle.sorted_map.specs.SortedMap.{IsOrdered}
-use Rattle.suite_prefix.specs.declared.lock_mode.LockMode.TheVariants.{Shared}
-use Rattle.vote_core.specs.Validity.{max_servers}
-use Rattle.rep_core.specs.declared.request.Request.{Request}
+use Rattle.law_agents.proofs.Vocabulary.{◌≡◌, ℕ, Bool, true, false, cond, List, [], ◌∷◌, ◌++◌, Some, None, refl, sym, ap, ◌∙◌, ◌==◌, ◌&&◌, ◌||◌, filter, nat_cmp, is_at, unsigned_tied, keys_of, false≢true, nat_cmp_total, eq_by_cmp_equiv}
+use Rattle.law_agents.proofs.Vocabulary.{list_any-append, lookup-none, none_past_head, IsDistinct-from_sorted, sorted_tail, IsOrdered, Shared, max_servers, Request, Reply, Told, Said, holds, mode_of, Response, Replied, Lacked, Suites}
+use Rattle.law_agents.proofs.Vocabulary.{suite_of, told_in, holds_lock, has_locks, numbers_from, is_poll, said_to, locked_at, Exchange, locks, says_held, was_held, told_of, told_by, more_told, self, serves_shared, Are, or_true, has_one}
+use Rattle.law_agents.proofs.Vocabulary.{wants_lock, was_locked, locked}
 use Rattle.rep_core.specs.declared.request.Request.TheVariants as request
-use Rattle.rep_core.specs.declared.reply.Reply.{Reply}
 use Rattle.rep_core.specs.declared.reply.Reply.TheVariants as reply
-use Rattle.suite_collect.specs.declared.told.Told.{Told}
-use Rattle.suite_collect.specs.declared.told.Said.{Said}
-use Rattle.suite_collect.specs.Telling.{holds}
-use Rattle.suite_collect.specs.Collecting.{mode_of}
-use Rattle.txn_core.specs.declared.response.Response.{Response}
-use Rattle.txn_core.specs.declared.response.Response.TheVariants.{Replied, Lacked}
-use Rattle.txn_core.specs.Suites.{Suites, suite_of, told_in, told_at, holds_lock, has_locks}
-use Rattle.txn_core.specs.Transactions.{numbers_from, is_poll, said_to, locked_at}
-use Rattle.txn_core.specs.Laws.{Exchange, locks, says_held, was_held, told_of, told_by, more_told}
-use Rattle.txn_core.proofs.Gathers.{self}
-use Rattle.txn_core.proofs.Locks.{serves_shared}
-use Rattle.txn_core.proofs.ToldLists.{Are}
-use Rattle.txn_core.proofs.SuiteQuorums.{or_true}
-use Rattle.txn_core.proofs.Ready.{has_one}
-use Rattle.law_agents.specs.Orders.{wants_lock, was_locked, locked}
+use Rattle.txn_core.specs.Suites.{told_at}
 
 -- ---- what was told of a suite is what was heard of it
 

@@ -1,44 +1,16 @@
 -- A transaction asks in order.
-use Rattle.std.proofs.Common.{◌≡◌, ℕ, ◌+◌, ◌≤◌, ◌<◌, Bool, true, false, cond, inl, inr, List, [], ◌∷◌, ◌++◌, Option, Some, None, refl, sym, ap, subst, ◌∙◌, arith}
-use Rattle.std.specs.Prelude.{◌==◌, ◌&&◌, nat_lt, map, filter, Contains}
-use Rattle.std.proofs.lemmas.Bool.{eqb-true, false≢true}
-use Rattle.std.proofs.lemmas.List.{append-nil, append_assoc, map-append}
-use Rattle.std.proofs.lemmas.List.Elements.{Contains-push_cases, Contains-append_right, filter-append}
-use Rattle.std.proofs.lemmas.Option.{same_Some}
-use Rattle.acl_core.specs.Identity.{Identity}
-use Rattle.file_ops.specs.declared.operation.Op.{Op}
-use Rattle.rep_core.proofs.Members.{has_from, contains_from}
-use Rattle.rep_core.specs.Fits.{is_prepared}
-use Rattle.rep_core.specs.declared.request.Request.{Request}
+use Rattle.law_agents.proofs.Vocabulary.{◌≡◌, ℕ, ◌+◌, ◌≤◌, ◌<◌, Bool, true, false, cond, inl, inr, List, [], ◌∷◌, ◌++◌, Option, Some, None, refl, sym, ap, subst, ◌∙◌, arith, ◌==◌, ◌&&◌, nat_lt, map, filter, Contains, eqb-true}
+use Rattle.law_agents.proofs.Vocabulary.{false≢true, append-nil, map-append, Contains-push_cases, Contains-append_right, filter-append, same_Some, Identity, Op, has_from, contains_from, is_prepared, Request, Verdict, Cache, Suites}
+use Rattle.law_agents.proofs.Vocabulary.{suite_of, parts_at, Response, Replied, Lacked, Cause, Lost, Ending, Undecided, Job, Transaction, home_of, Fixed, Task, Proposal, Phase, Gathering, Fetching, Widening, Preparing, Deciding}
+use Rattle.law_agents.proofs.Vocabulary.{Finishing, TransactionRun, Doing, Running, RunningSweep, After, GoesOn, tell_end, give_up, prepare, locked_at, after_response, request_in, request_of, changes_of, decision_of, verdict_in}
+use Rattle.law_agents.proofs.Vocabulary.{ending_by, cause_of_abort, lack_cause, Agent, Event, next_in, next_of, take_in, begin, started, is_idle, has_sense, max_jobs, after_all, Exchange, of_job, is_decide, is_prepare, says_prepared}
+use Rattle.law_agents.proofs.Vocabulary.{told_verdict, task_of, is_finish, asks_same, asked_as, fetched_as, StandsOn, self, Base, Keeps, plus_all, nothing_held, all_keep, begin_keeps, Are, are_nil, finish_carries_the_verdict, Base_of}
+use Rattle.law_agents.proofs.Vocabulary.{Started, Begins, DoingStands, stands_after, IsEarly, stage, number_of, locked, sent_to, IsInOrder, StagesRise, AllPrepared, IsPreparing, PreparesInOrder, IsDeciding, DecidesInOrder, IsFinishing}
+use Rattle.law_agents.proofs.Vocabulary.{FinishesInOrder, AllFinish}
+use Rattle.std.proofs.lemmas.List.{append_assoc}
 use Rattle.rep_core.specs.declared.request.Request.TheVariants as request
-use Rattle.rep_core.specs.declared.reply.Verdict.{Verdict}
 use Rattle.rep_core.specs.declared.reply.Verdict.TheVariants as verdict
-use Rattle.weak_cache.specs.Entries.{Cache}
-use Rattle.txn_core.specs.Suites.{Suites, suite_of}
-use Rattle.txn_core.specs.Writing.{parts_at}
-use Rattle.txn_core.specs.declared.response.Response.{Response}
-use Rattle.txn_core.specs.declared.response.Response.TheVariants.{Replied, Lacked}
-use Rattle.txn_core.specs.declared.ending.Cause.{Cause}
-use Rattle.txn_core.specs.declared.ending.Cause.TheVariants.{Lost}
-use Rattle.txn_core.specs.declared.ending.Ending.{Ending}
-use Rattle.txn_core.specs.declared.ending.Ending.TheVariants.{Undecided}
-use Rattle.txn_core.specs.declared.job.Job.{Job}
-use Rattle.txn_core.specs.declared.job.Job.TheVariants.{Transaction}
-use Rattle.txn_core.specs.Doing.{home_of, Fixed, Task, Proposal, Phase, Gathering, Fetching, Widening, Preparing, Deciding, Finishing, TransactionRun, Doing, Running, RunningSweep, After, GoesOn}
-use Rattle.txn_core.specs.Transactions.{tell_end, give_up, prepare, locked_at, after_response, request_in, request_of, changes_of, decision_of, verdict_in, ending_by, cause_of_abort, lack_cause}
 use Rattle.txn_core.specs.Agents as agents
-use Rattle.txn_core.specs.Agents.{Agent, Event, next_in, next_of, take_in, begin, started, is_idle, has_sense, max_jobs, after_all}
-use Rattle.txn_core.specs.Laws.{Exchange, of_job, is_decide, is_prepare, says_prepared, told_verdict, task_of}
-use Rattle.txn_core.specs.Undecided.{is_finish}
-use Rattle.txn_core.proofs.Asks.{asks_same, asked_as, fetched_as}
-use Rattle.txn_core.proofs.Causes.{StandsOn}
-use Rattle.txn_core.proofs.Gathers.{self, Base}
-use Rattle.txn_core.proofs.Locks.{Keeps, plus_all, nothing_held, all_keep, begin_keeps}
-use Rattle.txn_core.proofs.ToldLists.{Are, are_nil}
-use Rattle.txn_core.proofs.Mild.{finish_carries_the_verdict}
-use Rattle.txn_core.proofs.Upheld.{Base_of, Started, Begins, DoingStands, stands_after}
-use Rattle.txn_core.proofs.Walk.{IsEarly}
-use Rattle.law_agents.specs.Orders.{stage, number_of, locked, sent_to, IsInOrder, StagesRise, AllPrepared, IsPreparing, PreparesInOrder, IsDeciding, DecidesInOrder, IsFinishing, FinishesInOrder, AllFinish}
 use Rattle.law_agents.proofs.Along.{always}
 use Rattle.law_agents.proofs.Hearing.{tells, push, goes_on, goes_execute}
 use Rattle.law_agents.proofs.Lockeds.{HeardOf, heard_of_are, locked_is, locked_still}

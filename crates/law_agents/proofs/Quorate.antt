@@ -1,65 +1,15 @@
 -- A transaction prepares on quorums: if all now prepared, it would have it decided, on just these suites.
-use Rattle.std.proofs.Common.{◌≡◌, ℕ, ◌+◌, true, false, cond, List, [], ◌∷◌, ◌++◌, Option, Some, None, refl, sym, ap, subst, ◌∙◌}
-use Rattle.std.specs.Prelude.{nat_lt, ◌&&◌}
-use Rattle.std.proofs.lemmas.Bool.{false≢true}
-use Rattle.std.proofs.lemmas.Option.{same_Some}
-use Rattle.rep_core.specs.Fits.{is_prepared}
-use Rattle.rep_core.specs.declared.request.Part.{Part}
-use Rattle.rep_core.specs.declared.request.Request.{Request}
+use Rattle.law_agents.proofs.Vocabulary.{◌≡◌, ℕ, ◌+◌, true, false, cond, List, [], ◌∷◌, ◌++◌, Option, Some, None, refl, sym, ap, subst, ◌∙◌, nat_lt, ◌&&◌, false≢true, same_Some, is_prepared, Part, Request, Verdict, Cache, GatheredSuite}
+use Rattle.law_agents.proofs.Vocabulary.{Suites, suite_of, told_in, parts_at, Response, Replied, Lacked, Cause, Lost, Ending, Undecided, Job, Transaction, Sweep, home_of, Fixed, Task, Proposal, Phase, Gathering, Fetching, Widening}
+use Rattle.law_agents.proofs.Vocabulary.{Preparing, Deciding, Finishing, TransactionRun, Sweeping, Listing, Resolving, Telling, Breaking, SweepRun, Doing, Running, RunningSweep, After, GoesOn, Ends, tell_end, give_up, prepare}
+use Rattle.law_agents.proofs.Vocabulary.{locked_at, after_response, request_in, request_of, changes_of, decision_of, verdict_in, ending_by, cause_of_abort, lack_cause, Agent, Event, Take, Forget, next_in, next_of, take_in, take, begin}
+use Rattle.law_agents.proofs.Vocabulary.{started, forget, is_idle, has_sense, max_jobs, after_all, Exchange, of_job, locks, is_prepare, task_of, IsReady, asks_same, asked_as, fetched_as, StandsOn, Base, Are, are_nil, decides_on_quorums}
+use Rattle.law_agents.proofs.Vocabulary.{Base_of, Started, Begins, DoingStands, stands_after, IsEarly, IsWritten, PreparesOnQuorums}
 use Rattle.rep_core.specs.declared.request.Request.TheVariants as request
 use Rattle.rep_core.specs.declared.reply.Reply.TheVariants as reply
-use Rattle.rep_core.specs.declared.reply.Verdict.{Verdict}
 use Rattle.rep_core.specs.declared.reply.Verdict.TheVariants as verdict
-use Rattle.weak_cache.specs.Entries.{Cache}
-use Rattle.txn_core.specs.Suites.{GatheredSuite, Suites, suite_of, told_in}
-use Rattle.txn_core.specs.Writing.{parts_at}
-use Rattle.txn_core.specs.declared.response.Response.{Response}
-use Rattle.txn_core.specs.declared.response.Response.TheVariants.{Replied, Lacked}
-use Rattle.txn_core.specs.declared.ending.Cause.{Cause}
-use Rattle.txn_core.specs.declared.ending.Cause.TheVariants.{Lost}
-use Rattle.txn_core.specs.declared.ending.Ending.{Ending}
-use Rattle.txn_core.specs.declared.ending.Ending.TheVariants.{Undecided}
-use Rattle.txn_core.specs.declared.job.Job.{Job}
-use Rattle.txn_core.specs.declared.job.Job.TheVariants.{Transaction, Sweep}
-use Rattle.txn_core.specs.Doing.{
-  home_of,
-  Fixed,
-  Task,
-  Proposal,
-  Phase,
-  Gathering,
-  Fetching,
-  Widening,
-  Preparing,
-  Deciding,
-  Finishing,
-  TransactionRun,
-  Sweeping,
-  Listing,
-  Resolving,
-  Telling,
-  Breaking,
-  SweepRun,
-  Doing,
-  Running,
-  RunningSweep,
-  After,
-  GoesOn,
-  Ends,
-}
-use Rattle.txn_core.specs.Transactions.{tell_end, give_up, prepare, locked_at, after_response, request_in, request_of, changes_of, decision_of, verdict_in, ending_by, cause_of_abort, lack_cause}
 use Rattle.txn_core.specs.Sweeps as sweep
 use Rattle.txn_core.specs.Agents as agents
-use Rattle.txn_core.specs.Agents.{Agent, Event, Take, Forget, next_in, next_of, take_in, take, begin, started, forget, is_idle, has_sense, max_jobs, after_all}
-use Rattle.txn_core.specs.Laws.{Exchange, of_job, locks, is_prepare, task_of, IsReady}
-use Rattle.txn_core.proofs.Asks.{asks_same, asked_as, fetched_as}
-use Rattle.txn_core.proofs.Causes.{StandsOn}
-use Rattle.txn_core.proofs.Gathers.{Base}
-use Rattle.txn_core.proofs.ToldLists.{Are, are_nil}
-use Rattle.txn_core.proofs.Quorums.{decides_on_quorums}
-use Rattle.txn_core.proofs.Upheld.{Base_of, Started, Begins, DoingStands, stands_after}
-use Rattle.txn_core.proofs.Walk.{IsEarly}
-use Rattle.law_agents.specs.Quorate.{IsWritten, PreparesOnQuorums}
 use Rattle.law_agents.proofs.Along.{always}
 use Rattle.law_agents.proofs.Hearing.{tells, push, are_quiet, goes_on, goes_execute}
 

@@ -1,32 +1,18 @@
 -- Each job that ends in a run took few steps.
-use Rattle.std.proofs.Common.{◌≡◌, inl, inr, ℕ, zero, suc, ◌+◌, Bool, true, false, cond, List, [], ◌∷◌, ◌++◌, append_assoc, Option, Some, None, refl, sym, ap, subst, ◌∙◌, arith}
-use Rattle.std.specs.Prelude.{◌≢◌, ◌&&◌, ◌==◌, is_some, slice_get, slice_set}
-use Rattle.std.specs.List.{cons_option}
-use Rattle.std.proofs.lemmas.Bool.{eqb-true}
-use Rattle.std.proofs.lemmas.Bool.Decides.{nat_tests}
-use Rattle.std.proofs.lemmas.Option.{none-some, same_Some}
-use Rattle.suite_prefix.specs.SettingsRules.{Opening}
-use Rattle.rep_core.proofs.Members.{Has, has_from}
-use Rattle.rep_core.specs.declared.request.Request.{Request}
+use Rattle.law_agents.proofs.Vocabulary.{◌≡◌, inl, inr, ℕ, zero, suc, ◌+◌, Bool, true, false, cond, List, [], ◌∷◌, ◌++◌, append_assoc, Option, Some, None, refl, sym, ap, subst, ◌∙◌, arith, ◌≢◌, ◌&&◌, ◌==◌, is_some, slice_get, slice_set}
+use Rattle.law_agents.proofs.Vocabulary.{cons_option, eqb-true, nat_tests, none-some, same_Some, Opening, Has, has_from, Request, State, Response, Replied, Lacked, Ending, Agent, Take, next_of, left, take, begin, forget, fixed_of}
+use Rattle.law_agents.proofs.Vocabulary.{after-append, Begin, Crash, Return, Lack, EndedJob, Served, World, Actor, Stepped, server_at, actor_at, actors_from, outcome_of, serve, asks_at, asks, steps_once, lacks_for, lacks, operated}
+use Rattle.law_agents.proofs.Vocabulary.{operates, becomes, opening, step, dones, outcomes, run, asks_now, told_at, EndsInItsTime, RunsEndInTime}
 use Rattle.rep_core.specs.declared.request.Request.TheVariants as request
 use Rattle.rep_core.specs.declared.stamped.Lack as lacking
 use Rattle.rep_core.specs.declared.stamped.Lack.TheVariants as lack
-use Rattle.rep_core.specs.State.{State}
-use Rattle.txn_core.specs.declared.response.Response.{Response}
-use Rattle.txn_core.specs.declared.response.Response.TheVariants.{Replied, Lacked}
-use Rattle.txn_core.specs.declared.ending.Ending.{Ending}
 use Rattle.txn_core.specs.Agents as agents
-use Rattle.txn_core.specs.Agents.{Agent, Take, next_of, left, take, begin, forget, fixed_of}
-use Rattle.txn_core.proofs.Upheld.{after-append}
 use Rattle.run_core.specs.declared.event.Event.{Event}
-use Rattle.run_core.specs.declared.event.Event.TheVariants.{Begin, Step, Crash, Return, Forget, Lack}
-use Rattle.run_core.specs.declared.done.EndedJob.{EndedJob}
-use Rattle.run_core.specs.declared.done.Served.{Served}
+use Rattle.run_core.specs.declared.event.Event.TheVariants.{Step, Forget}
 use Rattle.run_core.specs.Worlds as worlds
-use Rattle.run_core.specs.Worlds.{World, Actor, Stepped, server_at, actor_at, actors_from, outcome_of, serve, answered, asks_at, asks, steps_once, lacks_for, lacks, operated, operates, becomes, opening, step}
-use Rattle.run_core.specs.Runs.{dones, outcomes, run}
+use Rattle.run_core.specs.Worlds.{answered}
 use Rattle.run_core.proofs.Appending as going
-use Rattle.law_agents.specs.RunBounds.{asks_now, told_by, told_of, told_at, EndsInItsTime, RunsEndInTime}
+use Rattle.law_agents.specs.RunBounds.{told_by, told_of}
 use Rattle.law_agents.proofs.RunJobs.{Fits, stays, begun_index, begins_job, same_number, forgets, told_so, takes, ends_now}
 
 -- ---- every agent of a run, event by event

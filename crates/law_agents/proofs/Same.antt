@@ -1,9 +1,5 @@
 -- Agents that were told the same ask the same.
-use Rattle.std.proofs.Common.{◌≡◌, true, Option, Some, None, refl, sym, ap, ◌∙◌}
-use Rattle.txn_core.specs.Doing.{Doing}
-use Rattle.txn_core.specs.Agents.{Agent, next_of, take, begin, is_idle, after_all}
-use Rattle.txn_core.specs.Laws.{of_job}
-use Rattle.law_agents.specs.Same.{SameToldSameAsked}
+use Rattle.law_agents.proofs.Vocabulary.{◌≡◌, true, Option, Some, None, refl, sym, ap, ◌∙◌, Doing, Agent, next_of, take, begin, is_idle, after_all, of_job, SameToldSameAsked}
 
 idle_none : (doing : Option Doing) → is_idle doing ≡ true → doing ≡ None
 idle_none None idle = refl

@@ -1,28 +1,13 @@
 -- Agents keep nothing for sites that are not there: an agent by itself, and each agent of a run.
-use Rattle.std.proofs.Common.{◌≡◌, ◌⊎◌, inl, inr, ℕ, zero, suc, ◌+◌, ◌<◌, Bool, true, false, cond, List, [], ◌∷◌, ◌++◌, append_assoc, Option, Some, None, refl, sym, ap, subst, ◌∙◌, arith}
-use Rattle.std.specs.Prelude.{◌&&◌, nat_lt, slice_get}
-use Rattle.std.proofs.lemmas.Bool.{false≢true, and_parts}
-use Rattle.std.proofs.lemmas.Bool.Decides.{nat_tests}
-use Rattle.std.proofs.lemmas.List.{append-nil}
-use Rattle.std.proofs.lemmas.Option.{none-some, same_Some}
-use Rattle.rep_core.specs.declared.request.Request.{Request}
-use Rattle.weak_cache.specs.Entries.{Entry}
+use Rattle.law_agents.proofs.Vocabulary.{◌≡◌, ◌⊎◌, inl, inr, ℕ, zero, suc, ◌+◌, ◌<◌, Bool, true, false, cond, List, [], ◌∷◌, ◌++◌, append_assoc, Option, Some, None, refl, sym, ap, subst, ◌∙◌, arith, ◌&&◌, nat_lt, slice_get, false≢true}
+use Rattle.law_agents.proofs.Vocabulary.{and_parts, nat_tests, append-nil, none-some, same_Some, Request, Entry, Response, Job, IsFetched, Fixed, Doing, Agent, Take, next_in, next_of, take_in, take, begin, begins, started, forget}
+use Rattle.law_agents.proofs.Vocabulary.{is_idle, has_sense, max_jobs, max_sites, after_all, fixed_of, caches_what_was_fetched, after-append, World, Actor, actors_from, opening, step, after, OfEach, agent_after, KeepsToSites}
+use Rattle.law_agents.proofs.Vocabulary.{AgentsStaySo, RunsKeepTo}
 use Rattle.weak_cache.proofs.Origins.{has_from}
-use Rattle.txn_core.specs.declared.response.Response.{Response}
-use Rattle.txn_core.specs.declared.job.Job.{Job}
-use Rattle.txn_core.specs.Caching.{IsFetched}
-use Rattle.txn_core.specs.Doing.{Fixed, Doing}
 use Rattle.txn_core.specs.Agents as agents
-use Rattle.txn_core.specs.Agents.{Agent, Take, next_in, next_of, take_in, take, begin, begins, started, forget, is_idle, has_sense, max_jobs, max_sites, after_all, fixed_of}
-use Rattle.txn_core.proofs.Caching.{caches_what_was_fetched}
-use Rattle.txn_core.proofs.Upheld.{after-append}
 use Rattle.run_core.specs.declared.event.Event.{Event}
 use Rattle.run_core.specs.declared.event.Event.TheVariants.{Forget}
-use Rattle.run_core.specs.Worlds.{World, Actor, actors_from, opening, step}
-use Rattle.run_core.specs.Runs.{after}
-use Rattle.run_core.proofs.EachAgent.{OfEach, after_event as each_after}
-use Rattle.law_agents.specs.Steps.{agent_after}
-use Rattle.law_agents.specs.Sites.{KeepsToSites, AgentsStaySo, RunsKeepTo}
+use Rattle.run_core.proofs.EachAgent.{after_event as each_after}
 use Rattle.law_agents.proofs.AllResponses.{busy_before}
 
 -- ---- an agent by itself

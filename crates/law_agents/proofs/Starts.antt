@@ -1,37 +1,10 @@
 -- With valid votes a suite that is gathered was told of, so a lock on it was asked for at its start.
-use Rattle.std.proofs.Common.{◌≡◌, inl, inr, ℕ, zero, suc, ◌<◌, Bool, true, false, List, [], ◌∷◌, ◌++◌, append_assoc, Option, Some, None, refl, sym, ap, subst, ◌∙◌, arith}
-use Rattle.std.specs.Prelude.{is_some, option_map, unwrap_or, Contains}
-use Rattle.std.proofs.lemmas.Bool.{false≢true}
-use Rattle.std.proofs.lemmas.List.Elements.{Contains-append_left}
-use Rattle.vote_core.specs.Quorums.{Representative, Configuration, total_votes}
-use Rattle.vote_core.specs.Validity.{IsValid}
-use Rattle.suite_prefix.specs.Absent.{absent_prefix}
-use Rattle.suite_prefix.specs.declared.copies.Prefix.{Prefix}
-use Rattle.suite_prefix.specs.declared.lock_mode.LockMode.{LockMode}
-use Rattle.suite_prefix.specs.declared.lock_mode.LockMode.TheVariants.{Exclusive}
-use Rattle.rep_core.proofs.Members.{Has, contains_from}
+use Rattle.law_agents.proofs.Vocabulary.{◌≡◌, inl, inr, ℕ, zero, suc, ◌<◌, Bool, true, false, List, [], ◌∷◌, ◌++◌, append_assoc, Option, Some, None, refl, sym, ap, subst, ◌∙◌, arith, is_some, option_map, unwrap_or, Contains, false≢true}
+use Rattle.law_agents.proofs.Vocabulary.{Contains-append_left, Representative, Configuration, total_votes, IsValid, absent_prefix, Prefix, LockMode, Exclusive, Has, contains_from, KnownSuite, changes_are_held, Said, Told, has_told}
+use Rattle.law_agents.proofs.Vocabulary.{newest, Collector, next, Current, some_needed, hint, hint_has, has_to, GatheredSuite, known_of, change_of, Job, Fixed, Change, Agent, Event, Take, Forget, next_of, take, begin, forget, is_idle}
+use Rattle.law_agents.proofs.Vocabulary.{after_all, Exchange, exchange_of, exchanges, of_job, told_of, has_said, holding, refusing, task_of, IsStart, WasGathered, SetsVotes, IsShort, untold_before, kind_of, told_said, agent_after}
+use Rattle.law_agents.proofs.Vocabulary.{VotesAreValid, IsAsked, StartsAreAsked}
 use Rattle.file_exec.specs.Known as known
-use Rattle.file_exec.specs.KnownSuites.{KnownSuite}
-use Rattle.file_exec.proofs.Unset.{changes_are_held}
-use Rattle.suite_collect.specs.declared.told.Said.{Said}
-use Rattle.suite_collect.specs.declared.told.Told.{Told}
-use Rattle.suite_collect.specs.Telling.{has_told, newest}
-use Rattle.suite_collect.specs.Collecting.{Collector, next, Current}
-use Rattle.suite_collect.proofs.Sources.{some_needed}
-use Rattle.weak_cache.specs.Cache.{hint}
-use Rattle.weak_cache.proofs.Origins.{hint_has, has_to}
-use Rattle.txn_core.specs.Suites.{GatheredSuite, known_of}
-use Rattle.txn_core.specs.Writing.{change_of}
-use Rattle.txn_core.specs.declared.job.Job.{Job}
-use Rattle.txn_core.specs.Doing.{Fixed}
-use Rattle.file_exec.specs.declared.changes.Change.{Change}
-use Rattle.txn_core.specs.Agents.{Agent, Event, Take, Forget, next_of, take, begin, forget, is_idle, after_all}
-use Rattle.txn_core.specs.Laws.{Exchange, exchange_of, exchanges, of_job, told_of, has_said, holding, refusing, task_of, IsStart}
-use Rattle.txn_core.specs.Undecided.{WasGathered, SetsVotes, IsShort}
-use Rattle.txn_core.proofs.Gathers.{untold_before}
-use Rattle.txn_core.proofs.Shown.{kind_of, told_said}
-use Rattle.law_agents.specs.Steps.{agent_after, VotesAreValid}
-use Rattle.law_agents.specs.Starts.{IsAsked, StartsAreAsked}
 use Rattle.law_agents.proofs.Collectors.{not_current}
 use Rattle.law_agents.proofs.Walk.{suite_known}
 use Rattle.law_agents.proofs.Ends.{caches_stay_valid}

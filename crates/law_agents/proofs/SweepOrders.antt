@@ -1,31 +1,13 @@
 -- A sweep asks in order.
-use Rattle.std.proofs.Common.{◌≡◌, ℕ, ◌+◌, Bool, true, false, cond, List, [], ◌∷◌, ◌++◌, Option, Some, None, refl, sym, ap, subst, ◌∙◌, arith}
-use Rattle.std.specs.Prelude.{◌==◌, ◌&&◌, not, nat_lt}
-use Rattle.std.proofs.lemmas.Option.{same_Some}
-use Rattle.file_ops.specs.declared.service.Service.{Service}
-use Rattle.rep_core.specs.declared.lock.Lock.{Lock}
-use Rattle.rep_core.specs.declared.request.Request.{Request}
+use Rattle.law_agents.proofs.Vocabulary.{◌≡◌, ℕ, ◌+◌, Bool, true, false, cond, List, [], ◌∷◌, ◌++◌, Option, Some, None, refl, sym, ap, subst, ◌∙◌, arith, ◌==◌, ◌&&◌, not, nat_lt, same_Some, Service, Lock, Request, Reply, Verdict}
+use Rattle.law_agents.proofs.Vocabulary.{is_own, has_prepared, Response, Replied, Lacked, Ending, Swept, Job, Sweep, home_of, Fixed, Sweeping, Listing, Resolving, Telling, Breaking, SweepRun, Doing, Running, RunningSweep, After, GoesOn}
+use Rattle.law_agents.proofs.Vocabulary.{Ends, rising, others, asked_now, sweep_on, Agent, Event, Take, next_in, next_of, end_of, take_in, take, begin, started, is_idle, has_sense, max_jobs, after_all, Exchange, exchange_of, of_job}
+use Rattle.law_agents.proofs.Vocabulary.{count_of, is_finish, self, exchanges-take, without, left_then, left_from, left_by, for_first, after_told, after_last, last_or, to_sweep, SweepsAskSo, says_done, says_verdict, is_break}
+use Rattle.law_agents.proofs.Vocabulary.{is_resolve, IsSwept, SweepsCount}
 use Rattle.rep_core.specs.declared.request.Request.TheVariants as request
-use Rattle.rep_core.specs.declared.reply.Reply.{Reply}
 use Rattle.rep_core.specs.declared.reply.Reply.TheVariants as reply
-use Rattle.rep_core.specs.declared.reply.Verdict.{Verdict}
-use Rattle.rep_core.specs.Locks.{is_own, has_prepared}
-use Rattle.txn_core.specs.declared.response.Response.{Response}
-use Rattle.txn_core.specs.declared.response.Response.TheVariants.{Replied, Lacked}
-use Rattle.txn_core.specs.declared.ending.Ending.{Ending}
-use Rattle.txn_core.specs.declared.ending.Ending.TheVariants.{Swept}
-use Rattle.txn_core.specs.declared.job.Job.{Job}
-use Rattle.txn_core.specs.declared.job.Job.TheVariants.{Sweep}
-use Rattle.txn_core.specs.Doing.{home_of, Fixed, Sweeping, Listing, Resolving, Telling, Breaking, SweepRun, Doing, Running, RunningSweep, After, GoesOn, Ends}
 use Rattle.txn_core.specs.Sweeps as sweep
-use Rattle.txn_core.specs.Sweeps.{rising, others, asked_now, sweep_on}
 use Rattle.txn_core.specs.Agents as agents
-use Rattle.txn_core.specs.Agents.{Agent, Event, Take, next_in, next_of, end_of, take_in, take, begin, started, is_idle, has_sense, max_jobs, after_all}
-use Rattle.txn_core.specs.Laws.{Exchange, exchange_of, of_job, count_of}
-use Rattle.txn_core.specs.Undecided.{is_finish}
-use Rattle.txn_core.proofs.Gathers.{self}
-use Rattle.txn_core.proofs.Upheld.{exchanges-take}
-use Rattle.law_agents.specs.SweepOrders.{without, left_then, left_from, left_by, for_first, after_told, after_last, last_or, to_sweep, SweepsAskSo, says_done, says_verdict, is_break, is_resolve, IsSwept, SweepsCount}
 use Rattle.law_agents.proofs.Along.{always}
 use Rattle.law_agents.proofs.Hearing.{push}
 

@@ -1,61 +1,22 @@
 -- What a transaction keeps: it asks somebody, and whomever it asks, votes or the service name.
-use Rattle.std.proofs.Common.{◌≡◌, ℕ, zero, suc, ◌<◌, Bool, true, false, cond, List, [], ◌∷◌, ◌++◌, Option, Some, None, Ok, Err, refl, sym, ap, subst, ◌∙◌, Less, Equal, Greater}
-use Rattle.std.specs.Prelude.{◌==◌, ◌&&◌, ◌||◌, length, filter, option_map, unwrap_or, is_some}
-use Rattle.std.specs.Ordering.{nat_cmp, match_ordering}
-use Rattle.std.specs.BTreeMap.{is_at}
-use Rattle.std.specs.declared.cmp.Ordering.{Ordering}
-use Rattle.std.proofs.lemmas.Option.{none-some, same_Some}
-use Rattle.sorted_map.specs.Laws.{insert_step}
-use Rattle.sorted_map.specs.SortedMap.{insert}
-use Rattle.vote_core.specs.Quorums.{Configuration}
-use Rattle.vote_core.specs.Validity.{max_servers}
-use Rattle.suite_content.specs.declared.content.Content.{Content}
-use Rattle.suite_prefix.specs.Absent.{absent_prefix}
-use Rattle.suite_prefix.specs.declared.copies.Prefix.{Prefix}
-use Rattle.suite_prefix.specs.declared.copies.PrefixKind.{PrefixKind}
+use Rattle.law_agents.proofs.Vocabulary.{◌≡◌, ℕ, zero, suc, ◌<◌, Bool, true, false, cond, List, [], ◌∷◌, ◌++◌, Option, Some, None, Ok, Err, refl, sym, ap, subst, ◌∙◌, Less, Equal, Greater, ◌==◌, ◌&&◌, ◌||◌, length, filter, option_map}
+use Rattle.law_agents.proofs.Vocabulary.{unwrap_or, is_some, nat_cmp, match_ordering, is_at, Ordering, none-some, same_Some, insert_step, insert, Configuration, max_servers, Content, absent_prefix, Prefix, PrefixKind, LockMode, Shared}
+use Rattle.law_agents.proofs.Vocabulary.{Exclusive, serves, Row, lists_unknown, Answer, Refusal, Change, Edit, SetAcl, SetVotes, SetContent, Make, Need, Hold, Know, touches, some, makes, sets_acl, sets_votes, answered, Edits, changed}
+use Rattle.law_agents.proofs.Vocabulary.{seen, is_set, Known, Heard, Needs, Done, known_rows, exec_of, changes_by_suite, needs_what_is_unmet, Verdict, is_held, holds, newest, Collector, told_since, all_told, counted, needed, needed_of}
+use Rattle.law_agents.proofs.Vocabulary.{votes_or, mode_or, wanted, is_member, mode_of, mode_asked, request_for, tell, tell_at, collect, raise, widen, Asked, Poll, Upgrade, Next, Ask, Current, Short, next, Entry, Cache, hint, put}
+use Rattle.law_agents.proofs.Vocabulary.{put_has, searched_has, hint_has, ReadPoint, GatheredSuite, Suites, suite_of, with_suite, row_with, known_row, known_if, known_of, holds_lock, has_locks, change_of, Cause, Ending, Undecided}
+use Rattle.law_agents.proofs.Vocabulary.{Changes, Granted, home_of, Fixed, Task, Proposal, Phase, Gathering, Fetching, Preparing, Deciding, Finishing, TransactionRun, After, GoesOn, Ends, Step, Gathered, tell_end, give_up, prepare}
+use Rattle.law_agents.proofs.Vocabulary.{locked_at, numbers_from, short_cause, gather_by, start_from, widen_by, widen_one, widened, widen_all, to_widen, votes_then, votes_after, opened, or_all, open_needed, open_suite, open_first}
+use Rattle.law_agents.proofs.Vocabulary.{opened_with, after_search, free_content, heard_on, raised_or_new, proceed, execute, Each, EachBut, each_but, each_with, with_at, self, known_at, reads_known}
 use Rattle.suite_prefix.specs.declared.copies.PrefixKind.TheVariants as kind
-use Rattle.suite_prefix.specs.declared.lock_mode.LockMode.{LockMode}
-use Rattle.suite_prefix.specs.declared.lock_mode.LockMode.TheVariants.{Shared, Exclusive}
-use Rattle.suite_prefix.specs.LockModes.{serves}
-use Rattle.file_ops.specs.Rows.{Row}
-use Rattle.file_ops.specs.KnownVotes.{lists_unknown}
-use Rattle.file_ops.specs.declared.answer.Answer.{Answer}
-use Rattle.file_ops.specs.declared.refusal.Refusal.{Refusal}
-use Rattle.file_exec.specs.declared.changes.Change.{Change}
 use Rattle.file_exec.specs.declared.executor.Outcome.{Outcome as Executed}
 use Rattle.file_exec.specs.declared.executor.Outcome.TheVariants as exec
-use Rattle.file_exec.specs.declared.edit_log.Edit.{Edit}
-use Rattle.file_exec.specs.declared.edit_log.Edit.TheVariants.{SetAcl, SetVotes, SetContent, Make}
-use Rattle.file_exec.specs.declared.need.Need.{Need}
-use Rattle.file_exec.specs.declared.need.Need.TheVariants.{Hold, Know}
 use Rattle.file_exec.specs.Changes as changes
-use Rattle.file_exec.specs.Changes.{touches, some, makes, sets_acl, sets_votes, answered}
-use Rattle.file_exec.specs.Following.{Edits, changed, seen, is_set}
 use Rattle.file_exec.specs.Known as known
-use Rattle.file_exec.specs.Known.{Known, Heard, Needs, Done, known_rows, exec_of}
-use Rattle.file_exec.proofs.Leading.{changes_by_suite}
-use Rattle.file_exec.proofs.Unmet.{needs_what_is_unmet}
-use Rattle.rep_core.specs.declared.reply.Verdict.{Verdict}
 use Rattle.rep_core.specs.declared.reply.Verdict.TheVariants as verdict
-use Rattle.suite_collect.specs.Telling.{is_held, holds, newest}
-use Rattle.suite_collect.specs.Collecting.{Widening, Collector, told_since, all_told, counted, needed, needed_of, votes_or, mode_or, wanted, is_member, mode_of, mode_asked, request_for, tell, tell_at}
-use Rattle.suite_collect.specs.Collecting.{collect, raise, widen, Asked, Poll, Upgrade, Next, Ask, Current, Short, next}
-use Rattle.weak_cache.specs.Entries.{Entry, Cache}
-use Rattle.weak_cache.specs.Cache.{hint, put}
-use Rattle.weak_cache.proofs.Origins.{put_has, searched_has, hint_has}
+use Rattle.suite_collect.specs.Collecting.{Widening}
 use Rattle.weak_cache.proofs.Origins as origins
-use Rattle.txn_core.specs.Suites.{ReadPoint, GatheredSuite, Suites, suite_of, with_suite, row_with, known_row, known_if, known_of, holds_lock, has_locks}
-use Rattle.txn_core.specs.Writing.{change_of}
-use Rattle.txn_core.specs.declared.ending.Cause.{Cause}
-use Rattle.txn_core.specs.declared.ending.Ending.{Ending}
-use Rattle.txn_core.specs.declared.ending.Ending.TheVariants.{Undecided}
-use Rattle.txn_core.specs.Doing.{Changes, Granted, home_of, Fixed, Task, Proposal, Phase, Gathering, Fetching, Widening as Widens, Preparing, Deciding, Finishing, TransactionRun, After, GoesOn, Ends}
-use Rattle.txn_core.specs.Transactions.{Step, Gathered, tell_end, give_up, prepare, locked_at, numbers_from, short_cause, gather_by, start_from, widen_by, widen_one, widened, widen_all, to_widen}
-use Rattle.txn_core.specs.Transactions.{votes_then, votes_after, opened, or_all, open_needed, open_suite, open_first, opened_with, after_search, free_content, heard_on, raised_or_new, proceed}
-use Rattle.txn_core.specs.Transactions.{execute}
-use Rattle.txn_core.proofs.Gathers.{Each, EachBut, each_but, each_with, with_at, self}
-use Rattle.txn_core.proofs.Setting.{known_at}
-use Rattle.file_exec.proofs.Licensing.{reads_known}
+use Rattle.txn_core.specs.Doing.{Widening as Widens}
 use Rattle.law_agents.proofs.Courses.{Sets, AllSet, edits_set}
 use Rattle.law_agents.proofs.Collectors.{IsPlain, none_exclusive, not_current, AllReps, AllTold, AllIn, newest_so, all_append, teller}
 

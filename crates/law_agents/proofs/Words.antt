@@ -1,57 +1,13 @@
 -- What a transaction keeps after each response, and what a sweep keeps: it asks somebody, and whom it may.
-use Rattle.std.proofs.Common.{◌≡◌, ⊎_elim, ℕ, Bool, true, false, cond, List, [], ◌∷◌, Option, Some, None, refl, sym, ap, subst, ◌∙◌}
-use Rattle.std.proofs.lemmas.Option.{none-some, same_Some}
-use Rattle.vote_core.specs.Quorums.{Configuration}
-use Rattle.suite_content.specs.declared.content.Content.{Content}
-use Rattle.suite_prefix.specs.declared.copies.Prefix.{Prefix}
-use Rattle.rep_core.specs.declared.request.Request.{Request}
-use Rattle.rep_core.specs.declared.reply.Reply.{Reply}
+use Rattle.law_agents.proofs.Vocabulary.{◌≡◌, ⊎_elim, ℕ, Bool, true, false, cond, List, [], ◌∷◌, Option, Some, None, refl, sym, ap, subst, ◌∙◌, none-some, same_Some, Configuration, Content, Prefix, Request, Reply, is_prepared, Told}
+use Rattle.law_agents.proofs.Vocabulary.{Said, newest, Collector, told_since, counted, votes_or, mode_of, mode_asked, request_for, tell, tell_at, Asked, Poll, Upgrade, Next, Ask, Current, Short, next, Entry, Cache, put, put_has}
+use Rattle.law_agents.proofs.Vocabulary.{ReadPoint, GatheredSuite, Suites, suite_of, with_suite, source_of, first_or, settled, Response, Replied, Lacked, Lost, Granted, Fixed, Task, Proposal, Phase, Gathering, Fetching, Preparing}
+use Rattle.law_agents.proofs.Vocabulary.{Deciding, Finishing, Step, tell_end, give_up, prepare, locked_at, short_cause, widen_all, keep_content, heard_of, said_to, execute, collected, hear, fetched, prepared, after_lack, after_response}
+use Rattle.law_agents.proofs.Vocabulary.{asked_by, asked_for, given_in, verdict_in, ending_by, cause_of_abort, lack_cause, request_in, changes_of, decision_of, Each, each_with, but_with, asks_same}
 use Rattle.rep_core.specs.declared.reply.Reply.TheVariants as reply
-use Rattle.rep_core.specs.Fits.{is_prepared}
-use Rattle.suite_collect.specs.declared.told.Told.{Told}
-use Rattle.suite_collect.specs.declared.told.Said.{Said}
 use Rattle.suite_collect.specs.declared.told.Said.TheVariants as said
-use Rattle.suite_collect.specs.Telling.{newest}
-use Rattle.suite_collect.specs.Collecting.{Widening, Collector, told_since, counted, votes_or, mode_of, mode_asked, request_for, tell, tell_at, Asked, Poll, Upgrade, Next, Ask, Current, Short, next}
-use Rattle.weak_cache.specs.Entries.{Entry, Cache}
-use Rattle.weak_cache.specs.Cache.{put}
-use Rattle.weak_cache.proofs.Origins.{put_has}
-use Rattle.txn_core.specs.Suites.{ReadPoint, GatheredSuite, Suites, suite_of, with_suite, source_of, first_or, settled}
-use Rattle.txn_core.specs.declared.response.Response.{Response}
-use Rattle.txn_core.specs.declared.response.Response.TheVariants.{Replied, Lacked}
-use Rattle.txn_core.specs.declared.ending.Cause.TheVariants.{Lost}
-use Rattle.txn_core.specs.Doing.{Granted, Fixed, Task, Proposal, Phase, Gathering, Fetching, Widening as Widens, Preparing, Deciding, Finishing}
-use Rattle.txn_core.specs.Transactions.{
-  Step,
-  tell_end,
-  give_up,
-  prepare,
-  locked_at,
-  short_cause,
-  widen_all,
-  keep_content,
-  heard_of,
-  said_to,
-  execute,
-  collected,
-  hear,
-  fetched,
-  prepared,
-  after_lack,
-  after_response,
-  asked_by,
-  asked_for,
-  given_in,
-  verdict_in,
-  ending_by,
-  cause_of_abort,
-  lack_cause,
-  request_in,
-  changes_of,
-  decision_of,
-}
-use Rattle.txn_core.proofs.Gathers.{Each, each_with, but_with}
-use Rattle.txn_core.proofs.Asks.{asks_same}
+use Rattle.suite_collect.specs.Collecting.{Widening}
+use Rattle.txn_core.specs.Doing.{Widening as Widens}
 use Rattle.law_agents.proofs.Collectors.{IsPlain, asks_shared, current_gives, AllReps, SaysSo, AllTold, AllIn, newest_so, asked_so, given_so}
 use Rattle.law_agents.proofs.Walk as walk
 use Rattle.law_agents.proofs.Walk.{Goes, Fine, AllFine, Full, Asking, Gathers, InPhase, CacheFine, Goes', Leaves, Whole}

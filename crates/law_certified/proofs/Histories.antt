@@ -1,40 +1,12 @@
 -- What stands in a history that is certified was served so in the run; so who was finished first was decided first, and changes are met.
-use Rattle.std.proofs.Common.{◌≡◌, ⊎_elim, ℕ, Bool, true, false, cond, List, [], ◌∷◌, ◌++◌, Option, Some, None, refl, sym, ap, subst, ◌∙◌}
-use Rattle.std.specs.Prelude.{nat_eq, Contains, Result, Ok, Err}
-use Rattle.std.specs.List.{cons_option}
-use Rattle.std.proofs.lemmas.List.{append-nil}
-use Rattle.suite_prefix.specs.SettingsRules.{IsAccepted, Opening}
-use Rattle.file_ops.specs.declared.answer.Answer.{Answer}
-use Rattle.file_ops.specs.declared.refusal.Refusal.{Refusal}
+use Rattle.law_certified.proofs.Vocabulary.{◌≡◌, ⊎_elim, ℕ, Bool, true, false, cond, List, [], ◌∷◌, ◌++◌, Option, Some, None, refl, sym, ap, subst, ◌∙◌, nat_eq, Contains, Result, Ok, Err, cons_option, append-nil, IsAccepted, Opening}
+use Rattle.law_certified.proofs.Vocabulary.{Answer, Refusal, PlainTable, replies, Verdict, Has, has_from, contains_from, Fixed, fixed_of, Event, Served, World, opening, step, after, dones, done_in, run, Decided, decisions, played_on}
+use Rattle.law_certified.proofs.Vocabulary.{table_with, table_after_all, dones-append, Item, IsDecidedAs, IsMet, IsNotDecided, asks_for_itself, EndedSo, later_decisions, decisions_go_on, finish_is_after, finished_before}
+use Rattle.law_certified.proofs.Vocabulary.{append_has_left, Entry, items_of, weave, asker, item_by, items_from, served_as, CertifiedIsPromised, StandsFirst, FinishedBeforeInHistory, ChangesAreMetInHistory, TellsOfTime}
 use Rattle.file_ops.specs.Rows as rows
-use Rattle.file_ops.specs.Rows.{PlainTable}
-use Rattle.file_ops.specs.Transactions.{replies}
 use Rattle.rep_core.specs.declared.request.Request.TheVariants as request
-use Rattle.rep_core.specs.declared.reply.Verdict.{Verdict}
 use Rattle.rep_core.specs.declared.reply.Verdict.TheVariants as verdict
-use Rattle.rep_core.proofs.Members.{Has, has_from, contains_from}
-use Rattle.txn_core.specs.Doing.{Fixed}
-use Rattle.txn_core.specs.Agents.{fixed_of}
-use Rattle.run_core.specs.declared.event.Event.{Event}
-use Rattle.run_core.specs.declared.done.Served.{Served}
-use Rattle.run_core.specs.Worlds.{World, opening, step}
-use Rattle.run_core.specs.Runs.{after, dones, done_in, run}
-use Rattle.run_core.specs.Decisions.{Decided, decisions}
 use Rattle.run_core.specs.TableOfRun as table
-use Rattle.run_core.specs.TableOfRun.{played_on, table_with, table_after_all}
-use Rattle.run_core.proofs.Appending.{dones-append}
-use Rattle.server_lock.specs.declared.item.Item.{Item}
-use Rattle.law_runs.specs.Claims.{IsDecidedAs, IsMet, IsNotDecided}
-use Rattle.law_runs.specs.Finishes.{asks_for_itself, EndedSo}
-use Rattle.law_runs.proofs.Conclusions.{later_decisions, decisions_go_on}
-use Rattle.law_runs.proofs.Finishes.{finish_is_after, finished_before}
-use Rattle.law_runs.proofs.Standing.{append_has_left}
-use Rattle.run_certify.specs.declared.entry.Entry.{Entry}
-use Rattle.run_certify.specs.Merges.{items_of}
-use Rattle.run_certify.specs.Weaves.{weave}
-use Rattle.run_certify.specs.Shown.{asker, item_by, items_from, served_as}
-use Rattle.run_certify.specs.Promised.{CertifiedIsPromised}
-use Rattle.law_certified.specs.Histories.{StandsFirst, FinishedBeforeInHistory, ChangesAreMetInHistory, TellsOfTime}
 
 -- ---- where an item of a server was served
 

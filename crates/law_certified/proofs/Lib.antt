@@ -1,1 +1,2 @@
+mod Vocabulary
 pub mod Histories

@@ -1,47 +1,16 @@
 -- What is decided was begun so: by whom, and with which operations.
-use Rattle.std.proofs.Common.{◌≡◌, ⊎_elim, ℕ, ◌+◌, true, false, cond, List, [], ◌∷◌, ◌++◌, append_assoc, Option, Some, None, refl, sym, ap, subst, ◌∙◌}
-use Rattle.std.specs.Prelude.{◌*◌, ◌&&◌, nat_lt, Contains}
-use Rattle.std.specs.List.{cons_option}
-use Rattle.std.proofs.lemmas.List.{append-nil}
-use Rattle.std.proofs.lemmas.List.Elements.{Contains-append_cases}
-use Rattle.std.proofs.lemmas.Option.{none-some, same_Some}
-use Rattle.suite_prefix.specs.SettingsRules.{Opening, IsAccepted}
-use Rattle.acl_core.specs.Identity.{Identity}
-use Rattle.file_ops.specs.declared.operation.Op.{Op}
-use Rattle.rep_core.specs.declared.request.Request.{Request}
-use Rattle.rep_core.specs.declared.reply.Reply.{Reply}
-use Rattle.rep_core.specs.declared.reply.Verdict.{Verdict}
+use Rattle.law_headline.proofs.Vocabulary.{◌≡◌, ⊎_elim, ℕ, ◌+◌, true, false, cond, List, [], ◌∷◌, ◌++◌, append_assoc, Option, Some, None, refl, sym, ap, subst, ◌∙◌, ◌*◌, ◌&&◌, nat_lt, Contains, cons_option, append-nil}
+use Rattle.law_headline.proofs.Vocabulary.{Contains-append_cases, none-some, same_Some, Opening, IsAccepted, Identity, Op, Request, Reply, Verdict, is_prepared, has_from, Cache, Cause, Lost, Ending, Undecided, Job, Transaction, Sweep}
+use Rattle.law_headline.proofs.Vocabulary.{Response, Replied, Lacked, Suites, Fixed, Task, Proposal, Phase, Gathering, Fetching, Widening, Preparing, Deciding, Finishing, TransactionRun, SweepRun, Doing, Running, RunningSweep, After}
+use Rattle.law_headline.proofs.Vocabulary.{GoesOn, Ends, execute, tell_end, give_up, prepare, prepared, locked_at, lack_cause, after_response, verdict_in, ending_by, cause_of_abort, Agent, fixed_of, next_of, take_in, begin, started}
+use Rattle.law_headline.proofs.Vocabulary.{is_idle, has_sense, max_jobs, IsEarly, goes_response, goes_execute, Event, Begin, Actor, actor_at, becomes, opening, step, Decided, task_of, decided, decisions, decisions_from, after-append}
+use Rattle.law_headline.proofs.Vocabulary.{decisions_from-append, OfEach, each_becomes, begins_now, agent_of, holds_of, answers_follow_knowledge, actor_opens, WasBegun, AreAsBegun}
 use Rattle.rep_core.specs.declared.reply.Verdict.TheVariants as verdict
-use Rattle.rep_core.specs.Fits.{is_prepared}
-use Rattle.rep_core.proofs.Members.{has_from}
-use Rattle.weak_cache.specs.Entries.{Cache}
-use Rattle.txn_core.specs.declared.ending.Cause.{Cause}
-use Rattle.txn_core.specs.declared.ending.Cause.TheVariants.{Lost}
-use Rattle.txn_core.specs.declared.ending.Ending.{Ending}
-use Rattle.txn_core.specs.declared.ending.Ending.TheVariants.{Undecided}
-use Rattle.txn_core.specs.declared.job.Job.{Job}
-use Rattle.txn_core.specs.declared.job.Job.TheVariants.{Transaction, Sweep}
-use Rattle.txn_core.specs.declared.response.Response.{Response}
-use Rattle.txn_core.specs.declared.response.Response.TheVariants.{Replied, Lacked}
-use Rattle.txn_core.specs.Suites.{Suites}
-use Rattle.txn_core.specs.Doing.{Fixed, Task, Proposal, Phase, Gathering, Fetching, Widening, Preparing, Deciding, Finishing, TransactionRun, SweepRun, Doing, Running, RunningSweep, After, GoesOn, Ends}
-use Rattle.txn_core.specs.Transactions.{execute, tell_end, give_up, prepare, prepared, locked_at, lack_cause, after_response, verdict_in, ending_by, cause_of_abort}
 use Rattle.txn_core.specs.Sweeps as sweep
-use Rattle.txn_core.specs.Agents.{Agent, left as left_doing, fixed_of, next_of, take_in, take, begin, started, is_idle, has_sense, max_jobs}
-use Rattle.txn_core.proofs.Walk.{IsEarly, goes_response, goes_execute}
-use Rattle.run_core.specs.declared.event.Event.{Event}
-use Rattle.run_core.specs.declared.event.Event.TheVariants.{Begin}
-use Rattle.run_core.specs.Worlds.{World, Actor, actor_at, becomes, opening, step}
+use Rattle.txn_core.specs.Agents.{left as left_doing, take}
+use Rattle.run_core.specs.Worlds.{World}
 use Rattle.run_core.specs.Runs.{run}
-use Rattle.run_core.specs.Decisions.{Decided, task_of, decided, decisions, decisions_from}
-use Rattle.run_core.proofs.Appending.{after-append, decisions_from-append}
-use Rattle.run_core.proofs.EachAgent.{OfEach, each_becomes, after_event as each_after}
-use Rattle.law_runs.specs.Numbers.{begins_now}
-use Rattle.law_runs.proofs.Worlds.{agent_of}
-use Rattle.law_runs.proofs.Conclusions.{holds_of}
-use Rattle.law_runs.proofs.Answering.{answers_follow_knowledge}
-use Rattle.law_run_machine.proofs.Kept.{actor_opens}
-use Rattle.law_headline.specs.Promises.{WasBegun, AreAsBegun}
+use Rattle.run_core.proofs.EachAgent.{after_event as each_after}
 
 -- ---- a transaction stays with its task
 

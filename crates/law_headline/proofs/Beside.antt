@@ -1,42 +1,16 @@
 -- What holds beside the rest, event by event: jobs set valid votes, the register's row holds a content of its kind, and what is prepared is what was sent. It gives what is owed at a decision.
-use Rattle.std.proofs.Common.{◌≡◌, ℕ, ◌≤◌, zero, suc, Bool, true, false, cond, List, [], Option, Some, None, is_some, Ok, Err, refl, sym, ap, subst, ◌∙◌, arith}
-use Rattle.std.specs.Prelude.{◌==◌, nat_le, ◌&&◌, ◌||◌, unwrap_or}
-use Rattle.std.proofs.lemmas.Bool.{false≢true}
-use Rattle.std.proofs.lemmas.Bool.Decides.{nat_tests}
-use Rattle.vote_core.specs.Validity.{IsValid}
-use Rattle.suite_content.specs.declared.content.Content.{Content}
+use Rattle.law_headline.proofs.Vocabulary.{◌≡◌, ℕ, ◌≤◌, zero, suc, Bool, true, false, cond, List, [], Option, Some, None, is_some, Ok, Err, refl, sym, ap, subst, ◌∙◌, arith, ◌==◌, nat_le, ◌&&◌, ◌||◌, unwrap_or, false≢true, nat_tests}
+use Rattle.law_headline.proofs.Vocabulary.{IsValid, Content, kind_of, Opening, absent_copy, Prefix, Replica, root_copy, ReadPoint, GatheredSuite, suite_of, change_of, new_prefix, Proposal, Deciding, Phase, Gathering, Fetching, Widening}
+use Rattle.law_headline.proofs.Vocabulary.{Preparing, Finishing, TransactionRun, Doing, Running, RunningSweep, changes_of, Agent, fixed_of, Begin, Step, Crash, Return, Forget, Lack, Actor, actor_at, Decided, Beginning, Known, Entry}
+use Rattle.law_headline.proofs.Vocabulary.{IsKnown, IsPlain, row, Told, World, happens, IsReady, Inv, all_known, beginning, showed, showed_to, known_by, change_to, written_from, first_of, decides_with, decides_without, decides_first}
+use Rattle.law_headline.proofs.Vocabulary.{decides_on, decision_in, decision_by, OwesKnown, Stage, ReadyIn, IsReadying, InCourse, IsDoing, LogIs, decision_of_actor, decision_at, FitsAs, fits_kind}
 use Rattle.suite_content.specs.declared.content.Kind.TheVariants as holds
-use Rattle.suite_content.specs.Contents.{kind_of}
-use Rattle.suite_prefix.specs.SettingsRules.{Opening}
-use Rattle.suite_prefix.specs.Absent.{absent_copy}
-use Rattle.suite_prefix.specs.declared.copies.Prefix.{Prefix}
-use Rattle.suite_prefix.specs.declared.copies.Replica.{Replica}
-use Rattle.rep_core.specs.Store.{root_copy}
 use Rattle.file_exec.specs.declared.changes.Change as executor
-use Rattle.txn_core.specs.Suites.{ReadPoint, GatheredSuite, suite_of}
-use Rattle.txn_core.specs.Writing.{change_of, new_prefix}
-use Rattle.txn_core.specs.Doing.{Proposal, Deciding, Phase, Gathering, Fetching, Widening, Preparing, Finishing, TransactionRun, Doing, Running, RunningSweep}
-use Rattle.txn_core.specs.Transactions.{changes_of}
-use Rattle.txn_core.specs.Agents.{Agent, fixed_of}
 use Rattle.run_core.specs.declared.event.Event as happening
-use Rattle.run_core.specs.declared.event.Event.TheVariants.{Begin, Step, Crash, Return, Forget, Lack}
 use Rattle.run_core.specs.Worlds as worlds
-use Rattle.run_core.specs.Worlds.{Actor, actor_at}
-use Rattle.run_core.specs.Decisions.{Decided}
-use Rattle.law_suite_machine.specs.Registers.{Beginning, Known, Entry, IsKnown, IsPlain, changed, row}
-use Rattle.law_suite_machine.specs.Machine.{Told, World}
-use Rattle.law_suite_machine.specs.Events.{Event, happens}
-use Rattle.law_suite_machine.specs.Conditions.{IsReady, Knows}
-use Rattle.law_suite_machine.proofs.Invariant.{Inv}
-use Rattle.law_suite_machine.proofs.Knowing.{all_known}
-use Rattle.law_server_moves.specs.Laws.{beginning}
-use Rattle.law_run_machine.specs.Deciding.{showed, showed_to, known_by, change_to, written_from, first_of, decides_with, decides_without, decides_first, decides_on, decision_in, decision_by}
-use Rattle.law_run_machine.specs.Owed.{OwesKnown}
-use Rattle.law_run_machine.proofs.Stages.{Stage}
-use Rattle.law_run_machine.proofs.Readying.{ReadyIn, IsReadying}
-use Rattle.law_run_machine.proofs.Linked.{InCourse, IsDoing}
-use Rattle.law_one_table.proofs.Logs.{LogIs, decision_of_actor, decision_at}
-use Rattle.law_one_table.proofs.Shown.{FitsAs, fits_kind}
+use Rattle.law_suite_machine.specs.Registers.{changed}
+use Rattle.law_suite_machine.specs.Events.{Event}
+use Rattle.law_suite_machine.specs.Conditions.{Knows}
 use Rattle.law_headline.proofs.Carried.{AllValid, ValidOr, CameWell, came_well}
 use Rattle.law_headline.proofs.Fair.{Leaves, came_fair}
 use Rattle.law_headline.proofs.Together.{Together}

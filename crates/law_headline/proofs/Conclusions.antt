@@ -1,22 +1,13 @@
 -- A change that was answered is met by every request that begins later: the laws of runs, joined.
-use Rattle.std.proofs.Common.{◌≡◌, ⊎_elim, List, [], ◌∷◌, ◌++◌, sym, ap, subst}
-use Rattle.std.specs.Prelude.{Contains, Ok}
-use Rattle.rep_core.proofs.Members.{Has, has_from}
+use Rattle.law_headline.proofs.Vocabulary.{◌≡◌, ⊎_elim, List, [], ◌∷◌, ◌++◌, sym, ap, subst, Contains, Ok, Has, has_from, PlainTable, replies, Decided, decisions, played_on, table_with, table_after_all, number_of, StandsBefore, IsMet}
+use Rattle.law_headline.proofs.Vocabulary.{changes_are_met, answers_are_one_tables, audit_is_one_tables, AnswersAreTheTables, AuditIsTheDenials, AnsweredBefore, RevocationsAreMet, RowsHaveVersions, RowsAreTheRegisters, KnowledgeWas}
+use Rattle.law_headline.proofs.Vocabulary.{AgentsKeepSides}
 use Rattle.file_ops.specs.Rows as rows
-use Rattle.file_ops.specs.Rows.{PlainTable}
-use Rattle.file_ops.specs.Transactions.{replies}
-use Rattle.run_core.specs.Decisions.{Decided, decisions}
 use Rattle.run_core.specs.TableOfRun as table
-use Rattle.run_core.specs.TableOfRun.{played_on, table_with, table_after_all}
-use Rattle.law_runs.specs.Numbers.{number_of}
-use Rattle.law_runs.specs.Claims.{StandsBefore, IsMet}
 use Rattle.law_runs.proofs.Conclusions as of_runs
-use Rattle.law_runs.proofs.Begun.{changes_are_met}
 use Rattle.law_run_knowledge.proofs.Events as knowledge
 use Rattle.law_one_table.proofs.Running as tables
-use Rattle.law_one_table.proofs.Running.{answers_are_one_tables, audit_is_one_tables}
 use Rattle.law_one_table.proofs.Versions as versions
-use Rattle.law_headline.specs.Laws.{AnswersAreTheTables, AuditIsTheDenials, AnsweredBefore, RevocationsAreMet, RowsHaveVersions, RowsAreTheRegisters, KnowledgeWas, AgentsKeepSides}
 use Rattle.law_headline.proofs.Keeping.{all_keep}
 
 -- ---- the laws that follow at once

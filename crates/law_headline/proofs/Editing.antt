@@ -1,31 +1,12 @@
 -- What the edits of a transaction set: contents of the kind that was there, and valid votes where its operations set such.
-use Rattle.std.proofs.Common.{◌≡◌, ℕ, Bool, true, false, cond, List, [], ◌∷◌, Option, Some, None, Ok, Err, refl, sym, ap, subst, ◌∙◌}
-use Rattle.std.proofs.lemmas.Option.{same_Some}
-use Rattle.vote_core.specs.Quorums.{Configuration}
-use Rattle.vote_core.specs.Validity.{IsValid}
-use Rattle.acl_core.specs.Identity.{Identity}
-use Rattle.suite_content.specs.declared.content.Content.{Content}
-use Rattle.suite_content.specs.declared.content.Content.TheVariants.{Bytes, Names}
+use Rattle.law_headline.proofs.Vocabulary.{◌≡◌, ℕ, Bool, true, false, cond, List, [], ◌∷◌, Option, Some, None, Ok, Err, refl, sym, ap, subst, ◌∙◌, same_Some, Configuration, IsValid, Identity, Content, Bytes, Names, kind_of, Answer}
+use Rattle.law_headline.proofs.Vocabulary.{Action, Op, Service, lists_unknown, known_votes, votes_of_new, Parent, Row, Object, bytes_in, names_in, Edit, SetAcl, SetVotes, SetContent, Make, Edits, seen, emptied, head, content_in, Ended}
+use Rattle.law_headline.proofs.Vocabulary.{known_rows, Done, exec_of, votes_given, IsShown, MayChange, Licensed, writes_bytes, changes_lists, changes_votes, adds_name, makes_row, drops_name, AllLicensed, holds_there, known_licensed}
+use Rattle.law_headline.proofs.Vocabulary.{kind_empty, AreValid, GivesValidVotes, AllGiveValidVotes}
 use Rattle.suite_content.specs.declared.content.Kind.TheVariants as holds
-use Rattle.suite_content.specs.Contents.{kind_of}
-use Rattle.file_ops.specs.declared.answer.Answer.{Answer}
-use Rattle.file_ops.specs.declared.operation.Action.{Action}
 use Rattle.file_ops.specs.declared.operation.Action.TheVariants as action
-use Rattle.file_ops.specs.declared.operation.Op.{Op}
 use Rattle.file_ops.specs.declared.refusal.Why.TheVariants as why
-use Rattle.file_ops.specs.declared.service.Service.{Service}
-use Rattle.file_ops.specs.KnownVotes.{lists_unknown, known_votes, votes_of_new}
-use Rattle.file_ops.specs.Operations.{Parent}
-use Rattle.file_ops.specs.Rows.{Row}
-use Rattle.file_ops.specs.Walks.{Object, bytes_in, names_in}
-use Rattle.file_exec.specs.declared.edit_log.Edit.{Edit}
-use Rattle.file_exec.specs.declared.edit_log.Edit.TheVariants.{SetAcl, SetVotes, SetContent, Make}
-use Rattle.file_exec.specs.Following.{Edits, seen, emptied, head, content_in, Ended}
-use Rattle.file_exec.specs.Known.{Known, known_rows, Done, exec_of}
-use Rattle.file_exec.specs.Licensed.{votes_given, IsShown, MayChange, Licensed, writes_bytes, changes_lists, changes_votes, adds_name, makes_row, drops_name, AllLicensed}
-use Rattle.file_exec.proofs.Licensing.{holds_there, known_licensed}
-use Rattle.law_one_table.proofs.Shown.{kind_empty}
-use Rattle.law_headline.specs.Premises.{AreValid, GivesValidVotes, AllGiveValidVotes}
+use Rattle.file_exec.specs.Known.{Known}
 
 -- an edit fits the row of its suite
 abbrev pub FitsRow : Edit → Option Row → Type 0

@@ -1,41 +1,12 @@
 -- What a transaction is to write leaves what its operations do not set.
-use Rattle.std.proofs.Common.{◌≡◌, ℕ, Bool, true, false, cond, List, [], ◌∷◌, Option, Some, None, Ok, Err, refl, sym, ap, subst, ◌∙◌, arith}
-use Rattle.std.specs.Prelude.{◌==◌, ◌||◌, is_some, option_map, Result}
-use Rattle.std.specs.Ordering.{nat_cmp}
-use Rattle.std.proofs.lemmas.Bool.{false≢true, eqb-true}
-use Rattle.std.proofs.lemmas.Bool.Decides.{nat_tests}
-use Rattle.std.proofs.lemmas.Option.{none-some, same_Some}
-use Rattle.sorted_map.specs.SortedMap.{get}
-use Rattle.vote_core.specs.Validity.{IsValid}
-use Rattle.suite_content.specs.declared.content.Content.{Content}
-use Rattle.suite_content.specs.declared.content.Content.TheVariants.{Bytes, Names}
-use Rattle.suite_content.specs.Contents.{kind_of}
-use Rattle.suite_prefix.specs.declared.copies.Prefix.{Prefix}
-use Rattle.suite_prefix.specs.declared.copies.PrefixKind.{PrefixKind}
+use Rattle.law_headline.proofs.Vocabulary.{◌≡◌, ℕ, Bool, true, false, cond, List, [], ◌∷◌, Option, Some, None, Ok, Err, refl, sym, ap, subst, ◌∙◌, arith, ◌==◌, ◌||◌, is_some, option_map, Result, nat_cmp, false≢true, eqb-true, nat_tests}
+use Rattle.law_headline.proofs.Vocabulary.{none-some, same_Some, get, IsValid, Content, Bytes, Names, kind_of, Prefix, PrefixKind, Exclusive, Answer, Refusal, Row, KnownSuite, touches, Edits, Ended, seen, head, content_in, IsSo, IsSoAt}
+use Rattle.law_headline.proofs.Vocabulary.{AgreesWith, is_held, is_opened, known_rows, Done, exec_of, changes_by_suite, changes_are_held, knows_whose_votes, ReadPoint, GatheredSuite, Suites, suite_of, row_with, known_row, known_of}
+use Rattle.law_headline.proofs.Vocabulary.{change_of, prefix_kind, Fixed, Task, Proposal, changes_of, known_at, set_by, Came, IsFair, FitsAs, is_so, told_as, AllGiveValidVotes}
 use Rattle.suite_prefix.specs.declared.copies.PrefixKind.TheVariants as kind
-use Rattle.suite_prefix.specs.declared.lock_mode.LockMode.TheVariants.{Exclusive}
-use Rattle.file_ops.specs.declared.answer.Answer.{Answer}
-use Rattle.file_ops.specs.declared.refusal.Refusal.{Refusal}
-use Rattle.file_ops.specs.Rows.{Row}
 use Rattle.file_exec.specs.declared.changes.Change as executor
-use Rattle.file_exec.specs.KnownSuites.{KnownSuite}
 use Rattle.file_exec.specs.Changes as changes
-use Rattle.file_exec.specs.Changes.{touches}
-use Rattle.file_exec.specs.Following.{Edits, Ended, seen, head, content_in}
 use Rattle.file_exec.specs.Known as known
-use Rattle.file_exec.specs.Known.{IsSo, IsSoAt, AgreesWith, is_held, is_opened, known_rows, Done, exec_of}
-use Rattle.file_exec.proofs.Leading.{changes_by_suite}
-use Rattle.file_exec.proofs.Unset.{changes_are_held}
-use Rattle.file_exec.proofs.VotesRead.{knows_whose_votes}
-use Rattle.txn_core.specs.Suites.{ReadPoint, GatheredSuite, Suites, suite_of, row_with, known_row, known_of}
-use Rattle.txn_core.specs.Writing.{change_of, prefix_kind}
-use Rattle.txn_core.specs.Doing.{Fixed, Task, Proposal}
-use Rattle.txn_core.specs.Transactions.{changes_of}
-use Rattle.txn_core.proofs.Setting.{known_at}
-use Rattle.law_runs.proofs.Executed.{set_by, Came}
-use Rattle.law_run_quorums.specs.Fairness.{IsFair}
-use Rattle.law_one_table.proofs.Shown.{FitsAs, is_so, told_as}
-use Rattle.law_headline.specs.Premises.{AllGiveValidVotes}
 use Rattle.law_headline.proofs.Editing.{edits_fit}
 use Rattle.law_headline.proofs.Setting.{fair, same_content, content_kind}
 

@@ -1,24 +1,9 @@
 -- In every run that there can be agents give what they owe, and keep to their side.
-use Rattle.std.proofs.Common.{ℕ, inl, List, [], ◌∷◌, refl, sym, subst}
-use Rattle.std.specs.List.{AllByRecursion}
-use Rattle.vote_core.specs.Validity.{IsValid}
-use Rattle.suite_prefix.specs.SettingsRules.{Opening}
-use Rattle.txn_core.specs.Agents.{Agent, fixed_of}
+use Rattle.law_headline.proofs.Vocabulary.{ℕ, inl, List, [], ◌∷◌, refl, sym, subst, AllByRecursion, IsValid, Opening, Agent, fixed_of, step, decided, row, World, begun, beginning, moved, machine_from, machine_of, AreOwed, AgentsOwe}
+use Rattle.law_headline.proofs.Vocabulary.{actor_opens, AllKeepSides, event_log, owed_is_enough, EventGivesValidVotes, CanBe}
 use Rattle.run_core.specs.declared.event.Event as happening
 use Rattle.run_core.specs.Worlds as worlds
-use Rattle.run_core.specs.Worlds.{step}
 use Rattle.run_core.specs.Runs as runs
-use Rattle.run_core.specs.Decisions.{decided}
-use Rattle.law_suite_machine.specs.Registers.{row}
-use Rattle.law_suite_machine.specs.Machine.{World, begun}
-use Rattle.law_server_moves.specs.Laws.{beginning}
-use Rattle.law_run_machine.specs.Machines.{moved, machine_from, machine_of}
-use Rattle.law_run_machine.specs.Owed.{AreOwed, AgentsOwe}
-use Rattle.law_run_machine.proofs.Kept.{actor_opens}
-use Rattle.law_one_table.specs.Tables.{AllKeepSides}
-use Rattle.law_one_table.proofs.Logs.{event_log}
-use Rattle.law_one_table.proofs.Running.{owed_is_enough}
-use Rattle.law_headline.specs.Premises.{EventGivesValidVotes, CanBe}
 use Rattle.law_headline.proofs.Carried.{AllValid, ValidOr, event_valid, came_well}
 use Rattle.law_headline.proofs.Together.{Together, opens, goes_on}
 use Rattle.law_headline.proofs.Owing.{Left, owed, owes_known}

@@ -1,3 +1,4 @@
+mod Vocabulary
 pub mod Firsts
 pub mod Together
 pub mod Owing

@@ -1,42 +1,13 @@
 -- What is prepared of a suite at a server is the part that was sent: what a request makes of it, and what an agent's own step does.
-use Rattle.std.proofs.Common.{◌≡◌, ◌⊎◌, inl, inr, ℕ, ◌<◌, Bool, true, false, cond, List, [], ◌∷◌, Option, Some, None, refl, sym, ap, subst, ◌∙◌, arith}
-use Rattle.std.specs.Prelude.{◌==◌, filter, map}
-use Rattle.std.specs.Ordering.{nat_cmp}
-use Rattle.std.specs.BTreeMap.{is_at}
-use Rattle.std.proofs.lemmas.Bool.{false≢true}
-use Rattle.std.proofs.lemmas.Bool.Decides.{nat_tests}
-use Rattle.std.proofs.lemmas.Option.{same_Some}
-use Rattle.vote_core.specs.Validity.{max_servers}
-use Rattle.sorted_map.specs.SortedMap.{get}
-use Rattle.suite_prefix.specs.declared.lock_mode.LockMode.TheVariants.{Shared}
-use Rattle.rep_core.specs.declared.request.Part.{Part}
-use Rattle.rep_core.specs.declared.request.Request.{Request}
-use Rattle.rep_core.specs.declared.reply.Reply.{Reply}
+use Rattle.law_headline.proofs.Vocabulary.{◌≡◌, ◌⊎◌, inl, inr, ℕ, ◌<◌, Bool, true, false, cond, List, [], ◌∷◌, Option, Some, None, refl, sym, ap, subst, ◌∙◌, arith, ◌==◌, filter, map, nat_cmp, is_at, false≢true, nat_tests, same_Some}
+use Rattle.law_headline.proofs.Vocabulary.{max_servers, get, Shared, Part, Request, Reply, Verdict, is_prepared, Has, holds, Cache, GatheredSuite, Suites, suite_of, holds_lock, told_in, told_at, part_of, parts_at, Response, Replied}
+use Rattle.law_headline.proofs.Vocabulary.{Lacked, Cause, Lost, Ending, Undecided, Changes, Fixed, Task, Proposal, Phase, Gathering, Fetching, Widening, Preparing, Deciding, Finishing, TransactionRun, SweepRun, Doing, Running}
+use Rattle.law_headline.proofs.Vocabulary.{RunningSweep, After, GoesOn, Ends, execute, tell_end, give_up, prepare, locked_at, changes_of, lack_cause, verdict_in, ending_by, cause_of_abort, Agent, next_in, take_in, left, World, itself}
+use Rattle.law_headline.proofs.Vocabulary.{ReadyIn, IsReadying, ready_begin, readying_left, take_readying, same_or, PreparedPart}
 use Rattle.rep_core.specs.declared.reply.Reply.TheVariants as reply
-use Rattle.rep_core.specs.declared.reply.Verdict.{Verdict}
 use Rattle.rep_core.specs.declared.reply.Verdict.TheVariants as verdict
-use Rattle.rep_core.specs.Fits.{is_prepared}
-use Rattle.rep_core.proofs.Members.{Has}
-use Rattle.suite_collect.specs.Telling.{holds}
-use Rattle.weak_cache.specs.Entries.{Cache}
-use Rattle.txn_core.specs.Suites.{GatheredSuite, Suites, suite_of, holds_lock, told_in, told_at}
-use Rattle.txn_core.specs.Writing.{part_of, parts_at}
-use Rattle.txn_core.specs.declared.response.Response.{Response}
-use Rattle.txn_core.specs.declared.response.Response.TheVariants.{Replied, Lacked}
-use Rattle.txn_core.specs.declared.ending.Cause.{Cause}
-use Rattle.txn_core.specs.declared.ending.Cause.TheVariants.{Lost}
-use Rattle.txn_core.specs.declared.ending.Ending.{Ending}
-use Rattle.txn_core.specs.declared.ending.Ending.TheVariants.{Undecided}
-use Rattle.txn_core.specs.Doing.{Changes, Fixed, Task, Proposal, Phase, Gathering, Fetching, Widening, Preparing, Deciding, Finishing, TransactionRun, SweepRun, Doing, Running, RunningSweep, After, GoesOn, Ends}
-use Rattle.txn_core.specs.Transactions.{execute, tell_end, give_up, prepare, locked_at, changes_of, lack_cause, verdict_in, ending_by, cause_of_abort}
 use Rattle.txn_core.specs.Sweeps as sweep
-use Rattle.txn_core.specs.Agents.{Agent, next_in, take_in, left}
-use Rattle.law_suite_machine.specs.Machine.{World}
-use Rattle.law_suite_machine.proofs.Places.{itself}
 use Rattle.law_server_moves.specs.Preparing as preparing
-use Rattle.law_run_machine.proofs.Readying.{ReadyIn, IsReadying, ready_begin, readying_left, take_readying}
-use Rattle.law_run_machine.proofs.Turned.{same_or}
-use Rattle.law_run_quorums.specs.Fairness.{PreparedPart}
 
 -- at a server the transaction has prepared its part of the suite
 abbrev pub IsPrepared : ℕ → World → ℕ → Suites → Proposal → ℕ → Type 0

@@ -1,76 +1,24 @@
 -- In every run what is prepared at a decision is the part that the transaction sent: event by event.
-use Rattle.std.proofs.Common.{◌≡◌, ℕ, ◌+◌, ◌<◌, Bool, IsTrue, true, false, cond, List, [], ◌∷◌, Option, Some, None, is_some, Ok, Err, refl, sym, ap, subst, ◌∙◌}
-use Rattle.std.specs.Prelude.{◌*◌, ◌==◌, ◌&&◌, nat_lt, slice_get, slice_set}
-use Rattle.std.proofs.lemmas.Bool.{false≢true}
-use Rattle.std.proofs.lemmas.Option.{same_Some}
-use Rattle.vote_core.specs.Validity.{max_servers}
-use Rattle.suite_prefix.specs.SettingsRules.{Opening}
-use Rattle.suite_prefix.specs.LockModes.{is_exclusive}
-use Rattle.rep_core.specs.declared.request.Part.{Part}
-use Rattle.rep_core.specs.declared.request.Request.{Request}
+use Rattle.law_headline.proofs.Vocabulary.{◌≡◌, ℕ, ◌+◌, ◌<◌, Bool, IsTrue, true, false, cond, List, [], ◌∷◌, Option, Some, None, is_some, Ok, Err, refl, sym, ap, subst, ◌∙◌, ◌*◌, ◌==◌, ◌&&◌, nat_lt, slice_get, slice_set, false≢true}
+use Rattle.law_headline.proofs.Vocabulary.{same_Some, max_servers, Opening, is_exclusive, Part, Request, Reply, State, reply_of, answer_of, is_full, holds, Shared, ReadPoint, GatheredSuite, suite_of, told_at, part_of, parts_at}
+use Rattle.law_headline.proofs.Vocabulary.{Response, Replied, Lacked, Job, Transaction, Sweep, Proposal, Phase, Gathering, Fetching, Widening, Preparing, Deciding, Finishing, TransactionRun, Doing, Running, RunningSweep, request_in}
+use Rattle.law_headline.proofs.Vocabulary.{changes_of, Agent, fixed_of, next_in, next_of, take_in, begin, started, forget, is_idle, has_sense, max_jobs, asks_same, Begin, Step, Crash, Return, Forget, Lack, Actor, server_at, actor_at}
+use Rattle.law_headline.proofs.Vocabulary.{answered, asks_at, asks, steps_once, lacks_for, lacks, operated, operates, becomes, step, Beginning, Known, Change, Told, World, begun, Held, Upgrade, GiveUp, Overrule, happens, run}
+use Rattle.law_headline.proofs.Vocabulary.{holds_exclusively, at2, one_is, prepare_of, first_verdict, moves, beginning, names, may_sweep, asks_in_its_name, asks_to_sweep, to_write, decides_with, decides_without, decides_first}
+use Rattle.law_headline.proofs.Vocabulary.{decides_on, decision_by, fixed_in, aim_of, aims_once, aims, is_finishing, is_at_an_end, gives_up, tells_aborted, begun_events, own_events, known_by, home_in, begin_events, answered_events}
+use Rattle.law_headline.proofs.Vocabulary.{asked_at_events, asked_events, step_events, lacks_for_events, lack_events, operated_events, operator_events, moved, run-append, AllLinked, IsDoing, numbered_at, apart, set_here, set_apart}
+use Rattle.law_headline.proofs.Vocabulary.{same_or, numbered_of, asks_there, ToldBelow, actor_opens, DoingAgrees, AllAgree, PreparedPart}
 use Rattle.rep_core.specs.declared.request.Request.TheVariants as request
-use Rattle.rep_core.specs.declared.reply.Reply.{Reply}
 use Rattle.rep_core.specs.declared.reply.Reply.TheVariants as reply
 use Rattle.rep_core.specs.declared.stamped.Lack.TheVariants as lack
-use Rattle.rep_core.specs.State.{State}
-use Rattle.rep_core.specs.Service.{reply_of}
-use Rattle.rep_core.specs.Serving.{answer_of, is_full}
-use Rattle.suite_collect.specs.Telling.{holds}
-use Rattle.suite_prefix.specs.declared.lock_mode.LockMode.TheVariants.{Shared}
-use Rattle.txn_core.specs.Suites.{ReadPoint, GatheredSuite, suite_of, told_at}
-use Rattle.txn_core.specs.Writing.{part_of, parts_at}
-use Rattle.txn_core.specs.declared.response.Response.{Response}
-use Rattle.txn_core.specs.declared.response.Response.TheVariants.{Replied, Lacked}
-use Rattle.txn_core.specs.declared.job.Job.{Job}
-use Rattle.txn_core.specs.declared.job.Job.TheVariants.{Transaction, Sweep}
-use Rattle.txn_core.specs.Doing.{Proposal, Phase, Gathering, Fetching, Widening, Preparing, Deciding, Finishing, TransactionRun, Doing, Running, RunningSweep}
-use Rattle.txn_core.specs.Transactions.{request_in, changes_of}
-use Rattle.txn_core.specs.Agents.{Agent, fixed_of, next_in, next_of, take, take_in, begin, started, forget, is_idle, has_sense, max_jobs}
+use Rattle.txn_core.specs.Agents.{take}
 use Rattle.txn_core.specs.Agents as agents
-use Rattle.txn_core.proofs.Asks.{asks_same}
 use Rattle.run_core.specs.declared.event.Event as happening
-use Rattle.run_core.specs.declared.event.Event.TheVariants.{Begin, Step, Crash, Return, Forget, Lack}
 use Rattle.run_core.specs.Worlds as worlds
-use Rattle.run_core.specs.Worlds.{Actor, server_at, actor_at, answered, asks_at, asks, steps_once, lacks_for, lacks, operated, operates, becomes, step}
-use Rattle.law_suite_machine.specs.Registers.{Beginning, Known, Change}
-use Rattle.law_suite_machine.specs.Machine.{Told, World, begun, Verdict}
-use Rattle.law_suite_machine.specs.Events.{Event, Held, Upgrade, GiveUp, Overrule, happens, run}
-use Rattle.law_suite_machine.specs.Conditions.{holds_exclusively}
+use Rattle.law_suite_machine.specs.Machine.{Verdict}
+use Rattle.law_suite_machine.specs.Events.{Event}
 use Rattle.law_suite_machine.specs.Conditions as conditions
-use Rattle.law_suite_machine.proofs.Places.{at2, one_is}
 use Rattle.law_server_moves.specs.Preparing as preparing
-use Rattle.law_server_moves.specs.Moves.{prepare_of, first_verdict, moves}
-use Rattle.law_server_moves.specs.Laws.{beginning}
-use Rattle.law_runs.specs.Naming.{names, may_sweep}
-use Rattle.law_runs.proofs.Asking.{asks_in_its_name, asks_to_sweep}
-use Rattle.law_run_machine.specs.Deciding.{
-  to_write,
-  decides_with,
-  decides_without,
-  decides_first,
-  decides_on,
-  decision_by,
-  fixed_in,
-  aim_of,
-  aims_once,
-  aims,
-  is_finishing,
-  is_at_an_end,
-  gives_up,
-  tells_aborted,
-  begun_events,
-  own_events,
-  known_by,
-}
-use Rattle.law_run_machine.specs.Machines.{home_in, begin_events, answered_events, asked_at_events, asked_events, step_events, lacks_for_events, lack_events, operated_events, operator_events, moved}
-use Rattle.law_run_machine.proofs.Joining.{run-append}
-use Rattle.law_run_machine.proofs.Linked.{AllLinked, IsDoing, numbered_at, apart}
-use Rattle.law_run_machine.proofs.Turned.{set_here, set_apart, same_or, numbered_of}
-use Rattle.law_run_machine.proofs.Sending.{asks_there}
-use Rattle.law_run_machine.proofs.Readied.{ToldBelow}
-use Rattle.law_run_machine.proofs.Kept.{actor_opens}
-use Rattle.law_run_quorums.specs.Telling.{DoingAgrees, AllAgree}
-use Rattle.law_run_quorums.specs.Fairness.{PreparedPart}
 use Rattle.law_headline.proofs.Parts.{PartsIn, DoingPrepared, Prepares, PreparesPart, part_found, lock_held, doing_same, prepared_begin, take_prepared}
 use Rattle.law_headline.proofs.Together.{Together}
 

@@ -1,29 +1,10 @@
 -- What edits leave of a row that they do not set.
-use Rattle.std.proofs.Common.{◌≡◌, ℕ, ◌+◌, Bool, true, false, cond, [], ◌∷◌, Option, Some, None, refl, sym, ap, subst, ◌∙◌, arith}
-use Rattle.std.specs.Prelude.{◌==◌, ◌&&◌, ◌||◌, option_map, unwrap_or}
-use Rattle.std.proofs.lemmas.Bool.{false≢true, eqb-true}
-use Rattle.std.proofs.lemmas.Option.{none-some, same_Some}
-use Rattle.acl_core.specs.declared.lists.Lists.{Lists}
-use Rattle.vote_core.specs.Quorums.{Configuration}
-use Rattle.vote_core.specs.Validity.{IsValid}
-use Rattle.suite_content.specs.declared.content.Content.{Content}
-use Rattle.suite_content.specs.declared.content.Kind.{Kind}
+use Rattle.law_headline.proofs.Vocabulary.{◌≡◌, ℕ, ◌+◌, Bool, true, false, cond, [], ◌∷◌, Option, Some, None, refl, sym, ap, subst, ◌∙◌, arith, ◌==◌, ◌&&◌, ◌||◌, option_map, unwrap_or, false≢true, eqb-true, none-some, same_Some, Lists}
+use Rattle.law_headline.proofs.Vocabulary.{Configuration, IsValid, Content, Kind, kind_of, empty_content, Prefix, PrefixKind, Row, Edit, SetAcl, SetVotes, SetContent, Make, makes, sets_acl, sets_votes, some, Edits, changed, seen}
+use Rattle.law_headline.proofs.Vocabulary.{sets_content, emptied, head, neither, part_stays, keeps_acl, keeps_votes, ReadPoint, GatheredSuite, row_with, sets_prefix, new_prefix, prefix_kind, one_if, IsFair, FitsAs, told_as, kind_empty}
 use Rattle.suite_content.specs.declared.content.Kind.TheVariants as holds
-use Rattle.suite_content.specs.Contents.{kind_of, empty_content}
-use Rattle.suite_prefix.specs.declared.copies.Prefix.{Prefix}
-use Rattle.suite_prefix.specs.declared.copies.PrefixKind.{PrefixKind}
 use Rattle.suite_prefix.specs.declared.copies.PrefixKind.TheVariants as kind
-use Rattle.file_ops.specs.Rows.{Row}
 use Rattle.file_exec.specs.declared.changes.Change as executor
-use Rattle.file_exec.specs.declared.edit_log.Edit.{Edit}
-use Rattle.file_exec.specs.declared.edit_log.Edit.TheVariants.{SetAcl, SetVotes, SetContent, Make}
-use Rattle.file_exec.specs.Changes.{makes, sets_acl, sets_votes, some}
-use Rattle.file_exec.specs.Following.{Edits, changed, seen, sets_content, emptied, head}
-use Rattle.file_exec.proofs.Leading.{neither, part_stays, keeps_acl, keeps_votes}
-use Rattle.txn_core.specs.Suites.{ReadPoint, GatheredSuite, row_with}
-use Rattle.txn_core.specs.Writing.{sets_prefix, new_prefix, prefix_kind, one_if}
-use Rattle.law_run_quorums.specs.Fairness.{IsFair}
-use Rattle.law_one_table.proofs.Shown.{FitsAs, told_as, kind_empty}
 use Rattle.law_headline.proofs.Editing.{FitsRow, AllFit}
 
 -- ---- edits, one by one

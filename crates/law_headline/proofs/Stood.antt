@@ -1,59 +1,17 @@
 -- Where a transaction is decided, the locks that it was told of have stood ever since.
-use Rattle.std.proofs.Common.{◌≡◌, inl, inr, ℕ, Bool, true, false, cond, List, [], ◌∷◌, ◌++◌, append_assoc, Option, Some, None, is_some, refl, sym, ap, subst, ◌∙◌, arith}
-use Rattle.std.specs.Prelude.{◌==◌, ◌&&◌, ◌||◌, find}
-use Rattle.std.specs.List.{list_any}
-use Rattle.std.proofs.lemmas.Bool.{false≢true}
-use Rattle.std.proofs.lemmas.Bool.Decides.{nat_tests}
-use Rattle.std.proofs.lemmas.Option.{none-some, same_Some}
-use Rattle.suite_prefix.specs.SettingsRules.{Opening}
-use Rattle.suite_prefix.specs.LockModes.{is_exclusive, serves}
-use Rattle.suite_prefix.specs.declared.lock_mode.LockMode.{LockMode}
-use Rattle.suite_prefix.specs.declared.lock_mode.LockMode.TheVariants.{Shared, Exclusive}
-use Rattle.suite_prefix.specs.declared.copies.Prefix.{Prefix}
-use Rattle.rep_core.specs.declared.lock.Lock.{Lock}
-use Rattle.rep_core.specs.declared.request.Request.{Request}
+use Rattle.law_headline.proofs.Vocabulary.{◌≡◌, inl, inr, ℕ, Bool, true, false, cond, List, [], ◌∷◌, ◌++◌, append_assoc, Option, Some, None, is_some, refl, sym, ap, subst, ◌∙◌, arith, ◌==◌, ◌&&◌, ◌||◌, find, list_any, false≢true}
+use Rattle.law_headline.proofs.Vocabulary.{nat_tests, none-some, same_Some, Opening, is_exclusive, serves, LockMode, Shared, Exclusive, Prefix, Lock, Request, Reply, Verdict, is_own, State, record_of, is_full, answer_of, Replied}
+use Rattle.law_headline.proofs.Vocabulary.{Lacked, Task, Doing, decision_of, request_in, Agent, fixed_of, next_in, next_of, Begin, Step, Crash, Return, Forget, Lack, Served, Actor, server_at, actor_at, serve, becomes, answered, asks_at}
+use Rattle.law_headline.proofs.Vocabulary.{asks, steps_once, lacks_for, lacks, operated, operates, step, Decided, answer_in, decided_as, decided_at, decided_by, decided, task_of, task_at, IsAnsweredAsKnown, answers_follow_knowledge}
+use Rattle.law_headline.proofs.Vocabulary.{Beginning, Hold, Told, World, begun, Held, Upgrade, upgraded_told, happens, run, Obeys, Sound, Inv, still_locked, at2, all_steps, Shows, hold_of, verdict_of, moves, beginning, decision_by}
+use Rattle.law_headline.proofs.Vocabulary.{servers_of, home_in, response_events, served_events, answered_events, asked_at_events, asked_events, step_events, operated_events, operator_events, events_of, moved, machine_from, machine_of}
+use Rattle.law_headline.proofs.Vocabulary.{KeepSides, AllConsistent, event_comes, run-append, server_there, some_of, CanBe, AsksForLock, TellsOfLock, LocksStand}
 use Rattle.rep_core.specs.declared.request.Request.TheVariants as request
-use Rattle.rep_core.specs.declared.reply.Reply.{Reply}
 use Rattle.rep_core.specs.declared.reply.Reply.TheVariants as reply
-use Rattle.rep_core.specs.declared.reply.Verdict.{Verdict}
-use Rattle.rep_core.specs.Locks.{is_own}
-use Rattle.rep_core.specs.State.{State, record_of}
-use Rattle.rep_core.specs.Serving.{is_full, answer_of}
-use Rattle.txn_core.specs.declared.response.Response.TheVariants.{Replied, Lacked}
-use Rattle.txn_core.specs.Doing.{Task, Doing}
-use Rattle.txn_core.specs.Transactions.{decision_of, request_in}
-use Rattle.txn_core.specs.Agents.{Agent, fixed_of, next_in, next_of}
 use Rattle.run_core.specs.declared.event.Event as happening
-use Rattle.run_core.specs.declared.event.Event.TheVariants.{Begin, Step, Crash, Return, Forget, Lack}
-use Rattle.run_core.specs.declared.done.Served.{Served}
 use Rattle.run_core.specs.Worlds as worlds
-use Rattle.run_core.specs.Worlds.{Actor, server_at, actor_at, serve, becomes, answered, asks_at, asks, steps_once, lacks_for, lacks, operated, operates, step}
 use Rattle.run_core.specs.Runs as runs
-use Rattle.run_core.specs.Decisions.{Decided, answer_in, decided_as, decided_at, decided_by, decided, task_of, task_at}
-use Rattle.law_runs.specs.Answers.{IsAnsweredAsKnown}
-use Rattle.law_runs.proofs.Answering.{answers_follow_knowledge}
-use Rattle.law_suite_machine.specs.Registers.{Beginning}
-use Rattle.law_suite_machine.specs.Machine.{Hold, Told, World, begun}
-use Rattle.law_suite_machine.specs.Events.{Event, Held, Upgrade, upgraded_told, happens, run}
-use Rattle.law_suite_machine.specs.Conditions.{Obeys}
-use Rattle.law_suite_machine.proofs.Sound.{Sound}
-use Rattle.law_suite_machine.proofs.Invariant.{Inv}
-use Rattle.law_suite_machine.proofs.Knowing.{still_locked}
-use Rattle.law_suite_machine.proofs.Places.{at2}
-use Rattle.law_suite_machine.proofs.Steps.{all_steps}
-use Rattle.law_server_moves.specs.Views.{Shows, hold_of, verdict_of}
-use Rattle.law_server_moves.specs.Moves.{moves}
-use Rattle.law_server_moves.specs.Laws.{beginning}
-use Rattle.law_run_machine.specs.Deciding.{decision_by}
-use Rattle.law_run_machine.specs.Machines.{servers_of, home_in, response_events, served_events, answered_events, asked_at_events, asked_events, step_events, operated_events, operator_events, events_of, moved, machine_from, machine_of}
-use Rattle.law_run_machine.specs.Sides.{KeepSides}
-use Rattle.law_run_machine.proofs.Consistent.{AllConsistent}
-use Rattle.law_run_machine.proofs.Following.{event_comes}
-use Rattle.law_run_machine.proofs.Joining.{run-append}
-use Rattle.law_run_machine.proofs.Servers.{server_there}
-use Rattle.law_run_machine.proofs.Decided.{some_of}
-use Rattle.law_headline.specs.Premises.{CanBe}
-use Rattle.law_headline.specs.Laws.{AsksForLock, TellsOfLock, LocksStand}
+use Rattle.law_suite_machine.specs.Events.{Event}
 use Rattle.law_headline.proofs.Unbroken.{told_stays, stood, ToldMode, HoldsMode, mode_some, mode_stays, AllAsTold, as_told, holds_mode}
 use Rattle.law_headline.proofs.Beside.{is_ready_now}
 use Rattle.law_headline.proofs.Keeping.{holds_after, all_keep}

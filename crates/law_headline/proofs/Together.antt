@@ -1,33 +1,10 @@
 -- What holds together of a world and of the machine of a suite, as long as agents give what they owe: at the opening, and event by event.
-use Rattle.std.proofs.Common.{ℕ, ◌≤◌, sym, subst}
-use Rattle.suite_prefix.specs.SettingsRules.{Opening}
-use Rattle.vote_core.specs.Validity.{IsValid, max_servers}
-use Rattle.txn_core.specs.Agents.{fixed_of}
+use Rattle.law_headline.proofs.Vocabulary.{ℕ, ◌≤◌, sym, subst, Opening, IsValid, max_servers, fixed_of, step, World, begun, Inv, all_steps, begins, Shows, beginning, opening_shows, servers_of, home_in, events_of, moved, KeepsSide, Owed}
+use Rattle.law_headline.proofs.Vocabulary.{servers_open, AllConsistent, opening_consistent, event_comes, AllLinked, AllWaiting, waits_next, Readied, ready_next, event_all, next, opens_linked, opens_waiting, opens_readied, AllFit}
+use Rattle.law_headline.proofs.Vocabulary.{event_fits, opens_fit, AllAgree, event_agrees, opens_agree}
 use Rattle.run_core.specs.declared.event.Event as happening
 use Rattle.run_core.specs.Worlds as worlds
-use Rattle.run_core.specs.Worlds.{step}
-use Rattle.law_suite_machine.specs.Machine.{World, begun}
-use Rattle.law_suite_machine.proofs.Invariant.{Inv}
-use Rattle.law_suite_machine.proofs.Steps.{all_steps}
-use Rattle.law_suite_machine.proofs.Starting.{begins}
-use Rattle.law_server_moves.specs.Views.{Shows}
-use Rattle.law_server_moves.specs.Laws.{beginning}
-use Rattle.law_server_moves.proofs.Opening.{opening_shows}
-use Rattle.law_run_machine.specs.Machines.{servers_of, home_in, events_of, moved}
-use Rattle.law_run_machine.specs.Sides.{KeepsSide}
-use Rattle.law_run_machine.specs.Owed.{Owed}
-use Rattle.law_run_machine.proofs.Servers.{servers_open}
-use Rattle.law_run_machine.proofs.Consistent.{AllConsistent, opening_consistent}
-use Rattle.law_run_machine.proofs.Following.{event_comes}
-use Rattle.law_run_machine.proofs.Linked.{AllLinked}
-use Rattle.law_run_machine.proofs.Waited.{AllWaiting, waits_next}
-use Rattle.law_run_machine.proofs.Readied.{Readied, ready_next}
-use Rattle.law_run_machine.proofs.Jobs.{All, event_all, opens as jobs_open}
-use Rattle.law_run_machine.proofs.Kept.{next, opens_linked, opens_waiting, opens_readied}
-use Rattle.law_run_knowledge.proofs.Events.{AllFit, event_fits, opens_fit}
-use Rattle.law_run_quorums.specs.Telling.{AllAgree}
-use Rattle.law_run_quorums.proofs.Events.{event_agrees}
-use Rattle.law_run_quorums.proofs.Runs.{opens_agree}
+use Rattle.law_run_machine.proofs.Jobs.{All, opens as jobs_open}
 
 pub record Together (given : Opening) (z : ℕ) (w : World) (world : worlds.World) : Type 0 where
   pub inv : Inv (beginning z given) w

@@ -1,11 +1,8 @@
 -- A lock that a transaction was told of and that is gone never comes back; so one that stands at last stood all the while. It is exclusive where the transaction was told so.
-use Rattle.std.proofs.Common.{◌≡◌, ℕ, Bool, true, false, List, [], ◌∷◌, Option, Some, None, is_some, refl, sym, ap, subst, ◌∙◌}
-use Rattle.std.proofs.lemmas.Bool.{false≢true}
-use Rattle.law_suite_machine.specs.Registers.{Beginning}
-use Rattle.law_suite_machine.specs.Machine.{Hold, Told, World}
-use Rattle.law_suite_machine.specs.Events.{Event, Held, Upgrade, Aim, Prepare, DecideRead, DecideRefused, DecideWrite, DecideElsewhere, Overrule, GiveUp, Finish, Lose, upgraded_hold, upgraded_told, prepared_hold, kept, happens, run}
-use Rattle.law_suite_machine.specs.Conditions.{is_exclusive, May, Obeys}
-use Rattle.law_suite_machine.proofs.Places.{at2, at2_both}
+use Rattle.law_headline.proofs.Vocabulary.{◌≡◌, ℕ, Bool, true, false, List, [], ◌∷◌, Option, Some, None, is_some, refl, sym, ap, subst, ◌∙◌, false≢true, Beginning, Hold, Told, World, Held, Upgrade, Aim, Prepare, DecideRead}
+use Rattle.law_headline.proofs.Vocabulary.{DecideRefused, DecideWrite, DecideElsewhere, Overrule, GiveUp, Finish, Lose, upgraded_hold, upgraded_told, prepared_hold, kept, happens, run, May, Obeys, at2, at2_both}
+use Rattle.law_suite_machine.specs.Events.{Event}
+use Rattle.law_suite_machine.specs.Conditions.{is_exclusive}
 
 -- what was told stays told
 upgraded_some : (o : Option Told) → is_some o ≡ true → is_some (upgraded_told o) ≡ true

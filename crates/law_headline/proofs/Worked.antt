@@ -1,35 +1,14 @@
 -- They can be, and the rest holds by computation.
-use Rattle.std.proofs.Common.{◌≡◌, inl, inr, ℕ, ◌<◌, Bool, true, List, [], ◌∷◌, Option, Some, None, is_some, refl, sym, ap, ◌∙◌, subst, arith, lit<}
-use Rattle.std.specs.Prelude.{nat_lt, ◌&&◌, not}
-use Rattle.std.specs.List.{AllByRecursion, list_all}
-use Rattle.std.specs.Ordering.{nat_cmp}
-use Rattle.std.specs.FinSet.{contains-empty}
-use Rattle.std.proofs.lemmas.Bool.{and_parts, false≢true}
-use Rattle.std.proofs.lemmas.Bool.Decides.{nat_tests}
-use Rattle.std.proofs.lemmas.List.Elements.{All-from_recursion}
-use Rattle.vote_core.specs.declared.fault.VotesFault.{VotesFault}
-use Rattle.vote_core.specs.Quorums.{Configuration, Representative}
-use Rattle.vote_core.specs.Validity.{IsValid, first_fault, max_servers}
-use Rattle.vote_core.proofs.Faults.{accepted_without_fault}
-use Rattle.suite_prefix.specs.SettingsRules.{IsAccepted}
-use Rattle.suite_prefix.specs.declared.lock_mode.LockMode.TheVariants.{Shared}
-use Rattle.suite_prefix.specs.declared.copies.Prefix.{Prefix}
-use Rattle.suite_prefix.specs.declared.copies.PrefixKind.TheVariants.{File}
+use Rattle.law_headline.proofs.Vocabulary.{◌≡◌, inl, inr, ℕ, ◌<◌, Bool, true, List, [], ◌∷◌, Option, Some, None, is_some, refl, sym, ap, ◌∙◌, subst, arith, lit<, nat_lt, ◌&&◌, not, AllByRecursion, list_all, nat_cmp, contains-empty}
+use Rattle.law_headline.proofs.Vocabulary.{and_parts, false≢true, nat_tests, All-from_recursion, VotesFault, Configuration, Representative, IsValid, first_fault, max_servers, accepted_without_fault, IsAccepted, Shared, Prefix, File}
+use Rattle.law_headline.proofs.Vocabulary.{Action, Op, row_of, Transaction, Sweep, mode_lists, Event, Begin, Step, Crash, Return, Forget, Lack, decisions, table_after_all, GivesValidVotes, EventGivesValidVotes, VotesAreValid}
+use Rattle.law_headline.proofs.Vocabulary.{with_caches, revoked, revoked_decisions, SomeRunRevokes, six_servers, moved_decisions, SomeRunMovesVotes, upgraded, SomeRunHoldsLocks}
 use Rattle.rep_core.specs.declared.request.Request.TheVariants as request
 use Rattle.rep_core.specs.declared.reply.Reply.TheVariants as reply
-use Rattle.file_ops.specs.declared.operation.Action.{Action}
 use Rattle.file_ops.specs.declared.operation.Action.TheVariants as action
-use Rattle.file_ops.specs.declared.operation.Op.{Op}
 use Rattle.file_ops.specs.Rows as rows
-use Rattle.file_ops.specs.Rows.{row_of}
-use Rattle.txn_core.specs.declared.job.Job.TheVariants.{Transaction, Sweep}
-use Rattle.txn_core.specs.Runs.{mode_lists}
-use Rattle.run_core.specs.declared.event.Event.{Event}
-use Rattle.run_core.specs.declared.event.Event.TheVariants.{Begin, Step, Crash, Return, Forget, Lack}
-use Rattle.run_core.specs.Decisions.{decisions}
-use Rattle.run_core.specs.TableOfRun.{table_after_all, AnswersAreTheTables}
-use Rattle.law_headline.specs.Premises.{GivesValidVotes, EventGivesValidVotes, VotesAreValid}
-use Rattle.law_headline.specs.Worked.{with_caches, revoked, revoked_decisions, SomeRunRevokes, six_servers, moved, moved_decisions, SomeRunMovesVotes, upgraded, SomeRunHoldsLocks}
+use Rattle.run_core.specs.TableOfRun.{AnswersAreTheTables}
+use Rattle.law_headline.specs.Worked.{moved}
 
 -- ---- valid votes, by a test
 

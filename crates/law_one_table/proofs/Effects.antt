@@ -1,49 +1,17 @@
 -- What is in effect at the servers is what the machines of the suites have in effect.
-use Rattle.std.proofs.Common.{◌≡◌, ℕ, ◌<◌, ◌≤◌, Bool, cond, List, [], ◌∷◌, ◌++◌, append_assoc, Option, Some, None, refl, sym, ap, subst, ◌∙◌}
-use Rattle.std.specs.Ordering.{nat_cmp}
-use Rattle.std.proofs.lemmas.Option.{none-some, same_Some}
-use Rattle.sorted_map.specs.SortedMap.{get}
-use Rattle.vote_core.specs.Quorums.{Configuration}
-use Rattle.suite_content.specs.declared.content.Content.{Content}
-use Rattle.suite_content.specs.Contents.{kind_of}
-use Rattle.suite_prefix.specs.SettingsRules.{Opening}
-use Rattle.suite_prefix.specs.declared.copies.Prefix.{Prefix}
-use Rattle.suite_prefix.specs.declared.copies.PrefixKind.{PrefixKind}
+use Rattle.law_one_table.proofs.Vocabulary.{◌≡◌, ℕ, ◌<◌, ◌≤◌, Bool, cond, List, [], ◌∷◌, ◌++◌, append_assoc, Option, Some, None, refl, sym, ap, subst, ◌∙◌, nat_cmp, none-some, same_Some, get, Configuration, Content, kind_of, Opening}
+use Rattle.law_one_table.proofs.Vocabulary.{Prefix, PrefixKind, Replica, Row, Intention, copy_of, left_by, record_of, row_with, prefix_kind, fixed_of, opening, step, Beginning, prefix_at, World, IsQuorum, effect, is_answered, begun}
+use Rattle.law_one_table.proofs.Vocabulary.{Event, happens, run, Obeys, QuorumsShowRow, Stays, Inv, begins, all_steps, quorums_show, superseded, what_was_stays, Shows, plan_of, verdict_of, beginning, servers_of, home_in, events_of}
+use Rattle.law_one_table.proofs.Vocabulary.{moved, machine_from, history_from, machine_of, history_of, Follows, run-append, machines_follow, register, AllKeepSides, was_answered, answered_in, copy_at, HasOne, HasHead, IsInEffect}
 use Rattle.suite_prefix.specs.declared.copies.PrefixKind.TheVariants as kind
-use Rattle.suite_prefix.specs.declared.copies.Replica.{Replica}
-use Rattle.file_ops.specs.Rows.{Row}
-use Rattle.rep_core.specs.Intentions.{Intention}
 use Rattle.rep_core.specs.declared.reply.Verdict.{Verdict}
 use Rattle.rep_core.specs.declared.reply.Verdict.TheVariants as verdict
 use Rattle.rep_core.specs.Store as store
-use Rattle.rep_core.specs.Store.{copy_of, left_by}
-use Rattle.rep_core.specs.State.{record_of}
-use Rattle.txn_core.specs.Suites.{row_with}
-use Rattle.txn_core.specs.Writing.{prefix_kind}
-use Rattle.txn_core.specs.Agents.{fixed_of}
 use Rattle.run_core.specs.declared.event.Event as happening
 use Rattle.run_core.specs.Worlds as worlds
-use Rattle.run_core.specs.Worlds.{opening, step}
 use Rattle.run_core.specs.Runs as runs
-use Rattle.law_suite_machine.specs.Registers.{Beginning, prefix_at}
 use Rattle.law_suite_machine.specs.Machine as machine
-use Rattle.law_suite_machine.specs.Machine.{World, IsQuorum, effect, is_answered, begun}
-use Rattle.law_suite_machine.specs.Events.{Event, happens, run}
-use Rattle.law_suite_machine.specs.Conditions.{Obeys}
-use Rattle.law_suite_machine.specs.Laws.{QuorumsShowRow, Stays}
 use Rattle.law_suite_machine.specs.Laws as laws
-use Rattle.law_suite_machine.proofs.Invariant.{Inv}
-use Rattle.law_suite_machine.proofs.Starting.{begins}
-use Rattle.law_suite_machine.proofs.Steps.{all_steps}
-use Rattle.law_suite_machine.proofs.Conclusions.{quorums_show, superseded, what_was_stays}
-use Rattle.law_server_moves.specs.Views.{Shows, plan_of, verdict_of}
-use Rattle.law_server_moves.specs.Laws.{beginning}
-use Rattle.law_run_machine.specs.Machines.{servers_of, home_in, events_of, moved, machine_from, history_from, machine_of, history_of}
-use Rattle.law_run_machine.specs.Laws.{Follows}
-use Rattle.law_run_machine.proofs.Joining.{run-append}
-use Rattle.law_run_machine.proofs.Following.{machines_follow}
-use Rattle.law_one_table.specs.Tables.{register, AllKeepSides}
-use Rattle.law_one_table.specs.Effects.{was_answered, answered_in, copy_at, HasOne, HasHead, IsInEffect}
 use Rattle.law_one_table.proofs.Shown.{FitsAs}
 use Rattle.law_one_table.proofs.Running.{earlier}
 

@@ -1,23 +1,9 @@
 -- Each prefix and each content that a register had is the register's own after some beginning of the run.
-use Rattle.std.proofs.Common.{◌≡◌, inl, inr, ℕ, ◌<◌, ◌≤◌, true, false, List, [], ◌∷◌, ◌++◌, append_assoc, Option, Some, None, refl, sym, ap, subst, ◌∙◌, arith}
-use Rattle.std.specs.Prelude.{◌==◌}
-use Rattle.std.proofs.lemmas.Bool.Decides.{nat_tests}
-use Rattle.suite_content.specs.declared.content.Content.{Content}
-use Rattle.suite_prefix.specs.SettingsRules.{Opening}
-use Rattle.suite_prefix.specs.declared.copies.Prefix.{Prefix}
-use Rattle.suite_prefix.specs.declared.copies.Replica.{Replica}
-use Rattle.txn_core.specs.Agents.{fixed_of}
+use Rattle.law_one_table.proofs.Vocabulary.{◌≡◌, inl, inr, ℕ, ◌<◌, ◌≤◌, true, false, List, [], ◌∷◌, ◌++◌, append_assoc, Option, Some, None, refl, sym, ap, subst, ◌∙◌, arith, ◌==◌, nat_tests, Content, Opening, Prefix, Replica, fixed_of}
+use Rattle.law_one_table.proofs.Vocabulary.{Decided, decided, one_more, Beginning, IsBeginning, Known, Entry, Wrote, IsNext, IsPlain, changed, row, prefix_at, content_at, World, Event, Held, Upgrade, Aim, Prepare, DecideRead}
+use Rattle.law_one_table.proofs.Vocabulary.{DecideRefused, DecideWrite, DecideElsewhere, Overrule, GiveUp, Finish, Lose, happens, at1, one_is, beginning, machine_of, register, AllKeepSides}
 use Rattle.run_core.specs.declared.event.Event as happening
 use Rattle.run_core.specs.Runs as runs
-use Rattle.run_core.specs.Decisions.{Decided, decided}
-use Rattle.law_runs.proofs.Table.{one_more}
-use Rattle.law_suite_machine.specs.Registers.{Beginning, IsBeginning, Known, Entry, Wrote, IsNext, IsPlain, changed, row, prefix_at, content_at}
-use Rattle.law_suite_machine.specs.Machine.{World}
-use Rattle.law_suite_machine.specs.Events.{Event, Held, Upgrade, Aim, Prepare, DecideRead, DecideRefused, DecideWrite, DecideElsewhere, Overrule, GiveUp, Finish, Lose, happens}
-use Rattle.law_suite_machine.proofs.Places.{at1, one_is}
-use Rattle.law_server_moves.specs.Laws.{beginning}
-use Rattle.law_run_machine.specs.Machines.{machine_of}
-use Rattle.law_one_table.specs.Tables.{register, AllKeepSides}
 use Rattle.law_one_table.proofs.Logs.{LogIs, decision_at, event_log}
 use Rattle.law_one_table.proofs.Running.{earlier, next_kept, nothing_more, machine_one}
 use Rattle.law_one_table.proofs.Effects.{follows, inv}

@@ -1,22 +1,8 @@
 -- What an agent knows where its transaction is decided is what the registers hold.
-use Rattle.std.proofs.Common.{◌≡◌, ℕ, Option, Some, None, refl, sym, ap, subst, ◌∙◌}
-use Rattle.std.specs.Prelude.{is_some, Ok, Err}
-use Rattle.std.specs.Ordering.{nat_cmp}
-use Rattle.sorted_map.specs.SortedMap.{IsOrdered}
-use Rattle.suite_prefix.specs.declared.copies.Prefix.{Prefix}
-use Rattle.suite_prefix.specs.declared.copies.Replica.{Replica}
-use Rattle.file_ops.specs.Rows.{Row, Rows, row_of}
-use Rattle.file_exec.specs.KnownSuites.{KnownSuite}
+use Rattle.law_one_table.proofs.Vocabulary.{◌≡◌, ℕ, Option, Some, None, refl, sym, ap, subst, ◌∙◌, is_some, Ok, Err, nat_cmp, IsOrdered, Prefix, Replica, Row, Rows, row_of, KnownSuite, IsSo, IsSoAt, AgreesWith, ReadPoint, GatheredSuite}
+use Rattle.law_one_table.proofs.Vocabulary.{Suites, suite_of, row_with, known_row, known_of, Task, Proposal, known_from, Beginning, Known, Change, IsKnown, IsPlain, row, World, happens, to_write, known_by, decides_with, decides_first}
+use Rattle.law_one_table.proofs.Vocabulary.{decides_on, decision_with, row_shown}
 use Rattle.file_exec.specs.Known as known
-use Rattle.file_exec.specs.Known.{IsSo, IsSoAt, AgreesWith}
-use Rattle.txn_core.specs.Suites.{ReadPoint, GatheredSuite, Suites, suite_of, row_with, known_row, known_of}
-use Rattle.txn_core.specs.Doing.{Task, Proposal}
-use Rattle.txn_core.proofs.Growing.{known_from}
-use Rattle.law_suite_machine.specs.Registers.{Beginning, Known, Change, IsKnown, IsPlain, row}
-use Rattle.law_suite_machine.specs.Machine.{World}
-use Rattle.law_suite_machine.specs.Events.{happens}
-use Rattle.law_run_machine.specs.Deciding.{to_write, known_by, decides_with, decides_first, decides_on, decision_with}
-use Rattle.law_one_table.specs.Tables.{row_shown}
 use Rattle.law_one_table.proofs.Shown.{IsShown, is_so}
 
 -- ---- what a decision knew

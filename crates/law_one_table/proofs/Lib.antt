@@ -1,3 +1,4 @@
+mod Vocabulary
 pub mod Logs
 pub mod Shown
 pub mod Knowing

@@ -1,48 +1,14 @@
 -- Each row of the table of a run is what the register of its suite holds, event by event.
-use Rattle.std.proofs.Common.{◌≡◌, ℕ, zero, suc, false, cond, Less, Equal, Greater, List, [], ◌∷◌, ◌++◌, Option, Some, None, refl, sym, ap, subst, ◌∙◌, arith}
-use Rattle.std.specs.Prelude.{◌==◌, option_to_list, Result, Ok, Err}
-use Rattle.std.specs.List.{cons_option}
-use Rattle.std.specs.declared.cmp.Ordering.{Ordering}
-use Rattle.std.specs.Ordering.{nat_cmp, is_eq}
-use Rattle.std.proofs.lemmas.Bool.Decides.{nat_tests}
-use Rattle.std.proofs.lemmas.Map.Lookups.{exact_unsigned}
-use Rattle.suite_prefix.specs.Absent.{absent_copy}
-use Rattle.rep_core.specs.Store.{root_copy}
-use Rattle.suite_prefix.specs.SettingsRules.{Opening}
-use Rattle.file_ops.specs.declared.answer.Answer.{Answer}
-use Rattle.file_ops.specs.declared.refusal.Refusal.{Refusal}
+use Rattle.law_one_table.proofs.Vocabulary.{◌≡◌, ℕ, zero, suc, false, cond, Less, Equal, Greater, List, [], ◌∷◌, ◌++◌, Option, Some, None, refl, sym, ap, subst, ◌∙◌, arith, ◌==◌, option_to_list, Result, Ok, Err, cons_option, Ordering}
+use Rattle.law_one_table.proofs.Vocabulary.{nat_cmp, is_eq, nat_tests, exact_unsigned, absent_copy, root_copy, Opening, Answer, Refusal, PlainTable, row_of, transaction, replies, table_after, Ended, AgreesWith, on_table}
+use Rattle.law_one_table.proofs.Vocabulary.{done_is_the_tables, ReadPoint, GatheredSuite, suite_of, known_of, TransactionRun, Doing, Running, fixed_of, Step, actor_at, opening, step, Decided, decided, decisions, decisions_from}
+use Rattle.law_one_table.proofs.Vocabulary.{played_on, table_after_all, table_of, AnswersAreTheTables, IsAnsweredAsKnown, agent_of, Came, Keeps, answers_follow_knowledge, always_knows, Knows, service_stays, run_one, table_one, one_more}
+use Rattle.law_one_table.proofs.Vocabulary.{tables_audit, IsPlain, IsKnown, row, World, begun, happens, one_register, beginning, known_by, to_write, decision_in, decision_by, decision_with, moved, machine_from, machine_of, history_of}
+use Rattle.law_one_table.proofs.Vocabulary.{KeepSides, machines_follow, sides_are_kept, register, AllKeepSides, RowsAreTheRegisters, AgentsKnowTheTable, AnswersAreOneTables, AuditIsOneTables, OwedIsEnough}
 use Rattle.file_ops.specs.Rows as rows
-use Rattle.file_ops.specs.Rows.{PlainTable, row_of}
-use Rattle.file_ops.specs.Transactions.{transaction, replies, table_after}
-use Rattle.file_exec.specs.Following.{Ended}
-use Rattle.file_exec.specs.Known.{AgreesWith, on_table}
-use Rattle.file_exec.proofs.More.{done_is_the_tables}
-use Rattle.txn_core.specs.Suites.{ReadPoint, GatheredSuite, suite_of, known_of}
-use Rattle.txn_core.specs.Doing.{TransactionRun, Doing, Running}
-use Rattle.txn_core.specs.Agents.{fixed_of}
 use Rattle.run_core.specs.declared.event.Event as happening
-use Rattle.run_core.specs.declared.event.Event.TheVariants.{Step}
 use Rattle.run_core.specs.Worlds as worlds
-use Rattle.run_core.specs.Worlds.{actor_at, opening, step}
 use Rattle.run_core.specs.Runs as runs
-use Rattle.run_core.specs.Decisions.{Decided, decided, decisions, decisions_from}
-use Rattle.run_core.specs.TableOfRun.{played_on, table_after_all, table_of, AnswersAreTheTables}
-use Rattle.law_runs.specs.Answers.{IsAnsweredAsKnown}
-use Rattle.law_runs.proofs.Worlds.{agent_of}
-use Rattle.law_runs.proofs.Executed.{Came, Keeps}
-use Rattle.law_runs.proofs.Answering.{answers_follow_knowledge, always_knows, Knows}
-use Rattle.law_runs.proofs.Table.{service_stays, run_one, table_one, one_more, tables_audit}
-use Rattle.law_suite_machine.specs.Registers.{IsPlain, IsKnown, row}
-use Rattle.law_suite_machine.specs.Machine.{World, begun}
-use Rattle.law_suite_machine.specs.Events.{happens}
-use Rattle.law_suite_machine.proofs.Conclusions.{one_register}
-use Rattle.law_server_moves.specs.Laws.{beginning}
-use Rattle.law_run_machine.specs.Deciding.{known_by, to_write, decision_in, decision_by, decision_with}
-use Rattle.law_run_machine.specs.Machines.{moved, machine_from, machine_of, history_of}
-use Rattle.law_run_machine.specs.Sides.{KeepSides}
-use Rattle.law_run_machine.proofs.Following.{machines_follow}
-use Rattle.law_run_machine.proofs.Kept.{sides_are_kept}
-use Rattle.law_one_table.specs.Tables.{register, AllKeepSides, RowsAreTheRegisters, AgentsKnowTheTable, AnswersAreOneTables, AuditIsOneTables, OwedIsEnough}
 use Rattle.law_one_table.proofs.Logs.{LogIs, decision_of_actor, decision_at, event_log}
 use Rattle.law_one_table.proofs.Shown.{IsShown}
 use Rattle.law_one_table.proofs.Knowing.{known_by_plain, decision_is, agrees}

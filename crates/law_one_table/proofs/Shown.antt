@@ -1,34 +1,12 @@
 -- The row that a register shows: what is known of it is so, and a change leads on.
-use Rattle.std.proofs.Common.{◌≡◌, inl, inr, ℕ, Bool, true, false, cond, [], ◌∷◌, Option, Some, None, refl, sym, ap, subst, ◌∙◌}
-use Rattle.std.specs.Prelude.{◌==◌, ◌&&◌, ◌||◌, is_some, option_map}
-use Rattle.std.specs.Ordering.{nat_cmp}
-use Rattle.sorted_map.specs.SortedMap.{get}
-use Rattle.std.proofs.lemmas.Bool.{false≢true}
-use Rattle.std.proofs.lemmas.Option.{none-some, same_Some}
-use Rattle.suite_content.specs.declared.content.Content.{Content}
-use Rattle.suite_content.specs.declared.content.Kind.{Kind}
+use Rattle.law_one_table.proofs.Vocabulary.{◌≡◌, inl, inr, ℕ, Bool, true, false, cond, [], ◌∷◌, Option, Some, None, refl, sym, ap, subst, ◌∙◌, ◌==◌, ◌&&◌, ◌||◌, is_some, option_map, nat_cmp, get, false≢true, none-some, same_Some}
+use Rattle.law_one_table.proofs.Vocabulary.{Content, Kind, kind_of, empty_content, LockMode, Prefix, PrefixKind, Replica, Row, with_content, Edit, SetAcl, SetVotes, SetContent, Make, makes, some, touches, Edits, seen, is_set}
+use Rattle.law_one_table.proofs.Vocabulary.{sets_content, emptied, head, content_in, known_rows, IsSo, Tells, changes_by_suite, ReadPoint, row_with, new_prefix, prefix_kind, changed, change_to, row_shown}
 use Rattle.suite_content.specs.declared.content.Kind.TheVariants as holds
-use Rattle.suite_content.specs.Contents.{kind_of, empty_content}
-use Rattle.suite_prefix.specs.declared.lock_mode.LockMode.{LockMode}
-use Rattle.suite_prefix.specs.declared.copies.Prefix.{Prefix}
-use Rattle.suite_prefix.specs.declared.copies.PrefixKind.{PrefixKind}
 use Rattle.suite_prefix.specs.declared.copies.PrefixKind.TheVariants as kind
-use Rattle.suite_prefix.specs.declared.copies.Replica.{Replica}
-use Rattle.file_ops.specs.Rows.{Row, with_content}
 use Rattle.file_exec.specs.declared.changes.Change as executor
-use Rattle.file_exec.specs.declared.edit_log.Edit.{Edit}
-use Rattle.file_exec.specs.declared.edit_log.Edit.TheVariants.{SetAcl, SetVotes, SetContent, Make}
 use Rattle.file_exec.specs.Changes as changes
-use Rattle.file_exec.specs.Changes.{makes, some, touches}
-use Rattle.file_exec.specs.Following.{Edits, seen, is_set, sets_content, emptied, head, content_in}
-use Rattle.file_exec.specs.Known.{Known, known_rows, IsSo}
-use Rattle.file_exec.specs.Laws.{Tells}
-use Rattle.file_exec.proofs.Leading.{changes_by_suite}
-use Rattle.txn_core.specs.Suites.{ReadPoint, row_with}
-use Rattle.txn_core.specs.Writing.{new_prefix, prefix_kind}
-use Rattle.law_suite_machine.specs.Registers.{changed}
-use Rattle.law_run_machine.specs.Deciding.{change_to}
-use Rattle.law_one_table.specs.Tables.{row_shown}
+use Rattle.file_exec.specs.Known.{Known}
 
 -- a content is of the kind that a prefix says
 abbrev pub FitsAs : PrefixKind → Content → Type 0

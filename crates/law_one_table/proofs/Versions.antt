@@ -1,33 +1,13 @@
 -- The versions of the table's rows are those of the registers: what follows of copies in effect and of caches.
-use Rattle.std.proofs.Common.{◌≡◌, inl, inr, ℕ, ◌<◌, ◌≤◌, Bool, List, ◌++◌, Some, None, refl, sym, ap, subst, ◌∙◌, arith}
-use Rattle.std.specs.Prelude.{Contains}
-use Rattle.vote_core.specs.Quorums.{Configuration}
-use Rattle.suite_content.specs.declared.content.Content.{Content}
-use Rattle.suite_content.specs.Contents.{empty_content}
-use Rattle.suite_prefix.specs.SettingsRules.{Opening}
-use Rattle.suite_prefix.specs.Absent.{absent_prefix}
-use Rattle.suite_prefix.specs.declared.copies.Prefix.{Prefix}
-use Rattle.suite_prefix.specs.declared.copies.PrefixKind.{PrefixKind}
+use Rattle.law_one_table.proofs.Vocabulary.{◌≡◌, inl, inr, ℕ, ◌<◌, ◌≤◌, Bool, List, ◌++◌, Some, None, refl, sym, ap, subst, ◌∙◌, arith, Contains, Configuration, Content, empty_content, Opening, absent_prefix, Prefix, PrefixKind}
+use Rattle.law_one_table.proofs.Vocabulary.{Replica, Row, head, row_with, Actor, actor_at, Beginning, row, prefix_at, content_at, WasPrefix, WasContent, GoesWith, WasCopy, World, IsQuorum, effect, Logged, none_or_some, beginning}
+use Rattle.law_one_table.proofs.Vocabulary.{machine_of, knowledge_was, register, AllKeepSides, copy_at, HasOne, HasHead, row_at, RowVersions, content_of, Rise, HadRow, PrefixWas, ContentWas, CopyWas, EntryWas, HoldAt, RowsHaveVersions}
 use Rattle.suite_prefix.specs.declared.copies.PrefixKind.TheVariants as kind
-use Rattle.suite_prefix.specs.declared.copies.Replica.{Replica}
-use Rattle.file_ops.specs.Rows.{Row}
-use Rattle.file_exec.specs.Following.{head}
 use Rattle.weak_cache.specs.Entries.{Entry}
-use Rattle.txn_core.specs.Suites.{row_with}
 use Rattle.run_core.specs.declared.event.Event.{Event}
-use Rattle.run_core.specs.Worlds.{Actor, actor_at}
 use Rattle.run_core.specs.Runs.{run}
 use Rattle.law_suite_machine.specs.Registers as registers
-use Rattle.law_suite_machine.specs.Registers.{Beginning, row, prefix_at, content_at, WasPrefix, WasContent, GoesWith, WasCopy}
-use Rattle.law_suite_machine.specs.Machine.{World, IsQuorum, effect}
-use Rattle.law_suite_machine.proofs.Rows.{Logged, none_or_some}
-use Rattle.law_server_moves.specs.Laws.{beginning}
-use Rattle.law_run_machine.specs.Machines.{machine_of}
 use Rattle.law_run_knowledge.specs.Knowledge as knowledge
-use Rattle.law_run_knowledge.proofs.Events.{knowledge_was}
-use Rattle.law_one_table.specs.Tables.{register, AllKeepSides}
-use Rattle.law_one_table.specs.Effects.{copy_at, HasOne, HasHead}
-use Rattle.law_one_table.specs.Versions.{row_at, RowVersions, content_of, Rise, HadRow, PrefixWas, ContentWas, CopyWas, EntryWas, HoldAt, RowsHaveVersions}
 use Rattle.law_one_table.proofs.Shown.{FitsAs, NeverAs, IsShown}
 use Rattle.law_one_table.proofs.Running.{earlier, all_shown}
 use Rattle.law_one_table.proofs.Effects.{IsOfRow, of_row, has_head, in_effect, greatest, newer, inv, effect_at, goes_on}

@@ -1,31 +1,11 @@
 -- A decision leads the table and the registers on to the same rows.
-use Rattle.std.proofs.Common.{◌≡◌, ℕ, true, List, Option, Some, None, refl, sym, ap, subst, ◌∙◌}
-use Rattle.std.specs.Prelude.{is_some, Result, Ok, Err}
-use Rattle.std.specs.Ordering.{nat_cmp}
-use Rattle.std.proofs.lemmas.Bool.{false≢true}
-use Rattle.sorted_map.specs.SortedMap.{get, IsOrdered}
-use Rattle.file_ops.specs.declared.answer.Answer.{Answer}
-use Rattle.file_ops.specs.declared.refusal.Refusal.{Refusal}
-use Rattle.file_ops.specs.Rows.{Row, Rows, row_of}
-use Rattle.suite_prefix.specs.declared.lock_mode.LockMode.TheVariants.{Exclusive}
-use Rattle.file_exec.specs.KnownSuites.{KnownSuite}
+use Rattle.law_one_table.proofs.Vocabulary.{◌≡◌, ℕ, true, List, Option, Some, None, refl, sym, ap, subst, ◌∙◌, is_some, Result, Ok, Err, nat_cmp, false≢true, get, IsOrdered, Answer, Refusal, Row, Rows, row_of, Exclusive, KnownSuite}
+use Rattle.law_one_table.proofs.Vocabulary.{Ended, with_edits, AgreesWith, is_held, Done, exec_of, TellsAt, changes_lead_on, changes_are_held, ReadPoint, GatheredSuite, Suites, suite_of, known_of, change_of, Granted, Fixed, Task}
+use Rattle.law_one_table.proofs.Vocabulary.{Proposal, known_from, IsOfSuite, given_by, set_by, answer_as, Came, Beginning, Change, changed, row, World, happens, change_to, written_from, first_of, to_write, known_by, decides_with}
+use Rattle.law_one_table.proofs.Vocabulary.{decides_first, decides_on, decision_with}
 use Rattle.file_exec.specs.declared.changes.Change as executor
 use Rattle.file_exec.specs.Changes as changes
-use Rattle.file_exec.specs.Following.{Ended, with_edits}
 use Rattle.file_exec.specs.Known as known
-use Rattle.file_exec.specs.Known.{AgreesWith, is_held, Done, exec_of}
-use Rattle.file_exec.specs.Laws.{TellsAt}
-use Rattle.file_exec.proofs.Leading.{changes_lead_on}
-use Rattle.file_exec.proofs.Unset.{changes_are_held}
-use Rattle.txn_core.specs.Suites.{ReadPoint, GatheredSuite, Suites, suite_of, known_of}
-use Rattle.txn_core.specs.Writing.{change_of}
-use Rattle.txn_core.specs.Doing.{Granted, Fixed, Task, Proposal}
-use Rattle.txn_core.proofs.Growing.{known_from, IsOfSuite}
-use Rattle.law_runs.proofs.Executed.{given_by, set_by, answer_as, Came}
-use Rattle.law_suite_machine.specs.Registers.{Beginning, Change, changed, row}
-use Rattle.law_suite_machine.specs.Machine.{World}
-use Rattle.law_suite_machine.specs.Events.{happens}
-use Rattle.law_run_machine.specs.Deciding.{change_to, written_from, first_of, to_write, known_by, decides_with, decides_first, decides_on, decision_with}
 use Rattle.law_one_table.proofs.Shown.{IsShown, made_sets, leads_on}
 use Rattle.law_one_table.proofs.Knowing.{decision_is}
 

@@ -1,48 +1,10 @@
 -- Moves from a point on come to the step that the function takes, and to no other.
-use Rattle.std.proofs.Common.{◌≡◌, ℕ, zero, suc, ◌≤◌, false, List, [], ◌∷◌, Option, Some, None, refl, sym, ap, subst, ◌∙◌, arith}
-use Rattle.std.specs.Prelude.{length}
-use Rattle.std.proofs.lemmas.Cmp.{nat_cmp_total}
-use Rattle.sorted_map.specs.Laws.{IsOrdered-insert}
-use Rattle.suite_prefix.specs.declared.lock_mode.LockMode.{LockMode}
-use Rattle.file_exec.specs.declared.need.Need.TheVariants.{Hold, Know}
+use Rattle.law_protocol.proofs.Vocabulary.{◌≡◌, ℕ, zero, suc, ◌≤◌, false, List, [], ◌∷◌, Option, Some, None, refl, sym, ap, subst, ◌∙◌, arith, length, nat_cmp_total, IsOrdered-insert, LockMode, Hold, Know, Next, Ask, Current, Short}
+use Rattle.law_protocol.proofs.Vocabulary.{next, Cache, GatheredSuite, Suites, suite_of, with_suite, Granted, Fixed, Task, Gathering, Fetching, Widening, Step, Gathered, on_with, gather, gather_by, widen_by, widen_one, widened}
+use Rattle.law_protocol.proofs.Vocabulary.{widen_all, open_needed, open_suite, or_all, opened, heard_on, raised_or_new, proceed, execute, Stage, Executes, Widens, Asks, Prepares, PreparesAt, GivesUp, Tells, TellsAt, Point, point}
+use Rattle.law_protocol.proofs.Vocabulary.{EndsIn, is_short, Move, opens, fetches, gathers, lacks_lock, refuses, grants, prepares, passes, widens, widens_by, lacks_wide, Moves, stays, goes, step_at, step_from, IsEager, Rises, GoesTo}
 use Rattle.file_exec.specs.declared.executor.Outcome.{Outcome as Executed}
 use Rattle.file_exec.specs.declared.executor.Outcome.TheVariants as exec
-use Rattle.suite_collect.specs.Collecting.{Next, Ask, Current, Short, next}
-use Rattle.weak_cache.specs.Entries.{Cache}
-use Rattle.txn_core.specs.Suites.{GatheredSuite, Suites, suite_of, with_suite}
-use Rattle.txn_core.specs.Doing.{Granted, Fixed, Task, Gathering, Fetching, Widening}
-use Rattle.txn_core.specs.Transactions.{Step, Gathered, on_with, gather, gather_by, widen_by, widen_one, widened, widen_all, open_needed, open_suite, or_all, opened, heard_on, raised_or_new, proceed, execute}
-use Rattle.txn_core.specs.Moves.{
-  Stage,
-  Executes,
-  Widens,
-  Asks,
-  Prepares,
-  PreparesAt,
-  GivesUp,
-  Tells,
-  TellsAt,
-  Point,
-  point,
-  EndsIn,
-  is_short,
-  Move,
-  opens,
-  fetches,
-  gathers,
-  lacks_lock,
-  refuses,
-  grants,
-  prepares,
-  passes,
-  widens,
-  widens_by,
-  lacks_wide,
-  Moves,
-  stays,
-  goes,
-}
-use Rattle.law_protocol.specs.Protocol.{step_at, step_from, IsEager, Rises, GoesTo}
 use Rattle.law_protocol.proofs.Opened.{missing, missing_few, with_content, next_round, opens_by, round_opens, grows, nothing_opens, one_more}
 
 -- a stage from which it moves on

@@ -1,3 +1,4 @@
+mod Vocabulary
 mod Opened
 mod Gone
 mod WordsAreMoves

@@ -1,35 +1,11 @@
 -- In a run in which nothing disturbs any transaction all of them are decided, but for one that still runs.
-use Rattle.std.proofs.Common.{◌≡◌, ◌⊎◌, inl, inr, ⊎_elim, ℕ, Bool, true, false, List, [], ◌∷◌, ◌++◌, append_assoc, Option, Some, None, refl, sym, ap, subst, ◌∙◌}
-use Rattle.std.specs.Prelude.{◌&&◌, ◌||◌, not, is_some}
-use Rattle.std.specs.List.{cons_option}
-use Rattle.std.proofs.lemmas.Bool.{false≢true, and_parts}
-use Rattle.std.proofs.lemmas.Option.{none-some, same_Some}
-use Rattle.acl_core.specs.Identity.{Identity}
-use Rattle.suite_prefix.specs.SettingsRules.{Opening, IsAccepted}
-use Rattle.file_ops.specs.declared.operation.Op.{Op}
-use Rattle.rep_core.proofs.Members.{Has, has_from, contains_from, has_any}
-use Rattle.txn_core.specs.declared.ending.Ending.{Ending}
-use Rattle.txn_core.specs.declared.ending.Ending.TheVariants.{Answered, Refused, Swept, Undecided}
-use Rattle.txn_core.specs.declared.job.Job.{Job}
-use Rattle.txn_core.specs.declared.job.Job.TheVariants.{Transaction}
-use Rattle.txn_core.specs.Doing.{Doing, Running, RunningSweep}
-use Rattle.txn_core.specs.Agents.{fixed_of, is_idle}
-use Rattle.run_core.specs.declared.event.Event.{Event}
-use Rattle.run_core.specs.declared.event.Event.TheVariants.{Begin, Step, Crash, Return, Forget, Lack}
-use Rattle.run_core.specs.declared.done.EndedJob.{EndedJob}
-use Rattle.run_core.specs.Worlds.{Actor, World, opening, actor_at, step}
-use Rattle.run_core.specs.Runs.{dones, outcomes, run, done_in}
-use Rattle.run_core.specs.Decisions.{decisions, task_of, task_at}
-use Rattle.run_core.proofs.Appending.{dones-append, outcomes-append}
-use Rattle.law_runs.specs.Numbers.{number_of, begins_now}
-use Rattle.law_runs.specs.Claims.{ended}
-use Rattle.law_runs.proofs.Standing.{append_has_left, append_has_right}
-use Rattle.law_runs.proofs.Agents.{EndStands}
-use Rattle.law_runs.proofs.Conclusions.{ends_as, later_decisions, decisions_go_on}
-use Rattle.law_headline.specs.Premises.{CanBe}
-use Rattle.law_run_alone.specs.Alone.{all_idle, begins_job, begins_alone, jobs_from, jobs_of, one_at_a_time_from, one_at_a_time}
-use Rattle.law_run_alone.specs.Endings.{IsDecided, IsRunning, AllAreDecided, UndisturbedEndingsAreOne}
-use Rattle.law_run_alone.specs.Undisturbed.{all_up, no_locks, disturbs, is_decided, begins_clear, some_runs, all_undisturbed_from, all_undisturbed}
+use Rattle.law_run_alone.proofs.Vocabulary.{◌≡◌, ◌⊎◌, inl, inr, ⊎_elim, ℕ, Bool, true, false, List, [], ◌∷◌, ◌++◌, append_assoc, Option, Some, None, refl, sym, ap, subst, ◌∙◌, ◌&&◌, ◌||◌, not, is_some, cons_option, false≢true}
+use Rattle.law_run_alone.proofs.Vocabulary.{and_parts, none-some, same_Some, Identity, Opening, IsAccepted, Op, Has, has_from, contains_from, has_any, Ending, Refused, Swept, Undecided, Job, Transaction, Doing, Running, RunningSweep}
+use Rattle.law_run_alone.proofs.Vocabulary.{fixed_of, is_idle, Event, Begin, Step, Crash, Return, Forget, Lack, EndedJob, Actor, World, opening, actor_at, step, dones, outcomes, run, done_in, decisions, task_of, task_at, dones-append}
+use Rattle.law_run_alone.proofs.Vocabulary.{outcomes-append, number_of, begins_now, ended, append_has_left, append_has_right, EndStands, ends_as, later_decisions, decisions_go_on, CanBe, all_idle, begins_job, begins_alone, jobs_from}
+use Rattle.law_run_alone.proofs.Vocabulary.{jobs_of, one_at_a_time_from, one_at_a_time, IsDecided, IsRunning, AllAreDecided, UndisturbedEndingsAreOne, all_up, no_locks, disturbs, is_decided, begins_clear, some_runs}
+use Rattle.law_run_alone.proofs.Vocabulary.{all_undisturbed_from, all_undisturbed}
+use Rattle.txn_core.specs.declared.ending.Ending.TheVariants.{Answered}
 use Rattle.law_run_alone.proofs.Turns.{with_job, doing_of, doing_at, all_none}
 use Rattle.law_run_alone.proofs.Owns.{IsMine}
 use Rattle.law_run_alone.proofs.Clear.{at_has}

@@ -1,24 +1,7 @@
 -- What holds of every run in which jobs go one at a time.
-use Rattle.std.proofs.Common.{◌≡◌, ◌≢◌, ⊎_elim, ℕ, true, List, [], ◌∷◌, ◌++◌, append_assoc, Option, Some, None, refl, sym, ap, subst, ◌∙◌}
-use Rattle.std.specs.Prelude.{map, option_to_list}
-use Rattle.std.specs.List.{cons_option}
-use Rattle.std.proofs.lemmas.Bool.{and_parts}
-use Rattle.std.proofs.lemmas.List.{map-append}
-use Rattle.std.proofs.lemmas.List.Elements.{filter_map-append}
-use Rattle.suite_prefix.specs.SettingsRules.{Opening, IsAccepted}
-use Rattle.txn_core.specs.declared.job.Job.{Job}
-use Rattle.txn_core.specs.Doing.{Doing}
-use Rattle.txn_core.specs.Agents.{Agent, fixed_of}
-use Rattle.run_core.specs.declared.event.Event.{Event}
-use Rattle.run_core.specs.declared.done.EndedJob.{EndedJob}
-use Rattle.run_core.specs.Worlds.{Actor, World, opening, actor_at, step}
-use Rattle.run_core.specs.Runs.{after, dones, outcomes, run}
-use Rattle.run_core.specs.Decisions.{Decided, decided, decisions, decisions_from}
-use Rattle.law_runs.specs.Claims.{ended}
-use Rattle.law_runs.proofs.Worlds.{Holds, agent_of, event_holds, cons_is}
-use Rattle.law_runs.proofs.Conclusions.{holds_at_first, fresh_agents}
-use Rattle.law_run_alone.specs.Alone.{begins_job, begins_alone, jobs_from, jobs_of, one_at_a_time_from, one_at_a_time}
-use Rattle.law_run_alone.specs.Endings.{decided_ending, decided_endings}
+use Rattle.law_run_alone.proofs.Vocabulary.{◌≡◌, ◌≢◌, ⊎_elim, ℕ, true, List, [], ◌∷◌, ◌++◌, append_assoc, Option, Some, None, refl, sym, ap, subst, ◌∙◌, map, option_to_list, cons_option, and_parts, map-append, filter_map-append}
+use Rattle.law_run_alone.proofs.Vocabulary.{Opening, IsAccepted, Job, Doing, Agent, fixed_of, Event, EndedJob, Actor, World, opening, actor_at, step, after, dones, outcomes, run, Decided, decided, decisions, decisions_from, ended}
+use Rattle.law_run_alone.proofs.Vocabulary.{Holds, agent_of, event_holds, cons_is, holds_at_first, fresh_agents, begins_job, begins_alone, jobs_from, jobs_of, one_at_a_time_from, one_at_a_time, decided_ending, decided_endings}
 use Rattle.law_run_alone.proofs.Verdicts.{Asked, asked_of, answer_to, answered, undecided, append_none}
 use Rattle.law_run_alone.proofs.Along.{Along, along_more, along_less}
 use Rattle.law_run_alone.proofs.Turns.{doing_of, doing_at, transactions_of, transaction_in, Goes, event_goes}

@@ -1,6 +1,5 @@
 -- Transactions that stand along a list of transactions, in its order.
-use Rattle.std.proofs.Common.{◌≡◌, ◌⊎◌, inl, inr, ⊎_elim, ℕ, List, [], ◌∷◌, ◌++◌, refl, sym, ap, ◌∙◌}
-use Rattle.rep_core.proofs.Members.{Has}
+use Rattle.law_run_alone.proofs.Vocabulary.{◌≡◌, ◌⊎◌, inl, inr, ⊎_elim, ℕ, List, [], ◌∷◌, ◌++◌, refl, sym, ap, ◌∙◌, Has}
 use Rattle.law_run_alone.proofs.Verdicts.{Asked}
 
 abbrev pub Along : List Asked → List Asked → Type 0

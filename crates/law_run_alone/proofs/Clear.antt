@@ -1,37 +1,8 @@
 -- As long as one transaction alone has a job and all servers are up, nothing is in its way.
-use Rattle.std.proofs.Common.{◌≡◌, ◌≢◌, inl, inr, ⊎_elim, ℕ, zero, suc, true, false, cond, List, [], ◌∷◌, Option, Some, None, refl, sym, ap, subst, ◌∙◌, arith}
-use Rattle.std.specs.Prelude.{◌==◌, not, length, slice_get}
-use Rattle.std.specs.List.{cons_option}
-use Rattle.std.proofs.lemmas.Bool.{and_parts, eqb-true}
-use Rattle.std.proofs.lemmas.Option.{none-some, same_Some}
-use Rattle.acl_core.specs.Identity.{Identity}
-use Rattle.suite_prefix.specs.SettingsRules.{Opening}
-use Rattle.file_ops.specs.declared.operation.Op.{Op}
-use Rattle.rep_core.specs.declared.lock.Lock.{Lock}
-use Rattle.rep_core.specs.declared.request.Request.{Request}
-use Rattle.rep_core.specs.declared.stamped.Stamped.{Stamped}
-use Rattle.rep_core.specs.Fits.{is_busy, is_down}
-use Rattle.rep_core.specs.State.{State}
-use Rattle.rep_core.specs.Serving.{is_full, answer_of}
-use Rattle.rep_core.proofs.Members.{Has, all_at}
-use Rattle.txn_core.specs.declared.job.Job.{Job}
-use Rattle.txn_core.specs.declared.job.Job.TheVariants.{Transaction}
-use Rattle.txn_core.specs.Doing.{Fixed}
-use Rattle.txn_core.specs.Agents.{fixed_of, next_in, next_of, begin}
-use Rattle.run_core.specs.declared.event.Event.{Event}
-use Rattle.run_core.specs.declared.event.Event.TheVariants.{Begin, Step, Crash, Return, Forget, Lack}
-use Rattle.run_core.specs.declared.done.Served.{Served}
-use Rattle.run_core.specs.declared.done.EndedJob.{EndedJob}
-use Rattle.run_core.specs.Worlds.{Actor, World, server_at, actor_at, serve, answered, becomes, asks_at, asks, steps_once, step}
-use Rattle.run_core.specs.Runs.{after, run}
-use Rattle.run_core.specs.Decisions.{Decided, decisions}
-use Rattle.law_runs.specs.Numbers.{begins_now}
-use Rattle.law_runs.specs.Claims.{ended}
-use Rattle.law_runs.proofs.Places.{same_or}
-use Rattle.law_runs.proofs.Worlds.{Holds, event_holds, puts_in}
-use Rattle.law_runs.proofs.Conclusions.{holds_of}
-use Rattle.law_run_alone.specs.Alone.{all_idle, begins_job, jobs_from}
-use Rattle.law_run_alone.specs.Undisturbed.{all_up, no_locks, is_crash, none_crashes, NothingIsInTheWay}
+use Rattle.law_run_alone.proofs.Vocabulary.{◌≡◌, ◌≢◌, inl, inr, ⊎_elim, ℕ, zero, suc, true, false, cond, List, [], ◌∷◌, Option, Some, None, refl, sym, ap, subst, ◌∙◌, arith, ◌==◌, not, length, slice_get, cons_option, and_parts}
+use Rattle.law_run_alone.proofs.Vocabulary.{eqb-true, none-some, same_Some, Identity, Opening, Op, Lock, Request, Stamped, is_busy, is_down, State, is_full, answer_of, Has, all_at, Job, Transaction, Fixed, fixed_of, next_in, next_of}
+use Rattle.law_run_alone.proofs.Vocabulary.{begin, Event, Begin, Step, Crash, Return, Forget, Lack, Served, EndedJob, Actor, World, server_at, actor_at, serve, answered, becomes, asks_at, asks, steps_once, step, after, run, Decided}
+use Rattle.law_run_alone.proofs.Vocabulary.{decisions, begins_now, ended, same_or, Holds, event_holds, puts_in, holds_of, all_idle, begins_job, jobs_from, all_up, no_locks, is_crash, none_crashes, NothingIsInTheWay}
 use Rattle.law_run_alone.proofs.Own.{AreOwn, not_busy, not_down}
 use Rattle.law_run_alone.proofs.Turns.{doing_of, doing_at, with_job, all_none}
 use Rattle.law_run_alone.proofs.Owns.{IsMine, Owns, IsCalm, polls_named, names_mine, event_owns, begun_owns}

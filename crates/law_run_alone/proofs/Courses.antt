@@ -1,36 +1,12 @@
 -- What the edits of a transaction are: rows are made at its own numbers alone, lists fit the rows that they are set of, and contents are within
 -- limits where those are that it meets.
-use Rattle.std.proofs.Common.{◌≡◌, ℕ, suc, ◌+◌, ◌≤◌, ◌<◌, true, false, cond, List, [], ◌∷◌, Option, Some, None, Ok, refl, sym, ap, subst, ◌∙◌, arith}
-use Rattle.std.specs.Prelude.{◌==◌, ◌&&◌, ◌||◌, nat_lt, nat_le, length, is_some}
-use Rattle.std.specs.declared.cmp.Ordering.TheVariants.{Less, Equal, Greater}
-use Rattle.std.specs.Ordering.{match_ordering}
-use Rattle.std.proofs.lemmas.Bool.{false≢true}
-use Rattle.std.proofs.lemmas.Bool.Decides.{nat_tests}
-use Rattle.std.proofs.lemmas.Option.{none-some, same_Some}
-use Rattle.acl_core.specs.Identity.{Identity}
-use Rattle.suite_content.specs.declared.content.Content.{Content}
-use Rattle.suite_content.specs.declared.content.Content.TheVariants.{Bytes, Names}
-use Rattle.suite_content.specs.declared.content.Kind.{Kind}
+use Rattle.law_run_alone.proofs.Vocabulary.{◌≡◌, ℕ, suc, ◌+◌, ◌≤◌, ◌<◌, true, false, cond, List, [], ◌∷◌, Option, Some, None, Ok, refl, sym, ap, subst, ◌∙◌, arith, ◌==◌, ◌&&◌, ◌||◌, nat_lt, nat_le, length, is_some, Less, match_ordering}
+use Rattle.law_run_alone.proofs.Vocabulary.{false≢true, nat_tests, none-some, same_Some, Identity, Content, Bytes, Names, Kind, empty_content, max_names, length-without_name, is_within_limits, Answer, Action, Op, Service}
+use Rattle.law_run_alone.proofs.Vocabulary.{max_operations, names_in, Row, made_number, Edit, SetAcl, SetVotes, SetContent, Make, makes, Edits, changed, seen, sets_content, is_set, content_in, content_read, Ended, Known, AgreesWith}
+use Rattle.law_run_alone.proofs.Vocabulary.{Done, exec_of, Licensed, writes_bytes, changes_lists, changes_votes, adds_name, makes_row, drops_name, AllLicensed, edits_are_licensed}
+use Rattle.std.specs.declared.cmp.Ordering.TheVariants.{Equal, Greater}
 use Rattle.suite_content.specs.declared.content.Kind.TheVariants as holds
-use Rattle.suite_content.specs.Contents.{empty_content}
-use Rattle.suite_content.specs.Limits.{max_names}
 use Rattle.suite_content.specs.Folders as folders
-use Rattle.suite_content.specs.FolderLaws.{length-without_name}
-use Rattle.suite_prefix.specs.Tests.{is_within_limits}
-use Rattle.file_ops.specs.declared.answer.Answer.{Answer}
-use Rattle.file_ops.specs.declared.operation.Action.{Action}
-use Rattle.file_ops.specs.declared.operation.Op.{Op}
-use Rattle.file_ops.specs.declared.service.Service.{Service}
-use Rattle.file_ops.specs.Limits.{max_operations}
-use Rattle.file_ops.specs.Walks.{names_in}
-use Rattle.file_ops.specs.Rows.{Row, made_number}
-use Rattle.file_exec.specs.declared.edit_log.Edit.{Edit}
-use Rattle.file_exec.specs.declared.edit_log.Edit.TheVariants.{SetAcl, SetVotes, SetContent, Make}
-use Rattle.file_exec.specs.Changes.{makes}
-use Rattle.file_exec.specs.Following.{Edits, changed, seen, sets_content, is_set, content_in, content_read, Ended}
-use Rattle.file_exec.specs.Known.{Known, AgreesWith, Done, exec_of}
-use Rattle.file_exec.specs.Licensed.{Licensed, writes_bytes, changes_lists, changes_votes, adds_name, makes_row, drops_name, AllLicensed}
-use Rattle.file_exec.proofs.Licensing.{edits_are_licensed}
 use Rattle.law_run_alone.proofs.FittingLists.{SetsFitting, AllSetFitting, looked_fit, made_fit}
 
 -- the number of something that the transaction makes

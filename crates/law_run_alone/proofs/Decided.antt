@@ -1,21 +1,6 @@
 -- A transaction that nothing disturbs is decided when it ends.
-use Rattle.std.proofs.Common.{◌≡◌, inl, inr, ℕ, Bool, true, false, List, [], ◌∷◌, ◌++◌, append_assoc, Option, Some, None, refl, sym, ap, subst, ◌∙◌}
-use Rattle.std.specs.Prelude.{not}
-use Rattle.std.specs.List.{cons_option}
-use Rattle.std.proofs.lemmas.Bool.{false≢true, and_parts}
-use Rattle.suite_prefix.specs.SettingsRules.{Opening}
-use Rattle.rep_core.proofs.Members.{Has, has_from}
-use Rattle.txn_core.specs.declared.job.Job.TheVariants.{Transaction}
-use Rattle.txn_core.specs.Agents.{fixed_of}
-use Rattle.run_core.specs.declared.event.Event.{Event}
-use Rattle.run_core.specs.declared.event.Event.TheVariants.{Begin}
-use Rattle.run_core.specs.declared.done.EndedJob.{EndedJob}
-use Rattle.run_core.specs.Worlds.{step}
-use Rattle.run_core.specs.Runs.{dones, outcomes, run}
-use Rattle.law_runs.specs.Numbers.{number_of}
-use Rattle.law_headline.specs.Premises.{CanBe}
-use Rattle.law_run_alone.specs.Alone.{begins_job, jobs_from}
-use Rattle.law_run_alone.specs.Undisturbed.{disturbs, undisturbed_from, is_decided, UndisturbedAreDecided}
+use Rattle.law_run_alone.proofs.Vocabulary.{◌≡◌, inl, inr, ℕ, Bool, true, false, List, [], ◌∷◌, ◌++◌, append_assoc, Option, Some, None, refl, sym, ap, subst, ◌∙◌, not, cons_option, false≢true, and_parts, Opening, Has, has_from}
+use Rattle.law_run_alone.proofs.Vocabulary.{Transaction, fixed_of, Event, Begin, EndedJob, step, dones, outcomes, run, number_of, CanBe, begins_job, jobs_from, disturbs, undisturbed_from, is_decided, UndisturbedAreDecided}
 use Rattle.law_run_alone.proofs.Clear.{none_now}
 use Rattle.law_run_alone.proofs.Reached.{can_front, run_more}
 use Rattle.law_run_alone.proofs.Undisturbed.{Reached, reached_first, next_reached, ended_decided}

@@ -1,18 +1,10 @@
 -- The endings are the table's.
-use Rattle.std.proofs.Common.{◌≡◌, ◌≤◌, List, [], ◌∷◌, Option, Some, None, refl, sym, ap, ◌∙◌, arith}
-use Rattle.std.specs.Prelude.{map, length}
+use Rattle.law_run_alone.proofs.Vocabulary.{◌≡◌, ◌≤◌, List, [], ◌∷◌, Option, Some, None, refl, sym, ap, ◌∙◌, arith, map, length, PlainTable, Verdict, Doing, Running, RunningSweep, run, Decided, decisions, table_with}
+use Rattle.law_run_alone.proofs.Vocabulary.{AnswersAreTheTables, tables_endings, EndingsAreTheTables, answers_are_the_tables}
 use Rattle.file_ops.specs.Rows as rows
-use Rattle.file_ops.specs.Rows.{PlainTable}
-use Rattle.rep_core.specs.declared.reply.Verdict.{Verdict}
 use Rattle.rep_core.specs.declared.reply.Verdict.TheVariants as verdict
-use Rattle.txn_core.specs.Doing.{Doing, Running, RunningSweep}
-use Rattle.run_core.specs.Runs.{run}
-use Rattle.run_core.specs.Decisions.{Decided, decisions}
-use Rattle.run_core.specs.TableOfRun.{table_with, AnswersAreTheTables}
-use Rattle.law_run_alone.specs.Endings.{tables_endings, EndingsAreTheTables}
 use Rattle.law_run_alone.proofs.Verdicts.{answer_to, answers_of, said_in, answered}
 use Rattle.law_run_alone.proofs.Turns.{doing_at, all_none}
-use Rattle.law_headline.proofs.Conclusions.{answers_are_the_tables}
 use Rattle.law_run_alone.proofs.Alone.{orderly}
 
 as_answered : (table : PlainTable) (ds : List Decided) → AnswersAreTheTables table ds → tables_endings table ds ≡ map answer_to ds

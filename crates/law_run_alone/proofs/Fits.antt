@@ -1,32 +1,13 @@
 -- A part of a Prepare fits the copy that a server has, where its locks stand and the register is known.
-use Rattle.std.proofs.Common.{◌≡◌, inl, inr, ℕ, ◌+◌, ◌<◌, Bool, true, false, cond, List, map, Option, Some, None, refl, sym, ap, ◌∙◌, arith}
-use Rattle.std.specs.Prelude.{◌&&◌, ◌||◌, not, nat_lt, is_some}
-use Rattle.std.proofs.lemmas.Bool.{and_parts, and_from, false≢true}
-use Rattle.std.proofs.lemmas.Bool.Decides.{nat_tests}
-use Rattle.suite_content.specs.declared.content.Content.{Content}
-use Rattle.suite_content.specs.declared.content.Content.TheVariants.{Bytes, Names}
-use Rattle.suite_content.specs.declared.content.Kind.{Kind}
+use Rattle.law_run_alone.proofs.Vocabulary.{◌≡◌, inl, inr, ℕ, ◌+◌, ◌<◌, Bool, true, false, cond, List, map, Option, Some, None, refl, sym, ap, ◌∙◌, arith, ◌&&◌, ◌||◌, not, nat_lt, is_some, and_parts, and_from, false≢true, nat_tests}
+use Rattle.law_run_alone.proofs.Vocabulary.{Content, Bytes, Names, Kind, kind_of, empty_content, held_by, keeps_rules, is_valid_prefix, is_valid_copy, is_absent, is_within_limits, is_empty, version_agrees, is_exclusive, Shared}
+use Rattle.law_run_alone.proofs.Vocabulary.{Exclusive, Prefix, PrefixKind, Replica, is_keep, may_become, goes_with, Has, is_misplaced, known_rows, ReadPoint, GatheredSuite, Suites, holds_exclusively, lock_mode, known_of, prefix_kind}
+use Rattle.law_run_alone.proofs.Vocabulary.{sets_prefix, one_if, new_prefix, new_copy, has_vote, takes_whole, take_of_changed, take_from, Beginning, Entry, transaction, IsKnown, row, WasPrefix, GoesWith, known_by}
 use Rattle.suite_content.specs.declared.content.Kind.TheVariants as holds
-use Rattle.suite_content.specs.Contents.{kind_of, empty_content}
-use Rattle.suite_prefix.specs.Copies.{held_by}
-use Rattle.suite_prefix.specs.Tests.{keeps_rules, is_valid_prefix, is_valid_copy, is_absent, is_within_limits, is_empty, version_agrees}
 use Rattle.suite_prefix.specs.Tests as tests
-use Rattle.suite_prefix.specs.LockModes.{is_exclusive}
-use Rattle.suite_prefix.specs.declared.lock_mode.LockMode.TheVariants.{Shared, Exclusive}
-use Rattle.suite_prefix.specs.declared.copies.Prefix.{Prefix}
-use Rattle.suite_prefix.specs.declared.copies.PrefixKind.{PrefixKind}
 use Rattle.suite_prefix.specs.declared.copies.PrefixKind.TheVariants as kind
-use Rattle.suite_prefix.specs.declared.copies.Replica.{Replica}
 use Rattle.rep_core.specs.declared.request.Take.TheVariants as take
-use Rattle.rep_core.specs.Store.{is_keep, may_become, goes_with}
-use Rattle.rep_core.proofs.Members.{Has}
-use Rattle.file_ops.specs.Lists.{is_misplaced}
 use Rattle.file_exec.specs.declared.changes.Change as executor
-use Rattle.file_exec.specs.Known.{known_rows}
-use Rattle.txn_core.specs.Suites.{ReadPoint, GatheredSuite, Suites, holds_exclusively, lock_mode, known_of}
-use Rattle.txn_core.specs.Writing.{prefix_kind, sets_prefix, one_if, new_prefix, new_copy, has_vote, takes_whole, take_of_changed, take_from}
-use Rattle.law_suite_machine.specs.Registers.{Beginning, Entry, transaction, IsKnown, row, WasPrefix, GoesWith}
-use Rattle.law_run_machine.specs.Deciding.{known_by}
 use Rattle.law_headline.proofs.Fair.{Leaves}
 use Rattle.law_run_alone.proofs.Courses.{AreSmall}
 use Rattle.law_run_alone.proofs.Sets.{IsOwn}

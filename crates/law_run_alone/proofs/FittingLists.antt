@@ -1,30 +1,10 @@
 -- A file has no default list: so it is of each row that a transaction sets, where it is of the row that was there.
-use Rattle.std.proofs.Common.{◌≡◌, ℕ, Bool, true, false, cond, List, [], ◌∷◌, Option, Some, None, refl, sym, ap, subst, ◌∙◌}
-use Rattle.std.specs.Prelude.{◌==◌, nat_lt, not, is_some}
-use Rattle.std.proofs.lemmas.Bool.{and_parts, eqb-true}
-use Rattle.std.proofs.lemmas.Option.{none-some, same_Some}
-use Rattle.acl_core.specs.Identity.{Identity}
+use Rattle.law_run_alone.proofs.Vocabulary.{◌≡◌, ℕ, Bool, true, false, cond, List, [], ◌∷◌, Option, Some, None, refl, sym, ap, subst, ◌∙◌, ◌==◌, nat_lt, not, is_some, and_parts, eqb-true, none-some, same_Some, Identity, Lists}
+use Rattle.law_run_alone.proofs.Vocabulary.{Configuration, Content, Kind, kind_of, empty_content, keeps_rules, is_valid_prefix, Prefix, Init, gives_default, is_misplaced, lists_of, Row, new_row, Edit, SetAcl, SetVotes, SetContent, Make}
+use Rattle.law_run_alone.proofs.Vocabulary.{Edits, changed, seen, emptied, head, looked, ReadPoint, GatheredSuite, row_with, prefix_kind, FitsAs, FitsRow, AllFit, head_of}
 use Rattle.acl_core.specs.declared.entry.Entry.{Entry}
-use Rattle.acl_core.specs.declared.lists.Lists.{Lists}
-use Rattle.vote_core.specs.Quorums.{Configuration}
-use Rattle.suite_content.specs.declared.content.Content.{Content}
-use Rattle.suite_content.specs.declared.content.Kind.{Kind}
 use Rattle.suite_content.specs.declared.content.Kind.TheVariants as holds
-use Rattle.suite_content.specs.Contents.{kind_of, empty_content}
-use Rattle.suite_prefix.specs.Tests.{keeps_rules, is_valid_prefix}
-use Rattle.suite_prefix.specs.declared.copies.Prefix.{Prefix}
-use Rattle.file_ops.specs.declared.operation.Init.{Init}
 use Rattle.file_ops.specs.declared.operation.Init.TheVariants as init
-use Rattle.file_ops.specs.Lists.{gives_default, is_misplaced, lists_of}
-use Rattle.file_ops.specs.Rows.{Row, new_row}
-use Rattle.file_exec.specs.declared.edit_log.Edit.{Edit}
-use Rattle.file_exec.specs.declared.edit_log.Edit.TheVariants.{SetAcl, SetVotes, SetContent, Make}
-use Rattle.file_exec.specs.Following.{Edits, changed, seen, emptied, head, looked}
-use Rattle.txn_core.specs.Suites.{ReadPoint, GatheredSuite, row_with}
-use Rattle.txn_core.specs.Writing.{prefix_kind}
-use Rattle.law_one_table.proofs.Shown.{FitsAs}
-use Rattle.law_headline.proofs.Editing.{FitsRow, AllFit}
-use Rattle.law_headline.proofs.Setting.{head_of}
 
 -- the lists of a row fit its kind
 abbrev pub ListsFit : Row → Type 0

@@ -1,37 +1,11 @@
 -- A transaction whose agent alone asks servers, with the machine of each suite, at any moment: what it asks finds the locks that it stands on, and what it is replied is free.
-use Rattle.std.proofs.Common.{◌≡◌, ℕ, Bool, true, false, List, [], ◌∷◌, ◌++◌, append_assoc, Option, Some, None, refl, sym, ap, subst, ◌∙◌}
-use Rattle.std.proofs.lemmas.Option.{none-some}
-use Rattle.acl_core.specs.Identity.{Identity}
-use Rattle.vote_core.specs.Validity.{IsValid}
-use Rattle.suite_prefix.specs.SettingsRules.{Opening}
-use Rattle.file_ops.specs.declared.operation.Op.{Op}
-use Rattle.rep_core.specs.declared.request.Request.{Request}
+use Rattle.law_run_alone.proofs.Vocabulary.{◌≡◌, ℕ, Bool, true, false, List, [], ◌∷◌, ◌++◌, append_assoc, Option, Some, None, refl, sym, ap, subst, ◌∙◌, none-some, Identity, IsValid, Opening, Op, Request, is_lost, copy_of, State}
+use Rattle.law_run_alone.proofs.Vocabulary.{reply_of, Transaction, Fixed, TransactionRun, Doing, Running, RunningSweep, home_of, is_decide, stands_on_locks, fixed_of, next_in, next_of, Event, Begin, Step, Crash, Return, Forget, Lack}
+use Rattle.law_run_alone.proofs.Vocabulary.{Actor, server_at, actor_at, step, run, decisions, names, ended, decides, Holds, holds_of, machine_of, machine_one, CanBe, begins_job}
 use Rattle.rep_core.specs.declared.reply.Verdict.TheVariants as verdict
-use Rattle.rep_core.specs.Fits.{is_lost}
-use Rattle.rep_core.specs.Store.{copy_of}
-use Rattle.rep_core.specs.State.{State}
-use Rattle.rep_core.specs.Service.{reply_of}
-use Rattle.txn_core.specs.declared.job.Job.TheVariants.{Transaction}
-use Rattle.txn_core.specs.Doing.{Fixed, TransactionRun, Doing, Running, RunningSweep, home_of}
-use Rattle.txn_core.specs.Laws.{is_decide}
-use Rattle.txn_core.specs.Undecided.{stands_on_locks}
-use Rattle.txn_core.specs.Agents.{fixed_of, next_in, next_of}
-use Rattle.run_core.specs.declared.event.Event.{Event}
-use Rattle.run_core.specs.declared.event.Event.TheVariants.{Begin, Step, Crash, Return, Forget, Lack}
 use Rattle.run_core.specs.Worlds as worlds
-use Rattle.run_core.specs.Worlds.{Actor, server_at, actor_at, step}
-use Rattle.run_core.specs.Runs.{run}
-use Rattle.run_core.specs.Decisions.{decisions}
-use Rattle.law_runs.specs.Naming.{names}
-use Rattle.law_runs.specs.Claims.{ended}
-use Rattle.law_runs.proofs.Asking.{decides}
-use Rattle.law_runs.proofs.Worlds.{Holds}
-use Rattle.law_runs.proofs.Conclusions.{holds_of}
 use Rattle.law_suite_machine.specs.Machine.{World}
-use Rattle.law_run_machine.specs.Machines.{moved, machine_of}
-use Rattle.law_one_table.proofs.Running.{machine_one}
-use Rattle.law_headline.specs.Premises.{CanBe}
-use Rattle.law_run_alone.specs.Alone.{begins_job}
+use Rattle.law_run_machine.specs.Machines.{moved}
 use Rattle.law_run_alone.proofs.Own.{IsOwnAt, up_where}
 use Rattle.law_run_alone.proofs.Turns.{doing_of, doing_at}
 use Rattle.law_run_alone.proofs.Owns.{IsMine, Owns, IsCalm, names_mine, event_owns, begun_owns}

@@ -1,41 +1,16 @@
 -- What the register of a suite has been: all its prefixes are of one kind, but for what was never made; and only the transaction whose number it has made it.
-use Rattle.std.proofs.Common.{◌≡◌, ◌⊎◌, inl, inr, ℕ, zero, suc, ◌≤◌, ◌<◌, Bool, true, false, cond, List, [], ◌∷◌, map, Option, Some, None, Ok, Err, refl, sym, ap, subst, ◌∙◌, arith}
-use Rattle.std.specs.Prelude.{◌==◌, nat_eq}
-use Rattle.std.specs.List.{AllByRecursion, IsDistinct}
-use Rattle.std.proofs.lemmas.Bool.{false≢true}
-use Rattle.std.proofs.lemmas.Bool.Decides.{nat_tests}
-use Rattle.suite_content.specs.Contents.{kind_of}
-use Rattle.suite_prefix.specs.SettingsRules.{Opening}
-use Rattle.suite_prefix.specs.Absent.{absent_copy}
-use Rattle.suite_prefix.specs.declared.copies.Prefix.{Prefix}
-use Rattle.suite_prefix.specs.declared.copies.PrefixKind.TheVariants.{Absent}
-use Rattle.suite_prefix.specs.declared.copies.Replica.{Replica}
-use Rattle.vote_core.specs.Validity.{IsValid}
-use Rattle.rep_core.specs.Store.{root_copy}
-use Rattle.rep_core.proofs.Members.{Has}
-use Rattle.file_ops.specs.Limits.{max_operations}
-use Rattle.file_ops.specs.Rows.{made_number}
+use Rattle.law_run_alone.proofs.Vocabulary.{◌≡◌, ◌⊎◌, inl, inr, ℕ, zero, suc, ◌≤◌, ◌<◌, Bool, true, false, cond, List, [], ◌∷◌, map, Option, Some, None, Ok, Err, refl, sym, ap, subst, ◌∙◌, arith, ◌==◌, nat_eq, AllByRecursion}
+use Rattle.law_run_alone.proofs.Vocabulary.{false≢true, nat_tests, kind_of, Opening, absent_copy, Prefix, Absent, Replica, IsValid, root_copy, Has, max_operations, made_number, ReadPoint, GatheredSuite, suite_of, change_of, prefix_kind}
+use Rattle.law_run_alone.proofs.Vocabulary.{Proposal, Deciding, Phase, Gathering, Fetching, Widening, Preparing, Finishing, TransactionRun, Doing, Running, RunningSweep, changes_of, Agent, fixed_of, Begin, Step, Crash, Return, Forget}
+use Rattle.law_run_alone.proofs.Vocabulary.{Lack, Actor, actor_at, Decided, Beginning, Entry, Read, Wrote, transaction, IsKnown, IsNext, IsPlain, row, prefix_at, happens, at1, Inv, beginning, known_by, change_to, written_from, first_of}
+use Rattle.law_run_alone.proofs.Vocabulary.{decides_with, decides_without, decides_first, decides_on, decision_in, decision_by, LogIs, decision_of_actor, decision_at, AllValid, ValidOr, CameWell, came_well, HoldsItsKind, known_fits}
+use Rattle.std.specs.List.{IsDistinct}
 use Rattle.file_exec.specs.declared.changes.Change as executor
-use Rattle.txn_core.specs.Suites.{ReadPoint, GatheredSuite, suite_of}
-use Rattle.txn_core.specs.Writing.{change_of, prefix_kind}
-use Rattle.txn_core.specs.Doing.{Proposal, Deciding, Phase, Gathering, Fetching, Widening, Preparing, Finishing, TransactionRun, Doing, Running, RunningSweep}
-use Rattle.txn_core.specs.Transactions.{changes_of}
-use Rattle.txn_core.specs.Agents.{Agent, fixed_of}
 use Rattle.run_core.specs.declared.event.Event as happening
-use Rattle.run_core.specs.declared.event.Event.TheVariants.{Begin, Step, Crash, Return, Forget, Lack}
 use Rattle.run_core.specs.Worlds as worlds
-use Rattle.run_core.specs.Worlds.{Actor, actor_at}
-use Rattle.run_core.specs.Decisions.{Decided}
-use Rattle.law_suite_machine.specs.Registers.{Beginning, Known, Entry, Read, Wrote, transaction, IsKnown, IsNext, IsPlain, changed, row, prefix_at}
+use Rattle.law_suite_machine.specs.Registers.{Known, changed}
 use Rattle.law_suite_machine.specs.Machine.{World}
-use Rattle.law_suite_machine.specs.Events.{Event, happens}
-use Rattle.law_suite_machine.proofs.Places.{at1}
-use Rattle.law_suite_machine.proofs.Invariant.{Inv}
-use Rattle.law_server_moves.specs.Laws.{beginning}
-use Rattle.law_run_machine.specs.Deciding.{known_by, change_to, written_from, first_of, decides_with, decides_without, decides_first, decides_on, decision_in, decision_by}
-use Rattle.law_one_table.proofs.Logs.{LogIs, decision_of_actor, decision_at}
-use Rattle.law_headline.proofs.Carried.{AllValid, ValidOr, CameWell, came_well}
-use Rattle.law_headline.proofs.Beside.{HoldsItsKind, known_fits}
+use Rattle.law_suite_machine.specs.Events.{Event}
 use Rattle.law_run_alone.proofs.Courses.{IsNumber}
 use Rattle.law_run_alone.proofs.Sets.{IsOwn, came_own}
 

@@ -1,43 +1,14 @@
 -- Where the locks of a transaction stand, what it knows of a suite is what the suite's register holds; and the register holds what some copy does.
-use Rattle.std.proofs.Common.{◌≡◌, ◌≢◌, inl, inr, ℕ, ◌≤◌, IsTrue, true, false, cond, List, Option, Some, None, refl, sym, ap, subst, ◌∙◌, arith}
-use Rattle.std.specs.Prelude.{◌&&◌, nat_le, not}
-use Rattle.std.specs.Ordering.{nat_cmp}
-use Rattle.std.proofs.lemmas.Bool.{and_parts, false≢true}
-use Rattle.std.proofs.lemmas.Bool.Decides.{nat_tests}
-use Rattle.sorted_map.specs.SortedMap.{get}
-use Rattle.vote_core.specs.Quorums.{votes_in}
-use Rattle.vote_core.specs.Validity.{IsValid}
-use Rattle.suite_content.specs.declared.content.Content.{Content}
-use Rattle.suite_prefix.specs.SettingsRules.{Opening}
-use Rattle.suite_prefix.specs.Tests.{is_valid_prefix, is_valid_copy, is_within_limits, holds, version_agrees}
-use Rattle.suite_prefix.specs.declared.copies.Prefix.{Prefix}
-use Rattle.suite_prefix.specs.declared.copies.Replica.{Replica}
+use Rattle.law_run_alone.proofs.Vocabulary.{◌≡◌, ◌≢◌, inl, inr, ℕ, ◌≤◌, IsTrue, true, false, cond, List, Option, Some, None, refl, sym, ap, subst, ◌∙◌, arith, ◌&&◌, nat_le, not, nat_cmp, and_parts, false≢true, nat_tests, get, votes_in}
+use Rattle.law_run_alone.proofs.Vocabulary.{IsValid, Content, Opening, is_valid_prefix, is_valid_copy, is_within_limits, version_agrees, Prefix, Replica, Store, IsSound, is_sound, is_used_up, copy_of, left_by, all_told, ReadPoint}
+use Rattle.law_run_alone.proofs.Vocabulary.{GatheredSuite, suite_of, told_in, TransactionRun, Running, fixed_of, Actor, actor_at, Beginning, Entry, row, prefix_at, content_at, empty_of, GoesWith, IsKnown, Told, Answered, IsQuorum}
+use Rattle.law_run_alone.proofs.Vocabulary.{is_answered, in_effect, effect, effect_held, Logged, within_row, Inv, quorums_show, plan_of, beginning, showed, showed_to, known_by, servers_of, OwesKnown, suite_was, known_prefix}
+use Rattle.law_run_alone.proofs.Vocabulary.{known_content, told_to, Agrees, DoingAgrees, valid_was, knows_from_a_quorum, firsts_given, Together}
+use Rattle.suite_prefix.specs.Tests.{holds}
 use Rattle.rep_core.specs.Intentions as server
-use Rattle.rep_core.specs.Store.{Store, IsSound, is_sound, is_used_up, copy_of, left_by}
-use Rattle.suite_collect.specs.Collecting.{all_told}
-use Rattle.txn_core.specs.Suites.{ReadPoint, GatheredSuite, suite_of, told_in}
-use Rattle.txn_core.specs.Doing.{TransactionRun, Running}
-use Rattle.txn_core.specs.Agents.{fixed_of}
 use Rattle.run_core.specs.Worlds as worlds
-use Rattle.run_core.specs.Worlds.{Actor, actor_at}
-use Rattle.law_suite_machine.specs.Registers.{Beginning, Known, Entry, row, prefix_at, content_at, empty_of, GoesWith, IsKnown}
-use Rattle.law_suite_machine.specs.Machine.{World, Told, Verdict, Answered, IsQuorum, is_answered, in_effect, effect}
-use Rattle.law_suite_machine.proofs.Sound.{effect_held}
-use Rattle.law_suite_machine.proofs.Rows.{Logged}
-use Rattle.law_suite_machine.proofs.Knowing.{within_row}
-use Rattle.law_suite_machine.proofs.Invariant.{Inv}
-use Rattle.law_suite_machine.proofs.Conclusions.{quorums_show}
-use Rattle.law_server_moves.specs.Views.{plan_of}
-use Rattle.law_server_moves.specs.Laws.{beginning}
-use Rattle.law_run_machine.specs.Deciding.{showed, showed_to, known_by}
-use Rattle.law_run_machine.specs.Machines.{servers_of}
-use Rattle.law_run_machine.specs.Owed.{OwesKnown}
-use Rattle.law_run_knowledge.proofs.Decided.{suite_was, known_prefix, known_content}
-use Rattle.law_run_machine.specs.Telling.{told_to}
-use Rattle.law_run_quorums.specs.Telling.{Agrees, DoingAgrees}
-use Rattle.law_run_quorums.proofs.Known.{valid_was, knows_from_a_quorum}
-use Rattle.law_headline.proofs.Firsts.{firsts_given}
-use Rattle.law_headline.proofs.Together.{Together}
+use Rattle.law_suite_machine.specs.Registers.{Known}
+use Rattle.law_suite_machine.specs.Machine.{World, Verdict}
 use Rattle.law_run_alone.proofs.Standing.{Stands}
 
 -- ---- what is known

@@ -1,28 +1,11 @@
 -- A transaction prepares at servers that told it of a lock alone.
-use Rattle.std.proofs.Common.{◌≡◌, inr, ℕ, true, false, cond, List, [], ◌∷◌, Option, Some, None, refl, sym, subst}
-use Rattle.std.specs.Prelude.{◌*◌, ◌+◌, ◌&&◌, nat_lt}
-use Rattle.std.proofs.lemmas.Bool.{false≢true}
-use Rattle.vote_core.specs.Validity.{max_servers}
-use Rattle.rep_core.specs.Fits.{is_prepared}
-use Rattle.rep_core.specs.declared.request.Request.{Request}
-use Rattle.rep_core.specs.declared.reply.Verdict.{Verdict}
+use Rattle.law_run_alone.proofs.Vocabulary.{◌≡◌, inr, ℕ, true, false, cond, List, [], ◌∷◌, Option, Some, None, refl, sym, subst, ◌*◌, ◌+◌, ◌&&◌, nat_lt, false≢true, max_servers, is_prepared, Request, Verdict, Has, has_filter, Cache}
+use Rattle.law_run_alone.proofs.Vocabulary.{Suites, has_locks, Response, Replied, Lacked, Job, Transaction, Sweep, Cause, Lost, Ending, Undecided, Fixed, Task, Proposal, Phase, Gathering, Fetching, Widening, Preparing, Deciding}
+use Rattle.law_run_alone.proofs.Vocabulary.{Finishing, TransactionRun, SweepRun, Doing, Running, RunningSweep, After, GoesOn, Ends, execute, tell_end, give_up, prepare, locked_at, numbers_from, lack_cause, after_response, verdict_in}
+use Rattle.law_run_alone.proofs.Vocabulary.{ending_by, cause_of_abort, Agent, Take, next_of, take_in, take, begin, started, forget, is_idle, has_sense, max_jobs, left, after_all, IsEarly, goes_response, goes_execute}
 use Rattle.rep_core.specs.declared.reply.Verdict.TheVariants as verdict
-use Rattle.rep_core.proofs.Members.{Has, has_filter}
-use Rattle.weak_cache.specs.Entries.{Cache}
-use Rattle.txn_core.specs.Suites.{Suites, has_locks}
-use Rattle.txn_core.specs.declared.response.Response.{Response}
-use Rattle.txn_core.specs.declared.response.Response.TheVariants.{Replied, Lacked}
-use Rattle.txn_core.specs.declared.job.Job.{Job}
-use Rattle.txn_core.specs.declared.job.Job.TheVariants.{Transaction, Sweep}
-use Rattle.txn_core.specs.declared.ending.Cause.{Cause}
-use Rattle.txn_core.specs.declared.ending.Cause.TheVariants.{Lost}
-use Rattle.txn_core.specs.declared.ending.Ending.{Ending}
-use Rattle.txn_core.specs.declared.ending.Ending.TheVariants.{Undecided}
-use Rattle.txn_core.specs.Doing.{Fixed, Task, Proposal, Phase, Gathering, Fetching, Widening, Preparing, Deciding, Finishing, TransactionRun, SweepRun, Doing, Running, RunningSweep, After, GoesOn, Ends}
-use Rattle.txn_core.specs.Transactions.{execute, tell_end, give_up, prepare, locked_at, numbers_from, lack_cause, after_response, verdict_in, ending_by, cause_of_abort}
 use Rattle.txn_core.specs.Sweeps as sweep
-use Rattle.txn_core.specs.Agents.{Agent, Event, Take, Forget, next_of, take_in, take, begin, started, forget, is_idle, has_sense, max_jobs, left, after_all}
-use Rattle.txn_core.proofs.Walk.{IsEarly, goes_response, goes_execute}
+use Rattle.txn_core.specs.Agents.{Event, Forget}
 
 -- where it is to prepare it holds a lock
 abbrev pub LeftHold : Suites → Phase → Type 0

@@ -1,3 +1,4 @@
+mod Vocabulary
 pub mod Verdicts
 pub mod Turns
 pub mod Alone

@@ -1,60 +1,20 @@
 -- What servers and sweeps name was begun: no server has a lock or a record of a transaction that is still to begin.
-use Rattle.std.proofs.Common.{◌≡◌, inl, inr, ⊎_elim, ℕ, zero, suc, ◌+◌, ◌≤◌, Bool, true, false, cond, List, [], ◌∷◌, Option, Some, None, refl, sym, ap, subst, ◌∙◌, arith}
-use Rattle.std.specs.Prelude.{◌*◌, ◌==◌, ◌&&◌, ◌||◌, not, nat_lt, map, filter, slice_get, slice_set}
-use Rattle.std.proofs.lemmas.Bool.{eqb-true}
-use Rattle.std.proofs.lemmas.Bool.Decides.{nat_tests}
-use Rattle.std.proofs.lemmas.Option.{none-some, same_Some}
-use Rattle.suite_prefix.specs.SettingsRules.{Opening, IsAccepted}
-use Rattle.suite_prefix.specs.declared.lock_mode.LockMode.{LockMode}
-use Rattle.suite_prefix.specs.declared.lock_mode.LockMode.TheVariants.{Exclusive}
-use Rattle.suite_prefix.specs.declared.copies.Replica.{Replica}
-use Rattle.rep_core.specs.declared.lock.Lock.{Lock}
-use Rattle.rep_core.specs.declared.request.Request.{Request}
+use Rattle.law_run_alone.proofs.Vocabulary.{◌≡◌, inl, inr, ⊎_elim, ℕ, zero, suc, ◌+◌, ◌≤◌, Bool, true, false, cond, List, [], ◌∷◌, Option, Some, None, refl, sym, ap, subst, ◌∙◌, arith, ◌*◌, ◌==◌, ◌&&◌, ◌||◌, not, nat_lt, map, filter}
+use Rattle.law_run_alone.proofs.Vocabulary.{slice_get, slice_set, eqb-true, nat_tests, none-some, same_Some, Opening, IsAccepted, LockMode, Exclusive, Replica, Lock, Request, Reply, Verdict, Stamped, in_the_way, has_lock, locked}
+use Rattle.law_run_alone.proofs.Vocabulary.{raised, raised_lock, with_lock, before, prepared_lock, is_own, has_prepared, copy_of, State, record_of, reply_of, reply_up, reply_down, locking_reply, stands_prepared, can_prepare, verdict_of}
+use Rattle.law_run_alone.proofs.Vocabulary.{audit_of, is_full, served, answer_of, Has, has_filter, has_between, has_map, any_has, record_apart, Ways, recording, by_step, AuditItem, Service, Job, Transaction, Sweep, Response, Replied}
+use Rattle.law_run_alone.proofs.Vocabulary.{Lacked, home_of, Fixed, TransactionRun, SweepRun, Sweeping, Listing, Resolving, Telling, Breaking, Doing, Running, RunningSweep, After, GoesOn, Ends, after_response, execute, Agent, fixed_of}
+use Rattle.law_run_alone.proofs.Vocabulary.{is_idle, has_sense, max_jobs, next_in, next_of, left, take_in, take, begin, started, forget, asks_same, Event, Begin, Step, Crash, Return, Forget, Lack, Actor, World, opening, servers_from}
+use Rattle.law_run_alone.proofs.Vocabulary.{server_at, actor_at, with_actor, serve, moved, answered, becomes, asks_at, asks, steps_once, lacks_for, lacks, operated, operates, step, after, run, Decided, decisions, EndedJob, names, ended}
+use Rattle.law_run_alone.proofs.Vocabulary.{begins_now, asks_in_its_name, same_place, IsAt, Begun, counts_rise, at_puts, same_or, agent_of, agent_at, Holds, event_holds, puts_in, holds_at_first, holds_of, fresh_agents, begins_job}
 use Rattle.rep_core.specs.declared.request.Request.TheVariants as request
-use Rattle.rep_core.specs.declared.reply.Reply.{Reply}
 use Rattle.rep_core.specs.declared.reply.Reply.TheVariants as reply
-use Rattle.rep_core.specs.declared.reply.Verdict.{Verdict}
 use Rattle.rep_core.specs.declared.reply.Verdict.TheVariants as verdict
-use Rattle.rep_core.specs.declared.stamped.Stamped.{Stamped}
 use Rattle.rep_core.specs.declared.stamped.Lack.{Lack as Why}
 use Rattle.rep_core.specs.declared.stamped.Lack.TheVariants as lack
-use Rattle.rep_core.specs.Locks.{in_the_way, has_lock, locked, raised, raised_lock, with_lock, before, prepared_lock, is_own, has_prepared}
-use Rattle.rep_core.specs.Store.{copy_of}
 use Rattle.rep_core.specs.State as state
-use Rattle.rep_core.specs.State.{State, record_of}
-use Rattle.rep_core.specs.Service.{reply_of, reply_up, reply_down, locking_reply, stands_prepared, can_prepare, verdict_of, audit_of}
 use Rattle.rep_core.specs.Serving as serving
-use Rattle.rep_core.specs.Serving.{is_full, served, answer_of}
-use Rattle.rep_core.proofs.Members.{Has, has_filter, has_between, has_map, any_has}
-use Rattle.rep_core.proofs.Records.{record_apart}
-use Rattle.rep_core.proofs.Ways.{Ways, recording, by_step}
-use Rattle.file_ops.specs.declared.audit.AuditItem.{AuditItem}
-use Rattle.file_ops.specs.declared.service.Service.{Service}
-use Rattle.txn_core.specs.declared.job.Job.{Job}
-use Rattle.txn_core.specs.declared.job.Job.TheVariants.{Transaction, Sweep}
-use Rattle.txn_core.specs.declared.response.Response.{Response}
-use Rattle.txn_core.specs.declared.response.Response.TheVariants.{Replied, Lacked}
-use Rattle.txn_core.specs.Doing.{home_of, Fixed, TransactionRun, SweepRun, Sweeping, Listing, Resolving, Telling, Breaking, Doing, Running, RunningSweep, After, GoesOn, Ends}
 use Rattle.txn_core.specs.Sweeps as sweep
-use Rattle.txn_core.specs.Transactions.{after_response, execute}
-use Rattle.txn_core.specs.Agents.{Agent, fixed_of, is_idle, has_sense, max_jobs, next_in, next_of, left, take_in, take, begin, started, forget}
-use Rattle.txn_core.proofs.Asks.{asks_same}
-use Rattle.run_core.specs.declared.event.Event.{Event}
-use Rattle.run_core.specs.declared.event.Event.TheVariants.{Begin, Step, Crash, Return, Forget, Lack}
-use Rattle.run_core.specs.Worlds.{Actor, World, opening, servers_from, server_at, actor_at, with_actor, serve, moved, answered, becomes, asks_at, asks, steps_once, lacks_for, lacks, operated, operates, step}
-use Rattle.run_core.specs.Runs.{after, run}
-use Rattle.run_core.specs.Decisions.{Decided, decisions}
-use Rattle.run_core.specs.declared.done.EndedJob.{EndedJob}
-use Rattle.law_runs.specs.Naming.{names}
-use Rattle.law_runs.specs.Claims.{ended}
-use Rattle.law_runs.specs.Numbers.{begins_now}
-use Rattle.law_runs.proofs.Asking.{asks_in_its_name}
-use Rattle.law_runs.proofs.Agents.{same_place, IsAt, Begun}
-use Rattle.law_runs.proofs.Begun.{counts_rise}
-use Rattle.law_runs.proofs.Places.{at_puts, same_or}
-use Rattle.law_runs.proofs.Worlds.{agent_of, agent_at, Holds, event_holds, puts_in}
-use Rattle.law_runs.proofs.Conclusions.{holds_at_first, holds_of, fresh_agents}
-use Rattle.law_run_alone.specs.Alone.{begins_job}
 use Rattle.law_run_alone.proofs.Turns.{with_job}
 use Rattle.law_run_alone.proofs.Walks.{AllServers, event_servers}
 

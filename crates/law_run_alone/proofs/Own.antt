@@ -1,23 +1,11 @@
 -- A server at which one transaction alone has locks, and that is up; or that is down and has none of it.
-use Rattle.std.proofs.Common.{◌≡◌, ⊎_elim, inl, inr, ℕ, Bool, true, false, cond, List, [], ◌∷◌, Option, Some, None, refl, sym, ap, subst, ◌∙◌, arith}
-use Rattle.std.specs.Prelude.{◌==◌, ◌&&◌, ◌||◌, not, find, filter, map}
-use Rattle.std.proofs.lemmas.Bool.{false≢true}
-use Rattle.std.proofs.lemmas.Bool.Decides.{nat_tests}
-use Rattle.suite_prefix.specs.declared.lock_mode.LockMode.{LockMode}
-use Rattle.suite_prefix.specs.declared.lock_mode.LockMode.TheVariants.{Exclusive}
-use Rattle.rep_core.specs.declared.lock.Lock.{Lock}
-use Rattle.rep_core.specs.declared.request.Request.{Request}
+use Rattle.law_run_alone.proofs.Vocabulary.{◌≡◌, ⊎_elim, inl, inr, ℕ, Bool, true, false, cond, List, [], ◌∷◌, Option, Some, None, refl, sym, ap, subst, ◌∙◌, arith, ◌==◌, ◌&&◌, ◌||◌, not, find, filter, map, false≢true, nat_tests}
+use Rattle.law_run_alone.proofs.Vocabulary.{LockMode, Exclusive, Lock, Request, Stamped, is_busy, is_down, conflicts, in_the_way, has_lock, locked, raised, raised_lock, with_lock, before, prepared_lock, is_own, copy_of, State, reply_of}
+use Rattle.law_run_alone.proofs.Vocabulary.{reply_up, reply_down, after_up, after_down, locking_reply, stands_prepared, can_prepare, is_full, served, Has, has_filter, has_between, has_map, any_has, Ways, by_step}
 use Rattle.rep_core.specs.declared.request.Request.TheVariants as request
 use Rattle.rep_core.specs.declared.reply.Reply.TheVariants as reply
-use Rattle.rep_core.specs.declared.stamped.Stamped.{Stamped}
-use Rattle.rep_core.specs.Fits.{is_busy, is_down}
-use Rattle.rep_core.specs.Locks.{conflicts, in_the_way, has_lock, locked, raised, raised_lock, with_lock, before, prepared_lock, is_own}
-use Rattle.rep_core.specs.Store.{copy_of}
-use Rattle.rep_core.specs.State.{State}
-use Rattle.rep_core.specs.Service.{reply_of, reply_up, reply_down, after, after_up, after_down, locking_reply, stands_prepared, can_prepare}
-use Rattle.rep_core.specs.Serving.{is_full, served, step}
-use Rattle.rep_core.proofs.Members.{Has, has_filter, has_between, has_map, any_has}
-use Rattle.rep_core.proofs.Ways.{Ways, by_step}
+use Rattle.rep_core.specs.Service.{after}
+use Rattle.rep_core.specs.Serving.{step}
 
 -- all locks are of this transaction
 abbrev pub AreOwn : ℕ → List Lock → Type 0

@@ -1,36 +1,10 @@
 -- A transaction that has all locks at the servers that are up: what others do beside it, and its own steps, leave it so.
-use Rattle.std.proofs.Common.{◌≡◌, ℕ, ◌+◌, Bool, true, false, cond, List, [], Option, Some, None, refl, sym, ap, subst, ◌∙◌, arith}
-use Rattle.std.specs.Prelude.{◌*◌, ◌==◌, ◌&&◌, nat_lt}
-use Rattle.std.proofs.lemmas.Bool.{false≢true}
-use Rattle.std.proofs.lemmas.Bool.Decides.{nat_tests}
-use Rattle.std.proofs.lemmas.Option.{none-some, same_Some}
-use Rattle.acl_core.specs.Identity.{Identity}
-use Rattle.suite_prefix.specs.SettingsRules.{Opening}
-use Rattle.file_ops.specs.declared.operation.Op.{Op}
-use Rattle.rep_core.specs.declared.request.Request.{Request}
+use Rattle.law_run_alone.proofs.Vocabulary.{◌≡◌, ℕ, ◌+◌, Bool, true, false, cond, List, [], Option, Some, None, refl, sym, ap, subst, ◌∙◌, arith, ◌*◌, ◌==◌, ◌&&◌, nat_lt, false≢true, nat_tests, none-some, same_Some, Identity, Opening}
+use Rattle.law_run_alone.proofs.Vocabulary.{Op, Request, Verdict, State, Job, Transaction, Response, Fixed, Task, TransactionRun, Doing, Running, RunningSweep, After, GoesOn, Ends, after_response, execute, is_decide, said_by, Agent}
+use Rattle.law_run_alone.proofs.Vocabulary.{fixed_of, is_idle, has_sense, max_jobs, next_in, next_of, left, take_in, begin, started, Event, Begin, Step, Crash, Return, Forget, Lack, EndedJob, Actor, World, server_at, actor_at}
+use Rattle.law_run_alone.proofs.Vocabulary.{with_actor, becomes, step, Decided, names, begins_now, Leaves, leaves_begin, leaves_response, asks_in_its_name, IsAt, agent_of, Holds, puts_in, begins_job}
 use Rattle.rep_core.specs.declared.request.Request.TheVariants as request
-use Rattle.rep_core.specs.declared.reply.Verdict.{Verdict}
 use Rattle.rep_core.specs.declared.reply.Verdict.TheVariants as verdict
-use Rattle.rep_core.specs.State.{State}
-use Rattle.txn_core.specs.declared.job.Job.{Job}
-use Rattle.txn_core.specs.declared.job.Job.TheVariants.{Transaction}
-use Rattle.txn_core.specs.declared.response.Response.{Response}
-use Rattle.txn_core.specs.Doing.{Fixed, Task, TransactionRun, Doing, Running, RunningSweep, After, GoesOn, Ends}
-use Rattle.txn_core.specs.Transactions.{after_response, execute}
-use Rattle.txn_core.specs.Laws.{is_decide, said_by}
-use Rattle.txn_core.specs.Agents.{Agent, fixed_of, is_idle, has_sense, max_jobs, next_in, next_of, left, take_in, begin, started}
-use Rattle.run_core.specs.declared.event.Event.{Event}
-use Rattle.run_core.specs.declared.event.Event.TheVariants.{Begin, Step, Crash, Return, Forget, Lack}
-use Rattle.run_core.specs.declared.done.EndedJob.{EndedJob}
-use Rattle.run_core.specs.Worlds.{Actor, World, server_at, actor_at, with_actor, becomes, step}
-use Rattle.run_core.specs.Decisions.{Decided}
-use Rattle.law_runs.specs.Naming.{names}
-use Rattle.law_runs.specs.Numbers.{begins_now}
-use Rattle.law_runs.proofs.Words.{Leaves, leaves_begin, leaves_response}
-use Rattle.law_runs.proofs.Asking.{asks_in_its_name}
-use Rattle.law_runs.proofs.Agents.{IsAt}
-use Rattle.law_runs.proofs.Worlds.{agent_of, Holds, puts_in}
-use Rattle.law_run_alone.specs.Alone.{begins_job}
 use Rattle.law_run_alone.proofs.Own as own
 use Rattle.law_run_alone.proofs.Own.{IsOwnAt, PollsFor, is_return, own_at_stays}
 use Rattle.law_run_alone.proofs.Walks.{MayAsk, asks_servers, BeginsNone, event_doing}

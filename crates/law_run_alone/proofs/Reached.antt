@@ -1,15 +1,5 @@
 -- Parts of a run, and what is known of each.
-use Rattle.std.proofs.Common.{◌≡◌, List, [], ◌∷◌, ◌++◌}
-use Rattle.suite_prefix.specs.SettingsRules.{Opening}
-use Rattle.txn_core.specs.Agents.{fixed_of}
-use Rattle.run_core.specs.declared.event.Event.{Event}
-use Rattle.run_core.specs.Worlds.{opening, step}
-use Rattle.run_core.specs.Runs.{run}
-use Rattle.run_core.specs.Decisions.{decisions}
-use Rattle.run_core.proofs.Appending.{after-append}
-use Rattle.law_runs.specs.Claims.{ended}
-use Rattle.law_runs.proofs.Conclusions.{holds_of}
-use Rattle.law_headline.specs.Premises.{CanBe, VotesAreValid}
+use Rattle.law_run_alone.proofs.Vocabulary.{◌≡◌, List, [], ◌∷◌, ◌++◌, Opening, fixed_of, Event, opening, step, run, decisions, after-append, ended, holds_of, CanBe, VotesAreValid}
 use Rattle.law_run_alone.proofs.Votes.{copy_valid, cache_valid}
 use Rattle.law_run_alone.proofs.Unhindered.{Facts}
 

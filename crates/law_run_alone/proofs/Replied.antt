@@ -1,35 +1,13 @@
 -- What a server does not reply where a lock stands and a Prepare can be, and what is not in a register's log.
-use Rattle.std.proofs.Common.{◌≡◌, inl, inr, ℕ, Bool, true, false, cond, List, [], ◌∷◌, map, Option, Some, None, is_some, refl, sym, ap, subst, ◌∙◌, arith}
-use Rattle.std.specs.Prelude.{◌==◌, ◌||◌, ◌⊎◌}
-use Rattle.std.specs.List.{list_all, list_any, AllByRecursion}
+use Rattle.law_run_alone.proofs.Vocabulary.{◌≡◌, inl, inr, ℕ, Bool, true, false, cond, List, [], ◌∷◌, map, Option, Some, None, is_some, refl, sym, ap, subst, ◌∙◌, arith, ◌==◌, ◌||◌, ◌⊎◌, list_all, list_any, AllByRecursion, nat_cmp}
+use Rattle.law_run_alone.proofs.Vocabulary.{Less, and_from, false≢true, nat_tests, none-some, same_Some, is_exclusive, serves, LockMode, Shared, Exclusive, Replica, Lock, Part, Decision, is_lost, is_own, lock_at, in_the_way, has_lock}
+use Rattle.law_run_alone.proofs.Vocabulary.{copy_of, lists_twice, State, locking_reply, stands_prepared, can_prepare, reply_up, reply_down, reply_of, Has, any_find, Beginning, Entry, transaction, Hold, Answered, Aborted, Inv}
+use Rattle.law_run_alone.proofs.Vocabulary.{IsRecorded, hold_of, Going}
 use Rattle.std.specs.List.Sorted.{IsStrictlySortedBy}
-use Rattle.std.specs.Ordering.{nat_cmp}
-use Rattle.std.specs.declared.cmp.Ordering.TheVariants.{Less}
-use Rattle.std.proofs.lemmas.Bool.{and_from, false≢true}
-use Rattle.std.proofs.lemmas.Bool.Decides.{nat_tests}
-use Rattle.std.proofs.lemmas.Option.{none-some, same_Some}
-use Rattle.suite_prefix.specs.LockModes.{is_exclusive, serves}
-use Rattle.suite_prefix.specs.declared.lock_mode.LockMode.{LockMode}
-use Rattle.suite_prefix.specs.declared.lock_mode.LockMode.TheVariants.{Shared, Exclusive}
-use Rattle.suite_prefix.specs.declared.copies.Replica.{Replica}
-use Rattle.rep_core.specs.declared.lock.Lock.{Lock}
-use Rattle.rep_core.specs.declared.request.Part.{Part}
 use Rattle.rep_core.specs.declared.request.Request.TheVariants as request
-use Rattle.rep_core.specs.declared.request.Decision.{Decision}
 use Rattle.rep_core.specs.declared.reply.Verdict as replied
 use Rattle.rep_core.specs.declared.reply.Reply.TheVariants as reply
-use Rattle.rep_core.specs.Fits.{is_lost}
-use Rattle.rep_core.specs.Locks.{is_own, lock_at, in_the_way, has_lock}
-use Rattle.rep_core.specs.Store.{copy_of, lists_twice}
-use Rattle.rep_core.specs.State.{State}
-use Rattle.rep_core.specs.Service.{locking_reply, stands_prepared, can_prepare, reply_up, reply_down, reply_of}
-use Rattle.rep_core.proofs.Members.{Has}
-use Rattle.rep_core.proofs.Finding.{any_find}
-use Rattle.law_suite_machine.specs.Registers.{Beginning, Entry, transaction}
-use Rattle.law_suite_machine.specs.Machine.{Hold, Verdict, Answered, Refused, Aborted, World}
-use Rattle.law_suite_machine.proofs.Invariant.{Inv, IsRecorded}
-use Rattle.law_server_moves.specs.Views.{hold_of}
-use Rattle.law_run_machine.proofs.Stages.{Going}
+use Rattle.law_suite_machine.specs.Machine.{Verdict, Refused, World}
 
 -- ---- what a server replies
 

@@ -1,67 +1,20 @@
 -- What a transaction asks finds the lock that it stands on, where the locks that it was told of stand: so it is not answered Lost.
-use Rattle.std.proofs.Common.{◌≡◌, inl, inr, ℕ, true, false, cond, List, [], ◌∷◌, map, Option, Some, None, is_some, refl, sym, ap, subst, ◌∙◌, arith}
-use Rattle.std.specs.Prelude.{◌==◌, ◌&&◌, not, filter}
-use Rattle.std.specs.List.{list_all}
+use Rattle.law_run_alone.proofs.Vocabulary.{◌≡◌, inl, inr, ℕ, true, false, cond, List, [], ◌∷◌, map, Option, Some, None, is_some, refl, sym, ap, subst, ◌∙◌, arith, ◌==◌, ◌&&◌, not, filter, list_all, nat_cmp, and_from, false≢true}
+use Rattle.law_run_alone.proofs.Vocabulary.{nat_tests, same_Some, IsValid, Opening, is_exclusive, serves, is_within_limits, Shared, Exclusive, Replica, known_rows, Part, Request, is_lost, Lock, is_own, lock_at, has_lock, has_lock_for}
+use Rattle.law_run_alone.proofs.Vocabulary.{copy_of, goes_with, is_sound_part, lists_twice, State, can_prepare, reply_up, reply_down, reply_of, Has, has_filter, has_map, has_any, any_has, find_some, get_has, holds, Poll, Next, Ask}
+use Rattle.law_run_alone.proofs.Vocabulary.{Current, Short, next, ReadPoint, GatheredSuite, suite_of, has_locks, holds_lock, holds_exclusively, lock_mode, known_of, told_in, told_at, change_of, take_of_changed, parts_at, Fixed, home_of}
+use Rattle.law_run_alone.proofs.Vocabulary.{Proposal, Phase, Gathering, Fetching, Widening, Preparing, Deciding, Finishing, TransactionRun, Running, asked_by, asked_for, fetched_at, fetched_for, request_in, changes_of, decision_of}
+use Rattle.law_run_alone.proofs.Vocabulary.{Agent, fixed_of, next_in, next_of, is_idle, is_prepare, stands_on_locks, asks_same, asked_as, fetched_as, a_prepare_rises, Event, Actor, server_at, actor_at, names, asks_in_its_name, IsKnown}
+use Rattle.law_run_alone.proofs.Vocabulary.{row, WasPrefix, Told, hold_of, beginning, known_by, OwesKnown, server_there, upgrade_told, InCourse, IsDoing, Going, Stage, IdleOr, InPhase, DoingFits, suite_was, told_to, Agrees, DoingAgrees}
+use Rattle.law_run_alone.proofs.Vocabulary.{CameWell, came_preparing, leaves}
 use Rattle.std.specs.List.Sorted.{IsStrictlySortedBy}
-use Rattle.std.specs.Ordering.{nat_cmp}
-use Rattle.std.proofs.lemmas.Bool.{and_from, false≢true}
-use Rattle.std.proofs.lemmas.Bool.Decides.{nat_tests}
-use Rattle.std.proofs.lemmas.Option.{same_Some}
-use Rattle.vote_core.specs.Validity.{IsValid}
-use Rattle.suite_prefix.specs.SettingsRules.{Opening}
-use Rattle.suite_prefix.specs.LockModes.{is_exclusive, serves}
-use Rattle.suite_prefix.specs.Tests.{is_within_limits}
-use Rattle.suite_prefix.specs.declared.lock_mode.LockMode.TheVariants.{Shared, Exclusive}
-use Rattle.suite_prefix.specs.declared.copies.Replica.{Replica}
 use Rattle.file_exec.specs.declared.changes.Change as executor
-use Rattle.file_exec.specs.Known.{known_rows}
-use Rattle.rep_core.specs.declared.request.Part.{Part}
-use Rattle.rep_core.specs.declared.request.Request.{Request}
 use Rattle.rep_core.specs.declared.request.Request.TheVariants as request
-use Rattle.rep_core.specs.Fits.{is_lost}
-use Rattle.rep_core.specs.declared.lock.Lock.{Lock}
-use Rattle.rep_core.specs.Locks.{is_own, lock_at, has_lock, has_lock_for}
-use Rattle.rep_core.specs.Store.{copy_of, goes_with, is_sound_part, lists_twice}
-use Rattle.rep_core.specs.State.{State}
-use Rattle.rep_core.specs.Service.{can_prepare, reply_up, reply_down, reply_of}
-use Rattle.rep_core.proofs.Members.{Has, has_filter, has_map, has_any, any_has}
-use Rattle.rep_core.proofs.Finding.{find_some}
-use Rattle.rep_core.proofs.IntentionLookups.{get_has}
-use Rattle.suite_collect.specs.Telling.{holds}
-use Rattle.suite_collect.specs.Collecting.{Poll, Upgrade, Next, Ask, Current, Short, next}
-use Rattle.txn_core.specs.Suites.{ReadPoint, GatheredSuite, suite_of, has_locks, holds_lock, holds_exclusively, lock_mode, known_of, told_in, told_at}
-use Rattle.txn_core.specs.Writing.{change_of, take_of_changed, part_of, parts_at}
-use Rattle.txn_core.specs.Doing.{Fixed, home_of, Proposal, Phase, Gathering, Fetching, Widening, Preparing, Deciding, Finishing, TransactionRun, Running}
-use Rattle.txn_core.specs.Transactions.{asked_by, asked_for, fetched_at, fetched_for, request_in, changes_of, decision_of}
-use Rattle.txn_core.specs.Agents.{Agent, fixed_of, next_in, next_of, is_idle}
-use Rattle.txn_core.specs.Laws.{is_prepare}
-use Rattle.txn_core.specs.Undecided.{stands_on_locks}
-use Rattle.txn_core.proofs.Asks.{asks_same, asked_as, fetched_as}
-use Rattle.txn_core.proofs.PrepareParts.{a_prepare_rises}
-use Rattle.run_core.specs.declared.event.Event.{Event}
+use Rattle.suite_collect.specs.Collecting.{Upgrade}
+use Rattle.txn_core.specs.Writing.{part_of}
 use Rattle.run_core.specs.Worlds as worlds
-use Rattle.run_core.specs.Worlds.{Actor, server_at, actor_at}
-use Rattle.law_runs.specs.Naming.{names}
-use Rattle.law_runs.proofs.Asking.{asks_in_its_name}
-use Rattle.law_suite_machine.specs.Registers.{IsKnown, row, WasPrefix}
-use Rattle.law_suite_machine.specs.Machine.{Told, World}
+use Rattle.law_suite_machine.specs.Machine.{World}
 use Rattle.law_suite_machine.specs.Conditions as conditions
-use Rattle.law_server_moves.specs.Views.{hold_of}
-use Rattle.law_server_moves.specs.Laws.{beginning}
-use Rattle.law_run_machine.specs.Deciding.{known_by}
-use Rattle.law_run_machine.specs.Owed.{OwesKnown}
-use Rattle.law_run_machine.proofs.Servers.{server_there}
-use Rattle.law_run_machine.proofs.Sending.{upgrade_told}
-use Rattle.law_run_machine.proofs.Linked.{InCourse, IsDoing}
-use Rattle.law_run_machine.proofs.Stages.{Going, Stage}
-use Rattle.law_run_machine.proofs.Jobs.{IdleOr}
-use Rattle.law_run_knowledge.proofs.Walk.{InPhase}
-use Rattle.law_run_knowledge.proofs.Lasting.{DoingFits}
-use Rattle.law_run_knowledge.proofs.Decided.{suite_was}
-use Rattle.law_run_machine.specs.Telling.{told_to}
-use Rattle.law_run_quorums.specs.Telling.{Agrees, DoingAgrees}
-use Rattle.law_headline.proofs.Carried.{CameWell, came_preparing}
-use Rattle.law_headline.proofs.Beside.{leaves}
 use Rattle.law_run_alone.proofs.Standing.{Stands}
 use Rattle.law_run_alone.proofs.Holding.{PhaseStands}
 use Rattle.law_run_alone.proofs.Known.{is_known, known_owed, row_valid}

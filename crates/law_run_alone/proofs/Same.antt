@@ -1,47 +1,16 @@
 -- Of two runs of the same jobs the endings are the same.
-use Rattle.std.proofs.Common.{◌≡◌, inl, inr, ⊎_elim, ℕ, ◌+◌, true, false, List, [], ◌∷◌, ◌++◌, Option, Some, None, refl, sym, ap, subst, ◌∙◌, eq-eqb}
-use Rattle.std.specs.Prelude.{◌*◌, map, nat_eq, Result, Ok, Err}
-use Rattle.std.specs.List.{AllByRecursion, IsDistinct, cons_option}
-use Rattle.std.proofs.lemmas.Bool.{false≢true}
-use Rattle.std.proofs.lemmas.Option.{none-some, same_Some}
-use Rattle.std.proofs.lemmas.Map.Keys.{IsDistinct-head, IsDistinct-tail}
-use Rattle.suite_prefix.specs.SettingsRules.{Opening, IsAccepted}
+use Rattle.law_run_alone.proofs.Vocabulary.{◌≡◌, inl, inr, ⊎_elim, ℕ, ◌+◌, true, false, List, [], ◌∷◌, ◌++◌, Option, Some, None, refl, sym, ap, subst, ◌∙◌, eq-eqb, ◌*◌, map, nat_eq, Result, Ok, Err, AllByRecursion, cons_option}
+use Rattle.law_run_alone.proofs.Vocabulary.{false≢true, none-some, same_Some, IsDistinct-head, IsDistinct-tail, Opening, IsAccepted, Lists, Configuration, Folder, empty_content, PlainTable, root, Refusal, Played, replies, table_after}
+use Rattle.law_run_alone.proofs.Vocabulary.{Has, has_from, contains_from, Verdict, Ending, Refused, Swept, Undecided, Job, Transaction, Sweep, Doing, TransactionRun, Running, RunningSweep, Task, Agent, fixed_of, Event, Begin, Step}
+use Rattle.law_run_alone.proofs.Vocabulary.{Crash, Return, Forget, Lack, EndedJob, Actor, World, opening, actor_at, step, run, Decided, decisions, task_of, task_at, table_with, AnswersAreTheTables, number_of, begins_now, begins_at}
+use Rattle.law_run_alone.proofs.Vocabulary.{begun_from, ended, Answer', NotIn, In, Stands, append_has_left, append_has_right, IsAt, EndStands, same_place, same_or, Holds, agent_of, agent_at, each_is_begun_once, holds_of}
+use Rattle.law_run_alone.proofs.Vocabulary.{answers_are_the_tables, begins_job, jobs_from, jobs_of, one_at_a_time, AreAlike, IsTransaction, IsRunning, AllAreDecided, EndingsAreOne}
+use Rattle.std.specs.List.{IsDistinct}
 use Rattle.file_ops.specs.Rows as rows
-use Rattle.acl_core.specs.declared.lists.Lists.{Lists}
-use Rattle.vote_core.specs.Quorums.{Configuration}
-use Rattle.suite_content.specs.declared.content.Kind.TheVariants.{Folder}
-use Rattle.suite_content.specs.Contents.{empty_content}
-use Rattle.file_ops.specs.Rows.{PlainTable, root}
-use Rattle.file_ops.specs.declared.refusal.Refusal.{Refusal}
-use Rattle.file_ops.specs.Transactions.{Played, transaction, replies, table_after}
-use Rattle.rep_core.proofs.Members.{Has, has_from, contains_from}
-use Rattle.rep_core.specs.declared.reply.Verdict.{Verdict}
+use Rattle.file_ops.specs.Transactions.{transaction}
 use Rattle.rep_core.specs.declared.reply.Verdict.TheVariants as verdict
-use Rattle.txn_core.specs.declared.ending.Ending.{Ending}
-use Rattle.txn_core.specs.declared.ending.Ending.TheVariants.{Answered, Refused, Swept, Undecided}
-use Rattle.txn_core.specs.declared.job.Job.{Job}
-use Rattle.txn_core.specs.declared.job.Job.TheVariants.{Transaction, Sweep}
-use Rattle.txn_core.specs.Doing.{Doing, TransactionRun, Running, RunningSweep, Task}
-use Rattle.txn_core.specs.Agents.{Agent, fixed_of}
-use Rattle.run_core.specs.declared.event.Event.{Event}
-use Rattle.run_core.specs.declared.event.Event.TheVariants.{Begin, Step, Crash, Return, Forget, Lack}
-use Rattle.run_core.specs.declared.done.EndedJob.{EndedJob}
-use Rattle.run_core.specs.Worlds.{Actor, World, opening, actor_at, step}
-use Rattle.run_core.specs.Runs.{run}
-use Rattle.run_core.specs.Decisions.{Decided, decisions, task_of, task_at}
-use Rattle.run_core.specs.TableOfRun.{table_with, AnswersAreTheTables}
-use Rattle.law_runs.specs.Numbers.{number_of, begins_now, begins_at, begun_from}
-use Rattle.law_runs.specs.Claims.{ended}
-use Rattle.law_runs.proofs.Standing.{Answer', NotIn, In, Stands, append_has_left, append_has_right}
-use Rattle.law_runs.proofs.Agents.{IsAt, EndStands, same_place}
-use Rattle.law_runs.proofs.Places.{same_or}
+use Rattle.txn_core.specs.declared.ending.Ending.TheVariants.{Answered}
 use Rattle.law_runs.proofs.Worlds as worlds
-use Rattle.law_runs.proofs.Worlds.{Holds, agent_of, agent_at}
-use Rattle.law_runs.proofs.Begun.{each_is_begun_once}
-use Rattle.law_runs.proofs.Conclusions.{holds_of}
-use Rattle.law_headline.proofs.Conclusions.{answers_are_the_tables}
-use Rattle.law_run_alone.specs.Alone.{begins_job, jobs_from, jobs_of, one_at_a_time}
-use Rattle.law_run_alone.specs.Endings.{AreAlike, IsTransaction, IsRunning, AllAreDecided, EndingsAreOne}
 use Rattle.law_run_alone.proofs.Verdicts.{Asked, asked_by, asked_of, left_by, said_in, said_is, undecided}
 use Rattle.law_run_alone.proofs.Along.{ApartFrom, AreApart, same_asked, along_has, is_all}
 use Rattle.law_run_alone.proofs.Turns.{doing_of, doing_at, with_job, transaction_as, transactions_of}

@@ -1,47 +1,16 @@
 -- What a transaction sets of a suite: it makes it only at a number of its own, and else leaves its kind; a content that it sets is within limits; and
 -- its lists fit.
-use Rattle.std.proofs.Common.{◌≡◌, ℕ, Bool, true, false, cond, List, [], ◌∷◌, Option, Some, None, Ok, Err, refl, sym, ap, subst, ◌∙◌}
-use Rattle.std.specs.Prelude.{◌==◌, ◌||◌, ◌&&◌, is_some, option_map, unwrap_or, Result}
-use Rattle.std.specs.Ordering.{nat_cmp}
-use Rattle.std.proofs.lemmas.Bool.{false≢true, eqb-true}
-use Rattle.std.proofs.lemmas.Option.{none-some, same_Some}
-use Rattle.sorted_map.specs.SortedMap.{IsOrdered, get}
-use Rattle.vote_core.specs.Validity.{IsValid}
-use Rattle.suite_content.specs.declared.content.Content.{Content}
+use Rattle.law_run_alone.proofs.Vocabulary.{◌≡◌, ℕ, Bool, true, false, cond, List, [], ◌∷◌, Option, Some, None, Ok, Err, refl, sym, ap, subst, ◌∙◌, ◌==◌, ◌||◌, ◌&&◌, is_some, option_map, unwrap_or, Result, nat_cmp, false≢true, eqb-true}
+use Rattle.law_run_alone.proofs.Vocabulary.{none-some, same_Some, IsOrdered, get, IsValid, Content, kind_of, empty_content, is_valid_prefix, is_within_limits, Prefix, PrefixKind, LockMode, Exclusive, Answer, Refusal, Row, KnownSuite}
+use Rattle.law_run_alone.proofs.Vocabulary.{makes, some, touches, Edits, Ended, seen, head, Known, IsSoAt, AgreesWith, is_held, known_rows, Done, exec_of, changes_by_suite, changes_are_held, ReadPoint, GatheredSuite, Suites, suite_of}
+use Rattle.law_run_alone.proofs.Vocabulary.{row_with, known_of, change_of, prefix_kind, Fixed, Task, Proposal, changes_of, known_at, known_from, set_by, Came, FitsAs, told_as, AllGiveValidVotes, edits_fit, same_kind, FromEdits}
+use Rattle.law_run_alone.proofs.Vocabulary.{agrees_itself}
 use Rattle.suite_content.specs.declared.content.Kind.TheVariants as holds
-use Rattle.suite_content.specs.Contents.{kind_of, empty_content}
-use Rattle.suite_prefix.specs.Tests.{is_valid_prefix, is_within_limits}
-use Rattle.suite_prefix.specs.declared.copies.Prefix.{Prefix}
-use Rattle.suite_prefix.specs.declared.copies.PrefixKind.{PrefixKind}
 use Rattle.suite_prefix.specs.declared.copies.PrefixKind.TheVariants as kind
-use Rattle.suite_prefix.specs.declared.lock_mode.LockMode.{LockMode}
-use Rattle.suite_prefix.specs.declared.lock_mode.LockMode.TheVariants.{Exclusive}
-use Rattle.file_ops.specs.declared.answer.Answer.{Answer}
-use Rattle.file_ops.specs.declared.refusal.Refusal.{Refusal}
-use Rattle.file_ops.specs.Rows.{Row}
 use Rattle.file_exec.specs.declared.changes.Change as executor
-use Rattle.file_exec.specs.KnownSuites.{KnownSuite}
 use Rattle.file_exec.specs.Changes as changes
-use Rattle.file_exec.specs.Changes.{makes, some, touches}
-use Rattle.file_exec.specs.Following.{Edits, Ended, seen, head}
 use Rattle.file_exec.specs.Known as known
-use Rattle.file_exec.specs.Known.{Known, IsSoAt, AgreesWith, is_held, known_rows, Done, exec_of}
-use Rattle.file_exec.proofs.Leading.{changes_by_suite}
-use Rattle.file_exec.proofs.Unset.{changes_are_held}
-use Rattle.txn_core.specs.Suites.{ReadPoint, GatheredSuite, Suites, suite_of, row_with, known_of}
-use Rattle.txn_core.specs.Writing.{change_of, prefix_kind}
-use Rattle.txn_core.specs.Doing.{Fixed, Task, Proposal}
-use Rattle.txn_core.specs.Transactions.{changes_of}
-use Rattle.txn_core.proofs.Setting.{known_at}
-use Rattle.txn_core.proofs.Growing.{known_from}
-use Rattle.law_runs.proofs.Executed.{set_by, Came}
-use Rattle.law_one_table.proofs.Shown.{FitsAs, told_as}
-use Rattle.law_headline.specs.Premises.{AllGiveValidVotes}
-use Rattle.law_headline.proofs.Editing.{edits_fit}
-use Rattle.law_headline.proofs.Setting.{same_kind}
-use Rattle.law_headline.proofs.Fair.{FromEdits}
 use Rattle.law_run_alone.proofs.FittingLists.{ListsFit, seen_fit, shown_fit}
-use Rattle.file_exec.proofs.Licensing.{agrees_itself}
 use Rattle.law_run_alone.proofs.Courses.{IsNumber, AllNumbered, AreSmall, set_small, edits_well}
 
 -- of a suite that is changed

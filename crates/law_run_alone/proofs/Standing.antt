@@ -1,24 +1,14 @@
 -- The locks that a transaction was told of stand in the machine of a suite, as long as nothing takes one away.
-use Rattle.std.proofs.Common.{◌≡◌, ℕ, Bool, true, false, cond, List, [], ◌∷◌, ◌++◌, Option, Some, None, refl, ap, subst, ◌∙◌}
-use Rattle.std.specs.Prelude.{◌==◌, Ok, Err}
-use Rattle.std.proofs.lemmas.Option.{none-some}
-use Rattle.suite_prefix.specs.LockModes.{is_exclusive}
-use Rattle.rep_core.specs.declared.request.Part.{Part}
-use Rattle.rep_core.specs.declared.request.Request.{Request}
+use Rattle.law_run_alone.proofs.Vocabulary.{◌≡◌, ℕ, Bool, true, false, cond, List, [], ◌∷◌, ◌++◌, Option, Some, None, refl, ap, subst, ◌∙◌, ◌==◌, Ok, Err, none-some, is_exclusive, Part, Request, Reply, ReadPoint, GatheredSuite, Suites}
+use Rattle.law_run_alone.proofs.Vocabulary.{suite_of, Task, Proposal, Phase, Gathering, Fetching, Widening, Preparing, Deciding, Finishing, Doing, Running, RunningSweep, Taken, Beginning, Hold, Told, Held, Upgrade, Aim, Prepare}
+use Rattle.law_run_alone.proofs.Vocabulary.{DecideRead, DecideRefused, DecideWrite, DecideElsewhere, Overrule, GiveUp, Finish, Lose, upgraded_hold, upgraded_told, prepared_hold, happens, at2, at2_both, some_told, part_of, moves}
+use Rattle.law_run_alone.proofs.Vocabulary.{first_verdict, prepare_of, to_write, decides_without, decides_first, decides_on, decision_in, decision_by, fixed_in, aim_of, aims_once, aims, is_finishing, is_at_an_end, gives_up}
+use Rattle.law_run_alone.proofs.Vocabulary.{tells_aborted, begun_events, own_events}
 use Rattle.rep_core.specs.declared.request.Request.TheVariants as request
-use Rattle.rep_core.specs.declared.reply.Reply.{Reply}
 use Rattle.rep_core.specs.declared.reply.Reply.TheVariants as reply
-use Rattle.txn_core.specs.Suites.{ReadPoint, GatheredSuite, Suites, suite_of}
-use Rattle.txn_core.specs.Doing.{Task, Proposal, Phase, Gathering, Fetching, Widening, Preparing, Deciding, Finishing, Doing, Running, RunningSweep}
-use Rattle.txn_core.specs.Agents.{Taken}
-use Rattle.law_suite_machine.specs.Registers.{Beginning, Change}
-use Rattle.law_suite_machine.specs.Machine.{Hold, Told, Verdict, World}
-use Rattle.law_suite_machine.specs.Events.{Event, Held, Upgrade, Aim, Prepare, DecideRead, DecideRefused, DecideWrite, DecideElsewhere, Overrule, GiveUp, Finish, Lose, upgraded_hold, upgraded_told, prepared_hold, happens, run}
-use Rattle.law_suite_machine.proofs.Places.{at2, at2_both}
-use Rattle.law_suite_machine.proofs.Sound.{some_told}
-use Rattle.law_server_moves.specs.Preparing.{part_of}
-use Rattle.law_server_moves.specs.Moves.{moves, first_verdict, prepare_of}
-use Rattle.law_run_machine.specs.Deciding.{to_write, decides_without, decides_first, decides_on, decision_in, decision_by, fixed_in, aim_of, aims_once, aims, is_finishing, is_at_an_end, gives_up, tells_aborted, begun_events, own_events}
+use Rattle.law_suite_machine.specs.Registers.{Change}
+use Rattle.law_suite_machine.specs.Machine.{Verdict, World}
+use Rattle.law_suite_machine.specs.Events.{Event, run}
 
 -- a lock stands in the mode that was told of last
 abbrev pub StandsAs : Option Hold → Told → Type 0

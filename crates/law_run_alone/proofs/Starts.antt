@@ -1,22 +1,11 @@
 -- A transaction that begins asks somebody something: none ends at once.
-use Rattle.std.proofs.Common.{◌≡◌, inl, inr, ⊎_elim, ℕ, ◌+◌, ◌<◌, zero, suc, false, List, [], ◌∷◌, Option, None, refl, arith}
-use Rattle.std.proofs.lemmas.Bool.{false≢true}
-use Rattle.vote_core.specs.Quorums.{Representative, total_votes}
-use Rattle.vote_core.specs.Validity.{IsValid}
-use Rattle.suite_prefix.specs.declared.copies.Prefix.{Prefix}
-use Rattle.suite_prefix.specs.declared.lock_mode.LockMode.{LockMode}
-use Rattle.rep_core.proofs.Members.{Has, contains_from}
+use Rattle.law_run_alone.proofs.Vocabulary.{◌≡◌, inl, inr, ⊎_elim, ℕ, ◌+◌, ◌<◌, zero, suc, false, List, [], ◌∷◌, Option, None, refl, arith, false≢true, Representative, total_votes, IsValid, Prefix, LockMode, Has, contains_from, Know}
+use Rattle.law_run_alone.proofs.Vocabulary.{Next, Ask, Current, Short, collect, next, short_has_none_left, Cache, Suites, Fixed, Task, Granted, Running, start_from, gather_by, widen_all, to_widen, proceed, execute, heard_on}
+use Rattle.law_run_alone.proofs.Vocabulary.{raised_or_new, with_suite, is_idle, left}
 use Rattle.file_exec.specs.declared.executor.Outcome.{Outcome as Executed}
 use Rattle.file_exec.specs.declared.executor.Outcome.TheVariants as exec
-use Rattle.file_exec.specs.declared.need.Need.TheVariants.{Hold, Know}
-use Rattle.suite_collect.specs.Collecting.{Next, Ask, Current, Short, collect, next}
-use Rattle.suite_collect.proofs.Shortness.{short_has_none_left}
-use Rattle.weak_cache.specs.Entries.{Cache}
-use Rattle.txn_core.specs.Suites.{Suites}
-use Rattle.txn_core.specs.Doing.{Fixed, Task, Granted, Running}
-use Rattle.txn_core.specs.Transactions.{Step, start_from, gather_by, widen_all, to_widen, proceed, execute, heard_on, raised_or_new}
-use Rattle.txn_core.specs.Suites.{with_suite}
-use Rattle.txn_core.specs.Agents.{is_idle, left}
+use Rattle.file_exec.specs.declared.need.Need.TheVariants.{Hold}
+use Rattle.txn_core.specs.Transactions.{Step}
 use Rattle.law_run_alone.proofs.Votes.{HasValidVotes, start_valid}
 
 abbrev GoesOn' : Step → Type 0

@@ -1,43 +1,15 @@
 -- A transaction that begins where every agent is idle, every server is up and no lock is left: as long as nothing disturbs it, it goes as where all servers are up, and ends decided.
-use Rattle.std.proofs.Common.{◌≡◌, ℕ, ◌+◌, Bool, true, false, cond, List, [], ◌∷◌, Option, Some, None, refl, sym, ap, subst, ◌∙◌, arith, ◌++◌, append_assoc}
-use Rattle.std.specs.Prelude.{◌*◌, ◌-◌, slice_get, ◌&&◌, nat_lt, slice_set}
-use Rattle.std.proofs.lemmas.Option.{none-some, same_Some}
-use Rattle.vote_core.specs.Validity.{IsValid}
-use Rattle.suite_prefix.specs.SettingsRules.{Opening}
-use Rattle.rep_core.specs.declared.request.Request.{Request}
-use Rattle.rep_core.specs.declared.reply.Reply.{Reply}
-use Rattle.rep_core.specs.State.{State}
-use Rattle.rep_core.specs.Service.{reply_of}
-use Rattle.txn_core.specs.declared.ending.Cause.{Cause}
-use Rattle.txn_core.specs.declared.ending.Ending.{Ending}
-use Rattle.txn_core.specs.declared.ending.Ending.TheVariants.{Undecided}
-use Rattle.txn_core.specs.declared.response.Response.TheVariants.{Replied}
-use Rattle.txn_core.specs.Doing.{Fixed, Doing, Running, RunningSweep, Task}
-use Rattle.txn_core.specs.Transactions.{after_response}
-use Rattle.txn_core.specs.Laws.{is_decide, said_by}
-use Rattle.txn_core.specs.Agents.{Agent, fixed_of, is_idle, next_in, next_of, take_in, take, has_sense, max_jobs, begin, started}
-use Rattle.run_core.specs.declared.event.Event.{Event}
-use Rattle.run_core.specs.declared.event.Event.TheVariants.{Begin}
-use Rattle.run_core.specs.declared.done.EndedJob.{EndedJob}
-use Rattle.run_core.specs.Worlds.{Actor, World, server_at, actor_at, outcome_of, step, becomes}
-use Rattle.run_core.specs.Runs.{run}
-use Rattle.law_runs.specs.Numbers.{number_of, begins_now}
-use Rattle.law_runs.proofs.Agents.{IsAt}
-use Rattle.law_runs.proofs.Words.{leaves_response}
-use Rattle.law_runs.proofs.Worlds.{agent_of, puts_in}
-use Rattle.law_run_alone.specs.Alone.{begins_job, all_idle}
-use Rattle.law_run_alone.specs.Undisturbed.{disturbs, is_decided, all_up as every_up, no_locks}
+use Rattle.law_run_alone.proofs.Vocabulary.{◌≡◌, ℕ, ◌+◌, Bool, true, false, cond, List, [], ◌∷◌, Option, Some, None, refl, sym, ap, subst, ◌∙◌, arith, ◌++◌, append_assoc, ◌*◌, ◌-◌, slice_get, ◌&&◌, nat_lt, slice_set, none-some}
+use Rattle.law_run_alone.proofs.Vocabulary.{same_Some, IsValid, Opening, Request, Reply, State, reply_of, Cause, Ending, Undecided, Replied, Fixed, Doing, Running, RunningSweep, Task, after_response, is_decide, said_by, Agent, fixed_of}
+use Rattle.law_run_alone.proofs.Vocabulary.{is_idle, next_in, next_of, take_in, take, has_sense, max_jobs, begin, started, Event, Begin, EndedJob, Actor, World, server_at, actor_at, outcome_of, step, becomes, run, number_of, begins_now}
+use Rattle.law_run_alone.proofs.Vocabulary.{IsAt, leaves_response, agent_of, puts_in, begins_job, all_idle, disturbs, is_decided, no_locks, Identity, Op, Job, Transaction, CanBe, JobGivesValidVotes}
+use Rattle.law_run_alone.specs.Undisturbed.{all_up as every_up}
 use Rattle.law_run_alone.proofs.Turns.{doing_of, doing_at, with_job, all_none}
 use Rattle.law_run_alone.proofs.Owns.{IsMine}
 use Rattle.law_run_alone.proofs.Clear.{Clear, is_calm, event_clear, begun_clear, clear_servers}
 use Rattle.law_run_alone.proofs.Votes.{HasValidVotes, cache_valid}
 use Rattle.law_run_alone.proofs.Exchanged.{IsFree, Since, since_forget, since_take, never_undecided, since_begin, all_up}
 use Rattle.law_run_alone.proofs.Went.{Went, Stayed, Forgot, Took, Moves, event_moves}
-use Rattle.acl_core.specs.Identity.{Identity}
-use Rattle.file_ops.specs.declared.operation.Op.{Op}
-use Rattle.txn_core.specs.declared.job.Job.{Job}
-use Rattle.txn_core.specs.declared.job.Job.TheVariants.{Transaction}
-use Rattle.law_headline.specs.Premises.{CanBe, JobGivesValidVotes}
 use Rattle.law_run_alone.proofs.Starts.{starts}
 use Rattle.law_run_alone.proofs.Unhindered.{Facts, no_crash, after_decided, goes_on}
 use Rattle.law_run_alone.proofs.Reached.{can_front, facts_of, run_more, valid_back}

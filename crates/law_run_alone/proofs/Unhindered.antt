@@ -1,46 +1,13 @@
 -- What is known of every run, which replies are free, and how a transaction ends that does not end undecided.
-use Rattle.std.proofs.Common.{◌≡◌, ℕ, zero, suc, ◌+◌, Bool, true, false, cond, List, [], ◌∷◌, Option, Some, None, refl, sym, ap, subst, ◌∙◌}
-use Rattle.std.specs.Prelude.{◌||◌, slice_get}
-use Rattle.std.proofs.lemmas.Bool.{false≢true}
-use Rattle.std.proofs.lemmas.Option.{none-some, same_Some}
-use Rattle.vote_core.specs.Validity.{IsValid}
-use Rattle.suite_prefix.specs.SettingsRules.{Opening}
-use Rattle.suite_prefix.specs.declared.copies.Replica.{Replica}
-use Rattle.suite_prefix.specs.declared.lock_mode.LockMode.TheVariants.{Exclusive}
-use Rattle.rep_core.specs.declared.lock.Lock.{Lock}
-use Rattle.rep_core.specs.declared.request.Request.{Request}
+use Rattle.law_run_alone.proofs.Vocabulary.{◌≡◌, ℕ, zero, suc, ◌+◌, Bool, true, false, cond, List, [], ◌∷◌, Option, Some, None, refl, sym, ap, subst, ◌∙◌, ◌||◌, slice_get, false≢true, none-some, same_Some, IsValid, Opening, Replica}
+use Rattle.law_run_alone.proofs.Vocabulary.{Exclusive, Lock, Request, Reply, Verdict, IsConsistent, is_lost, in_the_way, has_lock, copy_of, State, reply_of, reply_up, reply_down, locking_reply, stands_prepared, can_prepare}
+use Rattle.law_run_alone.proofs.Vocabulary.{consistent_step, consistent_opening, reply_fits, Cause, Ending, Undecided, Replied, Fixed, TransactionRun, Doing, Running, RunningSweep, After, GoesOn, Ends, after_response, ending_by}
+use Rattle.law_run_alone.proofs.Vocabulary.{stands_on_locks, Agent, fixed_of, is_idle, next_in, left, end_of, take_in, Event, Begin, Step, Crash, Return, Forget, Lack, EndedJob, Actor, World, opening, servers_from, server_at, actor_at}
+use Rattle.law_run_alone.proofs.Vocabulary.{step, after, run, Decided, names, Leaves, Holds, is_crash, disturbs, is_decided}
 use Rattle.rep_core.specs.declared.request.Request.TheVariants as request
-use Rattle.rep_core.specs.declared.reply.Reply.{Reply}
 use Rattle.rep_core.specs.declared.reply.Reply.TheVariants as reply
-use Rattle.rep_core.specs.declared.reply.Verdict.{Verdict}
 use Rattle.rep_core.specs.declared.reply.Verdict.TheVariants as verdict
-use Rattle.rep_core.specs.Consistency.{IsConsistent}
-use Rattle.rep_core.specs.Fits.{is_lost}
-use Rattle.rep_core.specs.Locks.{in_the_way, has_lock}
-use Rattle.rep_core.specs.Store.{copy_of}
 use Rattle.rep_core.specs.State as state
-use Rattle.rep_core.specs.State.{State}
-use Rattle.rep_core.specs.Service.{reply_of, reply_up, reply_down, locking_reply, stands_prepared, can_prepare}
-use Rattle.rep_core.proofs.Consistent.{consistent_step, consistent_opening}
-use Rattle.rep_core.proofs.FittingReplies.{reply_fits}
-use Rattle.txn_core.specs.declared.ending.Cause.{Cause}
-use Rattle.txn_core.specs.declared.ending.Ending.{Ending}
-use Rattle.txn_core.specs.declared.ending.Ending.TheVariants.{Undecided}
-use Rattle.txn_core.specs.declared.response.Response.TheVariants.{Replied}
-use Rattle.txn_core.specs.Doing.{Fixed, TransactionRun, Doing, Running, RunningSweep, After, GoesOn, Ends}
-use Rattle.txn_core.specs.Transactions.{after_response, ending_by}
-use Rattle.txn_core.specs.Undecided.{stands_on_locks}
-use Rattle.txn_core.specs.Agents.{Agent, fixed_of, is_idle, next_in, left, end_of, take_in}
-use Rattle.run_core.specs.declared.event.Event.{Event}
-use Rattle.run_core.specs.declared.event.Event.TheVariants.{Begin, Step, Crash, Return, Forget, Lack}
-use Rattle.run_core.specs.declared.done.EndedJob.{EndedJob}
-use Rattle.run_core.specs.Worlds.{Actor, World, opening, servers_from, server_at, actor_at, step}
-use Rattle.run_core.specs.Runs.{after, run}
-use Rattle.run_core.specs.Decisions.{Decided}
-use Rattle.law_runs.specs.Naming.{names}
-use Rattle.law_runs.proofs.Words.{Leaves}
-use Rattle.law_runs.proofs.Worlds.{Holds}
-use Rattle.law_run_alone.specs.Undisturbed.{is_crash, disturbs, is_decided}
 use Rattle.law_run_alone.proofs.Own.{IsOwnAt, is_return, up_as, not_busy_at, down_at, replies_down}
 use Rattle.law_run_alone.proofs.Owns.{IsMine, polls_named, never_returns}
 use Rattle.law_run_alone.proofs.Votes.{HasValidVotes}

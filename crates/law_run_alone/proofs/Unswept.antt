@@ -1,29 +1,12 @@
 -- Nobody resolves a transaction as long as no sweep goes: so its home does not answer Aborted where it is to be decided.
-use Rattle.std.proofs.Common.{◌≡◌, ⊎_elim, ℕ, Bool, true, false, cond, [], ◌∷◌, Option, Some, None, refl, sym, ap, ◌∙◌}
-use Rattle.std.proofs.lemmas.Bool.{false≢true, eqb-true}
-use Rattle.std.proofs.lemmas.Option.{same_Some}
-use Rattle.rep_core.specs.declared.request.Decision.{Decision}
+use Rattle.law_run_alone.proofs.Vocabulary.{◌≡◌, ⊎_elim, ℕ, Bool, true, false, cond, [], ◌∷◌, Option, Some, None, refl, sym, ap, ◌∙◌, false≢true, eqb-true, same_Some, Decision, Request, Reply, Verdict, Stamped, State, record_of}
+use Rattle.law_run_alone.proofs.Vocabulary.{reply_of, recorded, verdict_of, audit_of, record_here, record_apart, Ways, recording, by_step, home_of, Fixed, Task, Phase, Gathering, Fetching, Widening, Preparing, Deciding, Finishing}
+use Rattle.law_run_alone.proofs.Vocabulary.{Suites, suite_of, parts_at, request_in, changes_of, decision_of, verdict_in, is_decide, asks_same, asked_as, fetched_as, names, same_or}
 use Rattle.rep_core.specs.declared.request.Decision.TheVariants as decision
-use Rattle.rep_core.specs.declared.request.Request.{Request}
 use Rattle.rep_core.specs.declared.request.Request.TheVariants as request
-use Rattle.rep_core.specs.declared.reply.Reply.{Reply}
 use Rattle.rep_core.specs.declared.reply.Reply.TheVariants as reply
-use Rattle.rep_core.specs.declared.reply.Verdict.{Verdict}
 use Rattle.rep_core.specs.declared.reply.Verdict.TheVariants as verdict
-use Rattle.rep_core.specs.declared.stamped.Stamped.{Stamped}
-use Rattle.rep_core.specs.State.{State, record_of}
-use Rattle.rep_core.specs.Service.{reply_of, recorded, verdict_of, audit_of}
 use Rattle.rep_core.specs.Serving.{step}
-use Rattle.rep_core.proofs.Records.{record_here, record_apart}
-use Rattle.rep_core.proofs.Ways.{Ways, recording, by_step}
-use Rattle.txn_core.specs.Doing.{home_of, Fixed, Task, Phase, Gathering, Fetching, Widening, Preparing, Deciding, Finishing}
-use Rattle.txn_core.specs.Suites.{Suites, suite_of}
-use Rattle.txn_core.specs.Writing.{parts_at}
-use Rattle.txn_core.specs.Transactions.{request_in, changes_of, decision_of, verdict_in}
-use Rattle.txn_core.specs.Laws.{is_decide}
-use Rattle.txn_core.proofs.Asks.{asks_same, asked_as, fetched_as}
-use Rattle.law_runs.specs.Naming.{names}
-use Rattle.law_runs.proofs.Places.{same_or}
 
 abbrev pub is_resolve : Request → Bool
 is_resolve (request.Resolve t) = true

@@ -1,27 +1,10 @@
 -- A transaction that begins was told of no lock yet, so all that it was told of stand.
-use Rattle.std.proofs.Common.{◌≡◌, ℕ, ◌+◌, true, false, cond, List, [], Option, Some, None, is_some, refl, sym, ap, subst, ◌∙◌}
-use Rattle.std.specs.Prelude.{◌*◌, ◌&&◌, nat_lt, slice_get, slice_set}
-use Rattle.std.proofs.lemmas.Bool.{false≢true}
-use Rattle.std.proofs.lemmas.Option.{none-some, same_Some}
-use Rattle.acl_core.specs.Identity.{Identity}
-use Rattle.suite_prefix.specs.SettingsRules.{Opening}
-use Rattle.suite_prefix.specs.declared.lock_mode.LockMode.TheVariants.{Shared}
-use Rattle.file_ops.specs.declared.operation.Op.{Op}
-use Rattle.suite_collect.specs.Telling.{holds}
-use Rattle.txn_core.specs.declared.job.Job.{Job}
-use Rattle.txn_core.specs.declared.job.Job.TheVariants.{Transaction}
-use Rattle.txn_core.specs.Doing.{Fixed, Task, TransactionRun, Doing, Running, RunningSweep, After, GoesOn, Ends}
-use Rattle.txn_core.specs.Transactions.{execute}
-use Rattle.txn_core.specs.Agents.{Agent, fixed_of, is_idle, has_sense, max_jobs, left, begin, started}
-use Rattle.txn_core.specs.Suites.{told_at}
-use Rattle.txn_core.proofs.ToldLists.{Leaves, are_nil, leaves_execute}
-use Rattle.run_core.specs.declared.event.Event.{Event}
+use Rattle.law_run_alone.proofs.Vocabulary.{◌≡◌, ℕ, ◌+◌, true, false, cond, List, [], Option, Some, None, is_some, refl, sym, ap, subst, ◌∙◌, ◌*◌, ◌&&◌, nat_lt, slice_get, slice_set, false≢true, none-some, same_Some, Identity, Opening}
+use Rattle.law_run_alone.proofs.Vocabulary.{Shared, Op, holds, Job, Transaction, Fixed, Task, TransactionRun, Doing, Running, RunningSweep, After, GoesOn, Ends, execute, Agent, fixed_of, is_idle, has_sense, max_jobs, left, begin}
+use Rattle.law_run_alone.proofs.Vocabulary.{started, told_at, are_nil, leaves_execute, Event, Actor, actor_at, becomes, begins_now, only, set_here, DoingAgrees}
+use Rattle.txn_core.proofs.ToldLists.{Leaves}
 use Rattle.run_core.specs.Worlds as worlds
-use Rattle.run_core.specs.Worlds.{Actor, actor_at, becomes}
-use Rattle.law_runs.specs.Numbers.{begins_now}
 use Rattle.law_suite_machine.specs.Machine.{World}
-use Rattle.law_run_machine.proofs.Turned.{only, set_here}
-use Rattle.law_run_quorums.specs.Telling.{DoingAgrees}
 use Rattle.law_run_alone.proofs.Turns.{doing_of, doing_at, with_job}
 use Rattle.law_run_alone.proofs.Owns.{IsMine}
 use Rattle.law_run_alone.proofs.Holding.{DoingStands, doing_any, AtStands}

@@ -1,28 +1,12 @@
 -- What was said of a transaction, and what a response adds to it.
-use Rattle.std.proofs.Common.{◌≡◌, ◌⊎◌, inl, inr, ℕ, Bool, true, false, cond, List, [], ◌∷◌, ◌++◌, Option, Some, None, refl, sym, ap, subst, ◌∙◌}
-use Rattle.std.specs.Prelude.{is_some, map, option_map, option_to_list, Ok, Err}
-use Rattle.acl_core.specs.Identity.{Identity}
-use Rattle.file_ops.specs.declared.operation.Op.{Op}
-use Rattle.rep_core.specs.declared.request.Request.{Request}
+use Rattle.law_run_alone.proofs.Vocabulary.{◌≡◌, ◌⊎◌, inl, inr, ℕ, Bool, true, false, cond, List, [], ◌∷◌, ◌++◌, Option, Some, None, refl, sym, ap, subst, ◌∙◌, is_some, map, option_map, option_to_list, Ok, Err, Identity, Op, Request}
+use Rattle.law_run_alone.proofs.Vocabulary.{Verdict, State, record_of, reply_of, recorded, verdict_of, Cause, Ending, Replied, Fixed, Task, Proposal, Phase, Gathering, Fetching, Widening, Preparing, Deciding, Finishing, TransactionRun}
+use Rattle.law_run_alone.proofs.Vocabulary.{Doing, Running, RunningSweep, After, GoesOn, Ends, decision_of, ending_by, request_in, is_decide, said_by, left, end_of, Decided, to_decide, decided_as, decided_at, answer_in, Answer', NotIn}
+use Rattle.law_run_alone.proofs.Vocabulary.{Stands, Recorded, verdict_as, decides, no_decide, Tells, Leaves, answer_by}
 use Rattle.rep_core.specs.declared.request.Request.TheVariants as request
 use Rattle.rep_core.specs.declared.reply.Reply.TheVariants as reply
-use Rattle.rep_core.specs.declared.reply.Verdict.{Verdict}
 use Rattle.rep_core.specs.declared.reply.Verdict.TheVariants as verdict
-use Rattle.rep_core.specs.State.{State, record_of}
-use Rattle.rep_core.specs.Service.{reply_of, recorded, verdict_of}
-use Rattle.txn_core.specs.declared.ending.Cause.{Cause}
-use Rattle.txn_core.specs.declared.ending.Ending.{Ending}
-use Rattle.txn_core.specs.declared.response.Response.TheVariants.{Replied}
-use Rattle.txn_core.specs.Doing.{Fixed, Task, Proposal, Phase, Gathering, Fetching, Widening, Preparing, Deciding, Finishing, TransactionRun, Doing, Running, RunningSweep, After, GoesOn, Ends}
-use Rattle.txn_core.specs.Transactions.{decision_of, ending_by, request_in}
-use Rattle.txn_core.specs.Laws.{is_decide, said_by}
-use Rattle.txn_core.specs.Agents.{left, end_of}
-use Rattle.run_core.specs.Decisions.{Decided, to_decide, decided_as, decided_at, answer_in, answer_of}
-use Rattle.law_runs.proofs.Standing.{Answer', NotIn, Stands, Recorded, verdict_as}
-use Rattle.law_runs.proofs.Asking.{decides}
-use Rattle.law_runs.proofs.Turns.{no_decide}
-use Rattle.law_runs.proofs.Words.{Tells, Leaves}
-use Rattle.law_run_alone.specs.Endings.{answer_by}
+use Rattle.run_core.specs.Decisions.{answer_of}
 
 -- ---- what was said
 

@@ -1,62 +1,20 @@
 -- All votes that a transaction goes by are valid: those of what it was told, of the hints of its agent's cache, and those that it sets.
-use Rattle.std.proofs.Common.{◌≡◌, inl, inr, ⊎_elim, ℕ, Bool, true, false, cond, List, [], ◌∷◌, Option, Some, None, Ok, Err, refl, sym, ap, subst, ◌∙◌, Less, Equal, Greater}
-use Rattle.std.specs.Prelude.{◌==◌, ◌&&◌, ◌||◌, Contains, nat_lt, option_map, unwrap_or, filter}
-use Rattle.std.specs.Ordering.{nat_cmp}
-use Rattle.std.specs.declared.cmp.Ordering.{Ordering}
-use Rattle.std.specs.Ordering.{match_ordering, is_eq}
-use Rattle.std.specs.Cmp.{unsigned_tied}
-use Rattle.std.proofs.lemmas.Bool.{eqb-true}
-use Rattle.std.proofs.lemmas.Option.{none-some, same_Some}
-use Rattle.sorted_map.specs.Laws.{insert_step}
-use Rattle.sorted_map.specs.SortedMap.{insert}
-use Rattle.vote_core.specs.Quorums.{Configuration}
-use Rattle.vote_core.specs.Validity.{IsValid}
-use Rattle.suite_prefix.specs.SettingsRules.{Opening}
-use Rattle.suite_prefix.specs.declared.copies.Prefix.{Prefix}
-use Rattle.suite_prefix.specs.Absent.{absent_prefix}
-use Rattle.file_ops.specs.declared.answer.Answer.{Answer}
-use Rattle.file_ops.specs.declared.refusal.Refusal.{Refusal}
-use Rattle.file_ops.specs.Rows.{Row}
-use Rattle.file_exec.specs.declared.changes.Change.{Change}
+use Rattle.law_run_alone.proofs.Vocabulary.{◌≡◌, inl, inr, ⊎_elim, ℕ, Bool, true, false, cond, List, [], ◌∷◌, Option, Some, None, Ok, Err, refl, sym, ap, subst, ◌∙◌, Equal, Greater, ◌==◌, ◌&&◌, ◌||◌, Contains, nat_lt, option_map}
+use Rattle.law_run_alone.proofs.Vocabulary.{unwrap_or, filter, nat_cmp, Ordering, match_ordering, is_eq, unsigned_tied, eqb-true, none-some, same_Some, insert_step, insert, Configuration, IsValid, Opening, Prefix, absent_prefix, Answer}
+use Rattle.law_run_alone.proofs.Vocabulary.{Refusal, Row, Change, Edit, SetAcl, SetVotes, SetContent, Make, touches, some, makes, sets_acl, sets_votes, changes_at, with_change, Edits, Ended, changed, seen, is_set, Known, Heard, Needs}
+use Rattle.law_run_alone.proofs.Vocabulary.{Done, known_rows, exec_of, changes_by_suite, State, copy_of, Has, has_from, has_map, has_filter, Said, newest, newer, Cache, hint, entries_come_from_puts, known_of, change_of, Fixed, Task}
+use Rattle.law_run_alone.proofs.Vocabulary.{start_from, to_widen, SetsVotes, Job, Agent, Event, Actor, server_at, actor_at, run, beginning, machine_of, server_there, valid_was, CanBe, JobGivesValidVotes, AllGiveValidVotes}
+use Rattle.law_run_alone.proofs.Vocabulary.{knowledge_was, FitsRow, AllFit, edits_fit, holds_after}
+use Rattle.std.proofs.Common.{Less}
 use Rattle.file_exec.specs.declared.executor.Outcome.TheVariants as exec
-use Rattle.file_exec.specs.declared.edit_log.Edit.{Edit}
-use Rattle.file_exec.specs.declared.edit_log.Edit.TheVariants.{SetAcl, SetVotes, SetContent, Make}
 use Rattle.file_exec.specs.Changes as changes
-use Rattle.file_exec.specs.Changes.{touches, some, makes, sets_acl, sets_votes, changes_at, with_change, answered}
-use Rattle.file_exec.specs.Following.{Edits, Ended, changed, seen, is_set}
-use Rattle.file_exec.specs.Known.{Known, Heard, Needs, Done, known_rows, exec_of}
-use Rattle.file_exec.proofs.Leading.{changes_by_suite}
-use Rattle.rep_core.specs.State.{State}
-use Rattle.rep_core.specs.Store.{copy_of}
-use Rattle.rep_core.proofs.Members.{Has, has_from, has_map, has_filter}
-use Rattle.suite_collect.specs.declared.told.Said.{Said}
+use Rattle.file_exec.specs.Changes.{answered}
 use Rattle.suite_collect.specs.declared.told.Said.TheVariants as told
 use Rattle.suite_collect.specs.declared.told.Told.{Told}
-use Rattle.suite_collect.specs.Telling.{newest, newer}
 use Rattle.law_suite_machine.specs.Machine.{World}
-use Rattle.weak_cache.specs.Entries.{Entry, Cache}
-use Rattle.weak_cache.specs.Cache.{hint}
-use Rattle.weak_cache.proofs.Origins.{entries_come_from_puts}
-use Rattle.txn_core.specs.Suites.{known_of}
-use Rattle.txn_core.specs.Writing.{change_of}
-use Rattle.txn_core.specs.Doing.{Fixed, Task}
-use Rattle.txn_core.specs.Transactions.{start_from, to_widen}
+use Rattle.weak_cache.specs.Entries.{Entry}
 use Rattle.txn_core.specs.Laws.{task_of}
-use Rattle.txn_core.specs.Undecided.{SetsVotes}
-use Rattle.txn_core.specs.declared.job.Job.{Job}
 use Rattle.txn_core.specs.Agents as agents
-use Rattle.txn_core.specs.Agents.{Agent}
-use Rattle.run_core.specs.declared.event.Event.{Event}
-use Rattle.run_core.specs.Worlds.{Actor, server_at, actor_at}
-use Rattle.run_core.specs.Runs.{run}
-use Rattle.law_server_moves.specs.Laws.{beginning}
-use Rattle.law_run_machine.specs.Machines.{machine_of}
-use Rattle.law_run_machine.proofs.Servers.{server_there}
-use Rattle.law_run_quorums.proofs.Known.{valid_was}
-use Rattle.law_headline.specs.Premises.{CanBe, JobGivesValidVotes, AllGiveValidVotes}
-use Rattle.law_headline.proofs.Conclusions.{knowledge_was}
-use Rattle.law_headline.proofs.Editing.{FitsRow, AllFit, edits_fit}
-use Rattle.law_headline.proofs.Keeping.{holds_after}
 
 -- ---- copies and caches of a run
 

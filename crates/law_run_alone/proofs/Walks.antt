@@ -1,30 +1,12 @@
 -- What holds of all servers, and of what an agent does, event by event.
-use Rattle.std.proofs.Common.{◌≡◌, inl, inr, ⊎_elim, ℕ, ◌+◌, true, false, cond, List, Option, Some, None, refl, sym, ap, subst, ◌∙◌}
-use Rattle.std.specs.Prelude.{◌*◌, ◌&&◌, nat_lt, slice_get, slice_set}
-use Rattle.std.proofs.lemmas.Option.{none-some}
-use Rattle.suite_prefix.specs.SettingsRules.{Opening}
-use Rattle.rep_core.specs.declared.request.Request.{Request}
+use Rattle.law_run_alone.proofs.Vocabulary.{◌≡◌, inl, inr, ⊎_elim, ℕ, ◌+◌, true, false, cond, List, Option, Some, None, refl, sym, ap, subst, ◌∙◌, ◌*◌, ◌&&◌, nat_lt, slice_get, slice_set, none-some, Opening, Request, Stamped, State}
+use Rattle.law_run_alone.proofs.Vocabulary.{reply_of, is_full, served, answer_of, Job, Response, Replied, Lacked, Fixed, Doing, Agent, fixed_of, is_idle, has_sense, max_jobs, next_of, take_in, take, begin, started, forget, Event, Begin}
+use Rattle.law_run_alone.proofs.Vocabulary.{Step, Crash, Return, Forget, Lack, Actor, World, server_at, actor_at, with_actor, serve, moved, answered, becomes, asks_at, asks, steps_once, lacks_for, lacks, operated, operates, step}
+use Rattle.law_run_alone.proofs.Vocabulary.{begins_now, same_or, at_puts, step_is, puts_in, begins_job}
 use Rattle.rep_core.specs.declared.request.Request.TheVariants as request
-use Rattle.rep_core.specs.declared.stamped.Stamped.{Stamped}
 use Rattle.rep_core.specs.declared.stamped.Lack.{Lack as Why}
 use Rattle.rep_core.specs.declared.stamped.Lack.TheVariants as lack
-use Rattle.rep_core.specs.State.{State}
-use Rattle.rep_core.specs.Service.{reply_of}
 use Rattle.rep_core.specs.Serving as serving
-use Rattle.rep_core.specs.Serving.{is_full, served, answer_of}
-use Rattle.txn_core.specs.declared.job.Job.{Job}
-use Rattle.txn_core.specs.declared.response.Response.{Response}
-use Rattle.txn_core.specs.declared.response.Response.TheVariants.{Replied, Lacked}
-use Rattle.txn_core.specs.Doing.{Fixed, Doing}
-use Rattle.txn_core.specs.Agents.{Agent, fixed_of, is_idle, has_sense, max_jobs, next_of, take_in, take, begin, started, forget}
-use Rattle.run_core.specs.declared.event.Event.{Event}
-use Rattle.run_core.specs.declared.event.Event.TheVariants.{Begin, Step, Crash, Return, Forget, Lack}
-use Rattle.run_core.specs.Worlds.{Actor, World, server_at, actor_at, with_actor, serve, moved, answered, becomes, asks_at, asks, steps_once, lacks_for, lacks, operated, operates, step}
-use Rattle.law_runs.specs.Numbers.{begins_now}
-use Rattle.law_runs.proofs.Places.{same_or, at_puts}
-use Rattle.law_runs.proofs.Turns.{step_is}
-use Rattle.law_runs.proofs.Worlds.{puts_in}
-use Rattle.law_run_alone.specs.Alone.{begins_job}
 use Rattle.law_run_alone.proofs.Turns.{doing_of, doing_at, with_job}
 
 -- of each server, which may go by its number

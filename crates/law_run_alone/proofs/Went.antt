@@ -1,31 +1,10 @@
 -- What an event makes of the one agent that has a job, where nothing disturbs it.
-use Rattle.std.proofs.Common.{◌≡◌, ◌≢◌, inl, inr, ℕ, ◌+◌, Bool, true, false, cond, List, Option, Some, None, refl, sym, ap, subst, ◌∙◌}
-use Rattle.std.specs.Prelude.{◌*◌, ◌&&◌, not, is_some, nat_lt, slice_get, slice_set}
-use Rattle.std.proofs.lemmas.Bool.{false≢true}
-use Rattle.std.proofs.lemmas.Option.{none-some, same_Some}
-use Rattle.suite_prefix.specs.SettingsRules.{Opening}
-use Rattle.rep_core.specs.declared.request.Request.{Request}
+use Rattle.law_run_alone.proofs.Vocabulary.{◌≡◌, ◌≢◌, inl, inr, ℕ, ◌+◌, Bool, true, false, cond, List, Option, Some, None, refl, sym, ap, subst, ◌∙◌, ◌*◌, ◌&&◌, not, is_some, nat_lt, slice_get, slice_set, false≢true, none-some}
+use Rattle.law_run_alone.proofs.Vocabulary.{same_Some, Opening, Request, Stamped, State, reply_of, is_full, served, answer_of, Job, Replied, Lacked, Fixed, Doing, Agent, fixed_of, is_idle, has_sense, max_jobs, next_in, next_of, take}
+use Rattle.law_run_alone.proofs.Vocabulary.{begin, started, forget, Event, Begin, Step, Crash, Return, Forget, Lack, Served, EndedJob, Actor, World, Stepped, quiet, server_at, actor_at, has_no_job, with_actor, moved, outcome_of}
+use Rattle.law_run_alone.proofs.Vocabulary.{answered, becomes, asks_at, asks, steps_once, lacks_for, lacks, operated, operates, step, Decided, begins_now, same_or, Holds, puts_in, begins_job, disturbs}
 use Rattle.rep_core.specs.declared.request.Request.TheVariants as request
-use Rattle.rep_core.specs.declared.stamped.Stamped.{Stamped}
 use Rattle.rep_core.specs.declared.stamped.Lack.{Lack as Why}
-use Rattle.rep_core.specs.State.{State}
-use Rattle.rep_core.specs.Service.{reply_of}
-use Rattle.rep_core.specs.Serving.{is_full, served, answer_of}
-use Rattle.txn_core.specs.declared.job.Job.{Job}
-use Rattle.txn_core.specs.declared.response.Response.TheVariants.{Replied, Lacked}
-use Rattle.txn_core.specs.Doing.{Fixed, Doing}
-use Rattle.txn_core.specs.Agents.{Agent, fixed_of, is_idle, has_sense, max_jobs, next_in, next_of, take, begin, started, forget}
-use Rattle.run_core.specs.declared.event.Event.{Event}
-use Rattle.run_core.specs.declared.event.Event.TheVariants.{Begin, Step, Crash, Return, Forget, Lack}
-use Rattle.run_core.specs.declared.done.Served.{Served}
-use Rattle.run_core.specs.declared.done.EndedJob.{EndedJob}
-use Rattle.run_core.specs.Worlds.{Actor, World, Stepped, quiet, server_at, actor_at, has_no_job, with_actor, moved, outcome_of, answered, becomes, asks_at, asks, steps_once, lacks_for, lacks, operated, operates, step}
-use Rattle.run_core.specs.Decisions.{Decided}
-use Rattle.law_runs.specs.Numbers.{begins_now}
-use Rattle.law_runs.proofs.Places.{same_or}
-use Rattle.law_runs.proofs.Worlds.{Holds, puts_in}
-use Rattle.law_run_alone.specs.Alone.{begins_job}
-use Rattle.law_run_alone.specs.Undisturbed.{disturbs}
 use Rattle.law_run_alone.proofs.Turns.{with_job}
 use Rattle.law_run_alone.proofs.Clear.{Clear, is_turn}
 

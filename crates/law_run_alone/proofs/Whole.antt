@@ -1,26 +1,9 @@
 -- What holds of a run and of the machine of each suite, event by event, as long as there are events to come that there can be.
-use Rattle.std.proofs.Common.{inl, ℕ, List, [], ◌∷◌, ◌++◌, refl, sym, subst}
-use Rattle.std.specs.List.{AllByRecursion}
-use Rattle.vote_core.specs.Validity.{IsValid}
-use Rattle.suite_prefix.specs.SettingsRules.{Opening}
-use Rattle.txn_core.specs.Agents.{Agent, fixed_of}
-use Rattle.run_core.specs.declared.event.Event.{Event}
+use Rattle.law_run_alone.proofs.Vocabulary.{inl, ℕ, List, [], ◌∷◌, ◌++◌, refl, sym, subst, AllByRecursion, IsValid, Opening, Agent, fixed_of, Event, step, after, run, decided, row, begun, beginning, machine_from, machine_of, Owed}
+use Rattle.law_run_alone.proofs.Vocabulary.{AreOwed, actor_opens, event_log, EventGivesValidVotes, CanBe, AllValid, ValidOr, event_valid, Together, opens, goes_on, HoldsItsKind, opens_kind, kind_after, agents_owe}
 use Rattle.run_core.specs.Worlds as worlds
-use Rattle.run_core.specs.Worlds.{step}
-use Rattle.run_core.specs.Runs.{after, run}
-use Rattle.run_core.specs.Decisions.{decided}
-use Rattle.law_suite_machine.specs.Registers.{row}
-use Rattle.law_suite_machine.specs.Machine.{World, begun}
-use Rattle.law_server_moves.specs.Laws.{beginning}
-use Rattle.law_run_machine.specs.Machines.{moved, machine_from, machine_of}
-use Rattle.law_run_machine.specs.Owed.{Owed, AreOwed}
-use Rattle.law_run_machine.proofs.Kept.{actor_opens}
-use Rattle.law_one_table.proofs.Logs.{event_log}
-use Rattle.law_headline.specs.Premises.{EventGivesValidVotes, CanBe}
-use Rattle.law_headline.proofs.Carried.{AllValid, ValidOr, event_valid}
-use Rattle.law_headline.proofs.Together.{Together, opens, goes_on}
-use Rattle.law_headline.proofs.Beside.{HoldsItsKind, opens_kind, kind_after}
-use Rattle.law_headline.proofs.Keeping.{agents_owe}
+use Rattle.law_suite_machine.specs.Machine.{World}
+use Rattle.law_run_machine.specs.Machines.{moved}
 use Rattle.law_run_alone.proofs.Grown.{Grown, opens_grown, grown_after}
 
 -- of one suite

@@ -1,21 +1,7 @@
 -- They hold by computation.
-use Rattle.std.proofs.Common.{ℕ, zero, suc, ◌<◌, List, [], ◌∷◌, ◌++◌, refl, sym, ◌∙◌, arith}
-use Rattle.std.specs.Prelude.{All}
+use Rattle.law_run_alone.proofs.Vocabulary.{ℕ, zero, suc, ◌<◌, List, [], ◌∷◌, ◌++◌, refl, sym, ◌∙◌, arith, All, nat_cmp, contains-empty, false≢true, All-nil, All-cons, Representative, IsValid, max_servers, IsAccepted, Transaction}
+use Rattle.law_run_alone.proofs.Vocabulary.{owner, other, Event, Begin, Crash, Return, two_agents, so_many, close_a, read_a, VotesAreValid, with_caches, undisturbed, mended, reads, IsUndisturbed, SomeRunsGoAlone}
 use Rattle.std.specs.List.{IsDistinct}
-use Rattle.std.specs.Ordering.{nat_cmp}
-use Rattle.std.specs.FinSet.{contains-empty}
-use Rattle.std.proofs.lemmas.Bool.{false≢true}
-use Rattle.std.proofs.lemmas.List.Elements.{All-nil, All-cons}
-use Rattle.vote_core.specs.Quorums.{Representative}
-use Rattle.vote_core.specs.Validity.{IsValid, max_servers}
-use Rattle.suite_prefix.specs.SettingsRules.{IsAccepted}
-use Rattle.txn_core.specs.declared.job.Job.TheVariants.{Transaction}
-use Rattle.txn_core.specs.Runs.{owner, other}
-use Rattle.run_core.specs.declared.event.Event.{Event}
-use Rattle.run_core.specs.declared.event.Event.TheVariants.{Begin, Crash, Return}
-use Rattle.law_runs.specs.Worked.{two_agents, so_many, close_a, read_a}
-use Rattle.law_headline.specs.Premises.{VotesAreValid}
-use Rattle.law_run_alone.specs.Worked.{with_caches, undisturbed, mended, reads, IsUndisturbed, SomeRunsGoAlone}
 
 -- three servers with a vote each, below some number
 three : (most : ℕ) → 2 < most → All (λ (rep : Representative). rep.0 < most) ((0, 1) ∷ (1, 1) ∷ (2, 1) ∷ [])

@@ -1,16 +1,6 @@
 -- What a transaction knows of a suite, from what its agent holds.
-use Rattle.std.proofs.Common.{◌≡◌, ℕ, Some, refl, sym, subst, ◌∙◌}
-use Rattle.std.proofs.lemmas.Option.{same_Some}
-use Rattle.suite_content.specs.declared.content.Content.{Content}
-use Rattle.suite_collect.specs.Telling.{newest}
-use Rattle.txn_core.specs.Suites.{ReadPoint, GatheredSuite, suite_of}
-use Rattle.txn_core.specs.Doing.{TransactionRun, Running}
-use Rattle.txn_core.specs.Agents.{Agent}
-use Rattle.law_suite_machine.specs.Registers.{Beginning, WasPrefix, GoesWith}
-use Rattle.law_suite_machine.specs.Machine.{World}
-use Rattle.law_suite_machine.proofs.Invariant.{Inv}
-use Rattle.law_suite_machine.proofs.Conclusions.{copies_were}
-use Rattle.law_run_knowledge.specs.Knowledge.{SuiteWas}
+use Rattle.law_run_knowledge.proofs.Vocabulary.{◌≡◌, ℕ, Some, refl, sym, subst, ◌∙◌, same_Some, Content, newest, ReadPoint, GatheredSuite, suite_of, TransactionRun, Running, Agent, Beginning, WasPrefix, GoesWith, World, Inv}
+use Rattle.law_run_knowledge.proofs.Vocabulary.{copies_were, SuiteWas}
 use Rattle.law_run_knowledge.proofs.Showed.{newest_was}
 use Rattle.law_run_knowledge.proofs.Lasting.{DoingFits, AgentFits}
 

@@ -1,86 +1,27 @@
 -- What agents keep and hold of a suite was its register's: event by event.
-use Rattle.std.proofs.Common.{◌≡◌, ◌⊎◌, inl, inr, ℕ, zero, suc, ◌+◌, Bool, true, false, cond, List, [], ◌∷◌, ◌++◌, Option, Some, None, refl, sym, ap, subst, ◌∙◌}
-use Rattle.std.specs.Prelude.{◌*◌, ◌&&◌, nat_lt, slice_get, slice_set, Contains}
-use Rattle.std.specs.Ordering.{nat_cmp}
+use Rattle.law_run_knowledge.proofs.Vocabulary.{◌≡◌, ◌⊎◌, inl, inr, ℕ, zero, suc, ◌+◌, Bool, true, false, cond, List, [], ◌∷◌, ◌++◌, Option, Some, None, refl, sym, ap, subst, ◌∙◌, ◌*◌, ◌&&◌, nat_lt, slice_get, slice_set, Contains}
+use Rattle.law_run_knowledge.proofs.Vocabulary.{nat_cmp, same_Some, none-some, IsOrdered, Opening, Request, Reply, absent_prefix, Prefix, Stamped, State, reply_of, answer_of, is_full, served, Entry, entries_come_from_puts, has_from}
+use Rattle.law_run_knowledge.proofs.Vocabulary.{ReadPoint, GatheredSuite, Suites, suite_of, Response, Replied, Lacked, Job, Transaction, Sweep, Fixed, Task, Granted, Phase, Gathering, Fetching, Widening, Preparing, Deciding, Finishing}
+use Rattle.law_run_knowledge.proofs.Vocabulary.{TransactionRun, SweepRun, Doing, Running, RunningSweep, After, GoesOn, Ends, Step, execute, after_response, request_of, request_in, asked_for, said_to, Agent, fixed_of, next_in, next_of}
+use Rattle.law_run_knowledge.proofs.Vocabulary.{left, take_in, take, begin, started, forget, is_idle, has_sense, max_jobs, Stands, Exchange, of_job, Started, Begins, Runs, DoingStands, stands_after, Begin, Crash, Return, Forget, Actor}
+use Rattle.law_run_knowledge.proofs.Vocabulary.{server_at, actor_at, with_server, answered, asks_at, asks, steps_once, lacks_for, lacks, operated, operates, becomes, step, actors_from, Beginning, WasPrefix, GoesWith, World, set1, begun}
+use Rattle.law_run_knowledge.proofs.Vocabulary.{Event, run, Obeys, Inv, all_steps, begins, copies_were, Shows, moves, beginning, opening_shows, replies_tell, decision_by, servers_of, home_in, response_events, events_of, answered_events}
+use Rattle.law_run_knowledge.proofs.Vocabulary.{asked_at_events, asked_events, step_events, lacks_for_events, lack_events, operated_events, operator_events, begin_events, moved, machine_from, machine_of, AnsweredWell, AsksAtWell}
+use Rattle.law_run_knowledge.proofs.Vocabulary.{AsksWell, StepsWell, LacksForWell, LacksWell, KeepsSide, KeepSides, server_there, servers_set, servers_open, AllConsistent, served_is, opening_consistent, serves, event_comes, run-append}
+use Rattle.law_run_knowledge.proofs.Vocabulary.{obeys-append, IdleOr, All, event_all, opens, set_here, set_apart, same_or, ToldVersion, SuiteWas, DoingWas, AllWere, KnowledgeWas, KnownWas}
 use Rattle.std.specs.List.Sorted.{IsStrictlySortedBy}
-use Rattle.std.proofs.lemmas.Option.{same_Some, none-some}
-use Rattle.sorted_map.specs.SortedMap.{IsOrdered}
-use Rattle.suite_prefix.specs.SettingsRules.{Opening}
-use Rattle.rep_core.specs.declared.request.Request.{Request}
 use Rattle.rep_core.specs.declared.request.Request.TheVariants as request
-use Rattle.rep_core.specs.declared.reply.Reply.{Reply}
 use Rattle.rep_core.specs.declared.reply.Reply.TheVariants as reply
-use Rattle.suite_prefix.specs.Absent.{absent_prefix}
-use Rattle.suite_prefix.specs.declared.copies.Prefix.{Prefix}
 use Rattle.rep_core.specs.declared.stamped.Lack.{Lack as Why}
 use Rattle.rep_core.specs.declared.stamped.Lack.TheVariants as lack
-use Rattle.rep_core.specs.declared.stamped.Stamped.{Stamped}
-use Rattle.rep_core.specs.State.{State}
-use Rattle.rep_core.specs.Service.{reply_of}
-use Rattle.rep_core.specs.Serving.{answer_of, is_full, served}
 use Rattle.rep_core.specs.Serving as serving
-use Rattle.weak_cache.specs.Entries.{Entry}
-use Rattle.weak_cache.proofs.Origins.{entries_come_from_puts, has_from}
-use Rattle.txn_core.specs.Suites.{ReadPoint, GatheredSuite, Suites, suite_of}
-use Rattle.txn_core.specs.declared.response.Response.{Response}
-use Rattle.txn_core.specs.declared.response.Response.TheVariants.{Replied, Lacked}
-use Rattle.txn_core.specs.declared.job.Job.{Job}
-use Rattle.txn_core.specs.declared.job.Job.TheVariants.{Transaction, Sweep}
-use Rattle.txn_core.specs.Doing.{Fixed, Task, Granted, Phase, Gathering, Fetching, Widening, Preparing, Deciding, Finishing, TransactionRun, SweepRun, Doing, Running, RunningSweep, After, GoesOn, Ends}
-use Rattle.txn_core.specs.Transactions.{Step, execute, after_response, request_of, request_in, asked_for, said_to}
 use Rattle.txn_core.specs.Sweeps as sweep
 use Rattle.txn_core.specs.Agents as agents
-use Rattle.txn_core.specs.Agents.{Agent, fixed_of, next_in, next_of, left, take_in, take, begin, started, forget, is_idle, has_sense, max_jobs}
-use Rattle.txn_core.proofs.Causes.{Stands}
-use Rattle.txn_core.specs.Laws.{Exchange, of_job}
-use Rattle.txn_core.proofs.Upheld.{Started, Begins, Runs, DoingStands, stands_after}
 use Rattle.run_core.specs.declared.event.Event as happening
-use Rattle.run_core.specs.declared.event.Event.TheVariants.{Begin, Step as Steps, Crash, Return, Forget, Lack}
+use Rattle.run_core.specs.declared.event.Event.TheVariants.{Step as Steps, Lack}
 use Rattle.run_core.specs.Worlds as worlds
-use Rattle.run_core.specs.Worlds.{Actor, server_at, actor_at, with_server, answered, asks_at, asks, steps_once, lacks_for, lacks, operated, operates, becomes, step, actors_from}
 use Rattle.run_core.specs.Runs as runs
-use Rattle.law_suite_machine.specs.Registers.{Beginning, WasPrefix, GoesWith}
-use Rattle.law_suite_machine.specs.Machine.{World, set1, begun}
-use Rattle.law_suite_machine.specs.Events.{Event, run}
-use Rattle.law_suite_machine.specs.Conditions.{Obeys}
-use Rattle.law_suite_machine.proofs.Invariant.{Inv}
-use Rattle.law_suite_machine.proofs.Steps.{all_steps}
-use Rattle.law_suite_machine.proofs.Starting.{begins}
-use Rattle.law_suite_machine.proofs.Conclusions.{copies_were}
-use Rattle.law_server_moves.specs.Views.{Shows}
-use Rattle.law_server_moves.specs.Moves.{moves}
 use Rattle.law_server_moves.specs.Laws as steps
-use Rattle.law_server_moves.specs.Laws.{beginning}
-use Rattle.law_server_moves.proofs.Opening.{opening_shows}
-use Rattle.law_server_moves.proofs.Replies.{replies_tell}
-use Rattle.law_run_machine.specs.Deciding.{decision_by}
-use Rattle.law_run_machine.specs.Machines.{
-  servers_of,
-  home_in,
-  response_events,
-  events_of,
-  answered_events,
-  asked_at_events,
-  asked_events,
-  step_events,
-  lacks_for_events,
-  lack_events,
-  operated_events,
-  operator_events,
-  begin_events,
-  moved,
-  machine_from,
-  machine_of,
-}
-use Rattle.law_run_machine.specs.Sides.{AnsweredWell, AsksAtWell, AsksWell, StepsWell, LacksForWell, LacksWell, KeepsSide, KeepSides}
-use Rattle.law_run_machine.proofs.Servers.{server_there, servers_set, servers_open}
-use Rattle.law_run_machine.proofs.Consistent.{AllConsistent, served_is, opening_consistent}
-use Rattle.law_run_machine.proofs.Following.{serves, event_comes}
-use Rattle.law_run_machine.proofs.Joining.{run-append, obeys-append}
-use Rattle.law_run_machine.proofs.Jobs.{IdleOr, All, event_all, opens}
-use Rattle.law_run_machine.proofs.Turned.{set_here, set_apart, same_or}
-use Rattle.law_run_knowledge.specs.Knowledge.{ToldVersion, SuiteWas, DoingWas, AllWere}
-use Rattle.law_run_knowledge.specs.Laws.{KnowledgeWas, KnownWas}
 use Rattle.law_run_knowledge.proofs.Walk.{IsNarrow, Says, Fits, AfterFits, fits_response, fits_execute}
 use Rattle.law_run_knowledge.proofs.Lasting.{Lasts, lasts, FitIn, DoingFits, AgentFits, said_later, agent_later}
 use Rattle.law_run_knowledge.proofs.RepliesAreTheMachines.{says_so, gives_so}

@@ -1,29 +1,9 @@
 -- What was so stays so: whatever happens to a suite, what an agent keeps and holds of it was still its register's.
-use Rattle.std.proofs.Common.{◌≡◌, inl, inr, ℕ, true, List, [], ◌∷◌, Option, Some, None, refl, sym, ap, ◌∙◌}
-use Rattle.std.specs.Ordering.{nat_cmp}
-use Rattle.std.proofs.lemmas.Option.{none-some}
-use Rattle.sorted_map.specs.SortedMap.{IsOrdered}
-use Rattle.suite_content.specs.declared.content.Content.{Content}
-use Rattle.suite_prefix.specs.declared.copies.Prefix.{Prefix}
-use Rattle.suite_prefix.specs.declared.copies.Replica.{Replica}
-use Rattle.suite_collect.specs.declared.told.Said.{Said}
+use Rattle.law_run_knowledge.proofs.Vocabulary.{◌≡◌, inl, inr, ℕ, true, List, [], ◌∷◌, Option, Some, None, refl, sym, ap, ◌∙◌, nat_cmp, none-some, IsOrdered, Content, Prefix, Replica, Said, Cache, GatheredSuite, Suites, Doing, Running}
+use Rattle.law_run_knowledge.proofs.Vocabulary.{RunningSweep, Agent, Each, Beginning, GoesWith, Told, World, Event, Held, Upgrade, Aim, Prepare, DecideRead, DecideRefused, DecideWrite, DecideElsewhere, Overrule, GiveUp, Finish, Lose}
+use Rattle.law_run_knowledge.proofs.Vocabulary.{happens, upgraded_told, run, May, Obeys, Stays, at2, Inv, run_stays, told_to, ToldOf, SaidIs, AreTold, CacheWas, ToldVersion, SuiteWas}
 use Rattle.suite_collect.specs.declared.told.Said.TheVariants as said
 use Rattle.suite_collect.specs.declared.told.Told as collect
-use Rattle.weak_cache.specs.Entries.{Cache}
-use Rattle.txn_core.specs.Suites.{GatheredSuite, Suites}
-use Rattle.txn_core.specs.Doing.{Doing, Running, RunningSweep}
-use Rattle.txn_core.specs.Agents.{Agent}
-use Rattle.txn_core.proofs.Gathers.{Each}
-use Rattle.law_suite_machine.specs.Registers.{Beginning, GoesWith}
-use Rattle.law_suite_machine.specs.Machine.{Told, World}
-use Rattle.law_suite_machine.specs.Events.{Event, Held, Upgrade, Aim, Prepare, DecideRead, DecideRefused, DecideWrite, DecideElsewhere, Overrule, GiveUp, Finish, Lose, happens, upgraded_told, run}
-use Rattle.law_suite_machine.specs.Conditions.{May, Obeys}
-use Rattle.law_suite_machine.specs.Laws.{Stays}
-use Rattle.law_suite_machine.proofs.Places.{at2}
-use Rattle.law_suite_machine.proofs.Invariant.{Inv}
-use Rattle.law_suite_machine.proofs.Lasting.{run_stays}
-use Rattle.law_run_machine.specs.Telling.{told_to, ToldOf, SaidIs, AreTold}
-use Rattle.law_run_knowledge.specs.Knowledge.{CacheWas, ToldVersion, SuiteWas}
 use Rattle.law_run_knowledge.proofs.Walk.{InPhase}
 
 -- ---- what was told

@@ -1,3 +1,4 @@
+mod Vocabulary
 pub mod Opened
 pub mod Showed
 pub mod Walk

@@ -1,34 +1,13 @@
 -- What a reply tells a transaction of a suite, its machine tells it.
-use Rattle.std.proofs.Common.{◌≡◌, inl, inr, ℕ, ◌<◌, Bool, true, false, cond, [], ◌∷◌, Option, Some, None, refl, sym, ap, subst, ◌∙◌, arith}
-use Rattle.std.proofs.lemmas.Bool.{eq-eqb}
-use Rattle.std.proofs.lemmas.Option.{same_Some, none-some}
-use Rattle.suite_content.specs.declared.content.Content.{Content}
-use Rattle.suite_prefix.specs.declared.copies.Prefix.{Prefix}
-use Rattle.suite_prefix.specs.declared.copies.Replica.{Replica}
-use Rattle.suite_prefix.specs.declared.lock_mode.LockMode.{LockMode}
-use Rattle.suite_prefix.specs.LockModes.{is_exclusive}
-use Rattle.rep_core.specs.declared.request.Request.{Request}
+use Rattle.law_run_knowledge.proofs.Vocabulary.{◌≡◌, inl, inr, ℕ, ◌<◌, Bool, true, false, cond, [], ◌∷◌, Option, Some, None, refl, sym, ap, subst, ◌∙◌, arith, eq-eqb, same_Some, none-some, Content, Prefix, Replica, LockMode}
+use Rattle.law_run_knowledge.proofs.Vocabulary.{is_exclusive, Request, Reply, Said, Poll, Next, Ask, Current, Short, next, GatheredSuite, Task, is_poll, said_to, asked_by, asked_for, asks_same, Beginning, WasContent, Told, World, Event}
+use Rattle.law_run_knowledge.proofs.Vocabulary.{run, upgraded_told, Obeys, MayUpgrade, at2, Inv, moves, TellsCopy, TellsContent, Tells, ToldOf, SaidIs, ToldVersion}
 use Rattle.rep_core.specs.declared.request.Request.TheVariants as request
-use Rattle.rep_core.specs.declared.reply.Reply.{Reply}
 use Rattle.rep_core.specs.declared.reply.Reply.TheVariants as reply
-use Rattle.suite_collect.specs.declared.told.Said.{Said}
 use Rattle.suite_collect.specs.declared.told.Said.TheVariants as said
-use Rattle.suite_collect.specs.Collecting.{Poll, Upgrade, Next, Ask, Current, Short, next}
-use Rattle.txn_core.specs.Suites.{GatheredSuite}
-use Rattle.txn_core.specs.Doing.{Task}
-use Rattle.txn_core.specs.Transactions.{is_poll, said_to, asked_by, asked_for}
-use Rattle.txn_core.proofs.Asks.{asks_same}
-use Rattle.law_suite_machine.specs.Registers.{Beginning, WasContent}
-use Rattle.law_suite_machine.specs.Machine.{Hold, Told, World}
+use Rattle.suite_collect.specs.Collecting.{Upgrade}
+use Rattle.law_suite_machine.specs.Machine.{Hold}
 use Rattle.law_suite_machine.specs.Events as machine
-use Rattle.law_suite_machine.specs.Events.{Event, run, upgraded_told}
-use Rattle.law_suite_machine.specs.Conditions.{Obeys, MayUpgrade}
-use Rattle.law_suite_machine.proofs.Places.{at2}
-use Rattle.law_suite_machine.proofs.Invariant.{Inv}
-use Rattle.law_server_moves.specs.Moves.{moves}
-use Rattle.law_server_moves.specs.Laws.{TellsCopy, TellsContent, Tells}
-use Rattle.law_run_machine.specs.Telling.{ToldOf, SaidIs}
-use Rattle.law_run_knowledge.specs.Knowledge.{ToldVersion}
 use Rattle.law_run_knowledge.proofs.Lasting.{Lasts}
 
 -- of a lock of a transaction it was told

@@ -1,20 +1,10 @@
 -- What a collector's replies give: its newest prefix was the register's, and the source of a content showed its version.
-use Rattle.std.proofs.Common.{◌≡◌, ℕ, ◌<◌, true, false, cond, inl, inr, List, [], ◌∷◌, ◌++◌, Option, Some, None, refl, sym, ap, subst, ◌∙◌, arith}
-use Rattle.std.specs.Prelude.{nat_lt, ◌==◌}
-use Rattle.std.proofs.lemmas.Bool.{cases_lt, eq-eqb, eqb-true, false≢true}
-use Rattle.suite_prefix.specs.declared.copies.Prefix.{Prefix}
-use Rattle.suite_collect.specs.declared.told.Said.{Said}
-use Rattle.suite_collect.specs.declared.told.Said.TheVariants.{Held, Busy, Down}
+use Rattle.law_run_knowledge.proofs.Vocabulary.{◌≡◌, ℕ, ◌<◌, true, false, cond, inl, inr, List, [], ◌∷◌, ◌++◌, Option, Some, None, refl, sym, ap, subst, ◌∙◌, arith, nat_lt, ◌==◌, cases_lt, eq-eqb, eqb-true, false≢true, Prefix, Said}
+use Rattle.law_run_knowledge.proofs.Vocabulary.{Busy, Down, newer, newest, holds, version_in, shown, greatest, Collector, told_since, all_told, votes_or, counted, mode_or, wanted, is_member, members_of, next, Current, tell_at, tell}
+use Rattle.law_run_knowledge.proofs.Vocabulary.{gives_of, source_of, Beginning, WasPrefix, World, CopiesWere, told_to, ToldOf, SaidIs, AreTold, ToldVersion}
+use Rattle.suite_collect.specs.declared.told.Said.TheVariants.{Held}
 use Rattle.suite_collect.specs.declared.told.Told as collect
-use Rattle.suite_collect.specs.Telling.{newer, newest, holds, version_in, shown, greatest}
-use Rattle.suite_collect.specs.Collecting.{Collector, Widening, told_since, all_told, votes_or, counted, mode_or, wanted, is_member, members_of, next, Current, tell_at, tell}
-use Rattle.suite_collect.proofs.Collected.{gives_of}
-use Rattle.txn_core.specs.Suites.{source_of}
-use Rattle.law_suite_machine.specs.Registers.{Beginning, WasPrefix}
-use Rattle.law_suite_machine.specs.Machine.{World}
-use Rattle.law_suite_machine.specs.Laws.{CopiesWere}
-use Rattle.law_run_machine.specs.Telling.{told_to, ToldOf, SaidIs, AreTold}
-use Rattle.law_run_knowledge.specs.Knowledge.{ToldVersion}
+use Rattle.suite_collect.specs.Collecting.{Widening}
 
 module _ (start : Beginning) (w : World) (t : ℕ) (copies : CopiesWere start w) where
   -- ---- prefixes

@@ -1,95 +1,19 @@
 -- What a transaction holds of a suite, and what its agent caches of it, stays the register's in each step.
-use Rattle.std.proofs.Common.{◌≡◌, ℕ, zero, suc, ◌<◌, Bool, true, false, cond, ◌⊎◌, inl, inr, List, [], ◌∷◌, Option, Some, None, Ok, Err, refl, sym, ap, subst, ◌∙◌, arith}
-use Rattle.std.specs.Prelude.{◌==◌, length, find, unwrap_or}
-use Rattle.std.specs.Ordering.{nat_cmp}
-use Rattle.std.proofs.lemmas.Bool.{eqb-true, and_parts}
-use Rattle.std.proofs.lemmas.Cmp.{nat_cmp_total}
-use Rattle.std.proofs.lemmas.Option.{same_Some, none-some}
-use Rattle.sorted_map.specs.SortedMap.{IsOrdered}
-use Rattle.sorted_map.specs.Laws.{IsOrdered-insert}
-use Rattle.suite_content.specs.declared.content.Content.{Content}
-use Rattle.suite_content.specs.Contents.{empty_content}
-use Rattle.suite_prefix.specs.Copies.{held_by}
-use Rattle.suite_prefix.specs.Absent.{absent_prefix}
-use Rattle.suite_prefix.specs.declared.copies.Prefix.{Prefix}
-use Rattle.suite_prefix.specs.declared.lock_mode.LockMode.{LockMode}
-use Rattle.rep_core.specs.declared.request.Request.{Request}
+use Rattle.law_run_knowledge.proofs.Vocabulary.{◌≡◌, ℕ, zero, suc, ◌<◌, Bool, true, false, cond, ◌⊎◌, inl, inr, List, [], ◌∷◌, Option, Some, None, Ok, Err, refl, sym, ap, subst, ◌∙◌, arith, ◌==◌, length, find, unwrap_or, nat_cmp}
+use Rattle.law_run_knowledge.proofs.Vocabulary.{eqb-true, and_parts, nat_cmp_total, same_Some, none-some, IsOrdered, IsOrdered-insert, Content, empty_content, held_by, absent_prefix, Prefix, LockMode, Request, Reply, Verdict, Lack}
+use Rattle.law_run_knowledge.proofs.Vocabulary.{is_prepared, Hold, Know, Said, Collector, tell_at, tell, mode_of, Next, Ask, Current, Short, next, gives_of, Entry, Cache, is_of, entry_of, hint, content_at, at_version, put, searched}
+use Rattle.law_run_knowledge.proofs.Vocabulary.{entries_come_from_puts, Has, has_to, find_passes, ReadPoint, GatheredSuite, Suites, suite_of, with_suite, first_or, settled, source_of, Response, Replied, Lacked, Cause, Lost, Ending}
+use Rattle.law_run_knowledge.proofs.Vocabulary.{Granted, Fixed, Task, Proposal, Phase, Gathering, Fetching, Widening, Preparing, Deciding, Finishing, TransactionRun, After, GoesOn, Ends, Step, Gathered, tell_end, give_up, prepare}
+use Rattle.law_run_knowledge.proofs.Vocabulary.{locked_at, short_cause, gather_by, start_from, widen_by, widen_one, widened, widen_all, opened, or_all, open_needed, open_suite, open_first, opened_with, free_content, after_search}
+use Rattle.law_run_knowledge.proofs.Vocabulary.{heard_on, raised_or_new, keep_content, heard_of, said_to, proceed, execute, collected, hear, fetched, fetched_at, fetched_for, after_lack, after_response, given_in, lack_cause, verdict_in}
+use Rattle.law_run_knowledge.proofs.Vocabulary.{ending_by, cause_of_abort, request_in, asks_same, Each, each_but, each_with, tell_start, given_is, Beginning, WasPrefix, WasContent, GoesWith, World, CopiesWere, SaidIs, EntryWas}
+use Rattle.law_run_knowledge.proofs.Vocabulary.{CacheWas, ToldVersion, FirstWas, SuiteWas}
 use Rattle.rep_core.specs.declared.request.Request.TheVariants as request
-use Rattle.rep_core.specs.declared.reply.Reply.{Reply}
 use Rattle.rep_core.specs.declared.reply.Reply.TheVariants as reply
-use Rattle.rep_core.specs.declared.reply.Verdict.{Verdict}
 use Rattle.rep_core.specs.declared.reply.Verdict.TheVariants as verdict
-use Rattle.rep_core.specs.declared.stamped.Lack.{Lack}
-use Rattle.rep_core.specs.Fits.{is_prepared}
-use Rattle.file_exec.specs.declared.need.Need.TheVariants.{Hold, Know}
 use Rattle.file_exec.specs.declared.executor.Outcome.{Outcome as Executed}
 use Rattle.file_exec.specs.declared.executor.Outcome.TheVariants as exec
-use Rattle.suite_collect.specs.declared.told.Said.{Said}
 use Rattle.suite_collect.specs.declared.told.Told as collect
-use Rattle.suite_collect.specs.Collecting.{Collector, tell_at, tell, mode_of, Next, Ask, Current, Short, next}
-use Rattle.suite_collect.proofs.Collected.{gives_of}
-use Rattle.weak_cache.specs.Entries.{Entry, Cache, is_of, entry_of}
-use Rattle.weak_cache.specs.Cache.{hint, content_at, at_version, put, searched}
-use Rattle.weak_cache.proofs.Origins.{entries_come_from_puts, Has, has_to}
-use Rattle.weak_cache.proofs.Found.{find_passes}
-use Rattle.txn_core.specs.Suites.{ReadPoint, GatheredSuite, Suites, suite_of, with_suite, first_or, settled, source_of}
-use Rattle.txn_core.specs.declared.response.Response.{Response}
-use Rattle.txn_core.specs.declared.response.Response.TheVariants.{Replied, Lacked}
-use Rattle.txn_core.specs.declared.ending.Cause.{Cause}
-use Rattle.txn_core.specs.declared.ending.Cause.TheVariants.{Lost}
-use Rattle.txn_core.specs.declared.ending.Ending.{Ending}
-use Rattle.txn_core.specs.Doing.{Granted, Fixed, Task, Proposal, Phase, Gathering, Fetching, Widening, Preparing, Deciding, Finishing, TransactionRun, After, GoesOn, Ends}
-use Rattle.txn_core.specs.Transactions.{
-  Step,
-  Gathered,
-  tell_end,
-  give_up,
-  prepare,
-  locked_at,
-  short_cause,
-  gather_by,
-  start_from,
-  widen_by,
-  widen_one,
-  widened,
-  widen_all,
-  opened,
-  or_all,
-  open_needed,
-  open_suite,
-  open_first,
-  opened_with,
-  free_content,
-  after_search,
-  heard_on,
-  raised_or_new,
-  keep_content,
-  heard_of,
-  said_to,
-  proceed,
-  execute,
-  collected,
-  hear,
-  fetched,
-  fetched_at,
-  fetched_for,
-  after_lack,
-  after_response,
-  given_in,
-  lack_cause,
-  verdict_in,
-  ending_by,
-  cause_of_abort,
-  request_in,
-}
-use Rattle.txn_core.proofs.Asks.{asks_same}
-use Rattle.txn_core.proofs.Gathers.{Each, each_but, each_with, tell_start}
-use Rattle.txn_core.proofs.Cached.{given_is}
-use Rattle.law_suite_machine.specs.Registers.{Beginning, WasPrefix, WasContent, GoesWith}
-use Rattle.law_suite_machine.specs.Machine.{World}
-use Rattle.law_suite_machine.specs.Laws.{CopiesWere}
-use Rattle.law_run_machine.specs.Telling.{SaidIs}
-use Rattle.law_run_knowledge.specs.Knowledge.{EntryWas, CacheWas, ToldVersion, FirstWas, SuiteWas}
 use Rattle.law_run_knowledge.proofs.Opened.{fetched_above}
 use Rattle.law_run_knowledge.proofs.Showed.{newest_was, showed, sourced, narrow_version, told_one}
 

@@ -1,23 +1,10 @@
 -- What a request of a transaction, once it is served, is to the machine of a suite.
-use Rattle.std.proofs.Common.{◌≡◌, ℕ, Bool, true, false, cond, [], ◌∷◌, Option, Some, None, is_some, refl, sym, ap, ◌∙◌, arith}
-use Rattle.std.specs.Prelude.{◌==◌, ◌&&◌, ◌||◌}
-use Rattle.std.proofs.lemmas.Bool.{false≢true}
-use Rattle.std.proofs.lemmas.Bool.Decides.{nat_tests}
-use Rattle.suite_prefix.specs.LockModes.{is_exclusive}
-use Rattle.rep_core.specs.declared.request.Part.{Part}
-use Rattle.rep_core.specs.declared.request.Request.{Request}
+use Rattle.law_run_machine.proofs.Vocabulary.{◌≡◌, ℕ, Bool, true, false, cond, [], ◌∷◌, Option, Some, None, is_some, refl, sym, ap, ◌∙◌, arith, ◌==◌, ◌&&◌, ◌||◌, false≢true, nat_tests, is_exclusive, Part, Request, Reply, Replied, locks}
+use Rattle.law_run_machine.proofs.Vocabulary.{says_held, Beginning, World, Told, Verdict, set2, Event, Held, Upgrade, Overrule, happens, run, upgraded_told, at2, one_is, itself, another, prepare_of, first_verdict, moves, names}
+use Rattle.law_run_machine.proofs.Vocabulary.{may_sweep}
 use Rattle.rep_core.specs.declared.request.Request.TheVariants as request
-use Rattle.rep_core.specs.declared.reply.Reply.{Reply}
 use Rattle.rep_core.specs.declared.reply.Reply.TheVariants as reply
-use Rattle.txn_core.specs.declared.response.Response.TheVariants.{Replied}
-use Rattle.txn_core.specs.Laws.{locks, says_held}
-use Rattle.law_suite_machine.specs.Registers.{Beginning}
-use Rattle.law_suite_machine.specs.Machine.{World, Told, Verdict, set2}
-use Rattle.law_suite_machine.specs.Events.{Event, Held, Upgrade, Overrule, happens, run, upgraded_told}
-use Rattle.law_suite_machine.proofs.Places.{at2, one_is, itself, another}
 use Rattle.law_server_moves.specs.Preparing.{part_of}
-use Rattle.law_server_moves.specs.Moves.{prepare_of, first_verdict, moves}
-use Rattle.law_runs.specs.Naming.{names, may_sweep}
 use Rattle.law_run_machine.proofs.Quiet.{IsOf, AreOf}
 
 -- ---- whose events

@@ -1,25 +1,11 @@
 -- What each request that is served keeps of the servers, each event keeps; so every server of a run is consistent.
-use Rattle.std.proofs.Common.{◌≡◌, ℕ, Bool, true, false, cond, List, [], ◌∷◌, Option, Some, None, refl, sym, ap, subst}
-use Rattle.std.specs.Prelude.{◌==◌}
-use Rattle.suite_prefix.specs.SettingsRules.{Opening}
-use Rattle.rep_core.specs.declared.request.Request.{Request}
+use Rattle.law_run_machine.proofs.Vocabulary.{◌≡◌, ℕ, Bool, true, false, cond, List, [], ◌∷◌, Option, Some, None, refl, sym, ap, subst, ◌==◌, Opening, Request, Stamped, IsConsistent, State, answer_of, is_full, served}
+use Rattle.law_run_machine.proofs.Vocabulary.{consistent_opening, consistent_step, Response, Lacked, Agent, fixed_of, next_of, Begin, Step, Crash, Return, Forget, Lack, Actor, opening, server_at, actor_at, with_server, answered}
+use Rattle.law_run_machine.proofs.Vocabulary.{asks_at, asks, steps_once, lacks_for, lacks, operated, operates, becomes, step, after, set1, servers_of, ServersAreConsistent}
 use Rattle.rep_core.specs.declared.request.Request.TheVariants as request
-use Rattle.rep_core.specs.declared.stamped.Stamped.{Stamped}
-use Rattle.rep_core.specs.Consistency.{IsConsistent}
-use Rattle.rep_core.specs.State.{State}
-use Rattle.rep_core.specs.Serving.{answer_of, is_full, served}
 use Rattle.rep_core.specs.Serving as serving
-use Rattle.rep_core.proofs.Consistent.{consistent_opening, consistent_step}
-use Rattle.txn_core.specs.declared.response.Response.{Response}
-use Rattle.txn_core.specs.declared.response.Response.TheVariants.{Lacked}
-use Rattle.txn_core.specs.Agents.{Agent, fixed_of, next_of}
 use Rattle.run_core.specs.declared.event.Event.{Event}
-use Rattle.run_core.specs.declared.event.Event.TheVariants.{Begin, Step, Crash, Return, Forget, Lack}
-use Rattle.run_core.specs.Worlds.{World, Actor, opening, server_at, actor_at, with_server, answered, asks_at, asks, steps_once, lacks_for, lacks, operated, operates, becomes, step}
-use Rattle.run_core.specs.Runs.{after}
-use Rattle.law_suite_machine.specs.Machine.{set1}
-use Rattle.law_run_machine.specs.Machines.{servers_of}
-use Rattle.law_run_machine.specs.Laws.{ServersAreConsistent}
+use Rattle.run_core.specs.Worlds.{World}
 use Rattle.law_run_machine.proofs.Servers.{servers_set, server_there, servers_open}
 
 -- a request that is served keeps it

@@ -1,18 +1,7 @@
 -- What a transaction decides may be decided, where what is owed is shown.
-use Rattle.std.proofs.Common.{◌≡◌, ℕ, ◌≤◌, true, false, Option, Some, None, is_some, Ok, Err, refl, sym, ap, subst, ◌∙◌, arith}
-use Rattle.std.specs.Prelude.{nat_le}
-use Rattle.std.proofs.lemmas.Bool.{false≢true, and_parts}
-use Rattle.std.proofs.lemmas.Bool.Decides.{nat_tests}
-use Rattle.suite_prefix.specs.declared.copies.Replica.{Replica}
-use Rattle.suite_prefix.specs.declared.lock_mode.LockMode.TheVariants.{Shared}
-use Rattle.suite_collect.specs.Telling.{holds}
-use Rattle.txn_core.specs.Suites.{ReadPoint, GatheredSuite, Suites, suite_of, told_in}
-use Rattle.txn_core.specs.Doing.{Task, Proposal, Deciding, TransactionRun, Doing, Running}
-use Rattle.law_suite_machine.specs.Registers.{Beginning, Known, Change}
-use Rattle.law_suite_machine.specs.Machine.{Told, World}
-use Rattle.law_suite_machine.specs.Conditions.{IsReady, Knows, May}
-use Rattle.law_run_machine.specs.Deciding.{showed, showed_to, known_by, written_from, first_of, to_write, decides_with, decides_without, decides_first, decides_on, decision_with}
-use Rattle.law_run_machine.specs.Owed.{OwesKnown, OwesWith, OwesFirst, Owes}
+use Rattle.law_run_machine.proofs.Vocabulary.{◌≡◌, ℕ, ◌≤◌, true, false, Option, Some, None, is_some, Ok, Err, refl, sym, ap, subst, ◌∙◌, arith, nat_le, false≢true, and_parts, nat_tests, Replica, Shared, holds, ReadPoint, GatheredSuite}
+use Rattle.law_run_machine.proofs.Vocabulary.{Suites, suite_of, told_in, Task, Proposal, Deciding, TransactionRun, Doing, Running, Beginning, Known, Change, Told, World, IsReady, Knows, May, showed, showed_to, known_by, written_from}
+use Rattle.law_run_machine.proofs.Vocabulary.{first_of, to_write, decides_with, decides_without, decides_first, decides_on, decision_with, OwesKnown, OwesWith, OwesFirst, Owes}
 use Rattle.law_run_machine.proofs.Stages.{Going, Stage}
 use Rattle.law_run_machine.proofs.Readying.{ReadyIn, IsReadying}
 use Rattle.law_run_machine.proofs.Readied.{ToldBelow}

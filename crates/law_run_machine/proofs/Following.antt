@@ -1,57 +1,15 @@
 -- The machine of a suite follows the world, event by event.
-use Rattle.std.proofs.Common.{◌≡◌, ℕ, Bool, true, false, cond, List, [], ◌∷◌, Option, Some, None, refl, sym, subst, ◌∙◌}
-use Rattle.suite_prefix.specs.SettingsRules.{Opening}
-use Rattle.rep_core.specs.declared.request.Request.{Request}
+use Rattle.law_run_machine.proofs.Vocabulary.{◌≡◌, ℕ, Bool, true, false, cond, List, [], ◌∷◌, Option, Some, None, refl, sym, subst, ◌∙◌, Opening, Request, Stamped, State, reply_of, answer_of, is_full, served, Response, Replied, Lacked}
+use Rattle.law_run_machine.proofs.Vocabulary.{Job, Doing, Agent, fixed_of, next_of, take, begin, Begin, Step, Crash, Return, Forget, Lack, Actor, server_at, actor_at, with_server, answered, asks_at, asks, steps_once, lacks_for, lacks}
+use Rattle.law_run_machine.proofs.Vocabulary.{operated, operates, becomes, step, after, World, set1, begun, Event, run, Obeys, Inv, all_steps, begins, Shows, moves, AgentSide, beginning, each_step_moves, opening_shows, decision_by}
+use Rattle.law_run_machine.proofs.Vocabulary.{servers_of, home_in, response_events, begin_events, answered_events, asked_at_events, asked_events, step_events, lacks_for_events, lack_events, operated_events, operator_events, events_of}
+use Rattle.law_run_machine.proofs.Vocabulary.{machine_from, history_from, AnsweredWell, AsksAtWell, AsksWell, StepsWell, LacksForWell, LacksWell, KeepsSide, KeepSides, MachinesFollow}
 use Rattle.rep_core.specs.declared.request.Request.TheVariants as request
 use Rattle.rep_core.specs.declared.stamped.Lack.TheVariants as lack
-use Rattle.rep_core.specs.declared.stamped.Stamped.{Stamped}
-use Rattle.rep_core.specs.State.{State}
-use Rattle.rep_core.specs.Service.{reply_of}
-use Rattle.rep_core.specs.Serving.{answer_of, is_full, served}
 use Rattle.rep_core.specs.Serving as serving
-use Rattle.txn_core.specs.declared.response.Response.{Response}
-use Rattle.txn_core.specs.declared.response.Response.TheVariants.{Replied, Lacked}
-use Rattle.txn_core.specs.declared.job.Job.{Job}
-use Rattle.txn_core.specs.Doing.{Doing}
-use Rattle.txn_core.specs.Agents.{Agent, fixed_of, next_of, take, begin}
 use Rattle.run_core.specs.declared.event.Event as happening
-use Rattle.run_core.specs.declared.event.Event.TheVariants.{Begin, Step, Crash, Return, Forget, Lack}
 use Rattle.run_core.specs.Worlds as worlds
-use Rattle.run_core.specs.Worlds.{Actor, server_at, actor_at, with_server, answered, asks_at, asks, steps_once, lacks_for, lacks, operated, operates, becomes, step}
-use Rattle.run_core.specs.Runs.{after}
-use Rattle.law_suite_machine.specs.Machine.{World, set1, begun}
-use Rattle.law_suite_machine.specs.Events.{Event, run}
-use Rattle.law_suite_machine.specs.Conditions.{Obeys}
-use Rattle.law_suite_machine.proofs.Invariant.{Inv}
-use Rattle.law_suite_machine.proofs.Steps.{all_steps}
-use Rattle.law_suite_machine.proofs.Starting.{begins}
-use Rattle.law_server_moves.specs.Views.{Shows}
-use Rattle.law_server_moves.specs.Moves.{moves}
-use Rattle.law_server_moves.specs.Agents.{AgentSide}
 use Rattle.law_server_moves.specs.Laws as steps
-use Rattle.law_server_moves.specs.Laws.{beginning}
-use Rattle.law_server_moves.proofs.Steps.{each_step_moves}
-use Rattle.law_server_moves.proofs.Opening.{opening_shows}
-use Rattle.law_run_machine.specs.Deciding.{decision_by}
-use Rattle.law_run_machine.specs.Machines.{
-  servers_of,
-  home_in,
-  response_events,
-  begin_events,
-  answered_events,
-  asked_at_events,
-  asked_events,
-  step_events,
-  lacks_for_events,
-  lack_events,
-  operated_events,
-  operator_events,
-  events_of,
-  machine_from,
-  history_from,
-}
-use Rattle.law_run_machine.specs.Sides.{AnsweredWell, AsksAtWell, AsksWell, StepsWell, LacksForWell, LacksWell, KeepsSide, KeepSides}
-use Rattle.law_run_machine.specs.Laws.{MachinesFollow}
 use Rattle.law_run_machine.proofs.Servers.{servers_set, server_there, servers_open}
 use Rattle.law_run_machine.proofs.Consistent.{AllConsistent, served_is, consistent_serving, opening_consistent}
 use Rattle.law_run_machine.proofs.Joining.{run-append, obeys-append}

@@ -1,21 +1,12 @@
 -- Every agent of a run that is not idle is one of a job.
-use Rattle.std.proofs.Common.{◌≡◌, ◌⊎◌, inl, inr, ℕ, zero, suc, ◌+◌, true, false, cond, List, [], ◌∷◌, ◌++◌, Option, Some, None, refl, sym, ap, subst, ◌∙◌}
-use Rattle.std.specs.Prelude.{◌&&◌, nat_lt, slice_get}
-use Rattle.std.proofs.lemmas.Bool.{false≢true}
-use Rattle.std.proofs.lemmas.Option.{same_Some, none-some}
-use Rattle.rep_core.specs.declared.request.Request.{Request}
-use Rattle.txn_core.specs.declared.response.Response.{Response}
-use Rattle.txn_core.specs.declared.job.Job.{Job}
-use Rattle.txn_core.specs.Suites.{ReadPoint, GatheredSuite, suite_of}
-use Rattle.txn_core.specs.Doing.{Fixed, Proposal, Deciding, TransactionRun, Doing, Running}
-use Rattle.txn_core.proofs.Quorums.{decides_on_quorums}
+use Rattle.law_run_machine.proofs.Vocabulary.{◌≡◌, ◌⊎◌, inl, inr, ℕ, zero, suc, ◌+◌, true, false, cond, List, [], ◌∷◌, ◌++◌, Option, Some, None, refl, sym, ap, subst, ◌∙◌, ◌&&◌, nat_lt, slice_get, false≢true, same_Some, none-some}
+use Rattle.law_run_machine.proofs.Vocabulary.{Request, Response, Job, ReadPoint, GatheredSuite, suite_of, Fixed, Proposal, Deciding, TransactionRun, Doing, Running, decides_on_quorums, Agent, Take, fixed_of, next_of, take, take_in}
+use Rattle.law_run_machine.proofs.Vocabulary.{begin, started, forget, is_idle, has_sense, max_jobs, after_event, after_all, Actor, step, opening, actors_from, after, OfEach, IsOfAJob, AgentsAreOfJobs}
 use Rattle.txn_core.specs.Agents as agents
-use Rattle.txn_core.specs.Agents.{Agent, Take, Forget, fixed_of, next_of, take, take_in, begin, started, forget, is_idle, has_sense, max_jobs, after_event, after_all}
+use Rattle.txn_core.specs.Agents.{Forget}
 use Rattle.run_core.specs.declared.event.Event.{Event}
-use Rattle.run_core.specs.Worlds.{World, Actor, step, opening, actors_from}
-use Rattle.run_core.specs.Runs.{after}
-use Rattle.run_core.proofs.EachAgent.{OfEach, after_event as each_after}
-use Rattle.law_run_machine.specs.Laws.{IsOfAJob, AgentsAreOfJobs}
+use Rattle.run_core.specs.Worlds.{World}
+use Rattle.run_core.proofs.EachAgent.{after_event as each_after}
 
 pub one_more : (fixed : Fixed) (agent : Agent) (told : List agents.Event) (event : agents.Event) → after_all fixed agent (told ++ event ∷ []) ≡ after_event fixed (after_all fixed agent told) event
 one_more fixed agent [] event = refl

@@ -1,9 +1,5 @@
 -- Lists of machine events, one after the other.
-use Rattle.std.proofs.Common.{◌≡◌, List, [], ◌∷◌, ◌++◌, refl}
-use Rattle.law_suite_machine.specs.Registers.{Beginning}
-use Rattle.law_suite_machine.specs.Machine.{World}
-use Rattle.law_suite_machine.specs.Events.{Event, happens, run}
-use Rattle.law_suite_machine.specs.Conditions.{Obeys}
+use Rattle.law_run_machine.proofs.Vocabulary.{◌≡◌, List, [], ◌∷◌, ◌++◌, refl, Beginning, World, Event, happens, run, Obeys}
 
 pub run-append : (start : Beginning) (w : World) (first later : List Event) → run start w (first ++ later) ≡ run start (run start w first) later
 run-append start w [] later = refl

@@ -1,45 +1,17 @@
 -- Agents keep to their side in every run: event by event.
-use Rattle.std.proofs.Common.{◌≡◌, inl, ℕ, zero, suc, ◌+◌, ◌<◌, ◌≤◌, Bool, true, false, cond, List, [], ◌∷◌, ◌++◌, length, Option, Some, None, refl, sym, ap, subst, ◌∙◌, arith}
-use Rattle.std.specs.Prelude.{◌*◌, slice_get}
-use Rattle.std.proofs.lemmas.Bool.{false≢true}
-use Rattle.std.proofs.lemmas.Option.{same_Some, none-some}
-use Rattle.vote_core.specs.Validity.{max_servers}
-use Rattle.suite_prefix.specs.SettingsRules.{Opening}
-use Rattle.rep_core.specs.declared.request.Request.{Request}
+use Rattle.law_run_machine.proofs.Vocabulary.{◌≡◌, inl, ℕ, zero, suc, ◌+◌, ◌<◌, ◌≤◌, Bool, true, false, cond, List, [], ◌∷◌, ◌++◌, length, Option, Some, None, refl, sym, ap, subst, ◌∙◌, arith, ◌*◌, slice_get, false≢true, same_Some}
+use Rattle.law_run_machine.proofs.Vocabulary.{none-some, max_servers, Opening, Request, Reply, has_prepared, State, reply_of, answer_of, is_full, Replied, Lacked, Job, Agent, fixed_of, next_of, take, begin, forget, Begin, Step, Crash}
+use Rattle.law_run_machine.proofs.Vocabulary.{Return, Forget, Lack, Actor, server_at, actor_at, answered, asks_at, asks, steps_once, lacks_for, lacks, operated, operates, becomes, step, Beginning, World, begun, Event, run, Obeys, Inv}
+use Rattle.law_run_machine.proofs.Vocabulary.{all_steps, begins, run_stays, Shows, moves, beginning, opening_shows, decision_by, own_events, servers_of, home_in, begin_events, answered_events, asked_at_events, asked_events, step_events}
+use Rattle.law_run_machine.proofs.Vocabulary.{lacks_for_events, lack_events, operated_events, operator_events, events_of, moved, AnsweredWell, AsksAtWell, AsksWell, StepsWell, LacksForWell, LacksWell, KeepsSide, KeepSides, Owed}
+use Rattle.law_run_machine.proofs.Vocabulary.{AreOwed, SidesAreKept}
 use Rattle.rep_core.specs.declared.request.Request.TheVariants as request
-use Rattle.rep_core.specs.declared.reply.Reply.{Reply}
 use Rattle.rep_core.specs.declared.reply.Reply.TheVariants as reply
 use Rattle.rep_core.specs.declared.stamped.Lack.TheVariants as lack
-use Rattle.rep_core.specs.Locks.{has_prepared}
 use Rattle.rep_core.specs.State as state
-use Rattle.rep_core.specs.State.{State}
-use Rattle.rep_core.specs.Service.{reply_of}
-use Rattle.rep_core.specs.Serving.{answer_of, is_full}
-use Rattle.txn_core.specs.declared.response.Response.TheVariants.{Replied, Lacked}
-use Rattle.txn_core.specs.declared.job.Job.{Job}
-use Rattle.txn_core.specs.Agents.{Agent, fixed_of, next_of, take, begin, forget}
 use Rattle.txn_core.specs.Agents as agents
 use Rattle.run_core.specs.declared.event.Event as happening
-use Rattle.run_core.specs.declared.event.Event.TheVariants.{Begin, Step, Crash, Return, Forget, Lack}
 use Rattle.run_core.specs.Worlds as worlds
-use Rattle.run_core.specs.Worlds.{Actor, server_at, actor_at, answered, asks_at, asks, steps_once, lacks_for, lacks, operated, operates, becomes, step}
-use Rattle.law_suite_machine.specs.Registers.{Beginning}
-use Rattle.law_suite_machine.specs.Machine.{World, begun}
-use Rattle.law_suite_machine.specs.Events.{Event, run}
-use Rattle.law_suite_machine.specs.Conditions.{Obeys}
-use Rattle.law_suite_machine.proofs.Invariant.{Inv}
-use Rattle.law_suite_machine.proofs.Steps.{all_steps}
-use Rattle.law_suite_machine.proofs.Starting.{begins}
-use Rattle.law_suite_machine.proofs.Lasting.{run_stays}
-use Rattle.law_server_moves.specs.Views.{Shows}
-use Rattle.law_server_moves.specs.Moves.{moves}
-use Rattle.law_server_moves.specs.Laws.{beginning}
-use Rattle.law_server_moves.proofs.Opening.{opening_shows}
-use Rattle.law_run_machine.specs.Deciding.{decision_by, own_events}
-use Rattle.law_run_machine.specs.Machines.{servers_of, home_in, begin_events, answered_events, asked_at_events, asked_events, step_events, lacks_for_events, lack_events, operated_events, operator_events, events_of, moved}
-use Rattle.law_run_machine.specs.Sides.{AnsweredWell, AsksAtWell, AsksWell, StepsWell, LacksForWell, LacksWell, KeepsSide, KeepSides}
-use Rattle.law_run_machine.specs.Owed.{Owed, AreOwed}
-use Rattle.law_run_machine.specs.Laws.{SidesAreKept}
 use Rattle.law_run_machine.proofs.Servers.{server_there, servers_open}
 use Rattle.law_run_machine.proofs.Consistent.{AllConsistent, opening_consistent}
 use Rattle.law_run_machine.proofs.Following.{serves, event_comes}

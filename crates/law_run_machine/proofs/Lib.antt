@@ -1,3 +1,4 @@
+mod Vocabulary
 pub mod Servers
 pub mod Consistent
 pub mod Joining

@@ -1,18 +1,8 @@
 -- Agents keep to their side in every run: what each event keeps of agents and machine together.
-use Rattle.std.proofs.Common.{◌≡◌, inl, inr, ℕ, zero, suc, ◌+◌, ◌<◌, ◌≤◌, Option, Some, None, is_some, refl, sym, ap, ◌∙◌, arith}
-use Rattle.std.specs.Prelude.{◌*◌}
-use Rattle.std.specs.Ordering.{nat_cmp}
-use Rattle.std.proofs.lemmas.Option.{none-some}
-use Rattle.sorted_map.specs.SortedMap.{IsOrdered}
-use Rattle.txn_core.specs.Suites.{Suites}
-use Rattle.txn_core.specs.Doing.{Phase, Gathering, Fetching, Widening, Preparing, Deciding, Finishing, TransactionRun, Sweeping, Listing, Resolving, Telling, Breaking, Doing, Running, RunningSweep}
-use Rattle.txn_core.specs.Agents.{Agent, left}
-use Rattle.txn_core.specs.Laws.{locks}
+use Rattle.law_run_machine.proofs.Vocabulary.{◌≡◌, inl, inr, ℕ, zero, suc, ◌+◌, ◌<◌, ◌≤◌, Option, Some, None, is_some, refl, sym, ap, ◌∙◌, arith, ◌*◌, nat_cmp, none-some, IsOrdered, Suites, Phase, Gathering, Fetching, Widening}
+use Rattle.law_run_machine.proofs.Vocabulary.{Preparing, Deciding, Finishing, TransactionRun, Sweeping, Listing, Resolving, Telling, Breaking, Doing, Running, RunningSweep, Agent, left, locks, Actor, actor_at, World, MayFinish}
+use Rattle.law_run_machine.proofs.Vocabulary.{ended_as}
 use Rattle.run_core.specs.Worlds as worlds
-use Rattle.run_core.specs.Worlds.{Actor, actor_at}
-use Rattle.law_suite_machine.specs.Machine.{World}
-use Rattle.law_suite_machine.specs.Conditions.{MayFinish}
-use Rattle.law_server_moves.specs.Views.{ended_as}
 use Rattle.law_run_machine.proofs.Quiet.{Quiet}
 use Rattle.law_run_machine.proofs.Stages.{Going, Stage}
 use Rattle.law_run_machine.proofs.Sending.{ToldAs}

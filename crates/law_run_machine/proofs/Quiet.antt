@@ -1,10 +1,6 @@
 -- What the events of one transaction leave of another.
-use Rattle.std.proofs.Common.{◌≡◌, ◌⊎◌, inl, inr, ℕ, List, [], ◌∷◌, ◌++◌, Option, Some, None, refl, sym, ap, ◌∙◌}
-use Rattle.law_suite_machine.specs.Registers.{Beginning}
-use Rattle.law_suite_machine.specs.Machine.{World, Verdict, Aborted, set1, set2}
-use Rattle.law_suite_machine.specs.Events.{Event, Held, Upgrade, Aim, Prepare, DecideRead, DecideRefused, DecideWrite, DecideElsewhere, Overrule, GiveUp, Finish, Lose, happens, run}
-use Rattle.law_suite_machine.specs.Conditions.{May, Obeys}
-use Rattle.law_suite_machine.proofs.Places.{at1, at2}
+use Rattle.law_run_machine.proofs.Vocabulary.{◌≡◌, ◌⊎◌, inl, inr, ℕ, List, [], ◌∷◌, ◌++◌, Option, Some, None, refl, sym, ap, ◌∙◌, Beginning, World, Verdict, Aborted, set1, set2, Event, Held, Upgrade, Aim, Prepare, DecideRead}
+use Rattle.law_run_machine.proofs.Vocabulary.{DecideRefused, DecideWrite, DecideElsewhere, Overrule, GiveUp, Finish, Lose, happens, run, May, Obeys, at1, at2}
 
 -- of a transaction nothing changed, but that Aborted may have been recorded where nothing was
 pub record Quiet (w later : World) (u : ℕ) : Type 0 where

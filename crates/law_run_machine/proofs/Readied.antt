@@ -1,40 +1,15 @@
 -- In every run each server that told a transaction of a copy has prepared, where it is decided: event by event.
-use Rattle.std.proofs.Common.{◌≡◌, ℕ, ◌+◌, ◌<◌, ◌≤◌, Bool, true, false, cond, List, [], ◌∷◌, length, Option, Some, None, is_some, refl, sym, ap, subst, ◌∙◌, arith}
-use Rattle.std.specs.Prelude.{◌==◌, ◌&&◌, ◌*◌, nat_lt, slice_get, slice_set}
-use Rattle.std.proofs.lemmas.Option.{same_Some, slice_get_within}
-use Rattle.std.proofs.lemmas.List.{length-set}
-use Rattle.vote_core.specs.Validity.{max_servers}
-use Rattle.suite_prefix.specs.SettingsRules.{Opening}
-use Rattle.suite_prefix.specs.LockModes.{is_exclusive}
-use Rattle.rep_core.specs.declared.request.Part.{Part}
-use Rattle.rep_core.specs.declared.request.Request.{Request}
+use Rattle.law_run_machine.proofs.Vocabulary.{◌≡◌, ℕ, ◌+◌, ◌<◌, ◌≤◌, Bool, true, false, cond, List, [], ◌∷◌, length, Option, Some, None, is_some, refl, sym, ap, subst, ◌∙◌, arith, ◌==◌, ◌&&◌, ◌*◌, nat_lt, slice_get, slice_set}
+use Rattle.law_run_machine.proofs.Vocabulary.{same_Some, slice_get_within, length-set, max_servers, Opening, is_exclusive, Part, Request, Reply, State, reply_of, answer_of, is_full, served, parts_at, Replied, Lacked, Job, Transaction}
+use Rattle.law_run_machine.proofs.Vocabulary.{Sweep, Preparing, Doing, Running, RunningSweep, request_in, changes_of, Agent, fixed_of, next_in, next_of, take, take_in, begin, started, forget, is_idle, has_sense, max_jobs, asks_same}
+use Rattle.law_run_machine.proofs.Vocabulary.{Begin, Step, Crash, Return, Forget, Lack, Actor, server_at, actor_at, answered, asks_at, asks, steps_once, lacks_for, lacks, operated, operates, becomes, step, Beginning, World, Told}
+use Rattle.law_run_machine.proofs.Vocabulary.{Verdict, set2, Event, Held, Upgrade, Overrule, happens, run, upgraded_told, at2, prepare_of, first_verdict, moves, beginning, decision_by, own_events, home_in, begin_events, answered_events}
+use Rattle.law_run_machine.proofs.Vocabulary.{asked_at_events, asked_events, step_events, lacks_for_events, lack_events, operated_events, operator_events, moved}
 use Rattle.rep_core.specs.declared.request.Request.TheVariants as request
-use Rattle.rep_core.specs.declared.reply.Reply.{Reply}
 use Rattle.rep_core.specs.declared.reply.Reply.TheVariants as reply
 use Rattle.rep_core.specs.declared.stamped.Lack.TheVariants as lack
-use Rattle.rep_core.specs.State.{State}
-use Rattle.rep_core.specs.Service.{reply_of}
-use Rattle.rep_core.specs.Serving.{answer_of, is_full, served}
-use Rattle.txn_core.specs.Writing.{parts_at}
-use Rattle.txn_core.specs.declared.response.Response.TheVariants.{Replied, Lacked}
-use Rattle.txn_core.specs.declared.job.Job.{Job}
-use Rattle.txn_core.specs.declared.job.Job.TheVariants.{Transaction, Sweep}
-use Rattle.txn_core.specs.Doing.{Preparing, Doing, Running, RunningSweep}
-use Rattle.txn_core.specs.Transactions.{request_in, changes_of}
-use Rattle.txn_core.specs.Agents.{Agent, fixed_of, next_in, next_of, take, take_in, begin, started, forget, is_idle, has_sense, max_jobs}
-use Rattle.txn_core.proofs.Asks.{asks_same}
 use Rattle.run_core.specs.declared.event.Event as happening
-use Rattle.run_core.specs.declared.event.Event.TheVariants.{Begin, Step, Crash, Return, Forget, Lack}
 use Rattle.run_core.specs.Worlds as worlds
-use Rattle.run_core.specs.Worlds.{Actor, server_at, actor_at, answered, asks_at, asks, steps_once, lacks_for, lacks, operated, operates, becomes, step}
-use Rattle.law_suite_machine.specs.Registers.{Beginning}
-use Rattle.law_suite_machine.specs.Machine.{World, Told, Verdict, set2}
-use Rattle.law_suite_machine.specs.Events.{Event, Held, Upgrade, Overrule, happens, run, upgraded_told}
-use Rattle.law_suite_machine.proofs.Places.{at2}
-use Rattle.law_server_moves.specs.Moves.{prepare_of, first_verdict, moves}
-use Rattle.law_server_moves.specs.Laws.{beginning}
-use Rattle.law_run_machine.specs.Deciding.{decision_by, own_events}
-use Rattle.law_run_machine.specs.Machines.{home_in, begin_events, answered_events, asked_at_events, asked_events, step_events, lacks_for_events, lack_events, operated_events, operator_events, moved}
 use Rattle.law_run_machine.proofs.Joining.{run-append}
 use Rattle.law_run_machine.proofs.Own.{own_told, begun_told}
 use Rattle.law_run_machine.proofs.Sending.{decision_told, asks_there}

@@ -1,43 +1,15 @@
 -- A transaction is decided once each server that told it of a copy has prepared.
-use Rattle.std.proofs.Common.{◌≡◌, ◌⊎◌, inl, inr, ℕ, zero, suc, ◌+◌, ◌<◌, ◌≤◌, true, false, cond, List, [], ◌∷◌, Option, Some, None, is_some, refl, sym, ap, subst, ◌∙◌, arith}
-use Rattle.std.specs.Prelude.{◌==◌, filter}
-use Rattle.std.specs.Ordering.{nat_cmp}
-use Rattle.std.specs.BTreeMap.{is_at}
-use Rattle.std.proofs.lemmas.Bool.{false≢true}
-use Rattle.std.proofs.lemmas.Bool.Decides.{nat_tests}
-use Rattle.vote_core.specs.Validity.{max_servers}
-use Rattle.sorted_map.specs.SortedMap.{get}
-use Rattle.suite_prefix.specs.declared.lock_mode.LockMode.TheVariants.{Shared}
-use Rattle.rep_core.specs.declared.request.Part.{Part}
-use Rattle.rep_core.specs.declared.request.Request.{Request}
-use Rattle.rep_core.specs.declared.reply.Reply.{Reply}
+use Rattle.law_run_machine.proofs.Vocabulary.{◌≡◌, ◌⊎◌, inl, inr, ℕ, zero, suc, ◌+◌, ◌<◌, ◌≤◌, true, false, cond, List, [], ◌∷◌, Option, Some, None, is_some, refl, sym, ap, subst, ◌∙◌, arith, ◌==◌, filter, nat_cmp, is_at, false≢true}
+use Rattle.law_run_machine.proofs.Vocabulary.{nat_tests, max_servers, get, Shared, Part, Request, Reply, is_prepared, Has, filter_has, map_has, has_any, any_find, holds, Cache, GatheredSuite, Suites, suite_of, has_locks, holds_lock}
+use Rattle.law_run_machine.proofs.Vocabulary.{told_in, told_at, part_of, parts_at, Response, Replied, Lacked, Cause, Lost, Ending, Undecided, Changes, Fixed, Task, Proposal, Phase, Gathering, Fetching, Widening, Preparing, Deciding}
+use Rattle.law_run_machine.proofs.Vocabulary.{Finishing, TransactionRun, SweepRun, Doing, Running, RunningSweep, After, GoesOn, Ends, execute, tell_end, give_up, prepare, locked_at, numbers_from, lack_cause, after_response, request_in}
+use Rattle.law_run_machine.proofs.Vocabulary.{verdict_in, ending_by, cause_of_abort, Agent, next_in, take_in, left, IsEarly, goes_response, goes_execute, Beginning, World, Event, Held, Upgrade, Aim, Prepare, DecideRead, DecideRefused}
+use Rattle.law_run_machine.proofs.Vocabulary.{DecideWrite, DecideElsewhere, Overrule, GiveUp, Finish, Lose, happens, run, at2, itself, prepare_of}
 use Rattle.rep_core.specs.declared.reply.Reply.TheVariants as reply
 use Rattle.rep_core.specs.declared.reply.Verdict.{Verdict}
 use Rattle.rep_core.specs.declared.reply.Verdict.TheVariants as verdict
-use Rattle.rep_core.specs.Fits.{is_prepared}
-use Rattle.rep_core.proofs.Members.{Has, filter_has, map_has, has_any}
-use Rattle.rep_core.proofs.Finding.{any_find}
-use Rattle.suite_collect.specs.Telling.{holds}
-use Rattle.weak_cache.specs.Entries.{Cache}
-use Rattle.txn_core.specs.Suites.{GatheredSuite, Suites, suite_of, has_locks, holds_lock, told_in, told_at}
-use Rattle.txn_core.specs.Writing.{part_of, parts_at}
-use Rattle.txn_core.specs.declared.response.Response.{Response}
-use Rattle.txn_core.specs.declared.response.Response.TheVariants.{Replied, Lacked}
-use Rattle.txn_core.specs.declared.ending.Cause.{Cause}
-use Rattle.txn_core.specs.declared.ending.Cause.TheVariants.{Lost}
-use Rattle.txn_core.specs.declared.ending.Ending.{Ending}
-use Rattle.txn_core.specs.declared.ending.Ending.TheVariants.{Undecided}
-use Rattle.txn_core.specs.Doing.{Changes, Fixed, Task, Proposal, Phase, Gathering, Fetching, Widening, Preparing, Deciding, Finishing, TransactionRun, SweepRun, Doing, Running, RunningSweep, After, GoesOn, Ends}
-use Rattle.txn_core.specs.Transactions.{execute, tell_end, give_up, prepare, locked_at, numbers_from, lack_cause, after_response, request_in, verdict_in, ending_by, cause_of_abort}
 use Rattle.txn_core.specs.Sweeps as sweep
-use Rattle.txn_core.specs.Agents.{Agent, next_in, take_in, left}
-use Rattle.txn_core.proofs.Walk.{IsEarly, goes_response, goes_execute}
-use Rattle.law_suite_machine.specs.Registers.{Beginning}
-use Rattle.law_suite_machine.specs.Machine.{World}
-use Rattle.law_suite_machine.specs.Events.{Event, Held, Upgrade, Aim, Prepare, DecideRead, DecideRefused, DecideWrite, DecideElsewhere, Overrule, GiveUp, Finish, Lose, happens, run}
-use Rattle.law_suite_machine.proofs.Places.{at2, itself}
 use Rattle.law_server_moves.specs.Preparing as preparing
-use Rattle.law_server_moves.specs.Moves.{prepare_of}
 
 -- ---- what was prepared stays so in the books
 

@@ -1,41 +1,15 @@
 -- What a transaction asks a server, its machine of a suite lets it ask.
-use Rattle.std.proofs.Common.{◌≡◌, ◌⊎◌, inl, inr, ℕ, Bool, true, false, cond, List, [], ◌∷◌, Option, Some, None, is_some, Ok, Err, refl, sym, ap, subst, ◌∙◌, arith}
-use Rattle.std.specs.Prelude.{◌==◌, ◌||◌, ◌≢◌, filter, find, nat_le}
-use Rattle.std.specs.Ordering.{nat_cmp}
-use Rattle.std.proofs.lemmas.Bool.{false≢true, and_parts}
-use Rattle.std.proofs.lemmas.Bool.Decides.{nat_tests}
-use Rattle.sorted_map.specs.SortedMap.{IsOrdered}
-use Rattle.vote_core.specs.Quorums.{Representative}
-use Rattle.suite_prefix.specs.declared.lock_mode.LockMode.{LockMode}
-use Rattle.suite_prefix.specs.declared.lock_mode.LockMode.TheVariants.{Shared}
+use Rattle.law_run_machine.proofs.Vocabulary.{◌≡◌, ◌⊎◌, inl, inr, ℕ, Bool, true, false, cond, List, [], ◌∷◌, Option, Some, None, is_some, Ok, Err, refl, sym, ap, subst, ◌∙◌, arith, ◌==◌, ◌||◌, ◌≢◌, filter, find, nat_le, nat_cmp}
+use Rattle.law_run_machine.proofs.Vocabulary.{false≢true, and_parts, nat_tests, IsOrdered, Representative, LockMode, Shared, Lock, Prefix, Part, Request, has_prepared, is_keep, verdict_of, has_map, has_filter, find_some, get_has}
+use Rattle.law_run_machine.proofs.Vocabulary.{newest, holds, Collector, needed, got, all_told, wanted, request_for, Asked, Poll, Next, Ask, Current, Short, next, is_left, counted, is_member, members_of, version, asked_of, ask_or_short}
+use Rattle.law_run_machine.proofs.Vocabulary.{ReadPoint, GatheredSuite, Suites, suite_of, holds_lock, holds_exclusively, told_in, told_at, change_of, new_copy, new_prefix, sets_prefix, has_vote, takes_whole, take_of_changed, take_from}
+use Rattle.law_run_machine.proofs.Vocabulary.{part_of, parts_at, Fixed, Task, home_of, Proposal, Phase, Gathering, Fetching, Widening, Preparing, Deciding, Finishing, asked_by, asked_for, fetched_at, fetched_for, request_in, changes_of}
+use Rattle.law_run_machine.proofs.Vocabulary.{decision_of, asks_same, Beginning, Change, Entry, World, Told, Verdict, Answered, Refused, Aborted, Event, happens, decided, May, ended_as, GoesBy, Sends, Decides, AgentSide, content_to}
+use Rattle.law_run_machine.proofs.Vocabulary.{change_to, written_from, first_of, to_write, decides_first, decides_on, decision_with, decision_in}
 use Rattle.file_exec.specs.declared.changes.Change as executor
-use Rattle.rep_core.specs.declared.lock.Lock.{Lock}
-use Rattle.suite_prefix.specs.declared.copies.Prefix.{Prefix}
 use Rattle.rep_core.specs.declared.request.Take.TheVariants as take
-use Rattle.rep_core.specs.declared.request.Part.{Part}
-use Rattle.rep_core.specs.declared.request.Request.{Request}
 use Rattle.rep_core.specs.declared.request.Request.TheVariants as request
-use Rattle.rep_core.specs.Locks.{has_prepared}
-use Rattle.rep_core.specs.Store.{is_keep}
-use Rattle.rep_core.specs.Service.{verdict_of}
-use Rattle.rep_core.proofs.Members.{has_map, has_filter}
-use Rattle.rep_core.proofs.Finding.{find_some}
-use Rattle.rep_core.proofs.IntentionLookups.{get_has}
-use Rattle.suite_collect.specs.Telling.{newest, holds}
-use Rattle.suite_collect.specs.Collecting.{Collector, needed, got, all_told, wanted, request_for, Asked, Poll, Upgrade, Next, Ask, Current, Short, next, is_left, counted, is_member, members_of, version, asked_of, ask_or_short}
-use Rattle.txn_core.specs.Suites.{ReadPoint, GatheredSuite, Suites, suite_of, holds_lock, holds_exclusively, told_in, told_at}
-use Rattle.txn_core.specs.Writing.{change_of, new_copy, new_prefix, sets_prefix, has_vote, takes_whole, take_of_changed, take_from, part_of, parts_at}
-use Rattle.txn_core.specs.Doing.{Fixed, Task, home_of, Proposal, Phase, Gathering, Fetching, Widening, Preparing, Deciding, Finishing}
-use Rattle.txn_core.specs.Transactions.{asked_by, asked_for, fetched_at, fetched_for, request_in, changes_of, decision_of}
-use Rattle.txn_core.proofs.Asks.{asks_same}
-use Rattle.law_suite_machine.specs.Registers.{Beginning, Change, Entry}
-use Rattle.law_suite_machine.specs.Machine.{World, Told, Verdict, Answered, Refused, Aborted}
-use Rattle.law_suite_machine.specs.Events.{Event, happens, decided}
-use Rattle.law_suite_machine.specs.Conditions.{May}
-use Rattle.law_server_moves.specs.Views.{ended_as}
-use Rattle.law_server_moves.specs.Preparing.{GoesBy, Sends}
-use Rattle.law_server_moves.specs.Agents.{Decides, AgentSide}
-use Rattle.law_run_machine.specs.Deciding.{content_to, change_to, written_from, first_of, to_write, decides_first, decides_on, decision_with, decision_in}
+use Rattle.suite_collect.specs.Collecting.{Upgrade}
 use Rattle.law_run_machine.proofs.Stages.{Going, Stage}
 
 -- ---- what a collector asks

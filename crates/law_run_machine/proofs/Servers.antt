@@ -1,16 +1,8 @@
 -- The servers of a world, as a function of their numbers.
-use Rattle.std.proofs.Common.{◌≡◌, ℕ, ◌+◌, zero, suc, get_or, Some, refl, sym, ap, subst, ◌∙◌, arith}
-use Rattle.std.specs.Prelude.{slice_get, slice_set, unwrap_or}
-use Rattle.std.proofs.lemmas.List.{get_or-set_same, get_or-set_other}
-use Rattle.std.proofs.lemmas.Option.{slice_get_within, unwrap_or-slice_get}
-use Rattle.suite_prefix.specs.SettingsRules.{Opening}
+use Rattle.law_run_machine.proofs.Vocabulary.{◌≡◌, ℕ, ◌+◌, zero, suc, get_or, Some, refl, sym, ap, subst, ◌∙◌, arith, slice_get, slice_set, unwrap_or, get_or-set_same, get_or-set_other, slice_get_within, unwrap_or-slice_get, Opening}
+use Rattle.law_run_machine.proofs.Vocabulary.{State, server_at, with_server, servers_from, set1, at1, servers_of}
 use Rattle.rep_core.specs.State as state
-use Rattle.rep_core.specs.State.{State}
 use Rattle.run_core.specs.Worlds as worlds
-use Rattle.run_core.specs.Worlds.{server_at, with_server, servers_from}
-use Rattle.law_suite_machine.specs.Machine.{set1}
-use Rattle.law_suite_machine.proofs.Places.{at1}
-use Rattle.law_run_machine.specs.Machines.{servers_of}
 
 -- the servers once one of them has changed
 pub servers_set : (given : Opening) (world : worlds.World) (i : ℕ) (old new : State) → server_at world i ≡ Some old → set1 (servers_of given world) i new ≡ servers_of given (with_server i new world)

@@ -1,34 +1,13 @@
 -- Where a transaction stands against the machine of a suite, and what it does by itself when it takes a response.
-use Rattle.std.proofs.Common.{◌≡◌, ◌⊎◌, inl, inr, ℕ, Bool, true, false, cond, List, [], ◌∷◌, ◌++◌, Option, Some, None, refl, sym, ap, ◌∙◌}
-use Rattle.rep_core.specs.Fits.{is_prepared}
-use Rattle.rep_core.specs.declared.request.Request.{Request}
+use Rattle.law_run_machine.proofs.Vocabulary.{◌≡◌, ◌⊎◌, inl, inr, ℕ, Bool, true, false, cond, List, [], ◌∷◌, ◌++◌, Option, Some, None, refl, sym, ap, ◌∙◌, is_prepared, Request, Reply, Cache, Suites, suite_of, parts_at, Response}
+use Rattle.law_run_machine.proofs.Vocabulary.{Replied, Lacked, Cause, Lost, Ending, Undecided, Fixed, Task, home_of, Proposal, Phase, Gathering, Fetching, Widening, Preparing, Deciding, Finishing, TransactionRun, Running, After, GoesOn}
+use Rattle.law_run_machine.proofs.Vocabulary.{Ends, execute, tell_end, give_up, prepare, locked_at, lack_cause, prepared, after_response, request_in, changes_of, decision_of, ending_by, cause_of_abort, Agent, Taken, left, end_of}
+use Rattle.law_run_machine.proofs.Vocabulary.{is_decide, asks_same, asked_as, fetched_as, IsEarly, goes_response, goes_execute, Beginning, Change, World, Verdict, Aborted, Event, run, Obeys, MayFinish, ended_as, here1, to_write, aim_of}
+use Rattle.law_run_machine.proofs.Vocabulary.{aims, gives_up, fixed_in, is_finishing}
 use Rattle.rep_core.specs.declared.request.Request.TheVariants as request
-use Rattle.rep_core.specs.declared.reply.Reply.{Reply}
 use Rattle.rep_core.specs.declared.reply.Reply.TheVariants as reply
 use Rattle.rep_core.specs.declared.reply.Verdict as replied
 use Rattle.rep_core.specs.declared.reply.Verdict.TheVariants as verdict
-use Rattle.weak_cache.specs.Entries.{Cache}
-use Rattle.txn_core.specs.Suites.{Suites, suite_of}
-use Rattle.txn_core.specs.Writing.{parts_at}
-use Rattle.txn_core.specs.declared.response.Response.{Response}
-use Rattle.txn_core.specs.declared.response.Response.TheVariants.{Replied, Lacked}
-use Rattle.txn_core.specs.declared.ending.Cause.{Cause}
-use Rattle.txn_core.specs.declared.ending.Cause.TheVariants.{Lost}
-use Rattle.txn_core.specs.declared.ending.Ending.{Ending}
-use Rattle.txn_core.specs.declared.ending.Ending.TheVariants.{Undecided}
-use Rattle.txn_core.specs.Doing.{Fixed, Task, home_of, Proposal, Phase, Gathering, Fetching, Widening, Preparing, Deciding, Finishing, TransactionRun, Running, After, GoesOn, Ends}
-use Rattle.txn_core.specs.Transactions.{execute, tell_end, give_up, prepare, locked_at, lack_cause, prepared, after_response, request_in, changes_of, decision_of, ending_by, cause_of_abort}
-use Rattle.txn_core.specs.Agents.{Agent, Taken, left, end_of}
-use Rattle.txn_core.specs.Laws.{is_decide}
-use Rattle.txn_core.proofs.Asks.{asks_same, asked_as, fetched_as}
-use Rattle.txn_core.proofs.Walk.{IsEarly, goes_response, goes_execute}
-use Rattle.law_suite_machine.specs.Registers.{Beginning, Change}
-use Rattle.law_suite_machine.specs.Machine.{World, Verdict, Aborted}
-use Rattle.law_suite_machine.specs.Events.{Event, run}
-use Rattle.law_suite_machine.specs.Conditions.{Obeys, MayFinish}
-use Rattle.law_server_moves.specs.Views.{ended_as}
-use Rattle.law_server_moves.proofs.Placing.{here1}
-use Rattle.law_run_machine.specs.Deciding.{to_write, aim_of, aims, gives_up, fixed_in, is_finishing}
 use Rattle.law_run_machine.proofs.Asked.{rules, Steady}
 
 -- it did not give up, and no verdict was recorded but Aborted

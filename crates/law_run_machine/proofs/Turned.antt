@@ -1,78 +1,19 @@
 -- Agents against the machine of a suite: after a turn, and once a job begins.
-use Rattle.std.proofs.Common.{◌≡◌, inl, ℕ, zero, suc, ◌+◌, ◌<◌, ◌≤◌, Bool, true, false, cond, List, [], ◌∷◌, ◌++◌, Option, Some, None, is_some, Ok, Err, refl, sym, ap, subst, ◌∙◌, arith}
-use Rattle.std.specs.Prelude.{◌*◌, ◌==◌, ◌&&◌, ◌||◌, nat_lt, slice_get, slice_set}
-use Rattle.std.proofs.lemmas.Bool.{false≢true, and_parts}
-use Rattle.std.proofs.lemmas.Option.{same_Some, none-some}
-use Rattle.suite_prefix.specs.SettingsRules.{Opening}
-use Rattle.rep_core.specs.declared.request.Request.{Request}
+use Rattle.law_run_machine.proofs.Vocabulary.{◌≡◌, inl, ℕ, zero, suc, ◌+◌, ◌<◌, ◌≤◌, Bool, true, false, cond, List, [], ◌∷◌, ◌++◌, Option, Some, None, is_some, Ok, Err, refl, sym, ap, subst, ◌∙◌, arith, ◌*◌, ◌==◌, ◌&&◌, ◌||◌, nat_lt}
+use Rattle.law_run_machine.proofs.Vocabulary.{slice_get, slice_set, false≢true, and_parts, same_Some, none-some, Opening, Request, Reply, Stamped, Lock, has_prepared, State, reply_of, is_full, served, Identity, Op, ReadPoint}
+use Rattle.law_run_machine.proofs.Vocabulary.{GatheredSuite, Suites, suite_of, Response, Replied, Lacked, Job, Transaction, Sweep, Fixed, Task, Proposal, Phase, Gathering, Fetching, Widening, Preparing, Deciding, Finishing}
+use Rattle.law_run_machine.proofs.Vocabulary.{TransactionRun, Sweeping, Listing, Resolving, Telling, Breaking, SweepRun, Doing, Running, RunningSweep, After, GoesOn, Ends, home_of, execute, decision_of, asked_now, Agent, fixed_of}
+use Rattle.law_run_machine.proofs.Vocabulary.{next_in, next_of, take, take_in, begin, started, is_idle, has_sense, max_jobs, left, locks, says_held, is_decide, Keeps, nothing_held, begin_keeps, Actor, server_at, actor_at, with_server}
+use Rattle.law_run_machine.proofs.Vocabulary.{Beginning, Known, Change, World, Verdict, set1, Event, GiveUp, run, May, Obeys, one_is, one_not, Inv, Shows, ended_as, moves, AgentSide, beginning, replies_tell, may_sweep, asks_in_its_name}
+use Rattle.law_run_machine.proofs.Vocabulary.{asks_to_sweep, to_write, known_by, decides_with, decides_without, decides_first, decides_on, decision_by, decision_in, decision_with, aims, tells_aborted, begun_events, own_events}
+use Rattle.law_run_machine.proofs.Vocabulary.{servers_of, home_in}
 use Rattle.rep_core.specs.declared.request.Request.TheVariants as request
-use Rattle.rep_core.specs.declared.reply.Reply.{Reply}
 use Rattle.rep_core.specs.declared.reply.Reply.TheVariants as reply
 use Rattle.rep_core.specs.declared.reply.Verdict as replied
-use Rattle.rep_core.specs.declared.stamped.Stamped.{Stamped}
-use Rattle.rep_core.specs.declared.lock.Lock.{Lock}
-use Rattle.rep_core.specs.Locks.{has_prepared}
-use Rattle.rep_core.specs.State.{State}
-use Rattle.rep_core.specs.Service.{reply_of}
-use Rattle.rep_core.specs.Serving.{is_full, served}
 use Rattle.rep_core.specs.Serving as serving
-use Rattle.acl_core.specs.Identity.{Identity}
-use Rattle.file_ops.specs.declared.operation.Op.{Op}
-use Rattle.txn_core.specs.Suites.{ReadPoint, GatheredSuite, Suites, suite_of}
-use Rattle.txn_core.specs.declared.response.Response.{Response}
-use Rattle.txn_core.specs.declared.response.Response.TheVariants.{Replied, Lacked}
-use Rattle.txn_core.specs.declared.job.Job.{Job}
-use Rattle.txn_core.specs.declared.job.Job.TheVariants.{Transaction, Sweep}
-use Rattle.txn_core.specs.Doing.{
-  Fixed,
-  Task,
-  Proposal,
-  Phase,
-  Gathering,
-  Fetching,
-  Widening,
-  Preparing,
-  Deciding,
-  Finishing,
-  TransactionRun,
-  Sweeping,
-  Listing,
-  Resolving,
-  Telling,
-  Breaking,
-  SweepRun,
-  Doing,
-  Running,
-  RunningSweep,
-  After,
-  GoesOn,
-  Ends,
-  home_of,
-}
-use Rattle.txn_core.specs.Transactions.{execute, decision_of}
-use Rattle.txn_core.specs.Sweeps.{asked_now}
-use Rattle.txn_core.specs.Agents.{Agent, fixed_of, next_in, next_of, take, take_in, begin, started, is_idle, has_sense, max_jobs, left}
-use Rattle.txn_core.specs.Laws.{locks, says_held, is_decide}
-use Rattle.txn_core.proofs.Locks.{Keeps, nothing_held, begin_keeps}
 use Rattle.run_core.specs.Worlds as worlds
-use Rattle.run_core.specs.Worlds.{Actor, server_at, actor_at, with_server}
-use Rattle.law_suite_machine.specs.Registers.{Beginning, Known, Change}
-use Rattle.law_suite_machine.specs.Machine.{World, Verdict, set1}
-use Rattle.law_suite_machine.specs.Events.{Event, GiveUp, run}
-use Rattle.law_suite_machine.specs.Conditions.{May, Obeys}
-use Rattle.law_suite_machine.proofs.Places.{one_is, one_not}
-use Rattle.law_suite_machine.proofs.Invariant.{Inv}
-use Rattle.law_server_moves.specs.Views.{Shows, ended_as}
-use Rattle.law_server_moves.specs.Moves.{moves}
-use Rattle.law_server_moves.specs.Agents.{AgentSide}
 use Rattle.law_server_moves.specs.Laws as steps
-use Rattle.law_server_moves.specs.Laws.{beginning}
-use Rattle.law_server_moves.proofs.Replies.{replies_tell}
-use Rattle.law_runs.specs.Naming.{may_sweep}
-use Rattle.law_runs.proofs.Asking.{asks_in_its_name, asks_to_sweep}
 use Rattle.law_runs.proofs.Asking as asking
-use Rattle.law_run_machine.specs.Deciding.{to_write, known_by, decides_with, decides_without, decides_first, decides_on, decision_by, decision_in, decision_with, aims, tells_aborted, begun_events, own_events}
-use Rattle.law_run_machine.specs.Machines.{servers_of, home_in}
 use Rattle.law_run_machine.proofs.Own.{begun_told}
 use Rattle.law_run_machine.proofs.Servers.{server_there, servers_set}
 use Rattle.law_run_machine.proofs.Consistent.{AllConsistent, served_is}

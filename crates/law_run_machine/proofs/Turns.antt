@@ -1,35 +1,12 @@
 -- One turn of an agent: what its request and its response make of the machine and of what it is doing.
-use Rattle.std.proofs.Common.{◌≡◌, ℕ, ◌+◌, Bool, true, false, cond, List, [], ◌∷◌, ◌++◌, Option, Some, None, is_some, refl, sym, ap, subst, ◌∙◌}
-use Rattle.std.specs.Prelude.{◌*◌, ◌==◌, ◌&&◌, ◌||◌}
-use Rattle.std.specs.Ordering.{nat_cmp}
-use Rattle.sorted_map.specs.SortedMap.{IsOrdered}
-use Rattle.suite_prefix.specs.declared.lock_mode.LockMode.TheVariants.{Shared}
-use Rattle.file_ops.specs.declared.service.Service.{Service}
-use Rattle.rep_core.specs.declared.lock.Lock.{Lock}
-use Rattle.rep_core.specs.declared.request.Request.{Request}
-use Rattle.rep_core.specs.declared.reply.Reply.{Reply}
+use Rattle.law_run_machine.proofs.Vocabulary.{◌≡◌, ℕ, ◌+◌, Bool, true, false, cond, List, [], ◌∷◌, ◌++◌, Option, Some, None, is_some, refl, sym, ap, subst, ◌∙◌, ◌*◌, ◌==◌, ◌&&◌, ◌||◌, nat_cmp, IsOrdered, Shared, Service, Lock, Request}
+use Rattle.law_run_machine.proofs.Vocabulary.{Reply, has_prepared, holds, Suites, told_at, Response, Replied, Lacked, Fixed, Proposal, TransactionRun, Sweeping, Listing, Resolving, Telling, Breaking, SweepRun, Doing, Running}
+use Rattle.law_run_machine.proofs.Vocabulary.{RunningSweep, After, GoesOn, Ends, home_of, request_of, sweep_on, others, Agent, Taken, Take, next_of, take_in, left, with_step, end_of, locks, says_held, Keeps, plus_all, all_keep}
+use Rattle.law_run_machine.proofs.Vocabulary.{exchange_of, Beginning, Change, World, Event, GiveUp, run, Obeys, ended_as, to_write, aim_of, aims_once, aims, gives_up, is_at_an_end, fixed_in, is_finishing, own_events}
 use Rattle.rep_core.specs.declared.reply.Reply.TheVariants as reply
 use Rattle.rep_core.specs.declared.reply.Verdict as replied
-use Rattle.rep_core.specs.Locks.{has_prepared}
-use Rattle.suite_collect.specs.Telling.{holds}
-use Rattle.txn_core.specs.Suites.{Suites, told_at}
-use Rattle.txn_core.specs.declared.response.Response.{Response}
-use Rattle.txn_core.specs.declared.response.Response.TheVariants.{Replied, Lacked}
-use Rattle.txn_core.specs.Doing.{Fixed, Proposal, TransactionRun, Sweeping, Listing, Resolving, Telling, Breaking, SweepRun, Doing, Running, RunningSweep, After, GoesOn, Ends, home_of}
 use Rattle.txn_core.specs.Transactions as txn_run
-use Rattle.txn_core.specs.Transactions.{request_of}
 use Rattle.txn_core.specs.Sweeps as sweep
-use Rattle.txn_core.specs.Sweeps.{sweep_on, others}
-use Rattle.txn_core.specs.Agents.{Agent, Taken, Take, next_of, take_in, left, with_step, end_of}
-use Rattle.txn_core.specs.Laws.{locks, says_held}
-use Rattle.txn_core.proofs.Locks.{Keeps, plus_all, all_keep}
-use Rattle.txn_core.specs.Laws.{exchange_of}
-use Rattle.law_suite_machine.specs.Registers.{Beginning, Change}
-use Rattle.law_suite_machine.specs.Machine.{World}
-use Rattle.law_suite_machine.specs.Events.{Event, GiveUp, run}
-use Rattle.law_suite_machine.specs.Conditions.{Obeys}
-use Rattle.law_server_moves.specs.Views.{ended_as}
-use Rattle.law_run_machine.specs.Deciding.{to_write, aim_of, aims_once, aims, gives_up, is_at_an_end, fixed_in, is_finishing, own_events}
 use Rattle.law_run_machine.proofs.Quiet.{Quiet, AreOf, of-append, quiet_all, quiet_on}
 use Rattle.law_run_machine.proofs.Own.{own_told}
 use Rattle.law_run_machine.proofs.Stages.{Leaves, Stage, StageLeft, does_response}

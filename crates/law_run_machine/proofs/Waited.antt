@@ -1,31 +1,12 @@
 -- In every run a transaction prepares at a server once: event by event.
-use Rattle.std.proofs.Common.{◌≡◌, inl, ℕ, ◌+◌, ◌<◌, ◌≤◌, Bool, true, false, cond, List, ◌∷◌, Option, Some, None, refl, sym, ap, subst, ◌∙◌}
-use Rattle.std.specs.Prelude.{◌*◌, slice_get, slice_set}
-use Rattle.std.proofs.lemmas.Option.{same_Some}
-use Rattle.suite_prefix.specs.SettingsRules.{Opening}
-use Rattle.rep_core.specs.declared.request.Request.{Request}
+use Rattle.law_run_machine.proofs.Vocabulary.{◌≡◌, inl, ℕ, ◌+◌, ◌<◌, ◌≤◌, Bool, true, false, cond, List, ◌∷◌, Option, Some, None, refl, sym, ap, subst, ◌∙◌, ◌*◌, slice_get, slice_set, same_Some, Opening, Request, Stamped, has_prepared}
+use Rattle.law_run_machine.proofs.Vocabulary.{State, is_prepare, reply_of, answer_of, is_full, served, Response, Replied, Lacked, Job, Fixed, Proposal, Preparing, TransactionRun, Doing, Running, RunningSweep, asked_now, Agent, fixed_of}
+use Rattle.law_run_machine.proofs.Vocabulary.{next_in, next_of, take, take_in, begin, forget, Begin, Step, Crash, Return, Forget, Lack, Actor, server_at, actor_at, answered, asks_at, asks, steps_once, lacks_for, lacks, operated}
+use Rattle.law_run_machine.proofs.Vocabulary.{operates, becomes, step, World, may_sweep, asks_in_its_name, asks_to_sweep, servers_of}
 use Rattle.rep_core.specs.declared.request.Request.TheVariants as request
 use Rattle.rep_core.specs.declared.stamped.Lack.TheVariants as lack
-use Rattle.rep_core.specs.declared.stamped.Stamped.{Stamped}
-use Rattle.rep_core.specs.Locks.{has_prepared}
-use Rattle.rep_core.specs.State.{State}
-use Rattle.rep_core.specs.Steps.{is_prepare}
-use Rattle.rep_core.specs.Service.{reply_of}
-use Rattle.rep_core.specs.Serving.{answer_of, is_full, served}
-use Rattle.txn_core.specs.declared.response.Response.{Response}
-use Rattle.txn_core.specs.declared.response.Response.TheVariants.{Replied, Lacked}
-use Rattle.txn_core.specs.declared.job.Job.{Job}
-use Rattle.txn_core.specs.Doing.{Fixed, Proposal, Preparing, TransactionRun, Doing, Running, RunningSweep}
-use Rattle.txn_core.specs.Sweeps.{asked_now}
-use Rattle.txn_core.specs.Agents.{Agent, fixed_of, next_in, next_of, take, take_in, begin, forget}
 use Rattle.run_core.specs.declared.event.Event as happening
-use Rattle.run_core.specs.declared.event.Event.TheVariants.{Begin, Step, Crash, Return, Forget, Lack}
 use Rattle.run_core.specs.Worlds as worlds
-use Rattle.run_core.specs.Worlds.{Actor, server_at, actor_at, answered, asks_at, asks, steps_once, lacks_for, lacks, operated, operates, becomes, step}
-use Rattle.law_suite_machine.specs.Machine.{World}
-use Rattle.law_runs.specs.Naming.{may_sweep}
-use Rattle.law_runs.proofs.Asking.{asks_in_its_name, asks_to_sweep}
-use Rattle.law_run_machine.specs.Machines.{servers_of}
 use Rattle.law_run_machine.proofs.Linked.{AllLinked, apart, later_apart, numbered_at}
 use Rattle.law_run_machine.proofs.Turned.{set_here, set_apart, same_or, take_same, numbered_of}
 use Rattle.law_run_machine.proofs.Waiting.{Keeps, keeps_same, keeps_served, Waits, waits_on, IsWaiting, Waiting, take_waiting, begin_waiting, named_prepare, swept_prepare}

@@ -1,45 +1,16 @@
 -- A transaction prepares at a server once: where it is to prepare, none of its locks is prepared there.
-use Rattle.std.proofs.Common.{◌≡◌, ◌⊎◌, inl, inr, ℕ, zero, suc, ◌+◌, ◌≤◌, Bool, true, false, cond, List, [], ◌∷◌, Option, Some, None, refl, sym, ap, subst, ◌∙◌, arith}
-use Rattle.std.specs.Prelude.{◌*◌, ◌==◌, ◌&&◌, filter, nat_lt}
-use Rattle.std.proofs.lemmas.Bool.{false≢true, and_parts}
-use Rattle.std.proofs.lemmas.Bool.Decides.{nat_tests}
-use Rattle.vote_core.specs.Validity.{max_servers}
-use Rattle.suite_prefix.specs.SettingsRules.{Opening}
-use Rattle.rep_core.specs.declared.lock.Lock.{Lock}
-use Rattle.rep_core.specs.declared.request.Request.{Request}
+use Rattle.law_run_machine.proofs.Vocabulary.{◌≡◌, ◌⊎◌, inl, inr, ℕ, zero, suc, ◌+◌, ◌≤◌, Bool, true, false, cond, List, [], ◌∷◌, Option, Some, None, refl, sym, ap, subst, ◌∙◌, arith, ◌*◌, ◌==◌, ◌&&◌, filter, nat_lt, false≢true}
+use Rattle.law_run_machine.proofs.Vocabulary.{and_parts, nat_tests, max_servers, Opening, Lock, Request, Stamped, is_prepared, has_prepared, State, is_prepare, WasPrepared, is_full, served, Has, has_from, contains_from, has_filter}
+use Rattle.law_run_machine.proofs.Vocabulary.{any_has, has_any, prepared_by_prepare, Cache, Suites, suite_of, has_locks, parts_at, Response, Replied, Lacked, Job, Transaction, Sweep, Cause, Lost, Ending, Undecided, Fixed, Task}
+use Rattle.law_run_machine.proofs.Vocabulary.{Proposal, Phase, Gathering, Fetching, Widening, Preparing, Deciding, Finishing, TransactionRun, SweepRun, Doing, Running, RunningSweep, After, GoesOn, Ends, execute, tell_end, give_up}
+use Rattle.law_run_machine.proofs.Vocabulary.{prepare, locked_at, numbers_from, lack_cause, after_response, request_in, changes_of, verdict_in, ending_by, cause_of_abort, Agent, next_in, take_in, begin, started, is_idle, has_sense}
+use Rattle.law_run_machine.proofs.Vocabulary.{max_jobs, left, asked_as, fetched_as, IsEarly, goes_response, goes_execute, server_at, with_server, at1, another, names, may_sweep, servers_of}
 use Rattle.rep_core.specs.declared.request.Request.TheVariants as request
 use Rattle.rep_core.specs.declared.reply.Verdict.{Verdict}
 use Rattle.rep_core.specs.declared.reply.Verdict.TheVariants as verdict
-use Rattle.rep_core.specs.declared.stamped.Stamped.{Stamped}
-use Rattle.rep_core.specs.Fits.{is_prepared}
-use Rattle.rep_core.specs.Locks.{has_prepared}
-use Rattle.rep_core.specs.State.{State}
-use Rattle.rep_core.specs.Steps.{is_prepare, WasPrepared}
-use Rattle.rep_core.specs.Serving.{is_full, served, step}
-use Rattle.rep_core.proofs.Members.{Has, has_from, contains_from, has_filter, any_has, has_any}
-use Rattle.rep_core.proofs.PreparedLocks.{prepared_by_prepare}
-use Rattle.weak_cache.specs.Entries.{Cache}
-use Rattle.txn_core.specs.Suites.{Suites, suite_of, has_locks}
-use Rattle.txn_core.specs.Writing.{parts_at}
-use Rattle.txn_core.specs.declared.response.Response.{Response}
-use Rattle.txn_core.specs.declared.response.Response.TheVariants.{Replied, Lacked}
-use Rattle.txn_core.specs.declared.job.Job.{Job}
-use Rattle.txn_core.specs.declared.job.Job.TheVariants.{Transaction, Sweep}
-use Rattle.txn_core.specs.declared.ending.Cause.{Cause}
-use Rattle.txn_core.specs.declared.ending.Cause.TheVariants.{Lost}
-use Rattle.txn_core.specs.declared.ending.Ending.{Ending}
-use Rattle.txn_core.specs.declared.ending.Ending.TheVariants.{Undecided}
-use Rattle.txn_core.specs.Doing.{Fixed, Task, Proposal, Phase, Gathering, Fetching, Widening, Preparing, Deciding, Finishing, TransactionRun, SweepRun, Doing, Running, RunningSweep, After, GoesOn, Ends}
-use Rattle.txn_core.specs.Transactions.{execute, tell_end, give_up, prepare, locked_at, numbers_from, lack_cause, after_response, request_in, changes_of, verdict_in, ending_by, cause_of_abort}
+use Rattle.rep_core.specs.Serving.{step}
 use Rattle.txn_core.specs.Sweeps as sweep
-use Rattle.txn_core.specs.Agents.{Agent, next_in, take_in, begin, started, is_idle, has_sense, max_jobs, left}
-use Rattle.txn_core.proofs.Asks.{asked_as, fetched_as}
-use Rattle.txn_core.proofs.Walk.{IsEarly, goes_response, goes_execute}
 use Rattle.run_core.specs.Worlds as worlds
-use Rattle.run_core.specs.Worlds.{server_at, with_server}
-use Rattle.law_suite_machine.proofs.Places.{at1, another}
-use Rattle.law_runs.specs.Naming.{names, may_sweep}
-use Rattle.law_run_machine.specs.Machines.{servers_of}
 use Rattle.law_run_machine.proofs.Servers.{server_there, servers_set}
 use Rattle.law_run_machine.proofs.Consistent.{served_is}
 

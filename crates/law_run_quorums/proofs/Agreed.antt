@@ -1,23 +1,9 @@
 -- In every run collectors hold what machines told: event by event.
-use Rattle.std.proofs.Common.{◌≡◌, ℕ, ◌+◌, ◌<◌, List, Option, Some, None, refl, sym, ap, subst, ◌∙◌, arith}
-use Rattle.std.specs.Prelude.{◌*◌, slice_get, slice_set}
-use Rattle.std.proofs.lemmas.Option.{same_Some}
-use Rattle.rep_core.specs.declared.request.Request.{Request}
+use Rattle.law_run_quorums.proofs.Vocabulary.{◌≡◌, ℕ, ◌+◌, ◌<◌, List, Option, Some, None, refl, sym, ap, subst, ◌∙◌, arith, ◌*◌, slice_get, slice_set, same_Some, Request, told_at, Response, Fixed, TransactionRun, Doing, Running}
+use Rattle.law_run_quorums.proofs.Vocabulary.{RunningSweep, After, GoesOn, Ends, after_response, request_of, Agent, next_in, take_in, left, Leaves, heard_by, hears_response, Actor, actor_at, World, Quiet, InCourse, IsDoing, AllLinked}
+use Rattle.law_run_quorums.proofs.Vocabulary.{numbered_at, Others, set_here, set_apart, same_or, told_to, Agrees, DoingAgrees, AllAgree}
 use Rattle.suite_collect.specs.declared.told.Told as collect
-use Rattle.txn_core.specs.Suites.{told_at}
-use Rattle.txn_core.specs.declared.response.Response.{Response}
-use Rattle.txn_core.specs.Doing.{Fixed, TransactionRun, Doing, Running, RunningSweep, After, GoesOn, Ends}
-use Rattle.txn_core.specs.Transactions.{after_response, request_of}
-use Rattle.txn_core.specs.Agents.{Agent, next_in, take_in, left}
-use Rattle.txn_core.proofs.ToldLists.{Leaves, heard_by, hears_response}
 use Rattle.run_core.specs.Worlds as worlds
-use Rattle.run_core.specs.Worlds.{Actor, actor_at}
-use Rattle.law_suite_machine.specs.Machine.{World}
-use Rattle.law_run_machine.proofs.Quiet.{Quiet}
-use Rattle.law_run_machine.proofs.Linked.{InCourse, IsDoing, AllLinked, numbered_at}
-use Rattle.law_run_machine.proofs.Turned.{Others, set_here, set_apart, same_or}
-use Rattle.law_run_machine.specs.Telling.{told_to}
-use Rattle.law_run_quorums.specs.Telling.{Agrees, DoingAgrees, AllAgree}
 
 -- ---- what others do leaves it
 

@@ -1,31 +1,9 @@
 -- What a transaction knows of a suite, it knows from a quorum.
-use Rattle.std.proofs.Common.{◌≡◌, ℕ, ◌<◌, ◌≤◌, Bool, true, false, cond, ◌⊎◌, inl, inr, List, [], ◌∷◌, ◌++◌, Option, Some, refl, sym, ap, subst, ◌∙◌, arith}
-use Rattle.std.specs.Prelude.{◌==◌, ◌&&◌, ◌||◌, nat_lt, nat_le, max}
-use Rattle.std.proofs.lemmas.Bool.{false≢true, eqb-true}
-use Rattle.std.proofs.lemmas.Bool.Decides.{nat_tests}
-use Rattle.vote_core.specs.Quorums.{Representative, Configuration, votes_in}
-use Rattle.vote_core.specs.Validity.{IsValid}
-use Rattle.suite_prefix.specs.declared.copies.Prefix.{Prefix}
-use Rattle.suite_prefix.specs.declared.lock_mode.LockMode.{LockMode}
-use Rattle.suite_prefix.specs.declared.lock_mode.LockMode.TheVariants.{Shared, Exclusive}
-use Rattle.suite_prefix.specs.LockModes.{serves}
-use Rattle.suite_collect.specs.declared.told.Said.{Said}
-use Rattle.suite_collect.specs.declared.told.Said.TheVariants.{Held, Busy, Down}
+use Rattle.law_run_quorums.proofs.Vocabulary.{◌≡◌, ℕ, ◌<◌, ◌≤◌, Bool, true, false, cond, ◌⊎◌, inl, inr, List, [], ◌∷◌, ◌++◌, Option, Some, refl, sym, ap, subst, ◌∙◌, arith, ◌==◌, ◌&&◌, ◌||◌, nat_lt, nat_le, max, false≢true, eqb-true}
+use Rattle.law_run_quorums.proofs.Vocabulary.{nat_tests, Representative, Configuration, votes_in, IsValid, Prefix, LockMode, Shared, Exclusive, serves, Said, Held, Busy, Down, is_held, newer, newest, holds, version_in, shown, greatest}
+use Rattle.law_run_quorums.proofs.Vocabulary.{Collector, all_told, needed_of, among, IsCurrent, gives_of, current_is_a_quorum, some_needed, ReadPoint, GatheredSuite, votes_more, Beginning, Known, WasPrefix, Told, World, IsQuorum, Inv}
+use Rattle.law_run_quorums.proofs.Vocabulary.{showed, known_by, told_to, ToldOf, SaidIs, AreTold, FirstFrom, early_collector, KnowsFromAQuorum}
 use Rattle.suite_collect.specs.declared.told.Told as collect
-use Rattle.suite_collect.specs.Telling.{is_held, newer, newest, holds, version_in, shown, greatest}
-use Rattle.suite_collect.specs.Collecting.{Collector, all_told, needed_of}
-use Rattle.suite_collect.specs.Laws.{among, IsCurrent}
-use Rattle.suite_collect.proofs.Collected.{gives_of, current_is_a_quorum}
-use Rattle.suite_collect.proofs.Sources.{some_needed}
-use Rattle.txn_core.specs.Suites.{ReadPoint, GatheredSuite}
-use Rattle.txn_core.proofs.SuiteQuorums.{votes_more}
-use Rattle.law_suite_machine.specs.Registers.{Beginning, Known, WasPrefix}
-use Rattle.law_suite_machine.specs.Machine.{Told, World, IsQuorum}
-use Rattle.law_suite_machine.proofs.Invariant.{Inv}
-use Rattle.law_run_machine.specs.Deciding.{showed, known_by}
-use Rattle.law_run_machine.specs.Telling.{told_to, ToldOf, SaidIs, AreTold}
-use Rattle.law_run_quorums.specs.Firsts.{FirstFrom, early_collector}
-use Rattle.law_run_quorums.specs.Laws.{KnowsFromAQuorum}
 
 -- ---- what a server showed
 

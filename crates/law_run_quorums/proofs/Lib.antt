@@ -1,3 +1,4 @@
+mod Vocabulary
 pub mod Served
 pub mod Known
 pub mod Written

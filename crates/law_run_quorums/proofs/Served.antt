@@ -1,42 +1,13 @@
 -- What a request that is served makes of the machine's telling, and of the collector's list.
-use Rattle.std.proofs.Common.{◌≡◌, ℕ, Bool, true, false, cond, List, [], ◌∷◌, Option, Some, None, is_some, refl, sym, ap, subst, ◌∙◌, arith}
-use Rattle.std.specs.Prelude.{◌==◌, ◌&&◌, ◌||◌}
-use Rattle.std.proofs.lemmas.Bool.{false≢true, eqb-true}
-use Rattle.std.proofs.lemmas.Bool.Decides.{nat_tests}
-use Rattle.suite_prefix.specs.declared.copies.Prefix.{Prefix}
-use Rattle.suite_prefix.specs.declared.copies.Replica.{Replica}
-use Rattle.suite_prefix.specs.declared.lock_mode.LockMode.{LockMode}
-use Rattle.suite_prefix.specs.declared.lock_mode.LockMode.TheVariants.{Shared, Exclusive}
+use Rattle.law_run_quorums.proofs.Vocabulary.{◌≡◌, ℕ, Bool, true, false, cond, List, [], ◌∷◌, Option, Some, None, is_some, refl, sym, ap, subst, ◌∙◌, arith, ◌==◌, ◌&&◌, ◌||◌, false≢true, eqb-true, nat_tests, Prefix, Replica, LockMode}
+use Rattle.law_run_quorums.proofs.Vocabulary.{Shared, Exclusive, serves, Part, Request, Reply, Lack, Said, Held, Busy, Down, is_held, holds, mode_of, Replied, Lacked, more_told, told_by, locks, is_poll, said_to, serves_shared, heard_by}
+use Rattle.law_run_quorums.proofs.Vocabulary.{Beginning, Told, Hold, Verdict, World, set2, Event, Overrule, happens, run, upgraded_told, is_exclusive, Obeys, at2, one_is, itself, Sound, prepare_of, first_verdict, moves, TellsCopy}
+use Rattle.law_run_quorums.proofs.Vocabulary.{Tells, names, told_to, ToldOf, SaidIs, AreTold, Agrees}
 use Rattle.suite_prefix.specs.LockModes as modes
-use Rattle.suite_prefix.specs.LockModes.{serves}
-use Rattle.rep_core.specs.declared.request.Part.{Part}
-use Rattle.rep_core.specs.declared.request.Request.{Request}
 use Rattle.rep_core.specs.declared.request.Request.TheVariants as request
-use Rattle.rep_core.specs.declared.reply.Reply.{Reply}
-use Rattle.rep_core.specs.declared.stamped.Lack.{Lack}
 use Rattle.rep_core.specs.declared.reply.Reply.TheVariants as reply
-use Rattle.suite_collect.specs.declared.told.Said.{Said}
-use Rattle.suite_collect.specs.declared.told.Said.TheVariants.{Held, Busy, Down}
 use Rattle.suite_collect.specs.declared.told.Told as collect
-use Rattle.suite_collect.specs.Telling.{is_held, holds}
-use Rattle.suite_collect.specs.Collecting.{mode_of}
-use Rattle.txn_core.specs.declared.response.Response.TheVariants.{Replied, Lacked}
-use Rattle.txn_core.specs.Laws.{more_told, told_by, locks}
-use Rattle.txn_core.specs.Transactions.{is_poll, said_to}
-use Rattle.txn_core.proofs.Locks.{serves_shared}
-use Rattle.txn_core.proofs.ToldLists.{heard_by}
-use Rattle.law_suite_machine.specs.Registers.{Beginning}
-use Rattle.law_suite_machine.specs.Machine.{Told, Hold, Verdict, World, set2}
 use Rattle.law_suite_machine.specs.Events as machine
-use Rattle.law_suite_machine.specs.Events.{Event, Overrule, happens, run, upgraded_told}
-use Rattle.law_suite_machine.specs.Conditions.{is_exclusive, Obeys}
-use Rattle.law_suite_machine.proofs.Places.{at2, one_is, itself}
-use Rattle.law_suite_machine.proofs.Sound.{Sound}
-use Rattle.law_server_moves.specs.Moves.{prepare_of, first_verdict, moves}
-use Rattle.law_server_moves.specs.Laws.{TellsCopy, Tells}
-use Rattle.law_runs.specs.Naming.{names}
-use Rattle.law_run_machine.specs.Telling.{told_to, ToldOf, SaidIs, AreTold}
-use Rattle.law_run_quorums.specs.Telling.{Agrees}
 
 -- ---- a list of what was told
 

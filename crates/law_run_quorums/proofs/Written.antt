@@ -1,31 +1,11 @@
 -- What a transaction writes to a suite covers enough servers.
-use Rattle.std.proofs.Common.{◌≡◌, ℕ, ◌+◌, ◌<◌, ◌≤◌, Bool, IsTrue, true, false, cond, ◌⊎◌, inl, inr, List, [], ◌∷◌, Option, Some, None, refl, sym, ap, subst, ◌∙◌, arith}
-use Rattle.std.specs.Prelude.{◌==◌, ◌&&◌, ◌||◌, nat_lt, is_some}
-use Rattle.std.proofs.lemmas.Bool.{false≢true}
-use Rattle.std.proofs.lemmas.Bool.Decides.{nat_tests}
-use Rattle.std.proofs.lemmas.Option.{same_Some}
-use Rattle.std.specs.List.{list_any}
-use Rattle.vote_core.specs.Quorums.{Representative, votes_at, is_write_quorum}
-use Rattle.suite_prefix.specs.declared.copies.Replica.{Replica}
+use Rattle.law_run_quorums.proofs.Vocabulary.{◌≡◌, ℕ, ◌+◌, ◌<◌, ◌≤◌, Bool, IsTrue, true, false, cond, ◌⊎◌, inl, inr, List, [], ◌∷◌, Option, Some, None, refl, sym, ap, subst, ◌∙◌, arith, ◌==◌, ◌&&◌, ◌||◌, nat_lt, is_some, false≢true}
+use Rattle.law_run_quorums.proofs.Vocabulary.{nat_tests, same_Some, list_any, Representative, votes_at, is_write_quorum, Replica, all_told, ReadPoint, GatheredSuite, change_of, gets_votes, sets_prefix, new_prefix, new_copy, one_if}
+use Rattle.law_run_quorums.proofs.Vocabulary.{has_vote, takes_whole, take_of_changed, take_from, part_of, Changes, votes_then, newest_of, IsReady, Beginning, Change, WasPrefix, World, holds_exclusively, CoversPrefix, KeepsContent}
+use Rattle.law_run_quorums.proofs.Vocabulary.{CoversContent, left_of, known_by, change_to, OwesKnown, OwesWritten, told_to, Agrees, IsFair, PreparedPart, WritesToQuorums}
 use Rattle.file_exec.specs.declared.changes.Change as executor
 use Rattle.rep_core.specs.declared.request.Take.TheVariants as take
-use Rattle.suite_collect.specs.Collecting.{all_told}
-use Rattle.txn_core.specs.Suites.{ReadPoint, GatheredSuite}
 use Rattle.txn_core.specs.Suites as suites
-use Rattle.txn_core.specs.Writing.{change_of, gets_votes, sets_prefix, new_prefix, new_copy, one_if, has_vote, takes_whole, take_of_changed, take_from, part_of}
-use Rattle.txn_core.specs.Doing.{Changes}
-use Rattle.txn_core.specs.Transactions.{votes_then}
-use Rattle.txn_core.specs.Laws.{newest_of, IsReady}
-use Rattle.law_suite_machine.specs.Registers.{Beginning, Change, WasPrefix}
-use Rattle.law_suite_machine.specs.Machine.{World}
-use Rattle.law_suite_machine.specs.Conditions.{holds_exclusively, CoversPrefix, KeepsContent, CoversContent}
-use Rattle.law_server_moves.specs.Preparing.{left_of}
-use Rattle.law_run_machine.specs.Deciding.{known_by, change_to}
-use Rattle.law_run_machine.specs.Owed.{OwesKnown, OwesWritten}
-use Rattle.law_run_machine.specs.Telling.{told_to}
-use Rattle.law_run_quorums.specs.Telling.{Agrees}
-use Rattle.law_run_quorums.specs.Fairness.{IsFair, PreparedPart}
-use Rattle.law_run_quorums.specs.Laws.{WritesToQuorums}
 
 same_set : (w : World) (t : ℕ) (suite : GatheredSuite) → Agrees (told_to w t) (all_told suite.collector) → suites.holds_exclusively suite ≡ holds_exclusively w t
 same_set w t suite agrees = λ n i. sym (agrees.exclusive i) n

@@ -1,34 +1,9 @@
 -- A transaction that is begun again and again where its votes are up: one of as many tries as there are servers is decided.
-use Rattle.std.proofs.Common.{◌≡◌, inl, inr, ⊎_elim, ℕ, zero, suc, ◌+◌, ◌<◌, Bool, true, false, cond, List, [], ◌∷◌, ◌++◌, append_assoc, length, Option, Some, None, is_some, refl, sym, ap, subst, ◌∙◌, arith}
-use Rattle.std.specs.Prelude.{◌*◌, ◌&&◌, nat_lt, slice_get, option_map}
-use Rattle.std.proofs.lemmas.Bool.{false≢true, and_parts}
-use Rattle.std.proofs.lemmas.Option.{slice_get_within}
-use Rattle.acl_core.specs.Identity.{Identity}
-use Rattle.suite_prefix.specs.SettingsRules.{Opening}
-use Rattle.rep_core.specs.State.{State}
-use Rattle.rep_core.proofs.Members.{Has, has_from, any_has, contains_from}
-use Rattle.file_ops.specs.declared.operation.Op.{Op}
-use Rattle.txn_core.specs.declared.job.Job.{Job}
-use Rattle.txn_core.specs.declared.job.Job.TheVariants.{Transaction}
-use Rattle.txn_core.specs.Doing.{Fixed, home_of}
-use Rattle.txn_core.specs.Agents.{fixed_of, is_idle, has_sense, max_jobs}
-use Rattle.run_core.specs.declared.event.Event.{Event}
-use Rattle.run_core.specs.declared.event.Event.TheVariants.{Begin}
-use Rattle.run_core.specs.Worlds.{Actor, World, actor_at, has_no_job, opening, step}
-use Rattle.run_core.specs.Runs.{after, dones, outcomes, run}
-use Rattle.run_core.specs.TableOfRun.{table_of}
+use Rattle.law_run_recovers.proofs.Vocabulary.{◌≡◌, inl, inr, ⊎_elim, ℕ, zero, suc, ◌+◌, ◌<◌, Bool, true, false, cond, List, [], ◌∷◌, ◌++◌, append_assoc, length, Option, Some, None, is_some, refl, sym, ap, subst, ◌∙◌, arith, ◌*◌, ◌&&◌}
+use Rattle.law_run_recovers.proofs.Vocabulary.{nat_lt, slice_get, option_map, false≢true, and_parts, slice_get_within, Identity, Opening, State, Has, has_from, any_has, contains_from, Op, Job, Transaction, Fixed, home_of, fixed_of}
+use Rattle.law_run_recovers.proofs.Vocabulary.{is_idle, has_sense, max_jobs, Event, Begin, Actor, World, actor_at, has_no_job, opening, step, after, dones, outcomes, run, table_of, dones-append, outcomes-append, begins_now, so_many}
+use Rattle.law_run_recovers.proofs.Vocabulary.{CanBe, begins_job, can_front, with_job, up_in, is_up, up_free, unhindered_from, VotesAreUp, GoesAlone, again, goes_again, OneIsDecided, OneOfThemIsDecided}
 use Rattle.run_core.proofs.Appending as appending
-use Rattle.run_core.proofs.Appending.{dones-append, outcomes-append}
-use Rattle.law_runs.specs.Numbers.{begins_now}
-use Rattle.law_runs.proofs.Lengths.{so_many}
-use Rattle.law_headline.specs.Premises.{CanBe}
-use Rattle.law_run_alone.specs.Alone.{begins_job}
-use Rattle.law_run_alone.proofs.Reached.{can_front}
-use Rattle.law_run_alone.proofs.Turns.{with_job}
-use Rattle.law_run_recovers.specs.Standing.{up_in, is_up, up_free}
-use Rattle.law_run_recovers.specs.Alone.{unhindered_from}
-use Rattle.law_run_recovers.specs.Demands.{VotesAreUp}
-use Rattle.law_run_recovers.specs.Laws.{GoesAlone, again, goes_again, OneIsDecided, OneOfThemIsDecided}
 use Rattle.law_run_recovers.proofs.Homes.{homes_go_round}
 use Rattle.law_run_recovers.proofs.AmongOver.{has_after}
 use Rattle.law_run_recovers.proofs.Tries.{ends_decided, Left, left_so}

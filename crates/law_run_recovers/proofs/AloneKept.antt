@@ -1,45 +1,13 @@
 -- What a transaction that goes alone leaves where its home was down: nothing is decided, and stored copies are as they were; servers are up that were.
-use Rattle.std.proofs.Common.{◌≡◌, inl, ℕ, suc, ◌+◌, Bool, true, false, List, [], ◌∷◌, ◌++◌, append-nil, length, Option, Some, None, refl, sym, ap, subst, ◌∙◌}
-use Rattle.std.specs.Prelude.{◌*◌, ◌==◌, ◌&&◌, ◌||◌, not, slice_get, Contains}
-use Rattle.std.specs.List.{list_all}
-use Rattle.std.proofs.lemmas.Bool.{false≢true, and_parts, eqb-true}
-use Rattle.std.proofs.lemmas.Option.{same_Some}
-use Rattle.acl_core.specs.Identity.{Identity}
-use Rattle.suite_prefix.specs.SettingsRules.{Opening}
-use Rattle.suite_prefix.specs.declared.copies.Replica.{Replica}
-use Rattle.rep_core.specs.declared.lock.Lock.{Lock}
-use Rattle.rep_core.specs.declared.request.Request.{Request}
+use Rattle.law_run_recovers.proofs.Vocabulary.{◌≡◌, inl, ℕ, suc, ◌+◌, Bool, true, false, List, [], ◌∷◌, ◌++◌, append-nil, length, Option, Some, None, refl, sym, ap, subst, ◌∙◌, ◌*◌, ◌==◌, ◌&&◌, ◌||◌, not, slice_get, Contains, list_all}
+use Rattle.law_run_recovers.proofs.Vocabulary.{false≢true, and_parts, eqb-true, same_Some, Identity, Opening, Replica, Lock, Request, Verdict, is_answered, copy_of, State, Has, has_from, Op, Transaction, home_of, fixed_of, next_of}
+use Rattle.law_run_recovers.proofs.Vocabulary.{Event, Begin, Step, Crash, Return, Forget, Lack, Actor, World, server_at, actor_at, step, run, decisions, decisions_from, table_of, table_after_all, decisions_from-append, EndedSo, names}
+use Rattle.law_run_recovers.proofs.Vocabulary.{finish_is_after, so_many, IsOwnAt, names_mine, AllAt, MayAsk, asks_servers, up_in, is_up, up_free, locks_in, shown_in, shown_at, hinders, unhindered_from, GoesAlone, begun_world}
+use Rattle.law_run_recovers.proofs.Vocabulary.{world_after}
 use Rattle.rep_core.specs.declared.request.Request.TheVariants as request
-use Rattle.rep_core.specs.declared.reply.Verdict.{Verdict}
 use Rattle.rep_core.specs.declared.reply.Verdict.TheVariants as verdict
-use Rattle.rep_core.specs.Service.{is_answered}
-use Rattle.rep_core.specs.Store.{copy_of}
-use Rattle.rep_core.specs.State.{State}
-use Rattle.rep_core.proofs.Members.{Has, has_from}
 use Rattle.file_ops.specs.Rows as rows
-use Rattle.file_ops.specs.declared.operation.Op.{Op}
-use Rattle.txn_core.specs.declared.job.Job.TheVariants.{Transaction}
-use Rattle.txn_core.specs.Doing.{home_of}
-use Rattle.txn_core.specs.Agents.{fixed_of, next_of}
-use Rattle.run_core.specs.declared.event.Event.{Event}
-use Rattle.run_core.specs.declared.event.Event.TheVariants.{Begin, Step, Crash, Return, Forget, Lack}
-use Rattle.run_core.specs.Worlds.{Actor, World, server_at, actor_at, step}
-use Rattle.run_core.specs.Runs.{run}
-use Rattle.run_core.specs.Decisions.{decisions, decisions_from}
-use Rattle.run_core.specs.TableOfRun.{table_of, table_after_all}
-use Rattle.run_core.proofs.Appending.{decisions_from-append}
-use Rattle.law_runs.specs.Finishes.{EndedSo}
-use Rattle.law_runs.specs.Naming.{names}
-use Rattle.law_runs.proofs.Finishes.{finish_is_after}
-use Rattle.law_runs.proofs.Lengths.{so_many}
 use Rattle.law_run_alone.proofs.Goes as alone
-use Rattle.law_run_alone.proofs.Own.{IsOwnAt}
-use Rattle.law_run_alone.proofs.Owns.{names_mine}
-use Rattle.law_run_alone.proofs.Walks.{AllAt, MayAsk, asks_servers}
-use Rattle.law_run_recovers.specs.Standing.{up_in, is_up, up_free, locks_in, shown_in, shown_at}
-use Rattle.law_run_recovers.specs.Alone.{hinders, unhindered_from}
-use Rattle.law_run_recovers.specs.Laws.{GoesAlone}
-use Rattle.law_run_recovers.specs.Unmet.{begun_world, world_after}
 use Rattle.law_run_recovers.proofs.AmongAt.{can_so_far}
 use Rattle.law_run_recovers.proofs.AmongEnds.{Over}
 use Rattle.law_run_recovers.proofs.AmongLeft.{HasNone, none_left}

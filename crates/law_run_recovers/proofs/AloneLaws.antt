@@ -1,17 +1,5 @@
 -- What is promised to a transaction that goes alone: it is met by nobody, and each job of its agent that ends from then on is it.
-use Rattle.std.proofs.Common.{◌≡◌, ℕ, List}
-use Rattle.std.specs.Prelude.{Contains}
-use Rattle.acl_core.specs.Identity.{Identity}
-use Rattle.suite_prefix.specs.SettingsRules.{Opening}
-use Rattle.file_ops.specs.declared.operation.Op.{Op}
-use Rattle.txn_core.specs.Agents.{fixed_of}
-use Rattle.run_core.specs.declared.event.Event.{Event}
-use Rattle.run_core.specs.declared.done.EndedJob.{EndedJob}
-use Rattle.run_core.specs.Worlds.{Actor}
-use Rattle.run_core.specs.Runs.{dones, outcomes}
-use Rattle.law_run_recovers.specs.Laws.{GoesAlone, EndsAreByVotes, EndsInTime, DecidedWhereVotesAre}
-use Rattle.law_run_recovers.specs.Local.{EndsThen}
-use Rattle.law_run_recovers.specs.Unmet.{begun_world}
+use Rattle.law_run_recovers.proofs.Vocabulary.{◌≡◌, ℕ, List, Contains, Identity, Opening, Op, fixed_of, Event, EndedJob, Actor, dones, outcomes, GoesAlone, EndsAreByVotes, EndsInTime, DecidedWhereVotesAre, EndsThen, begun_world}
 use Rattle.law_run_recovers.proofs.AmongOver.{ended_own}
 use Rattle.law_run_recovers.proofs.AmongTime.{unmet_end_in_time}
 use Rattle.law_run_recovers.proofs.HadVotes.{its_number}

@@ -1,30 +1,10 @@
 -- What a transaction that goes steadily asks for next is of what it asks for on the table as it began.
-use Rattle.std.proofs.Common.{◌≡◌, inl, ℕ, List, [], ◌∷◌, Some, refl, sym, ap, subst, ◌∙◌}
-use Rattle.std.specs.Prelude.{Contains}
-use Rattle.std.proofs.lemmas.Option.{none-some}
-use Rattle.acl_core.specs.Identity.{Identity}
-use Rattle.vote_core.specs.Quorums.{Configuration}
-use Rattle.suite_prefix.specs.SettingsRules.{Opening}
-use Rattle.suite_prefix.specs.declared.lock_mode.LockMode.{LockMode}
-use Rattle.suite_prefix.specs.declared.lock_mode.LockMode.TheVariants.{Exclusive}
-use Rattle.file_ops.specs.declared.operation.Op.{Op}
-use Rattle.rep_core.specs.declared.request.Request.{Request}
+use Rattle.law_run_recovers.proofs.Vocabulary.{◌≡◌, inl, ℕ, List, [], ◌∷◌, Some, refl, sym, ap, subst, ◌∙◌, Contains, none-some, Identity, Configuration, Opening, LockMode, Exclusive, Op, Request, Has, contains_from, Collector, Asked}
+use Rattle.law_run_recovers.proofs.Vocabulary.{Poll, Upgrade, wanted, request_for, mode_asked, Cache, Suites, suite_of, parts_at, Task, Granted, Phase, Gathering, Fetching, Preparing, Deciding, Finishing, home_of, asked_for, changes_of}
+use Rattle.law_run_recovers.proofs.Vocabulary.{decision_of, request_in, fixed_of, asks_same, Event, Actor, table_of, locks_asked, votes_set, asks_for}
 use Rattle.rep_core.specs.declared.request.Request.TheVariants as request
-use Rattle.rep_core.proofs.Members.{Has, contains_from}
-use Rattle.suite_collect.specs.Collecting.{Collector, Asked, Poll, Upgrade, wanted, mode_or, request_for, mode_asked}
-use Rattle.weak_cache.specs.Entries.{Cache}
-use Rattle.txn_core.specs.Suites.{Suites, suite_of}
-use Rattle.txn_core.specs.Writing.{parts_at}
+use Rattle.suite_collect.specs.Collecting.{mode_or}
 use Rattle.txn_core.specs.Doing as doing
-use Rattle.txn_core.specs.Doing.{Task, Granted, Phase, Gathering, Fetching, Preparing, Deciding, Finishing, home_of}
-use Rattle.txn_core.specs.Transactions.{asked_for, changes_of, decision_of, request_in}
-use Rattle.txn_core.specs.Agents.{fixed_of}
-use Rattle.txn_core.proofs.Asks.{asks_same}
-use Rattle.run_core.specs.declared.event.Event.{Event}
-use Rattle.run_core.specs.Worlds.{Actor}
-use Rattle.run_core.specs.TableOfRun.{table_of}
-use Rattle.law_run_recovers.specs.Demands.{locks_asked, votes_set}
-use Rattle.law_run_recovers.specs.Near.{asks_for}
 use Rattle.law_run_recovers.proofs.Steady.{GoesSteadily}
 use Rattle.law_run_recovers.proofs.Asked.{onto_left, onto_so_far, asked_exclusive, next_mode}
 use Rattle.law_run_recovers.proofs.Asking.{onto}

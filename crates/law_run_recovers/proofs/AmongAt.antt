@@ -1,43 +1,13 @@
 -- What a transaction that goes steadily is replied, at a moment before its end is fixed.
-use Rattle.std.proofs.Common.{◌≡◌, ℕ, Bool, true, false, cond, List, [], ◌∷◌, ◌++◌, append_assoc, append-nil, Option, Some, None, is_some, refl, sym, ap, subst, ◌∙◌, arith}
-use Rattle.std.specs.Prelude.{◌==◌, ◌&&◌, ◌||◌, Contains}
-use Rattle.std.specs.List.{list_any}
-use Rattle.std.proofs.lemmas.Bool.{false≢true, and_parts, and_from, eq-eqb}
-use Rattle.std.proofs.lemmas.Bool.Decides.{nat_tests}
-use Rattle.acl_core.specs.Identity.{Identity}
-use Rattle.suite_prefix.specs.SettingsRules.{Opening}
-use Rattle.suite_prefix.specs.declared.lock_mode.LockMode.{LockMode}
-use Rattle.file_ops.specs.declared.operation.Op.{Op}
+use Rattle.law_run_recovers.proofs.Vocabulary.{◌≡◌, ℕ, Bool, true, false, cond, List, [], ◌∷◌, ◌++◌, append_assoc, append-nil, Option, Some, None, is_some, refl, sym, ap, subst, ◌∙◌, arith, ◌==◌, ◌&&◌, ◌||◌, Contains, list_any}
+use Rattle.law_run_recovers.proofs.Vocabulary.{false≢true, and_parts, and_from, eq-eqb, nat_tests, Identity, Opening, LockMode, Op, Decision, Part, Request, is_prepared, has_lock, copy_of, State, reply_of, reply_up, reply_down}
+use Rattle.law_run_recovers.proofs.Vocabulary.{stands_prepared, can_prepare, recorded, verdict_of, Has, has_any, has_from, Asked, Upgrade, request_for, mode_asked, Poll, Transaction, TransactionRun, Running, given_in, stands_on_locks}
+use Rattle.law_run_recovers.proofs.Vocabulary.{fixed_of, next_of, Event, Begin, Step, Actor, World, server_at, actor_at, run, CanBe, replies_down, can_front, Finds, up_in, is_up, shown_in, shown_at, locks_in, locks_at, asks_for}
+use Rattle.law_run_recovers.proofs.Vocabulary.{is_open_way, is_open_at, way_in, way_at, world_after, robs, hinders_itself, SameWay, bereaves, shows_same, told_as_first}
 use Rattle.rep_core.specs.declared.reply.Reply.TheVariants as reply
-use Rattle.rep_core.specs.declared.request.Decision.{Decision}
-use Rattle.rep_core.specs.declared.request.Part.{Part}
-use Rattle.rep_core.specs.declared.request.Request.{Request}
 use Rattle.rep_core.specs.declared.request.Request.TheVariants as request
-use Rattle.rep_core.specs.Fits.{is_prepared}
-use Rattle.rep_core.specs.Locks.{has_lock}
-use Rattle.rep_core.specs.Store.{copy_of}
-use Rattle.rep_core.specs.State.{State}
-use Rattle.rep_core.specs.Service.{reply_of, reply_up, reply_down, given as gives, stands_prepared, can_prepare, recorded, verdict_of}
-use Rattle.rep_core.proofs.Members.{Has, has_any, has_from}
-use Rattle.suite_collect.specs.Collecting.{Asked, Upgrade, request_for, mode_asked, Poll}
-use Rattle.txn_core.specs.declared.job.Job.TheVariants.{Transaction}
-use Rattle.txn_core.specs.Doing.{TransactionRun, Running}
-use Rattle.txn_core.specs.Transactions.{given_in}
-use Rattle.txn_core.specs.Undecided.{stands_on_locks}
-use Rattle.txn_core.specs.Agents.{fixed_of, next_of}
-use Rattle.run_core.specs.declared.event.Event.{Event}
-use Rattle.run_core.specs.declared.event.Event.TheVariants.{Begin, Step}
-use Rattle.run_core.specs.Worlds.{Actor, World, server_at, actor_at}
-use Rattle.run_core.specs.Runs.{run}
-use Rattle.law_headline.specs.Premises.{CanBe}
-use Rattle.law_run_alone.proofs.Own.{replies_down}
-use Rattle.law_run_alone.proofs.Reached.{can_front}
-use Rattle.law_run_alone.proofs.Requests.{Finds}
-use Rattle.law_run_recovers.specs.Standing.{up_in, is_up, shown_in, shown_at, locks_in, locks_at}
-use Rattle.law_run_recovers.specs.Near.{asks_for, is_open_way, is_open_at, way_in, way_at}
-use Rattle.law_run_recovers.specs.Unmet.{world_after, robs, hinders_itself}
+use Rattle.rep_core.specs.Service.{given as gives}
 use Rattle.law_run_recovers.proofs.Steady.{GoesSteadily}
-use Rattle.law_run_recovers.specs.Told.{SameWay, bereaves, shows_same, told_as_first}
 use Rattle.law_run_recovers.proofs.Keeps.{IsAtWork, OfAsks}
 use Rattle.law_run_recovers.proofs.NearGround.{answers, opens, first_asked, is_holder, met_by, sight, opens_up}
 use Rattle.law_run_recovers.proofs.Polled.{dver_in, dver_at, Answers, answers_so}

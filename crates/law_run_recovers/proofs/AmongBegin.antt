@@ -1,26 +1,8 @@
 -- A transaction that goes steadily ends as the votes say that are open: its begin.
-use Rattle.std.proofs.Common.{◌≡◌, ℕ, Bool, true, false, cond, List, [], ◌∷◌, ◌++◌, Option, Some, None, refl, sym, ap, subst, ◌∙◌}
-use Rattle.std.specs.Prelude.{◌*◌, ◌+◌, ◌&&◌, nat_lt}
-use Rattle.std.proofs.lemmas.Bool.{false≢true, and_parts}
-use Rattle.std.proofs.lemmas.Option.{none-some, same_Some}
-use Rattle.acl_core.specs.Identity.{Identity}
-use Rattle.suite_prefix.specs.SettingsRules.{Opening}
-use Rattle.file_ops.specs.declared.operation.Op.{Op}
-use Rattle.rep_core.specs.State.{State}
-use Rattle.rep_core.proofs.Members.{Has}
-use Rattle.txn_core.specs.declared.ending.Ending.{Ending}
-use Rattle.txn_core.specs.declared.job.Job.TheVariants.{Transaction}
-use Rattle.run_core.specs.TableOfRun.{table_of}
-use Rattle.txn_core.specs.Doing.{Task, TransactionRun, Doing, Running, After, GoesOn, Ends}
-use Rattle.txn_core.specs.Transactions.{Step as CourseStep, execute}
-use Rattle.txn_core.specs.Agents.{Agent, fixed_of, is_idle, has_sense, max_jobs, left, end_of, begins, begin, started}
-use Rattle.run_core.specs.declared.event.Event.{Event}
-use Rattle.run_core.specs.Worlds.{Actor, World, server_at, step}
-use Rattle.run_core.specs.Runs.{run}
-use Rattle.law_runs.specs.Claims.{ended}
-use Rattle.law_run_alone.proofs.Named.{no_lock}
-use Rattle.law_run_recovers.specs.Standing.{locks_in, locks_at}
-use Rattle.law_run_recovers.specs.Unmet.{runs, running_in, world_after}
+use Rattle.law_run_recovers.proofs.Vocabulary.{◌≡◌, ℕ, Bool, true, false, cond, List, [], ◌∷◌, ◌++◌, Option, Some, None, refl, sym, ap, subst, ◌∙◌, ◌*◌, ◌+◌, ◌&&◌, nat_lt, false≢true, and_parts, none-some, same_Some, Identity, Opening}
+use Rattle.law_run_recovers.proofs.Vocabulary.{Op, State, Has, Ending, Transaction, table_of, Task, TransactionRun, Doing, Running, After, GoesOn, Ends, execute, Agent, fixed_of, is_idle, has_sense, max_jobs, left, end_of, begins}
+use Rattle.law_run_recovers.proofs.Vocabulary.{begin, started, Event, Actor, World, server_at, step, run, ended, no_lock, locks_in, locks_at, runs, running_in, world_after}
+use Rattle.txn_core.specs.Transactions.{Step as CourseStep}
 use Rattle.law_run_recovers.proofs.Steady.{GoesSteadily}
 use Rattle.law_run_recovers.proofs.Executes.{begin_stands}
 use Rattle.law_run_recovers.proofs.NearGround.{its, Known, ground, sight}

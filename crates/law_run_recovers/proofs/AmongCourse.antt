@@ -1,45 +1,14 @@
 -- How a transaction stands that goes steadily, at each moment at which it runs; and what an event that is not its own leaves of that.
-use Rattle.std.proofs.Common.{◌≡◌, ◌⊎◌, inl, inr, ⊎_elim, ℕ, ◌<◌, Bool, true, false, List, [], ◌∷◌, ◌++◌, append_assoc, Option, Some, None, refl, sym, ap, subst, ◌∙◌, arith}
-use Rattle.std.specs.Prelude.{◌+◌, ◌==◌, ◌||◌}
-use Rattle.std.proofs.lemmas.Bool.{false≢true, eqb-true, eq-eqb}
-use Rattle.std.proofs.lemmas.Bool.Decides.{nat_tests}
-use Rattle.std.proofs.lemmas.Option.{none-some}
-use Rattle.acl_core.specs.Identity.{Identity}
-use Rattle.suite_prefix.specs.SettingsRules.{Opening}
-use Rattle.suite_prefix.specs.declared.copies.Prefix.{Prefix}
-use Rattle.suite_prefix.specs.declared.lock_mode.LockMode.{LockMode}
-use Rattle.file_ops.specs.declared.operation.Op.{Op}
+use Rattle.law_run_recovers.proofs.Vocabulary.{◌≡◌, ◌⊎◌, inl, inr, ⊎_elim, ℕ, ◌<◌, Bool, true, false, List, [], ◌∷◌, ◌++◌, append_assoc, Option, Some, None, refl, sym, ap, subst, ◌∙◌, arith, ◌+◌, ◌==◌, ◌||◌, false≢true, eqb-true}
+use Rattle.law_run_recovers.proofs.Vocabulary.{eq-eqb, nat_tests, none-some, Identity, Opening, Prefix, LockMode, Op, PlainTable, State, Has, Cache, forgotten, Job, Transaction, Ending, Suites, Fixed, Task, Phase, Gathering, Fetching}
+use Rattle.law_run_recovers.proofs.Vocabulary.{Preparing, Deciding, Finishing, TransactionRun, Doing, Running, RunningSweep, Agent, fixed_of, is_idle, begin, forget, after_all, after-append, Event, Begin, Step, Crash, Return, Forget}
+use Rattle.law_run_recovers.proofs.Vocabulary.{Lack, Actor, World, server_at, actor_at, step, run, decisions, table_of, names, may_sweep, same_place, agents_ask_for_themselves, holds_of, service_stays, agent_of, agent_at, locks_in}
+use Rattle.law_run_recovers.proofs.Vocabulary.{locks_at, runs, running_in, is_running, begun_world, world_after, robs, hinders_itself, bereaves, shows_same, Replica, all_consistent}
 use Rattle.file_ops.specs.Rows as rows
-use Rattle.file_ops.specs.Rows.{PlainTable}
 use Rattle.rep_core.specs.declared.request.Request.TheVariants as request
-use Rattle.rep_core.specs.State.{State}
-use Rattle.rep_core.proofs.Members.{Has}
-use Rattle.weak_cache.specs.Entries.{Cache, forgotten}
-use Rattle.txn_core.specs.declared.job.Job.{Job}
-use Rattle.txn_core.specs.declared.job.Job.TheVariants.{Transaction}
-use Rattle.txn_core.specs.declared.ending.Ending.{Ending}
-use Rattle.txn_core.specs.Suites.{Suites}
 use Rattle.txn_core.specs.Doing as doing
-use Rattle.txn_core.specs.Doing.{Fixed, Task, Phase, Gathering, Fetching, Preparing, Deciding, Finishing, TransactionRun, Doing, Running, RunningSweep}
 use Rattle.txn_core.specs.Agents as agents
-use Rattle.txn_core.specs.Agents.{Agent, fixed_of, is_idle, begin, forget, after_all}
-use Rattle.txn_core.proofs.Upheld.{after-append}
-use Rattle.run_core.specs.declared.event.Event.{Event}
-use Rattle.run_core.specs.declared.event.Event.TheVariants.{Begin, Step, Crash, Return, Forget, Lack}
-use Rattle.run_core.specs.Worlds.{Actor, World, server_at, actor_at, step}
-use Rattle.run_core.specs.Runs.{run}
-use Rattle.run_core.specs.Decisions.{decisions}
-use Rattle.run_core.specs.TableOfRun.{table_of}
-use Rattle.law_runs.specs.Naming.{names, may_sweep}
-use Rattle.law_runs.proofs.Agents.{same_place}
-use Rattle.law_runs.proofs.Begun.{agents_ask_for_themselves}
-use Rattle.law_runs.proofs.Conclusions.{holds_of}
-use Rattle.law_runs.proofs.Table.{service_stays}
-use Rattle.law_runs.proofs.Worlds.{agent_of, agent_at}
-use Rattle.law_run_recovers.specs.Standing.{locks_in, locks_at}
-use Rattle.law_run_recovers.specs.Unmet.{runs, running_in, is_running, begun_world, world_after, robs, hinders_itself}
 use Rattle.law_run_recovers.proofs.Steady.{GoesSteadily}
-use Rattle.law_run_recovers.specs.Told.{bereaves, shows_same}
 use Rattle.law_run_recovers.proofs.Apart.{Apart, hint_forgotten}
 use Rattle.law_run_recovers.proofs.Keeps.{after_append, run_at, step_asks, operates_it, becomes_none, lacks_none, IsAtWork, at_work}
 use Rattle.law_run_recovers.proofs.NearGround.{its, opens, first_asked, opens_up, Known, ground, number, sight}
@@ -49,8 +18,6 @@ use Rattle.law_run_recovers.proofs.Serves.{On, Told, told_on}
 use Rattle.law_run_recovers.proofs.Stands.{EndsRight, PhaseStands}
 use Rattle.law_run_recovers.proofs.AmongAt.{IsCalm, IsSpared, HasWhereOpen, ShowsWhereLocked}
 use Rattle.law_run_recovers.proofs.Still.{IsOpen, IsOpenPhase}
-use Rattle.suite_prefix.specs.declared.copies.Replica.{Replica}
-use Rattle.law_run_alone.proofs.Unhindered.{all_consistent}
 use Rattle.law_run_recovers.proofs.Locked.{copy_stays}
 
 -- ---- lists

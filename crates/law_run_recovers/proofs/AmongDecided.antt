@@ -1,50 +1,14 @@
 -- What was decided of a transaction that goes steadily had its home up and its votes open, whether or not its agent went on to the end.
-use Rattle.std.proofs.Common.{◌≡◌, ◌⊎◌, inl, inr, ⊎_elim, ℕ, ◌<◌, true, List, [], ◌∷◌, ◌++◌, append_assoc, Option, Some, None, is_some, Result, Ok, Err, refl, sym, ap, subst, ◌∙◌, arith}
-use Rattle.std.specs.Prelude.{◌+◌, ◌*◌, ◌==◌, ◌&&◌, find, Contains}
-use Rattle.std.specs.List.{list_any, cons_option}
-use Rattle.std.proofs.lemmas.Bool.{false≢true, eqb-true, eq-eqb, or_cases}
-use Rattle.std.proofs.lemmas.Option.{none-some, same_Some}
-use Rattle.acl_core.specs.Identity.{Identity}
-use Rattle.suite_prefix.specs.SettingsRules.{Opening}
-use Rattle.suite_prefix.specs.declared.lock_mode.LockMode.{LockMode}
-use Rattle.suite_prefix.specs.LockModes.{serves}
-use Rattle.file_ops.specs.declared.answer.Answer.{Answer}
-use Rattle.file_ops.specs.declared.refusal.Refusal.{Refusal}
-use Rattle.file_ops.specs.declared.operation.Op.{Op}
-use Rattle.rep_core.proofs.Members.{Has, has_from, has_any}
-use Rattle.rep_core.specs.declared.request.Request.{Request}
+use Rattle.law_run_recovers.proofs.Vocabulary.{◌≡◌, ◌⊎◌, inl, inr, ⊎_elim, ℕ, ◌<◌, true, List, [], ◌∷◌, ◌++◌, append_assoc, Option, Some, None, is_some, Result, Ok, Err, refl, sym, ap, subst, ◌∙◌, arith, ◌+◌, ◌*◌, ◌==◌, ◌&&◌, find}
+use Rattle.law_run_recovers.proofs.Vocabulary.{Contains, list_any, cons_option, false≢true, eqb-true, eq-eqb, or_cases, none-some, same_Some, Identity, Opening, LockMode, serves, Answer, Refusal, Op, Has, has_from, has_any, Request}
+use Rattle.law_run_recovers.proofs.Vocabulary.{Ending, Refused, Swept, Undecided, Transaction, ReadPoint, GatheredSuite, suite_of, Running, home_of, request_in, decision_of, Agent, fixed_of, next_in, next_of, EndedJob, Event, Begin}
+use Rattle.law_run_recovers.proofs.Vocabulary.{Step, Actor, World, server_at, actor_at, asks_at, asks, steps_once, step, run, Decided, decided, decided_by, decisions, decisions_from, task_of, task_at, table_of, IsAnsweredAsKnown, Runs}
+use Rattle.law_run_recovers.proofs.Vocabulary.{IsAt, EndStands, same_place, answers_follow_knowledge, holds_of, In, agent_of, agent_at, is_decided, is_up, runs, world_after, first_wanting, has_votes_open, is_gathered, GathersItsAsks}
+use Rattle.law_run_recovers.proofs.Vocabulary.{AmongLocksHadVotesOpen, AmongLocksAreAnsweredAsBegun, AmongLocksGatherTheirAsks, has_asked, locks_asked, asks_for, wants, answer_on, EndsThen, WasDecidedThen, UnmetHadVotesUp}
 use Rattle.rep_core.specs.declared.request.Request.TheVariants as request
-use Rattle.txn_core.specs.declared.ending.Ending.{Ending}
-use Rattle.txn_core.specs.declared.ending.Ending.TheVariants.{Answered, Refused, Swept, Undecided}
-use Rattle.txn_core.specs.declared.job.Job.TheVariants.{Transaction}
-use Rattle.txn_core.specs.Suites.{ReadPoint, GatheredSuite, suite_of}
+use Rattle.txn_core.specs.declared.ending.Ending.TheVariants.{Answered}
 use Rattle.txn_core.specs.Doing as doing
-use Rattle.txn_core.specs.Doing.{Running, home_of}
-use Rattle.txn_core.specs.Transactions.{request_in, decision_of}
-use Rattle.txn_core.specs.Agents.{Agent, fixed_of, next_in, next_of}
-use Rattle.run_core.specs.declared.done.EndedJob.{EndedJob}
-use Rattle.run_core.specs.declared.event.Event.{Event}
-use Rattle.run_core.specs.declared.event.Event.TheVariants.{Begin, Step}
-use Rattle.run_core.specs.Worlds.{Actor, World, server_at, actor_at, asks_at, asks, steps_once, step}
-use Rattle.run_core.specs.Runs.{run}
-use Rattle.run_core.specs.Decisions.{Decided, decided, decided_by, decisions, decisions_from, task_of, task_at}
-use Rattle.run_core.specs.TableOfRun.{table_of}
-use Rattle.law_runs.specs.Answers.{IsAnsweredAsKnown}
-use Rattle.law_runs.proofs.Agents.{Runs, IsAt, EndStands, same_place}
-use Rattle.law_runs.proofs.Answering.{answers_follow_knowledge}
-use Rattle.law_runs.proofs.Conclusions.{holds_of}
-use Rattle.law_runs.proofs.Standing.{In}
-use Rattle.law_runs.proofs.Worlds.{agent_of, agent_at}
-use Rattle.law_run_alone.specs.Undisturbed.{is_decided}
-use Rattle.law_run_recovers.specs.Standing.{is_up}
-use Rattle.law_run_recovers.specs.Unmet.{runs, world_after}
-use Rattle.law_run_recovers.specs.Among.{first_wanting, has_votes_open, is_gathered, GathersItsAsks, AmongLocksHadVotesOpen, AmongLocksAreAnsweredAsBegun, AmongLocksGatherTheirAsks}
 use Rattle.law_run_recovers.proofs.Steady.{GoesSteadily, steady}
-use Rattle.law_run_recovers.specs.Demands.{has_asked, locks_asked}
-use Rattle.law_run_recovers.specs.Near.{asks_for}
-use Rattle.law_run_recovers.specs.OpenDemands.{wants}
-use Rattle.law_run_recovers.specs.Laws.{answer_on}
-use Rattle.law_run_recovers.specs.Local.{EndsThen, WasDecidedThen, UnmetHadVotesUp}
 use Rattle.law_run_recovers.proofs.AmongLaws.{none_in, all_is, first_same, rows_met, among_had}
 use Rattle.law_run_recovers.proofs.Asking.{held_if, held_in}
 use Rattle.law_run_recovers.proofs.AtDecision.{decides_up}

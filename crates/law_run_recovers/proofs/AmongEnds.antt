@@ -1,27 +1,7 @@
 -- A transaction that goes steadily ends as the votes say that are open: all along.
-use Rattle.std.proofs.Common.{◌≡◌, ◌⊎◌, inl, inr, ⊎_elim, ℕ, ◌<◌, Bool, true, false, List, [], ◌∷◌, ◌++◌, append_assoc, Option, Some, None, is_some, refl, sym, ap, subst, ◌∙◌, arith}
-use Rattle.std.specs.Prelude.{Contains}
-use Rattle.std.specs.List.{cons_option}
-use Rattle.std.proofs.lemmas.Option.{none-some, same_Some}
-use Rattle.acl_core.specs.Identity.{Identity}
-use Rattle.suite_prefix.specs.SettingsRules.{Opening}
-use Rattle.file_ops.specs.declared.operation.Op.{Op}
-use Rattle.rep_core.proofs.Members.{Has, has_from}
-use Rattle.txn_core.specs.declared.job.Job.TheVariants.{Transaction}
-use Rattle.txn_core.specs.Agents.{Agent, fixed_of, next_in}
-use Rattle.run_core.specs.declared.event.Event.{Event}
-use Rattle.run_core.specs.declared.event.Event.TheVariants.{Begin, Step}
-use Rattle.run_core.specs.declared.done.EndedJob.{EndedJob}
-use Rattle.run_core.specs.Worlds.{Actor, World, Stepped, opening, step}
-use Rattle.run_core.specs.Runs.{dones, done_in, outcomes, run}
-use Rattle.run_core.proofs.Appending.{dones-append, outcomes-append}
-use Rattle.law_runs.specs.Claims.{ended}
-use Rattle.law_runs.specs.Numbers.{number_of}
-use Rattle.law_runs.proofs.Agents.{same_place}
-use Rattle.law_runs.proofs.Conclusions.{holds_of}
-use Rattle.law_runs.proofs.Standing.{append_has_left, append_has_right}
-use Rattle.law_runs.proofs.Worlds.{agent_of, agent_at}
-use Rattle.law_run_recovers.specs.Unmet.{begun_world, hinders_itself, world_after}
+use Rattle.law_run_recovers.proofs.Vocabulary.{◌≡◌, ◌⊎◌, inl, inr, ⊎_elim, ℕ, ◌<◌, Bool, true, false, List, [], ◌∷◌, ◌++◌, append_assoc, Option, Some, None, is_some, refl, sym, ap, subst, ◌∙◌, arith, Contains, cons_option, none-some}
+use Rattle.law_run_recovers.proofs.Vocabulary.{same_Some, Identity, Opening, Op, Has, has_from, Transaction, Agent, fixed_of, next_in, Event, Begin, Step, EndedJob, Actor, World, Stepped, opening, step, dones, done_in, outcomes, run}
+use Rattle.law_run_recovers.proofs.Vocabulary.{dones-append, outcomes-append, ended, number_of, same_place, holds_of, append_has_left, append_has_right, agent_of, agent_at, begun_world, hinders_itself, world_after}
 use Rattle.law_run_recovers.proofs.Steady.{GoesSteadily}
 use Rattle.law_run_recovers.proofs.Apart.{event_apart, who_ends}
 use Rattle.law_run_recovers.proofs.Keeps.{run_at}

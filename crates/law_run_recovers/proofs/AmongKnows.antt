@@ -1,57 +1,13 @@
 -- What a transaction that goes steadily knows after a step of it is so on the table of its begin, whatever others have decided since.
-use Rattle.std.proofs.Common.{◌≡◌, ◌≢◌, true, false, List, [], ◌∷◌, ◌++◌, append_assoc, Option, Some, None, refl, sym, ap, subst, ◌∙◌, ℕ}
-use Rattle.std.specs.Prelude.{◌==◌, unwrap_or}
-use Rattle.std.specs.Ordering.{nat_cmp}
-use Rattle.std.proofs.lemmas.Bool.{false≢true, and_parts, eqb-true}
-use Rattle.std.proofs.lemmas.Option.{none-some}
-use Rattle.sorted_map.specs.SortedMap.{IsOrdered}
-use Rattle.acl_core.specs.Identity.{Identity}
-use Rattle.suite_prefix.specs.SettingsRules.{Opening}
-use Rattle.suite_prefix.specs.declared.copies.Prefix.{Prefix}
-use Rattle.suite_prefix.specs.declared.copies.Replica.{Replica}
-use Rattle.suite_prefix.specs.declared.lock_mode.LockMode.TheVariants.{Shared}
-use Rattle.file_ops.specs.declared.operation.Op.{Op}
-use Rattle.file_ops.specs.Rows.{row_of}
+use Rattle.law_run_recovers.proofs.Vocabulary.{◌≡◌, ◌≢◌, true, false, List, [], ◌∷◌, ◌++◌, append_assoc, Option, Some, None, refl, sym, ap, subst, ◌∙◌, ℕ, ◌==◌, unwrap_or, nat_cmp, false≢true, and_parts, eqb-true, none-some, IsOrdered}
+use Rattle.law_run_recovers.proofs.Vocabulary.{Identity, Opening, Prefix, Replica, Shared, Op, row_of, AgreesWith, IsSoAt, Lock, Verdict, is_own, lock_at, State, record_of, Has, find_some, Transaction, ReadPoint, GatheredSuite}
+use Rattle.law_run_recovers.proofs.Vocabulary.{suite_of, known_of, TransactionRun, Running, fixed_of, is_decide, Event, Begin, Step, Actor, World, server_at, actor_at, step, run, table_of, row, IsKnown, Answered, IsQuorum, effect}
+use Rattle.law_run_recovers.proofs.Vocabulary.{beginning, hold_of, showed, showed_to, known_by, machine_of, servers_of, OwesKnown, register, row_shown, all_shown, CanBe, all_keep, holds_after, known_owed, no_record, Stands}
+use Rattle.law_run_recovers.proofs.Vocabulary.{all_consistent, is_resolve, locks_in, locks_at, is_open_way, is_open_at, way_in, shows_same, begun_world, world_after}
 use Rattle.file_exec.specs.Known as known
-use Rattle.file_exec.specs.Known.{AgreesWith, IsSoAt}
-use Rattle.rep_core.specs.declared.lock.Lock.{Lock}
-use Rattle.rep_core.specs.declared.reply.Verdict.{Verdict}
-use Rattle.rep_core.specs.Locks.{is_own, lock_at}
 use Rattle.rep_core.specs.State as state
-use Rattle.rep_core.specs.State.{State, record_of}
-use Rattle.rep_core.proofs.Members.{Has}
-use Rattle.rep_core.proofs.Finding.{find_some}
-use Rattle.txn_core.specs.declared.job.Job.TheVariants.{Transaction}
-use Rattle.txn_core.specs.Suites.{ReadPoint, GatheredSuite, suite_of, known_of}
-use Rattle.txn_core.specs.Doing.{TransactionRun, Running}
-use Rattle.txn_core.specs.Agents.{fixed_of}
-use Rattle.txn_core.specs.Laws.{is_decide}
-use Rattle.run_core.specs.declared.event.Event.{Event}
-use Rattle.run_core.specs.declared.event.Event.TheVariants.{Begin, Step}
-use Rattle.run_core.specs.Worlds.{Actor, World, server_at, actor_at, step}
-use Rattle.run_core.specs.Runs.{run}
-use Rattle.run_core.specs.TableOfRun.{table_of}
-use Rattle.law_suite_machine.specs.Registers.{row, IsKnown}
-use Rattle.law_suite_machine.specs.Machine.{Hold, Told, Answered, IsQuorum, effect}
-use Rattle.law_server_moves.specs.Laws.{beginning}
-use Rattle.law_server_moves.specs.Views.{hold_of}
-use Rattle.law_run_machine.specs.Deciding.{showed, showed_to, known_by}
-use Rattle.law_run_machine.specs.Machines.{machine_of, servers_of}
-use Rattle.law_run_machine.specs.Owed.{OwesKnown}
-use Rattle.law_one_table.specs.Tables.{register, row_shown}
+use Rattle.law_suite_machine.specs.Machine.{Hold, Told}
 use Rattle.law_one_table.proofs.Effects as effects
-use Rattle.law_one_table.proofs.Running.{all_shown}
-use Rattle.law_headline.specs.Premises.{CanBe}
-use Rattle.law_headline.proofs.Keeping.{all_keep, holds_after}
-use Rattle.law_run_alone.proofs.Known.{known_owed}
-use Rattle.law_run_alone.proofs.Named.{no_record}
-use Rattle.law_run_alone.proofs.Standing.{Stands}
-use Rattle.law_run_alone.proofs.Unhindered.{all_consistent}
-use Rattle.law_run_alone.proofs.Unswept.{is_resolve}
-use Rattle.law_run_recovers.specs.Standing.{locks_in, locks_at}
-use Rattle.law_run_recovers.specs.Near.{is_open_way, is_open_at, way_in}
-use Rattle.law_run_recovers.specs.Told.{shows_same}
-use Rattle.law_run_recovers.specs.Unmet.{begun_world, world_after}
 use Rattle.law_run_recovers.proofs.Steady.{GoesSteadily}
 use Rattle.law_run_recovers.proofs.AsBegun.{row_same, stored_effect}
 use Rattle.law_run_recovers.proofs.Asking.{known_if_first, known_in, known_is}

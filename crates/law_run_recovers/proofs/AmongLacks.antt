@@ -1,36 +1,18 @@
 -- A step of a transaction that is not served, or of which its agent is told so, once its end is fixed: it goes on to tell its end.
-use Rattle.std.proofs.Common.{◌≡◌, ◌⊎◌, inl, inr, ℕ, Bool, true, false, List, [], ◌∷◌, ◌++◌, Some, refl, sym, ap, subst, ◌∙◌, arith}
-use Rattle.std.specs.Prelude.{◌-◌, ◌||◌}
-use Rattle.std.proofs.lemmas.Bool.{false≢true}
-use Rattle.std.proofs.lemmas.Option.{none-some}
-use Rattle.acl_core.specs.Identity.{Identity}
-use Rattle.suite_prefix.specs.SettingsRules.{Opening}
-use Rattle.file_ops.specs.declared.operation.Op.{Op}
-use Rattle.rep_core.specs.declared.reply.Verdict.{Verdict}
-use Rattle.txn_core.specs.declared.ending.Ending.{Ending}
-use Rattle.txn_core.specs.declared.job.Job.TheVariants.{Transaction}
+use Rattle.law_run_recovers.proofs.Vocabulary.{◌≡◌, ◌⊎◌, inl, inr, ℕ, Bool, true, false, List, [], ◌∷◌, ◌++◌, Some, refl, sym, ap, subst, ◌∙◌, arith, ◌-◌, ◌||◌, false≢true, none-some, Identity, Opening, Op, Verdict, Ending, Transaction}
+use Rattle.law_run_recovers.proofs.Vocabulary.{Task, Phase, Gathering, Fetching, Preparing, Deciding, Finishing, TransactionRun, Running, After, GoesOn, Ends, after_lack, Agent, Taken, fixed_of, is_idle, next_of, left, end_of}
+use Rattle.law_run_recovers.proofs.Vocabulary.{with_step, take_in, take, begin, after-append, Event, EndedJob, Actor, World, actor_at, one_more, outcome_of, step, Stepped, ended, number_of, take_keeps, world_after, hinders_itself, robs}
+use Rattle.law_run_recovers.proofs.Vocabulary.{Lacked, nat_tests}
 use Rattle.txn_core.specs.Doing as doing
-use Rattle.txn_core.specs.Doing.{Task, Phase, Gathering, Fetching, Preparing, Deciding, Finishing, TransactionRun, Running, After, GoesOn, Ends}
-use Rattle.txn_core.specs.Transactions.{Step as CourseStep, after_lack}
+use Rattle.txn_core.specs.Transactions.{Step as CourseStep}
 use Rattle.txn_core.specs.Agents as agents
-use Rattle.txn_core.specs.Agents.{Agent, Taken, fixed_of, is_idle, next_of, left, end_of, with_step, take_in, take, begin}
-use Rattle.txn_core.proofs.Upheld.{after-append}
-use Rattle.run_core.specs.declared.event.Event.{Event}
-use Rattle.run_core.specs.declared.done.EndedJob.{EndedJob}
-use Rattle.run_core.specs.Worlds.{Actor, World, actor_at, one_more, outcome_of, step, Stepped}
-use Rattle.law_runs.specs.Claims.{ended}
-use Rattle.law_runs.specs.Numbers.{number_of}
-use Rattle.law_runs.proofs.Agents.{take_keeps}
-use Rattle.law_run_recovers.specs.Unmet.{world_after, hinders_itself, robs}
 use Rattle.law_run_recovers.proofs.Steady.{GoesSteadily}
 use Rattle.law_run_recovers.proofs.Early.{ending_in}
 use Rattle.law_run_recovers.proofs.NearGround.{its}
 use Rattle.law_run_recovers.proofs.Still.{IsOpenPhase}
 use Rattle.law_run_recovers.proofs.AmongCourse.{Course, RunsIt, PhaseIn, StandsIn, Right, next_is, spared_on, locks_on as answered_on, TellsNone, open_works, runs_it, shown_on}
 use Rattle.law_run_recovers.proofs.AmongBegin.{Good, begun, right_end, stands_left}
-use Rattle.txn_core.specs.declared.response.Response.TheVariants.{Lacked}
 use Rattle.law_run_recovers.proofs.Lacking.{Lacking, Nothing}
-use Rattle.std.proofs.lemmas.Bool.Decides.{nat_tests}
 
 module _ (given : Opening) (events later : List Event) (agent t : ℕ) (caller : Identity) (site : ℕ) (ops : List Op) (actor : Actor) (goes : GoesSteadily given events later agent t caller site ops actor) where
   abbrev its_task : Task

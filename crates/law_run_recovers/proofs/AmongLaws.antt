@@ -1,42 +1,12 @@
 -- What is promised to a transaction that goes steadily, by the servers that are open to it; as one that goes among locks that stay.
-use Rattle.std.proofs.Common.{◌≡◌, ◌⊎◌, inl, inr, ℕ, Bool, true, false, cond, List, [], ◌∷◌, ◌++◌, append-nil, length, Option, Some, None, refl, sym, ap, subst, ◌∙◌}
-use Rattle.std.specs.Prelude.{◌==◌, ◌&&◌, not, nat_lt, map, find, Contains}
-use Rattle.std.proofs.lemmas.Bool.{false≢true, and_parts, eq-eqb, eqb-true}
-use Rattle.acl_core.specs.Identity.{Identity}
-use Rattle.vote_core.specs.Quorums.{Representative, votes_in}
-use Rattle.suite_prefix.specs.SettingsRules.{Opening}
-use Rattle.suite_prefix.specs.declared.copies.Prefix.{Prefix}
-use Rattle.suite_prefix.specs.declared.lock_mode.LockMode.{LockMode}
-use Rattle.file_ops.specs.declared.operation.Op.{Op}
-use Rattle.file_ops.specs.Rows.{PlainTable, Row, row_of}
-use Rattle.rep_core.specs.State.{State}
-use Rattle.rep_core.proofs.Finding.{find_some}
-use Rattle.rep_core.proofs.Members.{Has, any_has, has_any, has_from, has_map, contains_from}
-use Rattle.suite_collect.specs.Collecting.{needed_of}
-use Rattle.txn_core.specs.declared.ending.Ending.{Ending}
-use Rattle.txn_core.specs.declared.ending.Ending.TheVariants.{Undecided}
-use Rattle.txn_core.specs.declared.ending.Cause.TheVariants.{Unavailable}
-use Rattle.txn_core.specs.Writing.{has_vote}
-use Rattle.txn_core.specs.Doing.{Fixed, home_of}
-use Rattle.txn_core.specs.Agents.{fixed_of}
-use Rattle.run_core.specs.declared.event.Event.{Event}
-use Rattle.run_core.specs.declared.done.EndedJob.{EndedJob}
-use Rattle.run_core.specs.Worlds.{Actor, World, server_at}
-use Rattle.run_core.specs.Runs.{run}
-use Rattle.run_core.specs.TableOfRun.{table_of}
-use Rattle.law_runs.proofs.Standing.{has_append}
-use Rattle.law_run_machine.specs.Machines.{machine_of}
+use Rattle.law_run_recovers.proofs.Vocabulary.{◌≡◌, ◌⊎◌, inl, inr, ℕ, Bool, true, false, cond, List, [], ◌∷◌, ◌++◌, append-nil, length, Option, Some, None, refl, sym, ap, subst, ◌∙◌, ◌==◌, ◌&&◌, not, nat_lt, map, find, Contains}
+use Rattle.law_run_recovers.proofs.Vocabulary.{false≢true, and_parts, eq-eqb, eqb-true, Identity, Representative, votes_in, Opening, Prefix, LockMode, Op, PlainTable, Row, row_of, State, find_some, Has, any_has, has_any, has_from}
+use Rattle.law_run_recovers.proofs.Vocabulary.{has_map, contains_from, needed_of, Ending, Undecided, Unavailable, has_vote, Fixed, home_of, fixed_of, Event, EndedJob, Actor, World, server_at, run, table_of, has_append, machine_of}
+use Rattle.law_run_recovers.proofs.Vocabulary.{all_keep, is_decided, up_in, is_up, Demand, is_met, all_met, led_to_by, votes_set, votes_of_row, MayStart, MayStartAll, HasFirstVotes, answer_on, asks_for, is_open_way, is_way_met, way_in}
+use Rattle.law_run_recovers.proofs.Vocabulary.{way_at, is_open_at, in_its_way, EndsOpenly, EndsByOpenVotes, first_wanting, has_votes_open, AmongLocksEndByVotes, AmongLocksAreDecidedWhereVotesAre, Want, open_demand, open_demands}
+use Rattle.law_run_recovers.proofs.Vocabulary.{first_mode, wants, wants_of_rows, EndsThen, VotesNeverMovedOf}
 use Rattle.law_one_table.proofs.Effects as effects
-use Rattle.law_headline.proofs.Keeping.{all_keep}
-use Rattle.law_run_alone.specs.Undisturbed.{is_decided}
-use Rattle.law_run_recovers.specs.Standing.{up_in, is_up}
-use Rattle.law_run_recovers.specs.Demands.{Demand, is_met, all_met, led_to_by, votes_set, votes_of_row, MayStart, MayStartAll}
-use Rattle.law_run_recovers.specs.Laws.{HasFirstVotes, answer_on}
-use Rattle.law_run_recovers.specs.Near.{asks_for, is_open_way, is_way_met, way_in, way_at, is_open_at, in_its_way}
-use Rattle.law_run_recovers.specs.Among.{EndsOpenly, EndsByOpenVotes, first_wanting, has_votes_open, AmongLocksEndByVotes, AmongLocksAreDecidedWhereVotesAre}
 use Rattle.law_run_recovers.proofs.Steady.{GoesSteadily, steady}
-use Rattle.law_run_recovers.specs.OpenDemands.{Want, open_demand, open_demands, first_mode, wants, wants_of_rows}
-use Rattle.law_run_recovers.specs.Local.{EndsThen, VotesNeverMovedOf}
 use Rattle.law_run_recovers.proofs.Leading.{led}
 use Rattle.law_run_recovers.proofs.NearGround.{opens, is_holder, sight, answering, can_first, number}
 use Rattle.law_run_recovers.proofs.NearRows.{start_near, same_so_far}

@@ -1,46 +1,14 @@
 -- A transaction that goes among locks that stay has none once it has ended: each server that gave it one was told how it ended.
-use Rattle.std.proofs.Common.{◌≡◌, ◌⊎◌, inl, inr, ⊎_elim, ℕ, ◌+◌, ◌≤◌, ◌<◌, Bool, true, false, List, [], ◌∷◌, ◌++◌, append-nil, append_assoc, length, Option, Some, None, is_some, refl, sym, ap, subst, ◌∙◌, arith}
-use Rattle.std.specs.Prelude.{◌*◌, ◌==◌, ◌&&◌, ◌||◌, filter, slice_get, slice_set}
-use Rattle.std.specs.List.{list_any}
-use Rattle.std.proofs.lemmas.Bool.{false≢true, and_parts, and_from, eqb-true, eq-eqb, or_right}
-use Rattle.std.proofs.lemmas.List.Folds.{list_any-append}
-use Rattle.std.proofs.lemmas.Option.{same_Some, slice_get_within}
-use Rattle.acl_core.specs.Identity.{Identity}
-use Rattle.vote_core.specs.Validity.{max_servers}
-use Rattle.suite_prefix.specs.SettingsRules.{Opening}
-use Rattle.file_ops.specs.declared.operation.Op.{Op}
-use Rattle.rep_core.specs.declared.lock.Lock.{Lock}
-use Rattle.rep_core.specs.declared.request.Request.{Request}
+use Rattle.law_run_recovers.proofs.Vocabulary.{◌≡◌, ◌⊎◌, inl, inr, ⊎_elim, ℕ, ◌+◌, ◌≤◌, ◌<◌, Bool, true, false, List, [], ◌∷◌, ◌++◌, append-nil, append_assoc, length, Option, Some, None, is_some, refl, sym, ap, subst, ◌∙◌, arith, ◌*◌}
+use Rattle.law_run_recovers.proofs.Vocabulary.{◌==◌, ◌&&◌, ◌||◌, filter, slice_get, slice_set, list_any, false≢true, and_parts, and_from, eqb-true, eq-eqb, or_right, list_any-append, same_Some, slice_get_within, Identity, max_servers}
+use Rattle.law_run_recovers.proofs.Vocabulary.{Opening, Op, Lock, Request, Reply, Stamped, State, reply_of, served, answer_of, Has, contains_from, has_filter, filter_has, has_map, any_has, has_any, Transaction, Replied, numbers_from}
+use Rattle.law_run_recovers.proofs.Vocabulary.{is_finish, Agent, fixed_of, is_idle, next_of, begin, Exchange, exchange_of, exchanges, locks, says_held, was_held, exchanges-take, exchanges-forget, Served, Event, Begin, Step, Actor}
+use Rattle.law_run_recovers.proofs.Vocabulary.{World, server_at, step, run, so_many, puts_in, stage, wants_lock, was_locked, locked, sent_to, IsInOrder, stages_rise, all_finish, no_lock, up_in, is_up, locks_in, locks_at, world_after}
+use Rattle.law_run_recovers.proofs.Vocabulary.{GoesAmongLocks, AmongLocksLeaveNoLock}
 use Rattle.rep_core.specs.declared.request.Request.TheVariants as request
-use Rattle.rep_core.specs.declared.reply.Reply.{Reply}
-use Rattle.rep_core.specs.declared.stamped.Stamped.{Stamped}
-use Rattle.rep_core.specs.State.{State}
-use Rattle.rep_core.specs.Service.{reply_of}
-use Rattle.rep_core.specs.Serving.{served, answer_of}
-use Rattle.rep_core.proofs.Members.{Has, contains_from, has_filter, filter_has, has_map, any_has, has_any}
-use Rattle.txn_core.specs.declared.job.Job.TheVariants.{Transaction}
-use Rattle.txn_core.specs.declared.response.Response.TheVariants.{Replied}
-use Rattle.txn_core.specs.Transactions.{numbers_from}
-use Rattle.txn_core.specs.Undecided.{is_finish}
 use Rattle.txn_core.specs.Agents as agents
-use Rattle.txn_core.specs.Agents.{Agent, fixed_of, is_idle, next_of, begin}
-use Rattle.txn_core.specs.Laws.{Exchange, exchange_of, exchanges, locks, says_held, was_held}
-use Rattle.txn_core.proofs.Upheld.{exchanges-take, exchanges-forget}
-use Rattle.run_core.specs.declared.done.Served.{Served}
-use Rattle.run_core.specs.declared.event.Event.{Event}
-use Rattle.run_core.specs.declared.event.Event.TheVariants.{Begin, Step}
-use Rattle.run_core.specs.Worlds.{Actor, World, server_at, step}
-use Rattle.run_core.specs.Runs.{run}
-use Rattle.law_runs.proofs.Lengths.{so_many}
-use Rattle.law_runs.proofs.Worlds.{puts_in}
-use Rattle.law_agents.specs.Orders.{stage, wants_lock, was_locked, locked, sent_to, IsInOrder}
 use Rattle.law_agents.specs.Orders as orders
-use Rattle.law_agents.proofs.Orders.{stages_rise, all_finish}
-use Rattle.law_run_alone.proofs.Named.{no_lock}
-use Rattle.law_run_recovers.specs.Standing.{up_in, is_up, locks_in, locks_at}
 use Rattle.law_run_recovers.specs.Sweeping.{has_any as any_of}
-use Rattle.law_run_recovers.specs.Unmet.{world_after}
-use Rattle.law_run_recovers.specs.Among.{GoesAmongLocks, AmongLocksLeaveNoLock}
 use Rattle.law_run_recovers.proofs.Apart.{Apart, event_apart}
 use Rattle.law_run_recovers.proofs.Downs.{held-append}
 use Rattle.law_run_recovers.proofs.Keeps.{run_at}

@@ -1,31 +1,10 @@
 -- Who asks in the name of a transaction that goes steadily: its agent, which began no more since; and once it has ended nobody.
-use Rattle.std.proofs.Common.{◌≡◌, inr, ⊎_elim, ℕ, ◌+◌, ◌<◌, true, false, List, ◌∷◌, ◌++◌, Option, Some, None, refl, sym, ap, subst, ◌∙◌, arith}
-use Rattle.std.specs.List.{cons_option}
-use Rattle.std.proofs.lemmas.Bool.{false≢true, eq-eqb}
-use Rattle.std.proofs.lemmas.Option.{none-some, same_Some}
-use Rattle.acl_core.specs.Identity.{Identity}
-use Rattle.suite_prefix.specs.SettingsRules.{Opening}
-use Rattle.file_ops.specs.declared.operation.Op.{Op}
-use Rattle.rep_core.proofs.Members.{Has, has_from, contains_from}
-use Rattle.txn_core.specs.declared.job.Job.TheVariants.{Transaction}
-use Rattle.txn_core.specs.Agents.{Agent, fixed_of, is_idle, next_in, begin}
-use Rattle.run_core.specs.declared.done.EndedJob.{EndedJob}
-use Rattle.run_core.specs.declared.done.Served.{Served}
-use Rattle.run_core.specs.declared.event.Event.{Event}
-use Rattle.run_core.specs.declared.event.Event.TheVariants.{Begin, Step}
-use Rattle.run_core.specs.Worlds.{Actor, World, becomes, opening, step, actor_at}
-use Rattle.run_core.specs.Runs.{dones, done_in, outcomes, run}
-use Rattle.run_core.proofs.Appending.{dones-append, outcomes-append}
-use Rattle.law_runs.specs.Claims.{ended}
-use Rattle.law_runs.specs.Naming.{names, may_sweep}
-use Rattle.law_runs.proofs.Agents.{same_place}
-use Rattle.law_runs.proofs.Begun.{agents_ask_for_themselves}
-use Rattle.law_runs.proofs.Conclusions.{holds_of}
-use Rattle.law_runs.proofs.Standing.{has_append, append_has_right}
-use Rattle.law_runs.proofs.Worlds.{agent_of, agent_at}
-use Rattle.law_run_recovers.specs.Unmet.{begun_world, world_after}
+use Rattle.law_run_recovers.proofs.Vocabulary.{◌≡◌, inr, ⊎_elim, ℕ, ◌+◌, ◌<◌, true, false, List, ◌∷◌, ◌++◌, Option, Some, None, refl, sym, ap, subst, ◌∙◌, arith, cons_option, false≢true, eq-eqb, none-some, same_Some, Identity, Opening}
+use Rattle.law_run_recovers.proofs.Vocabulary.{Op, Has, has_from, contains_from, Transaction, Agent, fixed_of, is_idle, next_in, begin, EndedJob, Served, Event, Begin, Step, Actor, World, becomes, opening, step, actor_at, dones}
+use Rattle.law_run_recovers.proofs.Vocabulary.{done_in, outcomes, run, dones-append, outcomes-append, ended, names, may_sweep, same_place, agents_ask_for_themselves, holds_of, has_append, append_has_right, agent_of, agent_at}
+use Rattle.law_run_recovers.proofs.Vocabulary.{begun_world, world_after, EndsThen}
 use Rattle.law_run_recovers.proofs.Steady.{GoesSteadily}
-use Rattle.law_run_recovers.specs.Local.{EndsThen, Ended}
+use Rattle.law_run_recovers.specs.Local.{Ended}
 use Rattle.law_run_recovers.proofs.Asker.{IsAsker, asker}
 use Rattle.law_run_recovers.proofs.Keeps.{run_at}
 use Rattle.law_run_recovers.proofs.Serves.{Told}

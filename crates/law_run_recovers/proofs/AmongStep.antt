@@ -1,62 +1,19 @@
 -- A transaction that goes steadily ends as the votes say that are open: its own steps.
-use Rattle.std.proofs.Common.{◌≡◌, ◌⊎◌, inl, inr, ⊎_elim, ℕ, Bool, true, false, List, [], ◌∷◌, ◌++◌, Option, Some, None, is_some, refl, sym, ap, subst, ◌∙◌, arith}
-use Rattle.std.specs.Prelude.{◌+◌, ◌-◌, Contains, slice_get}
-use Rattle.std.specs.Ordering.{nat_cmp}
-use Rattle.std.proofs.lemmas.Bool.{false≢true, and_parts, eq-eqb}
-use Rattle.std.proofs.lemmas.Option.{none-some, same_Some}
-use Rattle.sorted_map.specs.SortedMap.{IsOrdered}
-use Rattle.acl_core.specs.Identity.{Identity}
-use Rattle.suite_prefix.specs.SettingsRules.{Opening}
-use Rattle.suite_prefix.specs.declared.copies.Replica.{Replica}
-use Rattle.suite_prefix.specs.declared.lock_mode.LockMode.{LockMode}
-use Rattle.file_ops.specs.declared.operation.Op.{Op}
-use Rattle.rep_core.specs.declared.request.Request.{Request}
+use Rattle.law_run_recovers.proofs.Vocabulary.{◌≡◌, ◌⊎◌, inl, inr, ⊎_elim, ℕ, Bool, true, false, List, [], ◌∷◌, ◌++◌, Option, Some, None, is_some, refl, sym, ap, subst, ◌∙◌, arith, ◌+◌, ◌-◌, Contains, slice_get, nat_cmp, false≢true}
+use Rattle.law_run_recovers.proofs.Vocabulary.{and_parts, eq-eqb, none-some, same_Some, IsOrdered, Identity, Opening, Replica, LockMode, Op, Request, Reply, is_prepared, Verdict, reply_of, held, verdict_of, answer_of, served, State}
+use Rattle.law_run_recovers.proofs.Vocabulary.{Has, newest, Collector, Asked, Poll, Upgrade, counted, votes_or, request_for, mode_asked, mode_of, Cache, Transaction, Replied, row_of, IsSoAt, table_of, Suites, suite_of, known_of}
+use Rattle.law_run_recovers.proofs.Vocabulary.{has_vote, parts_at, Task, Phase, Gathering, Fetching, Preparing, Deciding, Finishing, TransactionRun, Running, After, GoesOn, Ends, home_of, asked_for, given_in, changes_of, decision_of}
+use Rattle.law_run_recovers.proofs.Vocabulary.{request_in, after_reply, Agent, Taken, fixed_of, is_idle, next_in, next_of, left, end_of, with_step, take_in, take, begins, begin, after_all, exchanges, is_decide, asks_same, Keeps}
+use Rattle.law_run_recovers.proofs.Vocabulary.{nothing_held, plus_all, begin_keeps, after-append, Event, Begin, Step, EndedJob, Served, Actor, World, server_at, actor_at, one_more, outcome_of, step, run, decisions, ended, number_of}
+use Rattle.law_run_recovers.proofs.Vocabulary.{take_keeps, holds_of, agent_of, puts_in, is_resolve, never_resolves, is_up, shown_at, shown_in, asks_for, runs, world_after, Stamped, copy_of, shows_same, stands_on_locks}
 use Rattle.rep_core.specs.declared.request.Request.TheVariants as request
-use Rattle.rep_core.specs.declared.reply.Reply.{Reply}
 use Rattle.rep_core.specs.declared.reply.Reply.TheVariants as reply
-use Rattle.rep_core.specs.Fits.{is_prepared}
-use Rattle.rep_core.specs.declared.reply.Verdict.{Verdict}
-use Rattle.rep_core.specs.Service.{reply_of, held, verdict_of, after}
-use Rattle.rep_core.specs.Serving.{answer_of, served}
-use Rattle.rep_core.specs.State.{State}
-use Rattle.rep_core.proofs.Members.{Has}
-use Rattle.suite_collect.specs.Telling.{newest}
-use Rattle.suite_collect.specs.Collecting.{Collector, Asked, Poll, Upgrade, counted, votes_or, request_for, mode_asked, mode_of}
-use Rattle.weak_cache.specs.Entries.{Cache}
-use Rattle.txn_core.specs.declared.job.Job.TheVariants.{Transaction}
-use Rattle.txn_core.specs.declared.response.Response.TheVariants.{Replied}
-use Rattle.file_ops.specs.Rows.{row_of}
+use Rattle.rep_core.specs.Service.{after}
 use Rattle.file_exec.specs.Known as known
-use Rattle.file_exec.specs.Known.{IsSoAt}
-use Rattle.run_core.specs.TableOfRun.{table_of}
-use Rattle.txn_core.specs.Suites.{Suites, suite_of, known_of}
-use Rattle.txn_core.specs.Writing.{has_vote, parts_at}
 use Rattle.txn_core.specs.Doing as doing
-use Rattle.txn_core.specs.Doing.{Task, Phase, Gathering, Fetching, Preparing, Deciding, Finishing, TransactionRun, Running, After, GoesOn, Ends, home_of}
-use Rattle.txn_core.specs.Transactions.{Step as CourseStep, asked_for, given_in, changes_of, decision_of, request_in, after_reply}
+use Rattle.txn_core.specs.Transactions.{Step as CourseStep}
 use Rattle.txn_core.specs.Agents as agents
-use Rattle.txn_core.specs.Agents.{Agent, Taken, fixed_of, is_idle, next_in, next_of, left, end_of, with_step, take_in, take, begins, begin, after_all}
-use Rattle.txn_core.specs.Laws.{exchanges, is_decide}
-use Rattle.txn_core.proofs.Asks.{asks_same}
 use Rattle.txn_core.proofs.Locks as keeping
-use Rattle.txn_core.proofs.Locks.{Keeps, nothing_held, plus_all, begin_keeps}
-use Rattle.txn_core.proofs.Upheld.{after-append}
-use Rattle.run_core.specs.declared.event.Event.{Event}
-use Rattle.run_core.specs.declared.event.Event.TheVariants.{Begin, Step}
-use Rattle.run_core.specs.declared.done.EndedJob.{EndedJob}
-use Rattle.run_core.specs.declared.done.Served.{Served}
-use Rattle.run_core.specs.Worlds.{Actor, World, server_at, actor_at, one_more, outcome_of, step}
-use Rattle.run_core.specs.Runs.{run}
-use Rattle.run_core.specs.Decisions.{decisions}
-use Rattle.law_runs.specs.Claims.{ended}
-use Rattle.law_runs.specs.Numbers.{number_of}
-use Rattle.law_runs.proofs.Agents.{take_keeps}
-use Rattle.law_runs.proofs.Conclusions.{holds_of}
-use Rattle.law_runs.proofs.Worlds.{agent_of, puts_in}
-use Rattle.law_run_alone.proofs.Unswept.{is_resolve, never_resolves}
-use Rattle.law_run_recovers.specs.Standing.{is_up, shown_at, shown_in}
-use Rattle.law_run_recovers.specs.Near.{asks_for}
-use Rattle.law_run_recovers.specs.Unmet.{runs, world_after}
 use Rattle.law_run_recovers.proofs.Steady.{GoesSteadily}
 use Rattle.law_run_recovers.proofs.Asked.{onto_left, next_vote}
 use Rattle.law_run_recovers.proofs.Early.{early_open, early_asks, fetch_is, ending_in}
@@ -74,11 +31,7 @@ use Rattle.law_run_recovers.proofs.AmongBegin.{Good, stands_left, right_end, beg
 use Rattle.law_run_recovers.proofs.AmongCourse.{Course, RunsIt, PhaseIn, StandsIn, Right, same_service, next_is, NewOpen, spared_on, locks_on as answered_on, NewShown, shown_on, open_works}
 use Rattle.law_run_recovers.proofs.Widened.{same_mode}
 use Rattle.law_run_recovers.proofs.AmongKnows.{knows_begun}
-use Rattle.rep_core.specs.declared.stamped.Stamped.{Stamped}
-use Rattle.rep_core.specs.Store.{copy_of}
 use Rattle.law_run_recovers.proofs.Locked.{poll_leaves, poll_shows}
-use Rattle.law_run_recovers.specs.Told.{shows_same}
-use Rattle.txn_core.specs.Undecided.{stands_on_locks}
 
 -- a request for a lock on a suite is of that suite
 abbrev suite_in : Request → ℕ

@@ -1,35 +1,14 @@
 -- A transaction that goes steadily ends within a number of its own steps that its table tells.
-use Rattle.std.proofs.Common.{◌≡◌, ◌⊎◌, inl, inr, ⊎_elim, ℕ, ◌+◌, ◌<◌, ◌≤◌, Bool, true, false, cond, List, [], ◌∷◌, ◌++◌, append_assoc, length, Some, is_some, refl, sym, ap, subst, ◌∙◌, arith, Option, suc, zero, None}
-use Rattle.std.specs.Prelude.{◌==◌, ◌&&◌, ◌||◌}
-use Rattle.std.specs.List.{cons_option, list_all}
-use Rattle.std.proofs.lemmas.Bool.Decides.{nat_tests}
-use Rattle.std.proofs.lemmas.List.Folds.{list_all-append}
-use Rattle.std.proofs.lemmas.Option.{slice_get_within, none-some, slice_get_cases}
-use Rattle.acl_core.specs.Identity.{Identity}
-use Rattle.suite_prefix.specs.SettingsRules.{Opening}
-use Rattle.file_ops.specs.declared.operation.Op.{Op}
-use Rattle.rep_core.specs.Service.{reply_of}
-use Rattle.rep_core.proofs.Members.{Has, has_any, contains_from, any_has, has_filter, has_from}
-use Rattle.txn_core.specs.declared.job.Job.TheVariants.{Transaction}
-use Rattle.txn_core.specs.declared.response.Response.TheVariants.{Replied, Lacked}
-use Rattle.txn_core.specs.Transactions.{numbers_from, request_in}
+use Rattle.law_run_recovers.proofs.Vocabulary.{◌≡◌, ◌⊎◌, inl, inr, ⊎_elim, ℕ, ◌+◌, ◌<◌, ◌≤◌, Bool, true, false, cond, List, [], ◌∷◌, ◌++◌, append_assoc, length, Some, is_some, refl, sym, ap, subst, ◌∙◌, arith, Option, suc, zero, None}
+use Rattle.law_run_recovers.proofs.Vocabulary.{◌==◌, ◌&&◌, ◌||◌, cons_option, list_all, nat_tests, list_all-append, slice_get_within, none-some, slice_get_cases, Identity, Opening, Op, reply_of, Has, has_any, contains_from, any_has}
+use Rattle.law_run_recovers.proofs.Vocabulary.{has_filter, has_from, Transaction, Replied, Lacked, numbers_from, request_in, Agent, fixed_of, next_in, next_of, begin, after_all, is_idle, Exchange, exchange_of, exchanges, among}
+use Rattle.law_run_recovers.proofs.Vocabulary.{asks_only, names_of, names_only, says_held, exchanges-take, exchanges-forget, Event, Begin, Step, Crash, Return, Forget, Lack, EndedJob, Actor, World, step, server_at, dones, outcomes, run}
+use Rattle.law_run_recovers.proofs.Vocabulary.{table_of, number_of, so_many, its_step, own_steps, AmongLocksEndInTime, UnmetEndInTime, few_steps, begun_world, world_after, hinders_itself, CanBe, Ending, Finishing, Request, Response}
+use Rattle.law_run_recovers.proofs.Vocabulary.{State, Verdict, VotesAreValid, and_parts, eqb-true, false≢true, append_has_right, asks_same, cache_valid, copy_valid, is_finish, jobs_end, locked, sent_to, wants_lock, was_locked}
+use Rattle.law_run_recovers.proofs.Vocabulary.{max_servers, finishes_in_order}
 use Rattle.txn_core.specs.Agents as agents
-use Rattle.txn_core.specs.Agents.{Agent, fixed_of, next_in, next_of, begin, after_all, is_idle}
-use Rattle.txn_core.specs.Laws.{Exchange, exchange_of, exchanges, among, asks_only, names_of, names_only, says_held}
-use Rattle.txn_core.proofs.Upheld.{exchanges-take, exchanges-forget}
-use Rattle.run_core.specs.declared.event.Event.{Event}
-use Rattle.run_core.specs.declared.event.Event.TheVariants.{Begin, Step, Crash, Return, Forget, Lack}
-use Rattle.run_core.specs.declared.done.EndedJob.{EndedJob}
-use Rattle.run_core.specs.Worlds.{Actor, World, step, server_at}
-use Rattle.run_core.specs.Runs.{dones, outcomes, run}
-use Rattle.run_core.specs.TableOfRun.{table_of}
-use Rattle.law_runs.specs.Numbers.{number_of}
-use Rattle.law_runs.proofs.Lengths.{so_many}
-use Rattle.law_run_recovers.specs.Alone.{its_step, own_steps}
-use Rattle.law_run_recovers.specs.Among.{AmongLocksEndInTime}
 use Rattle.law_run_recovers.proofs.Steady.{GoesSteadily, steady}
-use Rattle.law_run_recovers.specs.Local.{Ended, UnmetEndInTime, few_steps}
-use Rattle.law_run_recovers.specs.Unmet.{begun_world, world_after, hinders_itself}
+use Rattle.law_run_recovers.specs.Local.{Ended}
 use Rattle.law_run_recovers.proofs.Apart.{event_apart}
 use Rattle.law_run_recovers.proofs.AmongOver.{has_after}
 use Rattle.law_run_recovers.proofs.Keeps.{run_at}
@@ -42,27 +21,10 @@ use Rattle.law_run_recovers.proofs.AmongCourse.{Course, RunsIt, runs_it, next_is
 use Rattle.law_run_recovers.proofs.AmongBegin.{idle_before, first_course, first_told}
 use Rattle.law_run_recovers.proofs.AmongStep.{own_on}
 use Rattle.law_run_recovers.proofs.InTime.{AllShow, Shows, exchanges_show, reply_shows, show_both}
-use Rattle.law_headline.specs.Premises.{CanBe}
-use Rattle.txn_core.specs.declared.ending.Ending.{Ending}
-use Rattle.txn_core.specs.Doing.{Finishing}
-use Rattle.rep_core.specs.declared.request.Request.{Request}
 use Rattle.rep_core.specs.declared.request.Request.TheVariants as request
-use Rattle.txn_core.specs.declared.response.Response.{Response}
-use Rattle.rep_core.specs.State.{State}
-use Rattle.rep_core.specs.declared.reply.Verdict.{Verdict}
-use Rattle.law_agents.specs.Steps.{VotesAreValid}
-use Rattle.std.proofs.lemmas.Bool.{and_parts, eqb-true, false≢true}
-use Rattle.law_runs.proofs.Standing.{append_has_right}
-use Rattle.txn_core.proofs.Asks.{asks_same}
-use Rattle.law_run_alone.proofs.Votes.{cache_valid, copy_valid}
 use Rattle.law_run_recovers.proofs.AmongAt.{can_so_far}
 use Rattle.law_run_recovers.proofs.Lacking.{hindered}
-use Rattle.txn_core.specs.Undecided.{is_finish}
-use Rattle.law_agents.proofs.Ends.{jobs_end}
 use Rattle.law_run_recovers.proofs.AmongLacks.{lack_on, tells_now}
-use Rattle.law_agents.specs.Orders.{locked, sent_to, wants_lock, was_locked}
-use Rattle.vote_core.specs.Validity.{max_servers}
-use Rattle.law_agents.proofs.Orders.{finishes_in_order}
 
 -- ---- lists
 

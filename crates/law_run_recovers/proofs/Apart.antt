@@ -1,30 +1,11 @@
 -- What an event makes of an agent at work whose step it is not: it does what it did, and no job of it ended.
-use Rattle.std.proofs.Common.{◌≡◌, ◌⊎◌, inl, inr, ⊎_elim, ℕ, ◌+◌, Bool, true, false, cond, [], ◌∷◌, Option, Some, None, is_some, refl, sym, ap, ◌∙◌}
-use Rattle.std.specs.Prelude.{◌-◌, ◌==◌, ◌&&◌, not, nat_lt, slice_get, find, option_map}
-use Rattle.std.proofs.lemmas.Bool.{false≢true, eqb-true, eq-eqb}
-use Rattle.std.proofs.lemmas.Option.{none-some, same_Some}
-use Rattle.suite_prefix.specs.SettingsRules.{Opening}
-use Rattle.suite_prefix.specs.declared.copies.Prefix.{Prefix}
-use Rattle.rep_core.specs.declared.request.Request.{Request}
+use Rattle.law_run_recovers.proofs.Vocabulary.{◌≡◌, ◌⊎◌, inl, inr, ⊎_elim, ℕ, ◌+◌, Bool, true, false, cond, [], ◌∷◌, Option, Some, None, is_some, refl, sym, ap, ◌∙◌, ◌-◌, ◌==◌, ◌&&◌, not, nat_lt, slice_get, find, option_map, false≢true}
+use Rattle.law_run_recovers.proofs.Vocabulary.{eqb-true, eq-eqb, none-some, same_Some, Opening, Prefix, Request, State, Entry, Cache, is_of, forgotten, hint, Ending, Job, Replied, Lacked, Fixed, Agent, Taken, fixed_of, is_idle}
+use Rattle.law_run_recovers.proofs.Vocabulary.{has_sense, max_jobs, next_of, take, begin, started, forget, Event, Begin, Step, Crash, Return, Forget, Lack, EndedJob, Served, Actor, World, Stepped, server_at, actor_at, with_actor, quiet}
+use Rattle.law_run_recovers.proofs.Vocabulary.{serve, after_serving, outcome_of, moved, took, becomes, answered, asks_at, asks, steps_once, lacks_for, lacks, operated, operates, step, same_or, puts_in, hinders_itself}
 use Rattle.rep_core.specs.declared.request.Request.TheVariants as request
 use Rattle.rep_core.specs.declared.stamped.Lack.{Lack as Why}
 use Rattle.rep_core.specs.declared.stamped.Lack.TheVariants as lack
-use Rattle.rep_core.specs.State.{State}
-use Rattle.weak_cache.specs.Entries.{Entry, Cache, is_of, forgotten}
-use Rattle.weak_cache.specs.Cache.{hint}
-use Rattle.txn_core.specs.declared.ending.Ending.{Ending}
-use Rattle.txn_core.specs.declared.job.Job.{Job}
-use Rattle.txn_core.specs.declared.response.Response.TheVariants.{Replied, Lacked}
-use Rattle.txn_core.specs.Doing.{Fixed}
-use Rattle.txn_core.specs.Agents.{Agent, Taken, fixed_of, is_idle, has_sense, max_jobs, next_of, take, begin, started, forget}
-use Rattle.run_core.specs.declared.event.Event.{Event}
-use Rattle.run_core.specs.declared.event.Event.TheVariants.{Begin, Step, Crash, Return, Forget, Lack}
-use Rattle.run_core.specs.declared.done.EndedJob.{EndedJob}
-use Rattle.run_core.specs.declared.done.Served.{Served}
-use Rattle.run_core.specs.Worlds.{Actor, World, Stepped, server_at, actor_at, with_actor, quiet, serve, after_serving, outcome_of, moved, took, becomes, answered, asks_at, asks, steps_once, lacks_for, lacks, operated, operates, step}
-use Rattle.law_runs.proofs.Places.{same_or}
-use Rattle.law_runs.proofs.Worlds.{puts_in}
-use Rattle.law_run_recovers.specs.Unmet.{hinders_itself}
 
 -- ---- what is forgotten is hinted no more
 

@@ -1,28 +1,11 @@
 -- A suite whose copies in effect have at a quorum the versions that they had is the register that it was; and where nothing is in the way what is stored is in effect.
-use Rattle.std.proofs.Common.{◌≡◌, ◌≢◌, ◌⊎◌, inl, inr, ℕ, ◌≤◌, ◌<◌, Bool, true, false, cond, Option, Some, None, refl, sym, ap, subst, ◌∙◌, arith}
-use Rattle.std.specs.Prelude.{◌==◌, unwrap_or}
-use Rattle.std.specs.Ordering.{nat_cmp}
-use Rattle.std.proofs.lemmas.Bool.{false≢true, eqb-true}
-use Rattle.sorted_map.specs.SortedMap.{get}
-use Rattle.suite_prefix.specs.SettingsRules.{Opening}
-use Rattle.suite_prefix.specs.declared.lock_mode.LockMode.{LockMode}
-use Rattle.suite_prefix.specs.declared.copies.Replica.{Replica}
+use Rattle.law_run_recovers.proofs.Vocabulary.{◌≡◌, ◌≢◌, ◌⊎◌, inl, inr, ℕ, ◌≤◌, ◌<◌, Bool, true, false, cond, Option, Some, None, refl, sym, ap, subst, ◌∙◌, arith, ◌==◌, unwrap_or, nat_cmp, false≢true, eqb-true, get, Opening, LockMode}
+use Rattle.law_run_recovers.proofs.Vocabulary.{Replica, IsConsistent, conflicts, in_the_way, copy_of, left_by, State, has_from, find_none, server_at, Stays, Beginning, row, prefix_at, content_at, empty_of, Answered, Aborted, IsQuorum}
+use Rattle.law_run_recovers.proofs.Vocabulary.{in_effect, effect, within_row, Inv, plan_of, Shows, servers_of, home_in}
 use Rattle.rep_core.specs.Intentions as server
-use Rattle.rep_core.specs.Consistency.{IsConsistent}
-use Rattle.rep_core.specs.Locks.{conflicts, in_the_way}
-use Rattle.rep_core.specs.Store.{copy_of, left_by}
 use Rattle.rep_core.specs.State as state
-use Rattle.rep_core.specs.State.{State}
-use Rattle.rep_core.proofs.Members.{has_from, find_none}
 use Rattle.run_core.specs.Worlds as worlds
-use Rattle.run_core.specs.Worlds.{server_at}
-use Rattle.law_suite_machine.specs.Laws.{Stays}
-use Rattle.law_suite_machine.specs.Registers.{Beginning, row, prefix_at, content_at, empty_of}
-use Rattle.law_suite_machine.specs.Machine.{World, Verdict, Answered, Refused, Aborted, IsQuorum, is_answered, in_effect, effect}
-use Rattle.law_suite_machine.proofs.Knowing.{within_row}
-use Rattle.law_suite_machine.proofs.Invariant.{Inv}
-use Rattle.law_server_moves.specs.Views.{plan_of, Shows}
-use Rattle.law_run_machine.specs.Machines.{servers_of, home_in}
+use Rattle.law_suite_machine.specs.Machine.{World, Verdict, Refused, is_answered}
 use Rattle.law_run_recovers.proofs.Stand.{in_conflict}
 
 -- ---- two machines of a suite

@@ -1,25 +1,9 @@
 -- What an event that does not hinder an agent is to it: nothing at all, or its own step, which was served.
-use Rattle.std.proofs.Common.{◌≡◌, ◌≢◌, ◌⊎◌, inl, inr, ⊎_elim, ℕ, ◌+◌, Bool, true, false, cond, Option, Some, None, is_some, refl, sym, ap, subst, ◌∙◌}
-use Rattle.std.specs.Prelude.{◌*◌, ◌==◌, ◌&&◌, not, nat_lt, slice_get, slice_set}
-use Rattle.std.proofs.lemmas.Bool.{false≢true, and_parts, eqb-true, eq-eqb, not-false}
-use Rattle.std.proofs.lemmas.Option.{none-some, same_Some}
-use Rattle.suite_prefix.specs.SettingsRules.{Opening}
-use Rattle.rep_core.specs.declared.request.Request.{Request}
+use Rattle.law_run_recovers.proofs.Vocabulary.{◌≡◌, ◌≢◌, ◌⊎◌, inl, inr, ⊎_elim, ℕ, ◌+◌, Bool, true, false, cond, Option, Some, None, is_some, refl, sym, ap, subst, ◌∙◌, ◌*◌, ◌==◌, ◌&&◌, not, nat_lt, slice_get, slice_set, false≢true}
+use Rattle.law_run_recovers.proofs.Vocabulary.{and_parts, eqb-true, eq-eqb, not-false, none-some, same_Some, Opening, Request, Ending, Job, Lacked, Doing, Fixed, Agent, fixed_of, is_idle, has_sense, max_jobs, next_in, next_of, take}
+use Rattle.law_run_recovers.proofs.Vocabulary.{begin, started, forget, Event, Begin, Step, Crash, Return, Forget, Lack, EndedJob, Actor, World, Stepped, actor_at, has_no_job, with_actor, moved, outcome_of, becomes, asks, steps_once}
+use Rattle.law_run_recovers.proofs.Vocabulary.{lacks_for, lacks, step, begins_now, same_or, puts_in, none_of, with_job, hinders}
 use Rattle.rep_core.specs.declared.stamped.Lack.{Lack as Why}
-use Rattle.txn_core.specs.declared.ending.Ending.{Ending}
-use Rattle.txn_core.specs.declared.job.Job.{Job}
-use Rattle.txn_core.specs.declared.response.Response.TheVariants.{Lacked}
-use Rattle.txn_core.specs.Doing.{Doing, Fixed}
-use Rattle.txn_core.specs.Agents.{Agent, fixed_of, is_idle, has_sense, max_jobs, next_in, next_of, take, begin, started, forget}
-use Rattle.run_core.specs.declared.event.Event.{Event}
-use Rattle.run_core.specs.declared.event.Event.TheVariants.{Begin, Step, Crash, Return, Forget, Lack}
-use Rattle.run_core.specs.declared.done.EndedJob.{EndedJob}
-use Rattle.run_core.specs.Worlds.{Actor, World, Stepped, actor_at, has_no_job, with_actor, moved, outcome_of, becomes, asks, steps_once, lacks_for, lacks, step}
-use Rattle.law_runs.specs.Numbers.{begins_now}
-use Rattle.law_runs.proofs.Places.{same_or}
-use Rattle.law_runs.proofs.Worlds.{puts_in}
-use Rattle.law_run_alone.proofs.Turns.{none_of, with_job}
-use Rattle.law_run_recovers.specs.Alone.{hinders}
 
 -- servers and the agent are as they were, and no job of the agent ended
 pub record Aside (agent : ℕ) (world : World) (stepped : Stepped) : Type 0 where

@@ -1,17 +1,7 @@
 -- Of whom a collector asks, and in which mode: of one that has a vote by the votes that count, as it wants.
-use Rattle.std.proofs.Common.{◌≡◌, inl, inr, ℕ, Bool, true, false, cond, List, [], ◌∷◌, Option, Some, None, refl, sym, ap, subst, ◌∙◌}
-use Rattle.std.specs.Prelude.{◌==◌, ◌&&◌, not, nat_lt, nat_le, find}
-use Rattle.std.proofs.lemmas.Bool.{false≢true, and_parts, and_from, eqb-true, eq-eqb}
-use Rattle.vote_core.specs.Quorums.{Representative}
-use Rattle.suite_prefix.specs.declared.lock_mode.LockMode.{LockMode}
-use Rattle.suite_prefix.specs.declared.lock_mode.LockMode.TheVariants.{Shared, Exclusive}
-use Rattle.suite_prefix.specs.LockModes.{serves}
-use Rattle.rep_core.proofs.Members.{Has, any_has, has_any}
-use Rattle.rep_core.proofs.Finding.{find_some}
-use Rattle.suite_collect.specs.Telling.{newest, holds, has_refused}
-use Rattle.suite_collect.specs.Collecting.{Collector, Asked, Poll, Upgrade, all_told, counted, wanted, needed, got, is_member, is_left, members_of, version, ask_or_short, mode_asked, Next, Current, Ask, Short, next}
-use Rattle.txn_core.specs.Writing.{has_vote}
-use Rattle.law_run_recovers.specs.Demands.{has_asked}
+use Rattle.law_run_recovers.proofs.Vocabulary.{◌≡◌, inl, inr, ℕ, Bool, true, false, cond, List, [], ◌∷◌, Option, Some, None, refl, sym, ap, subst, ◌∙◌, ◌==◌, ◌&&◌, not, nat_lt, nat_le, find, false≢true, and_parts, and_from, eqb-true}
+use Rattle.law_run_recovers.proofs.Vocabulary.{eq-eqb, Representative, LockMode, Shared, Exclusive, serves, Has, any_has, has_any, find_some, newest, holds, has_refused, Collector, Asked, Poll, Upgrade, all_told, counted, wanted}
+use Rattle.law_run_recovers.proofs.Vocabulary.{needed, got, is_member, is_left, members_of, version, ask_or_short, mode_asked, Next, Current, Ask, Short, next, has_vote, has_asked}
 use Rattle.law_run_recovers.proofs.Asking.{onto}
 use Rattle.law_run_recovers.proofs.Polled.{first_left}
 

@@ -1,15 +1,7 @@
 -- Who asked what an event served: in a transaction's name only an agent does, in a step of its own.
-use Rattle.std.proofs.Common.{◌≡◌, ℕ, true, Some, refl, sym, ap, ◌∙◌}
-use Rattle.std.proofs.lemmas.Bool.{false≢true}
-use Rattle.std.proofs.lemmas.Option.{none-some}
+use Rattle.law_run_recovers.proofs.Vocabulary.{◌≡◌, ℕ, true, Some, refl, sym, ap, ◌∙◌, false≢true, none-some, Fixed, next_of, begin, forget, Served, Event, Begin, Step, Crash, Return, Forget, Lack, Actor, World, server_at, actor_at}
+use Rattle.law_run_recovers.proofs.Vocabulary.{step, names}
 use Rattle.rep_core.specs.declared.request.Request.TheVariants as request
-use Rattle.txn_core.specs.Doing.{Fixed}
-use Rattle.txn_core.specs.Agents.{next_of, begin, forget}
-use Rattle.run_core.specs.declared.done.Served.{Served}
-use Rattle.run_core.specs.declared.event.Event.{Event}
-use Rattle.run_core.specs.declared.event.Event.TheVariants.{Begin, Step, Crash, Return, Forget, Lack}
-use Rattle.run_core.specs.Worlds.{Actor, World, server_at, actor_at, step}
-use Rattle.law_runs.specs.Naming.{names}
 use Rattle.law_run_recovers.proofs.Keeps.{step_asks, operates_it, becomes_none, lacks_none}
 
 module _ (fixed : Fixed) (w : World) where

@@ -1,25 +1,9 @@
 -- What a transaction asks for in its order: what it has asked for so far, and what is asked next.
-use Rattle.std.proofs.Common.{◌≡◌, inl, inr, ℕ, Bool, true, false, cond, List, [], ◌∷◌, ◌++◌, Option, Some, None, refl, sym, ap, ◌∙◌, arith}
-use Rattle.std.specs.Prelude.{◌==◌, ◌&&◌, ◌||◌, not, find, map}
-use Rattle.std.specs.List.{list_any}
-use Rattle.std.specs.Ordering.{nat_cmp}
-use Rattle.std.proofs.lemmas.Bool.{false≢true}
-use Rattle.std.proofs.lemmas.Bool.Decides.{nat_tests}
-use Rattle.std.proofs.lemmas.Option.{none-some, same_Some}
-use Rattle.sorted_map.specs.SortedMap.{IsOrdered}
-use Rattle.suite_prefix.specs.declared.lock_mode.LockMode.{LockMode}
-use Rattle.suite_prefix.specs.declared.lock_mode.LockMode.TheVariants.{Shared, Exclusive}
-use Rattle.suite_prefix.specs.LockModes.{serves}
-use Rattle.rep_core.proofs.Members.{Has}
-use Rattle.file_exec.specs.declared.need.Need.{Need}
-use Rattle.file_exec.specs.declared.need.Need.TheVariants.{Hold, Know}
-use Rattle.file_exec.specs.KnownSuites.{KnownSuite}
+use Rattle.law_run_recovers.proofs.Vocabulary.{◌≡◌, inl, inr, ℕ, Bool, true, false, cond, List, [], ◌∷◌, ◌++◌, Option, Some, None, refl, sym, ap, ◌∙◌, arith, ◌==◌, ◌&&◌, ◌||◌, not, find, map, list_any, nat_cmp, false≢true, nat_tests}
+use Rattle.law_run_recovers.proofs.Vocabulary.{none-some, same_Some, IsOrdered, LockMode, Shared, Exclusive, serves, Has, Need, Hold, Know, KnownSuite, Known, is_opened, first_unmet, ReadPoint, GatheredSuite, Suites, suite_of}
+use Rattle.law_run_recovers.proofs.Vocabulary.{known_row, known_of, known_from, known_at, has_asked, not_asked}
 use Rattle.file_exec.specs.Known as known
-use Rattle.file_exec.specs.Known.{Known, is_held, is_opened, first_unmet}
-use Rattle.txn_core.specs.Suites.{ReadPoint, GatheredSuite, Suites, suite_of, known_row, known_of}
-use Rattle.txn_core.proofs.Growing.{known_from}
-use Rattle.txn_core.proofs.Setting.{known_at}
-use Rattle.law_run_recovers.specs.Demands.{has_asked, not_asked}
+use Rattle.file_exec.specs.Known.{is_held}
 
 -- ---- lists
 

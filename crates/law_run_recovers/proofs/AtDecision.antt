@@ -1,39 +1,9 @@
 -- At a decision: its server is up, and the newest prefix that was seen of a suite is that of its row.
-use Rattle.std.proofs.Common.{◌≡◌, ℕ, true, false, cond, List, Option, Some, None, is_some, refl, sym, ap, ◌∙◌}
-use Rattle.std.proofs.lemmas.Option.{none-some}
-use Rattle.suite_prefix.specs.SettingsRules.{Opening}
-use Rattle.suite_prefix.specs.declared.copies.Prefix.{Prefix}
-use Rattle.rep_core.specs.declared.request.Request.{Request}
-use Rattle.rep_core.specs.declared.stamped.Stamped.{Stamped}
-use Rattle.rep_core.specs.State.{State, record_of}
-use Rattle.rep_core.specs.Service.{reply_of, reply_up, reply_down}
-use Rattle.rep_core.specs.Serving.{is_full, answer_of}
-use Rattle.txn_core.specs.Suites.{GatheredSuite, suite_of}
-use Rattle.txn_core.specs.Doing.{Fixed, Task}
-use Rattle.txn_core.specs.Transactions.{changes_of}
-use Rattle.txn_core.specs.Agents.{fixed_of}
-use Rattle.txn_core.specs.Laws.{newest_of, IsReady}
-use Rattle.run_core.specs.declared.event.Event.{Event}
-use Rattle.run_core.specs.declared.event.Event.TheVariants.{Step}
-use Rattle.run_core.specs.declared.done.Served.{Served}
-use Rattle.run_core.specs.Worlds.{Actor, World, server_at, answered, asks_at}
-use Rattle.run_core.specs.Runs.{run}
-use Rattle.run_core.specs.Decisions.{Decided, decided, decided_at, decided_as, decided_by, to_decide, answer_in}
-use Rattle.law_runs.specs.Answers.{IsAnsweredAsKnown}
-use Rattle.law_suite_machine.specs.Registers.{Beginning, row, prefix_at}
+use Rattle.law_run_recovers.proofs.Vocabulary.{◌≡◌, ℕ, true, false, cond, List, Option, Some, None, is_some, refl, sym, ap, ◌∙◌, none-some, Opening, Prefix, Request, Stamped, State, record_of, reply_of, reply_up, reply_down, is_full}
+use Rattle.law_run_recovers.proofs.Vocabulary.{answer_of, GatheredSuite, suite_of, Fixed, Task, changes_of, fixed_of, newest_of, IsReady, Event, Step, Served, Actor, World, server_at, answered, asks_at, run, Decided, decided}
+use Rattle.law_run_recovers.proofs.Vocabulary.{decided_at, decided_as, decided_by, to_decide, answer_in, IsAnsweredAsKnown, Beginning, row, prefix_at, beginning, machine_of, suite_was, newest_prefix, row_at, CanBe, Together}
+use Rattle.law_run_recovers.proofs.Vocabulary.{holds_after, owes_known, row_known, undecided, votes_of_row, up_in, is_up}
 use Rattle.law_suite_machine.specs.Machine as machine
-use Rattle.law_server_moves.specs.Laws.{beginning}
-use Rattle.law_run_machine.specs.Machines.{machine_of}
-use Rattle.law_run_knowledge.proofs.Decided.{suite_was, newest_prefix}
-use Rattle.law_one_table.specs.Versions.{row_at}
-use Rattle.law_headline.specs.Premises.{CanBe}
-use Rattle.law_headline.proofs.Together.{Together}
-use Rattle.law_headline.proofs.Keeping.{holds_after}
-use Rattle.law_headline.proofs.Owing.{owes_known}
-use Rattle.law_headline.proofs.Beside.{row_known}
-use Rattle.law_headline.proofs.Stood.{undecided}
-use Rattle.law_run_recovers.specs.Demands.{votes_of_row}
-use Rattle.law_run_recovers.specs.Standing.{up_in, is_up}
 use Rattle.law_run_recovers.proofs.Found.{same_top}
 use Rattle.law_run_recovers.proofs.Rows.{row_votes}
 use Rattle.law_run_recovers.proofs.Downs.{down_decides_none}

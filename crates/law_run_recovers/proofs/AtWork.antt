@@ -1,45 +1,13 @@
 -- A transaction that nobody robs: until its end is fixed the locks that it was told of stand, whatever others do.
-use Rattle.std.proofs.Common.{◌≡◌, ◌⊎◌, inl, inr, ⊎_elim, Bool, true, false, List, [], ◌∷◌, ◌++◌, append_assoc, append-nil, Option, Some, None, refl, sym, ap, subst, ◌∙◌, arith, ℕ}
-use Rattle.std.specs.Prelude.{◌==◌, ◌&&◌, ◌||◌, not}
-use Rattle.std.proofs.lemmas.Bool.{false≢true, eqb-true}
-use Rattle.std.proofs.lemmas.Bool.Decides.{nat_tests}
-use Rattle.std.proofs.lemmas.Option.{none-some, same_Some}
-use Rattle.acl_core.specs.Identity.{Identity}
-use Rattle.suite_prefix.specs.SettingsRules.{Opening, IsAccepted}
-use Rattle.file_ops.specs.declared.operation.Op.{Op}
-use Rattle.rep_core.specs.declared.request.Request.{Request}
+use Rattle.law_run_recovers.proofs.Vocabulary.{◌≡◌, ◌⊎◌, inl, inr, ⊎_elim, Bool, true, false, List, [], ◌∷◌, ◌++◌, append_assoc, append-nil, Option, Some, None, refl, sym, ap, subst, ◌∙◌, arith, ℕ, ◌==◌, ◌&&◌, ◌||◌, not, false≢true}
+use Rattle.law_run_recovers.proofs.Vocabulary.{eqb-true, nat_tests, none-some, same_Some, Identity, Opening, IsAccepted, Op, Request, State, Transaction, Suites, suite_of, parts_at, Fixed, Task, home_of, Phase, Gathering, Fetching}
+use Rattle.law_run_recovers.proofs.Vocabulary.{Widening, Preparing, Deciding, Finishing, Doing, Running, RunningSweep, request_in, changes_of, decision_of, fixed_of, begin, forget, next_in, next_of, asks_same, asked_as, fetched_as}
+use Rattle.law_run_recovers.proofs.Vocabulary.{Served, Event, Begin, Step, Crash, Return, Forget, Lack, Actor, World, server_at, actor_at, run, names, may_sweep, agents_ask_for_themselves, machine_of, machine_one, CanBe, holds_after}
+use Rattle.law_run_recovers.proofs.Vocabulary.{begins_job, IsMine, can_front, Stands, releases, doing_of, begun_stands, started_untold, is_resolve, never_resolves, Carried, carried_by, runs, is_telling, world_after, takes, up_and}
+use Rattle.law_run_recovers.proofs.Vocabulary.{of_up, robs, hinders_itself, drops, bereaves}
 use Rattle.rep_core.specs.declared.request.Request.TheVariants as request
-use Rattle.rep_core.specs.State.{State}
-use Rattle.txn_core.specs.declared.job.Job.TheVariants.{Transaction}
-use Rattle.txn_core.specs.Suites.{Suites, suite_of}
-use Rattle.txn_core.specs.Writing.{parts_at}
-use Rattle.txn_core.specs.Doing.{Fixed, Task, home_of, Phase, Gathering, Fetching, Widening, Preparing, Deciding, Finishing, Doing, Running, RunningSweep}
-use Rattle.txn_core.specs.Transactions.{request_in, changes_of, decision_of}
-use Rattle.txn_core.specs.Agents.{fixed_of, begin, forget, next_in, next_of}
-use Rattle.txn_core.proofs.Asks.{asks_same, asked_as, fetched_as}
-use Rattle.run_core.specs.declared.done.Served.{Served}
-use Rattle.run_core.specs.declared.event.Event.{Event}
-use Rattle.run_core.specs.declared.event.Event.TheVariants.{Begin, Step, Crash, Return, Forget, Lack}
-use Rattle.run_core.specs.Worlds.{Actor, World, server_at, actor_at}
-use Rattle.run_core.specs.Runs.{run}
-use Rattle.law_runs.specs.Naming.{names, may_sweep}
-use Rattle.law_runs.proofs.Begun.{agents_ask_for_themselves}
 use Rattle.law_suite_machine.specs.Machine as machine
-use Rattle.law_run_machine.specs.Machines.{machine_of}
-use Rattle.law_one_table.proofs.Running.{machine_one}
-use Rattle.law_headline.specs.Premises.{CanBe}
-use Rattle.law_headline.proofs.Keeping.{holds_after}
-use Rattle.law_run_alone.specs.Alone.{begins_job}
 use Rattle.law_run_alone.proofs.Holding as holding
-use Rattle.law_run_alone.proofs.Owns.{IsMine}
-use Rattle.law_run_alone.proofs.Reached.{can_front}
-use Rattle.law_run_alone.proofs.Standing.{Stands, releases}
-use Rattle.law_run_alone.proofs.Turns.{doing_of}
-use Rattle.law_run_alone.proofs.Untold.{begun_stands, started_untold}
-use Rattle.law_run_alone.proofs.Unswept.{is_resolve, never_resolves}
-use Rattle.law_run_alone.proofs.Whole.{Carried, carried_by}
-use Rattle.law_run_recovers.specs.Unmet.{runs, is_telling, world_after, takes, up_and, of_up, robs, hinders_itself}
-use Rattle.law_run_recovers.specs.Told.{drops, bereaves}
 use Rattle.law_run_recovers.proofs.Keeps.{IsAtWork, Works, works, step_asks, operates_it, becomes_none, lacks_none, run_at, at_work_before}
 use Rattle.law_run_recovers.proofs.Still.{IsOpen, IsOpenPhase}
 use Rattle.law_run_recovers.proofs.Untaken.{TakesNothing, untaken_stands}

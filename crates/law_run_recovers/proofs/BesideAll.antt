@@ -1,31 +1,9 @@
 -- Transactions side by side: all along nobody meets any, each that is busy runs one, and each lock is of one that runs and asks for it.
-use Rattle.std.proofs.Common.{◌≡◌, ℕ, Bool, true, false, List, [], ◌∷◌, ◌++◌, append-nil, append_assoc, Option, Some, None, refl, sym, ap, subst, ◌∙◌}
-use Rattle.std.specs.Prelude.{◌%◌, ◌&&◌, ◌||◌, not, Contains}
-use Rattle.std.specs.List.{list_any}
-use Rattle.std.proofs.lemmas.Bool.{false≢true}
-use Rattle.std.proofs.lemmas.Option.{none-some, same_Some}
-use Rattle.suite_prefix.specs.SettingsRules.{Opening, IsAccepted}
-use Rattle.suite_prefix.specs.declared.lock_mode.LockMode.{LockMode}
-use Rattle.rep_core.specs.declared.request.Request.{Request}
+use Rattle.law_run_recovers.proofs.Vocabulary.{◌≡◌, ℕ, Bool, true, false, List, [], ◌∷◌, ◌++◌, append-nil, append_assoc, Option, Some, None, refl, sym, ap, subst, ◌∙◌, ◌%◌, ◌&&◌, ◌||◌, not, Contains, list_any, false≢true, none-some}
+use Rattle.law_run_recovers.proofs.Vocabulary.{same_Some, Opening, IsAccepted, LockMode, Request, State, has_from, has_any, Transaction, Task, Doing, request_in, Agent, fixed_of, is_idle, next_in, next_of, Event, Begin, Actor, World}
+use Rattle.law_run_recovers.proofs.Vocabulary.{actor_at, has_no_job, step, run, names, CanBe, clear_servers, names_mine, can_front, run_more, AllServers, clashes, clash, Begun, its_asks, GoSideBySide, runs, running_in, is_running}
+use Rattle.law_run_recovers.proofs.Vocabulary.{asks_for}
 use Rattle.rep_core.specs.declared.request.Request.TheVariants as request
-use Rattle.rep_core.specs.State.{State}
-use Rattle.rep_core.proofs.Members.{has_from, has_any}
-use Rattle.txn_core.specs.declared.job.Job.TheVariants.{Transaction}
-use Rattle.txn_core.specs.Doing.{Task, Doing}
-use Rattle.txn_core.specs.Transactions.{request_in}
-use Rattle.txn_core.specs.Agents.{Agent, fixed_of, is_idle, next_in, next_of}
-use Rattle.run_core.specs.declared.event.Event.{Event}
-use Rattle.run_core.specs.declared.event.Event.TheVariants.{Begin}
-use Rattle.run_core.specs.Worlds.{Actor, World, actor_at, has_no_job, step}
-use Rattle.run_core.specs.Runs.{run}
-use Rattle.law_runs.specs.Naming.{names}
-use Rattle.law_headline.specs.Premises.{CanBe}
-use Rattle.law_run_alone.proofs.Clear.{clear_servers}
-use Rattle.law_run_alone.proofs.Owns.{names_mine}
-use Rattle.law_run_alone.proofs.Reached.{can_front, run_more}
-use Rattle.law_run_alone.proofs.Walks.{AllServers}
-use Rattle.law_run_recovers.specs.Beside.{clashes, clash, Begun, its_asks, GoSideBySide}
-use Rattle.law_run_recovers.specs.Unmet.{runs, running_in, is_running}
 use Rattle.law_run_recovers.proofs.AtWork.{mine_where}
 use Rattle.law_run_recovers.proofs.Keeps.{OfAsks}
 use Rattle.law_run_recovers.proofs.NearGround.{its}
@@ -34,7 +12,6 @@ use Rattle.law_run_recovers.proofs.Sides.{its_agent, AllUp, up_next}
 use Rattle.law_run_recovers.proofs.AmongAsks.{of_its_asks}
 use Rattle.law_run_recovers.proofs.AmongCourse.{Course, runs_it}
 use Rattle.law_run_recovers.proofs.BesideUnmet.{IsUnmet, world_then, then_is, steady_of, ran}
-use Rattle.law_run_recovers.specs.Near.{asks_for}
 
 -- ---- tests
 

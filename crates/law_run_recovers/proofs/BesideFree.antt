@@ -1,52 +1,15 @@
 -- A transaction that nobody meets where all servers are up: what it is replied is neither Busy, Down nor Lost, and so it does not end undecided.
-use Rattle.std.proofs.Common.{◌≡◌, ◌⊎◌, inl, inr, ⊎_elim, ℕ, true, false, cond, List, [], ◌∷◌, ◌++◌, append-nil, append_assoc, Some, None, is_some, Ok, Err, refl, sym, ap, subst, ◌∙◌}
-use Rattle.std.specs.Prelude.{Contains}
-use Rattle.std.proofs.lemmas.Bool.{false≢true, and_from}
-use Rattle.std.proofs.lemmas.Option.{none-some, same_Some}
-use Rattle.acl_core.specs.Identity.{Identity}
-use Rattle.suite_prefix.specs.SettingsRules.{Opening}
-use Rattle.suite_prefix.specs.declared.lock_mode.LockMode.{LockMode}
-use Rattle.file_ops.specs.declared.operation.Op.{Op}
-use Rattle.rep_core.specs.declared.request.Request.{Request}
+use Rattle.law_run_recovers.proofs.Vocabulary.{◌≡◌, ◌⊎◌, inl, inr, ⊎_elim, ℕ, true, false, cond, List, [], ◌∷◌, ◌++◌, append-nil, append_assoc, Some, None, is_some, Ok, Err, refl, sym, ap, subst, ◌∙◌, Contains, false≢true, and_from}
+use Rattle.law_run_recovers.proofs.Vocabulary.{none-some, same_Some, Identity, Opening, LockMode, Op, Request, Reply, Verdict, is_busy, is_down, is_lost, is_prepared, State, reply_of, reply_up, reply_down, verdict_of, reply_fits, Asked}
+use Rattle.law_run_recovers.proofs.Vocabulary.{mode_asked, Cache, Cause, Undecided, Transaction, Replied, Suites, Task, Phase, Gathering, Fetching, Preparing, Deciding, Finishing, home_of, asked_for, given_in, decision_of, request_in}
+use Rattle.law_run_recovers.proofs.Vocabulary.{Agent, fixed_of, begin, forget, take, after_all, is_decide, asks_same, after-append, EndedJob, Event, Begin, Step, Actor, server_at, actor_at, step, run, CanBe, TellsValid, IsFree, Since}
+use Rattle.law_run_recovers.proofs.Vocabulary.{since_begin, since_forget, since_take, never_undecided, can_front, valid_back, all_consistent, up_valid, HasValidVotes, copy_valid, cache_valid, asks_for, is_open_way, is_open_at, up_in}
+use Rattle.law_run_recovers.proofs.Vocabulary.{is_up, world_after, GoesUnmet, hinders_itself, GoesAmongLocks, EndsThen}
 use Rattle.rep_core.specs.declared.request.Request.TheVariants as request
-use Rattle.rep_core.specs.declared.reply.Reply.{Reply}
 use Rattle.rep_core.specs.declared.reply.Reply.TheVariants as reply
-use Rattle.rep_core.specs.declared.reply.Verdict.{Verdict}
 use Rattle.rep_core.specs.declared.reply.Verdict.TheVariants as verdict
-use Rattle.rep_core.specs.Fits.{is_busy, is_down, is_lost, is_prepared}
-use Rattle.rep_core.specs.State.{State}
-use Rattle.rep_core.specs.Service.{reply_of, reply_up, reply_down, verdict_of}
-use Rattle.rep_core.proofs.FittingReplies.{reply_fits}
-use Rattle.suite_collect.specs.Collecting.{Asked, mode_asked}
-use Rattle.weak_cache.specs.Entries.{Cache}
-use Rattle.txn_core.specs.declared.ending.Cause.{Cause}
-use Rattle.txn_core.specs.declared.ending.Ending.TheVariants.{Undecided}
-use Rattle.txn_core.specs.declared.job.Job.TheVariants.{Transaction}
-use Rattle.txn_core.specs.declared.response.Response.TheVariants.{Replied}
-use Rattle.txn_core.specs.Suites.{Suites}
 use Rattle.txn_core.specs.Doing as doing
-use Rattle.txn_core.specs.Doing.{Task, Phase, Gathering, Fetching, Preparing, Deciding, Finishing, home_of}
-use Rattle.txn_core.specs.Transactions.{asked_for, given_in, decision_of, request_in}
 use Rattle.txn_core.specs.Agents as agents
-use Rattle.txn_core.specs.Agents.{Agent, fixed_of, begin, forget, take, after_all}
-use Rattle.txn_core.specs.Laws.{is_decide}
-use Rattle.txn_core.proofs.Asks.{asks_same}
-use Rattle.txn_core.proofs.Upheld.{after-append}
-use Rattle.run_core.specs.declared.done.EndedJob.{EndedJob}
-use Rattle.run_core.specs.declared.event.Event.{Event}
-use Rattle.run_core.specs.declared.event.Event.TheVariants.{Begin, Step}
-use Rattle.run_core.specs.Worlds.{Actor, server_at, actor_at, step}
-use Rattle.run_core.specs.Runs.{run}
-use Rattle.law_headline.specs.Premises.{CanBe}
-use Rattle.law_run_alone.proofs.Exchanged.{TellsValid, IsFree, Since, since_begin, since_forget, since_take, never_undecided}
-use Rattle.law_run_alone.proofs.Reached.{can_front, valid_back}
-use Rattle.law_run_alone.proofs.Unhindered.{all_consistent, up_valid}
-use Rattle.law_run_alone.proofs.Votes.{HasValidVotes, copy_valid, cache_valid}
-use Rattle.law_run_recovers.specs.Near.{asks_for, is_open_way, is_open_at}
-use Rattle.law_run_recovers.specs.Standing.{up_in, is_up}
-use Rattle.law_run_recovers.specs.Unmet.{world_after, GoesUnmet, hinders_itself}
-use Rattle.law_run_recovers.specs.Among.{GoesAmongLocks}
-use Rattle.law_run_recovers.specs.Local.{EndsThen}
 use Rattle.law_run_recovers.proofs.Apart.{Apart, event_apart}
 use Rattle.law_run_recovers.proofs.Early.{ending_in}
 use Rattle.law_run_recovers.proofs.Heard.{RightFor, asks_for as asked_by}

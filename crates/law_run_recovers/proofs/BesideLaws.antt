@@ -1,31 +1,7 @@
 -- The laws of transactions side by side.
-use Rattle.std.proofs.Common.{◌≡◌, ℕ, Bool, true, false, List, [], ◌∷◌, ◌++◌, append-nil, append_assoc, Option, Some, None, is_some, Result, refl, sym, ap, subst, ◌∙◌}
-use Rattle.std.proofs.lemmas.Option.{same_Some}
-use Rattle.suite_prefix.specs.SettingsRules.{Opening}
-use Rattle.file_ops.specs.declared.answer.Answer.{Answer}
-use Rattle.file_ops.specs.declared.refusal.Refusal.{Refusal}
-use Rattle.rep_core.specs.State.{State}
-use Rattle.txn_core.specs.declared.ending.Cause.{Cause}
-use Rattle.txn_core.specs.declared.ending.Cause.TheVariants.{Unavailable, HomeDown}
-use Rattle.txn_core.specs.declared.ending.Ending.{Ending}
-use Rattle.txn_core.specs.declared.ending.Ending.TheVariants.{Undecided}
-use Rattle.txn_core.specs.declared.job.Job.TheVariants.{Transaction}
-use Rattle.txn_core.specs.Doing.{home_of}
-use Rattle.txn_core.specs.Agents.{fixed_of}
-use Rattle.run_core.specs.declared.done.EndedJob.{EndedJob}
-use Rattle.run_core.specs.declared.done.Served.{Served}
-use Rattle.run_core.specs.declared.event.Event.{Event}
-use Rattle.run_core.specs.declared.event.Event.TheVariants.{Begin, Step}
-use Rattle.run_core.specs.Worlds.{server_at, actor_at, step}
-use Rattle.run_core.specs.Runs.{run}
-use Rattle.run_core.specs.TableOfRun.{table_of}
-use Rattle.law_headline.specs.Premises.{CanBe}
-use Rattle.law_run_recovers.specs.Beside.{Begun, GoSideBySide, SideBySideAreDecided, SideBySideEndInTime, SideBySideAreToldFreely}
-use Rattle.law_run_recovers.specs.Demands.{Demand, demands, first_short}
-use Rattle.law_run_recovers.specs.Laws.{ending_by, ending_of, answer_on}
-use Rattle.law_run_recovers.specs.Local.{EndsThen}
-use Rattle.law_run_recovers.specs.Standing.{is_up}
-use Rattle.law_run_recovers.specs.Unmet.{is_running, world_after, GoesUnmet}
+use Rattle.law_run_recovers.proofs.Vocabulary.{◌≡◌, ℕ, Bool, true, false, List, [], ◌∷◌, ◌++◌, append-nil, append_assoc, Option, Some, None, is_some, Result, refl, sym, ap, subst, ◌∙◌, same_Some, Opening, Answer, Refusal, State, Cause}
+use Rattle.law_run_recovers.proofs.Vocabulary.{Unavailable, HomeDown, Ending, Undecided, Transaction, home_of, fixed_of, EndedJob, Served, Event, Begin, Step, server_at, actor_at, step, run, table_of, CanBe, Begun, GoSideBySide}
+use Rattle.law_run_recovers.proofs.Vocabulary.{SideBySideAreDecided, SideBySideEndInTime, SideBySideAreToldFreely, Demand, demands, first_short, ending_by, ending_of, answer_on, EndsThen, is_up, is_running, world_after, GoesUnmet}
 use Rattle.law_run_recovers.proofs.Keeps.{step_asks}
 use Rattle.law_run_recovers.proofs.StepsServed.{own_took}
 use Rattle.law_run_recovers.proofs.UnmetLaws.{unmet_by_votes}

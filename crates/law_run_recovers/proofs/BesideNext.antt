@@ -1,41 +1,10 @@
 -- Transactions side by side: one event more.
-use Rattle.std.proofs.Common.{◌≡◌, ◌≢◌, ⊎_elim, ℕ, Bool, true, false, cond, List, [], ◌∷◌, ◌++◌, append-nil, append_assoc, Option, Some, None, is_some, refl, sym, ap, subst, ◌∙◌}
-use Rattle.std.specs.Prelude.{◌==◌, ◌&&◌, ◌||◌, not, option_map, Contains}
-use Rattle.std.proofs.lemmas.Bool.{false≢true, and_parts, and_from, eqb-true, eq-eqb}
-use Rattle.std.proofs.lemmas.Option.{same_Some}
-use Rattle.suite_prefix.specs.SettingsRules.{Opening}
-use Rattle.suite_prefix.specs.declared.lock_mode.LockMode.{LockMode}
-use Rattle.suite_prefix.specs.LockModes.{is_exclusive}
-use Rattle.rep_core.specs.declared.lock.Lock.{Lock}
-use Rattle.rep_core.specs.declared.request.Request.{Request}
-use Rattle.rep_core.specs.Locks.{in_the_way, conflicts}
-use Rattle.rep_core.specs.State.{State}
-use Rattle.rep_core.proofs.Members.{Has}
-use Rattle.rep_core.proofs.Finding.{find_some}
-use Rattle.txn_core.specs.declared.job.Job.{Job}
-use Rattle.txn_core.specs.declared.job.Job.TheVariants.{Transaction}
-use Rattle.txn_core.specs.declared.response.Response.{Response}
-use Rattle.txn_core.specs.Doing.{Task, TransactionRun, Doing, Running, RunningSweep, After, GoesOn, Ends}
-use Rattle.txn_core.specs.Laws.{is_decide, said_by}
-use Rattle.txn_core.specs.Transactions.{after_response}
-use Rattle.txn_core.specs.Agents.{Agent, fixed_of, is_idle, left, next_in, take_in}
-use Rattle.run_core.specs.declared.done.Served.{Served}
-use Rattle.run_core.specs.declared.event.Event.{Event}
-use Rattle.run_core.specs.declared.event.Event.TheVariants.{Begin, Step, Crash, Return, Forget, Lack}
-use Rattle.run_core.specs.Worlds.{World, server_at, actor_at, has_no_job, step}
-use Rattle.run_core.specs.Runs.{run}
-use Rattle.run_core.specs.Decisions.{Decided}
-use Rattle.law_runs.specs.Naming.{names}
-use Rattle.law_runs.proofs.Agents.{IsAt}
-use Rattle.law_runs.proofs.Words.{Leaves, leaves_response}
-use Rattle.law_run_alone.specs.Alone.{begins_job}
-use Rattle.law_run_alone.proofs.Owns.{IsMine}
-use Rattle.law_run_alone.proofs.Walks.{MayAsk, asks_servers}
-use Rattle.law_run_recovers.specs.Beside.{clashes, clash, Begun, its_asks, spoils, GoSideBySide}
-use Rattle.law_run_recovers.specs.Near.{asks_for, is_way_met, way_in, in_its_way}
-use Rattle.law_run_recovers.specs.Among.{GoesAmongLocks}
-use Rattle.law_run_recovers.specs.Standing.{locks_in, locks_at}
-use Rattle.law_run_recovers.specs.Unmet.{runs, is_running, is_telling, takes, up_and, of_up, robs, hinders_itself, StandsOpen}
+use Rattle.law_run_recovers.proofs.Vocabulary.{◌≡◌, ◌≢◌, ⊎_elim, ℕ, Bool, true, false, cond, List, [], ◌∷◌, ◌++◌, append-nil, append_assoc, Option, Some, None, is_some, refl, sym, ap, subst, ◌∙◌, ◌==◌, ◌&&◌, ◌||◌, not, option_map}
+use Rattle.law_run_recovers.proofs.Vocabulary.{Contains, false≢true, and_parts, and_from, eqb-true, eq-eqb, same_Some, Opening, LockMode, is_exclusive, Lock, Request, in_the_way, conflicts, State, Has, find_some, Job, Transaction}
+use Rattle.law_run_recovers.proofs.Vocabulary.{Response, Task, TransactionRun, Doing, Running, RunningSweep, After, GoesOn, Ends, is_decide, said_by, after_response, Agent, fixed_of, is_idle, left, next_in, take_in, Served, Event}
+use Rattle.law_run_recovers.proofs.Vocabulary.{Begin, Step, Crash, Return, Forget, Lack, World, server_at, actor_at, has_no_job, step, run, Decided, names, IsAt, Leaves, leaves_response, begins_job, IsMine, MayAsk, asks_servers}
+use Rattle.law_run_recovers.proofs.Vocabulary.{clashes, clash, Begun, its_asks, spoils, GoSideBySide, asks_for, is_way_met, way_in, in_its_way, GoesAmongLocks, locks_in, locks_at, runs, is_running, is_telling, takes, up_and, of_up}
+use Rattle.law_run_recovers.proofs.Vocabulary.{robs, hinders_itself, StandsOpen}
 use Rattle.law_run_recovers.proofs.Keeps.{step_asks}
 use Rattle.law_run_recovers.proofs.Owned.{AllOwned, MayLock, owned_stays}
 use Rattle.law_run_recovers.proofs.Sides.{compared, names_one, takes_named, up_same}

@@ -1,37 +1,8 @@
 -- Transactions side by side: so nobody meets any, at each moment.
-use Rattle.std.proofs.Common.{◌≡◌, ⊎_elim, ℕ, suc, true, false, List, [], ◌∷◌, ◌++◌, append-nil, append_assoc, Option, Some, None, is_some, refl, sym, ap, subst, ◌∙◌, arith}
-use Rattle.std.specs.Prelude.{length, ◌==◌}
-use Rattle.std.proofs.lemmas.Bool.{false≢true, eqb-true}
-use Rattle.std.proofs.lemmas.Option.{none-some, same_Some}
-use Rattle.acl_core.specs.Identity.{Identity}
-use Rattle.suite_prefix.specs.SettingsRules.{Opening}
-use Rattle.file_ops.specs.declared.operation.Op.{Op}
-use Rattle.rep_core.specs.declared.lock.Lock.{Lock}
-use Rattle.rep_core.specs.State.{State}
-use Rattle.rep_core.specs.declared.request.Request.{Request}
-use Rattle.rep_core.proofs.Members.{Has, all_at}
-use Rattle.txn_core.specs.declared.job.Job.{Job}
-use Rattle.txn_core.specs.declared.job.Job.TheVariants.{Transaction, Sweep}
-use Rattle.txn_core.specs.declared.response.Response.{Response}
-use Rattle.txn_core.specs.Doing.{Doing}
-use Rattle.txn_core.specs.Agents.{fixed_of, is_idle, next_of, take_in}
-use Rattle.run_core.specs.declared.event.Event.{Event}
-use Rattle.run_core.specs.declared.event.Event.TheVariants.{Begin, Step, Crash, Return, Forget, Lack}
-use Rattle.run_core.specs.Worlds.{Actor, World, server_at, actor_at, step}
-use Rattle.run_core.specs.Runs.{run}
-use Rattle.run_core.specs.Decisions.{decisions}
-use Rattle.law_runs.specs.Numbers.{begins_now}
-use Rattle.law_runs.proofs.Conclusions.{holds_of}
-use Rattle.law_runs.proofs.Places.{same_or}
-use Rattle.law_runs.proofs.Worlds.{agent_of}
-use Rattle.law_headline.specs.Premises.{CanBe}
-use Rattle.law_run_alone.specs.Alone.{begins_job}
-use Rattle.law_run_alone.proofs.Clear.{at_has}
-use Rattle.law_run_alone.proofs.Turns.{doing_of, doing_at, with_job, all_none}
-use Rattle.law_run_alone.proofs.Walks.{BeginsNone, none_begins, event_doing}
-use Rattle.law_run_recovers.specs.Beside.{Begun, spoils, GoSideBySide}
-use Rattle.law_run_recovers.specs.Near.{asks_for}
-use Rattle.law_run_recovers.specs.Unmet.{running_in, is_running, StandsOpen}
+use Rattle.law_run_recovers.proofs.Vocabulary.{◌≡◌, ⊎_elim, ℕ, suc, true, false, List, [], ◌∷◌, ◌++◌, append-nil, append_assoc, Option, Some, None, is_some, refl, sym, ap, subst, ◌∙◌, arith, length, ◌==◌, false≢true, eqb-true}
+use Rattle.law_run_recovers.proofs.Vocabulary.{none-some, same_Some, Identity, Opening, Op, Lock, State, Request, Has, all_at, Job, Transaction, Sweep, Response, Doing, fixed_of, is_idle, next_of, take_in, Event, Begin, Step, Crash}
+use Rattle.law_run_recovers.proofs.Vocabulary.{Return, Forget, Lack, Actor, World, server_at, actor_at, step, run, decisions, begins_now, holds_of, same_or, agent_of, CanBe, begins_job, at_has, doing_of, doing_at, with_job, all_none}
+use Rattle.law_run_recovers.proofs.Vocabulary.{BeginsNone, none_begins, event_doing, Begun, spoils, GoSideBySide, asks_for, running_in, is_running, StandsOpen}
 use Rattle.law_run_recovers.proofs.Open.{begun_runs}
 use Rattle.law_run_recovers.proofs.AmongCourse.{parted, nil_cons}
 use Rattle.law_run_recovers.proofs.BesideUnmet.{IsUnmet, world_then, unmet_more, nil_front, begins_there, everywhere}

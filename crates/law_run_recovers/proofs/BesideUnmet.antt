@@ -1,26 +1,7 @@
 -- A transaction of some side by side: what it takes that nobody meets it up to a moment, and up to the next.
-use Rattle.std.proofs.Common.{◌≡◌, ◌⊎◌, inl, inr, ⊎_elim, ℕ, Bool, true, false, List, [], ◌∷◌, ◌++◌, append-nil, append_assoc, Option, Some, None, refl, sym, ap, subst, ◌∙◌}
-use Rattle.std.specs.Prelude.{◌||◌}
-use Rattle.std.proofs.lemmas.Option.{none-some}
-use Rattle.acl_core.specs.Identity.{Identity}
-use Rattle.suite_prefix.specs.SettingsRules.{Opening}
-use Rattle.file_ops.specs.declared.operation.Op.{Op}
-use Rattle.rep_core.proofs.Members.{Has}
-use Rattle.txn_core.specs.declared.job.Job.{Job}
-use Rattle.txn_core.specs.declared.job.Job.TheVariants.{Transaction}
-use Rattle.txn_core.specs.Agents.{fixed_of}
-use Rattle.run_core.specs.declared.event.Event.{Event}
-use Rattle.run_core.specs.declared.event.Event.TheVariants.{Begin}
-use Rattle.run_core.specs.Worlds.{Actor, World, opening, actor_at}
-use Rattle.run_core.specs.Runs.{run}
-use Rattle.law_runs.specs.Claims.{ended}
-use Rattle.law_runs.specs.Numbers.{begins_now}
-use Rattle.law_headline.specs.Premises.{CanBe}
-use Rattle.law_run_alone.specs.Alone.{begins_job}
-use Rattle.law_run_alone.proofs.Turns.{with_job}
-use Rattle.law_run_recovers.specs.Near.{asks_for}
-use Rattle.law_run_recovers.specs.Unmet.{is_running, world_after, robs, hinders_itself, StandsOpen, GoesUnmet}
-use Rattle.law_run_recovers.specs.Among.{GoesAmongLocks}
+use Rattle.law_run_recovers.proofs.Vocabulary.{◌≡◌, ◌⊎◌, inl, inr, ⊎_elim, ℕ, Bool, true, false, List, [], ◌∷◌, ◌++◌, append-nil, append_assoc, Option, Some, None, refl, sym, ap, subst, ◌∙◌, ◌||◌, none-some, Identity, Opening, Op, Has}
+use Rattle.law_run_recovers.proofs.Vocabulary.{Job, Transaction, fixed_of, Event, Begin, Actor, World, opening, actor_at, run, ended, begins_now, CanBe, begins_job, with_job, asks_for, is_running, world_after, robs, hinders_itself}
+use Rattle.law_run_recovers.proofs.Vocabulary.{StandsOpen, GoesUnmet, GoesAmongLocks}
 use Rattle.law_run_recovers.proofs.Keeps.{after_append}
 use Rattle.law_run_recovers.proofs.Open.{unmet_is_among_locks}
 use Rattle.law_run_recovers.proofs.Sides.{ended_still, ended_runs_not}

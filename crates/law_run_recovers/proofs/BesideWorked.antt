@@ -1,31 +1,8 @@
 -- Two users go side by side, by computation.
-use Rattle.std.proofs.Common.{◌≡◌, ◌⊎◌, inl, inr, ⊎_elim, ℕ, Bool, true, false, List, [], ◌∷◌, ◌++◌, Some, refl, sym, ap, subst, ◌∙◌}
-use Rattle.std.specs.Prelude.{◌&&◌, not}
-use Rattle.std.specs.List.{AllByRecursion, list_all}
-use Rattle.std.proofs.lemmas.Bool.{false≢true, and_parts}
-use Rattle.std.proofs.lemmas.Option.{same_Some}
-use Rattle.suite_prefix.specs.declared.lock_mode.LockMode.{LockMode}
-use Rattle.file_ops.specs.declared.operation.Action.{Action}
+use Rattle.law_run_recovers.proofs.Vocabulary.{◌≡◌, ◌⊎◌, inl, inr, ⊎_elim, ℕ, Bool, true, false, List, [], ◌∷◌, ◌++◌, Some, refl, sym, ap, subst, ◌∙◌, ◌&&◌, not, AllByRecursion, list_all, false≢true, and_parts, same_Some, LockMode}
+use Rattle.law_run_recovers.proofs.Vocabulary.{Action, Op, None, Job, Transaction, Sweep, fixed_of, owner, a, Event, Begin, Step, Crash, Return, Forget, Lack, World, opening, step, after, run, GivesValidVotes, EventGivesValidVotes}
+use Rattle.law_run_recovers.proofs.Vocabulary.{CanBe, with_caches, some_run_revokes, begins_job, clash, Begun, its_asks, spoils, two_made, two_write, SomeRunsGoSideBySide, b, puts, asks_for, is_running}
 use Rattle.file_ops.specs.declared.operation.Action.TheVariants as action
-use Rattle.file_ops.specs.declared.operation.Op.{Op}
-use Rattle.std.specs.Prelude.{None}
-use Rattle.txn_core.specs.declared.job.Job.{Job}
-use Rattle.txn_core.specs.declared.job.Job.TheVariants.{Transaction, Sweep}
-use Rattle.txn_core.specs.Agents.{fixed_of}
-use Rattle.txn_core.specs.Runs.{owner, a}
-use Rattle.run_core.specs.declared.event.Event.{Event}
-use Rattle.run_core.specs.declared.event.Event.TheVariants.{Begin, Step, Crash, Return, Forget, Lack}
-use Rattle.run_core.specs.Worlds.{World, opening, step}
-use Rattle.run_core.specs.Runs.{after, run}
-use Rattle.law_headline.specs.Premises.{GivesValidVotes, EventGivesValidVotes, CanBe}
-use Rattle.law_headline.specs.Worked.{with_caches}
-use Rattle.law_headline.proofs.Worked.{some_run_revokes}
-use Rattle.law_run_alone.specs.Alone.{begins_job}
-use Rattle.law_run_recovers.specs.Beside.{clash, Begun, its_asks, spoils}
-use Rattle.law_run_recovers.specs.BesideWorked.{two_made, two_write, SomeRunsGoSideBySide}
-use Rattle.law_run_recovers.specs.Contending.{b, puts}
-use Rattle.law_run_recovers.specs.Near.{asks_for}
-use Rattle.law_run_recovers.specs.Unmet.{is_running}
 use Rattle.law_run_recovers.proofs.AmongCourse.{head_or, tail_or}
 use Rattle.law_run_recovers.proofs.Keeps.{after_append}
 

@@ -1,41 +1,12 @@
 -- What blocks a suite after sweeps: whoever is down, and whoever has a lock on it in doubt.
-use Rattle.std.proofs.Common.{◌≡◌, ◌⊎◌, inl, inr, ⊎_elim, ℕ, ◌+◌, ◌<◌, ◌≤◌, Bool, true, false, cond, List, [], ◌∷◌, ◌++◌, Option, Some, None, is_some, refl, sym, ap, subst, ◌∙◌, arith}
-use Rattle.std.specs.Prelude.{◌%◌, ◌/◌, ◌==◌, ◌&&◌, ◌||◌, not, nat_lt, nat_le, option_map, Contains}
-use Rattle.std.proofs.Math.Nat.{mod-lt}
-use Rattle.std.proofs.lemmas.Bool.{false≢true, and_parts, and_from, eqb-true, eq-eqb}
-use Rattle.std.proofs.lemmas.Bool.Decides.{nat_tests}
-use Rattle.std.proofs.lemmas.List.Elements.{All-contains}
-use Rattle.vote_core.specs.Quorums.{Representative, Configuration, votes_in, total_votes}
-use Rattle.vote_core.specs.Validity.{IsValid, IsAccepted}
-use Rattle.suite_prefix.specs.SettingsRules.{Opening}
-use Rattle.suite_prefix.specs.declared.lock_mode.LockMode.{LockMode}
-use Rattle.suite_prefix.specs.declared.lock_mode.LockMode.TheVariants.{Shared, Exclusive}
-use Rattle.rep_core.specs.declared.lock.Lock.{Lock}
-use Rattle.rep_core.specs.declared.request.Request.{Request}
+use Rattle.law_run_recovers.proofs.Vocabulary.{◌≡◌, ◌⊎◌, inl, inr, ⊎_elim, ℕ, ◌+◌, ◌<◌, ◌≤◌, Bool, true, false, cond, List, [], ◌∷◌, ◌++◌, Option, Some, None, is_some, refl, sym, ap, subst, ◌∙◌, arith, ◌%◌, ◌/◌, ◌==◌, ◌&&◌, ◌||◌, not}
+use Rattle.law_run_recovers.proofs.Vocabulary.{nat_lt, nat_le, option_map, Contains, mod-lt, false≢true, and_parts, and_from, eqb-true, eq-eqb, nat_tests, All-contains, Representative, Configuration, votes_in, total_votes, IsValid}
+use Rattle.law_run_recovers.proofs.Vocabulary.{Opening, LockMode, Shared, Exclusive, Lock, Request, Stamped, conflicts, in_the_way, has_prepared, State, served, is_full, answer_of, Has, contains_from, has_filter, any_has, has_any}
+use Rattle.law_run_recovers.proofs.Vocabulary.{find_some, needed_of, has_vote, Fixed, home_of, fixed_of, Event, Crash, World, server_at, operates, operated, opening, step, run, same_or, puts_in, all_up, up_in, is_up, locks_in, locks_at}
+use Rattle.law_run_recovers.proofs.Vocabulary.{is_in_doubt, in_doubt, way_in, is_open_way, is_open_at, Want, sweeps, blocks, SweepsAll, can_have, BlockedByDoubts, DoubtedAt, IsBlocker, SomeServerBlocks, WasItsHome, OneCrashBlocks}
+use Rattle.vote_core.specs.Validity.{IsAccepted}
 use Rattle.rep_core.specs.declared.request.Request.TheVariants as request
-use Rattle.rep_core.specs.declared.stamped.Stamped.{Stamped}
-use Rattle.rep_core.specs.Locks.{conflicts, in_the_way, has_prepared}
-use Rattle.rep_core.specs.State.{State}
-use Rattle.rep_core.specs.Serving.{served, is_full, answer_of}
-use Rattle.rep_core.proofs.Members.{Has, contains_from, has_filter, any_has, has_any}
-use Rattle.rep_core.proofs.Finding.{find_some}
-use Rattle.suite_collect.specs.Collecting.{needed_of}
-use Rattle.txn_core.specs.Writing.{has_vote}
-use Rattle.txn_core.specs.Doing.{Fixed, home_of}
-use Rattle.txn_core.specs.Agents.{fixed_of}
-use Rattle.run_core.specs.declared.event.Event.{Event}
-use Rattle.run_core.specs.declared.event.Event.TheVariants.{Crash}
-use Rattle.run_core.specs.Worlds.{World, server_at, operates, operated, opening, step}
-use Rattle.run_core.specs.Runs.{run}
 use Rattle.run_core.proofs.Appending.{after-append}
-use Rattle.law_runs.proofs.Places.{same_or}
-use Rattle.law_runs.proofs.Worlds.{puts_in}
-use Rattle.law_run_alone.specs.Undisturbed.{all_up}
-use Rattle.law_run_recovers.specs.Standing.{up_in, is_up, locks_in, locks_at, is_in_doubt, in_doubt}
-use Rattle.law_run_recovers.specs.Near.{way_in, is_open_way, is_open_at}
-use Rattle.law_run_recovers.specs.OpenDemands.{Want}
-use Rattle.law_run_recovers.specs.Sweeping.{sweeps}
-use Rattle.law_run_recovers.specs.Blocking.{blocks, SweepsAll, can_have, BlockedByDoubts, DoubtedAt, IsBlocker, SomeServerBlocks, WasItsHome, OneCrashBlocks}
 use Rattle.law_run_recovers.proofs.Free.{is_up_of}
 use Rattle.law_run_recovers.proofs.Rounds.{Ends, ends}
 

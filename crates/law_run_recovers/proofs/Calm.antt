@@ -1,28 +1,11 @@
 -- Sweeps decide nothing, and change nothing that is in effect.
-use Rattle.std.proofs.Common.{◌≡◌, inl, inr, ℕ, ◌+◌, Bool, true, false, cond, List, [], ◌∷◌, ◌++◌, append-nil, Option, Some, None, is_some, refl, sym, ap, subst, ◌∙◌}
-use Rattle.std.specs.Prelude.{◌*◌, ◌==◌, ◌&&◌, not, nat_lt, slice_set}
-use Rattle.std.specs.List.{cons_option}
-use Rattle.std.proofs.lemmas.Bool.{false≢true, and_parts, eqb-true, not-true}
-use Rattle.std.proofs.lemmas.Option.{none-some}
-use Rattle.suite_prefix.specs.SettingsRules.{Opening}
-use Rattle.txn_core.specs.declared.job.Job.TheVariants.{Sweep}
-use Rattle.txn_core.specs.declared.response.Response.TheVariants.{Lacked}
-use Rattle.txn_core.specs.Doing.{Fixed, SweepRun, Doing, Running, RunningSweep, After, GoesOn, Ends}
-use Rattle.txn_core.specs.Agents.{Agent, fixed_of, is_idle, has_sense, max_jobs, next_in, left, begin, started}
-use Rattle.run_core.specs.declared.event.Event.{Event}
-use Rattle.run_core.specs.declared.event.Event.TheVariants.{Begin, Step, Crash, Return, Forget, Lack}
-use Rattle.run_core.specs.Worlds.{Actor, World, Stepped, actor_at, has_no_job, becomes, asks, steps_once, step}
-use Rattle.run_core.specs.Runs.{after, run}
-use Rattle.run_core.specs.Decisions.{decided, decided_by, decisions_from, task_of, task_at, task_in}
-use Rattle.law_runs.specs.Numbers.{begins_now}
-use Rattle.law_runs.proofs.Worlds.{puts_in}
-use Rattle.law_run_alone.specs.Alone.{begins_job}
-use Rattle.law_run_alone.proofs.Turns.{with_job}
+use Rattle.law_run_recovers.proofs.Vocabulary.{◌≡◌, inl, inr, ℕ, ◌+◌, Bool, true, false, cond, List, [], ◌∷◌, ◌++◌, append-nil, Option, Some, None, is_some, refl, sym, ap, subst, ◌∙◌, ◌*◌, ◌==◌, ◌&&◌, not, nat_lt, slice_set}
+use Rattle.law_run_recovers.proofs.Vocabulary.{cons_option, false≢true, and_parts, eqb-true, not-true, none-some, Opening, Sweep, Lacked, Fixed, SweepRun, Doing, Running, RunningSweep, After, GoesOn, Ends, Agent, fixed_of, is_idle}
+use Rattle.law_run_recovers.proofs.Vocabulary.{has_sense, max_jobs, next_in, left, begin, started, Event, Begin, Step, Crash, Return, Forget, Lack, Actor, World, Stepped, actor_at, has_no_job, becomes, asks, steps_once, step, after}
+use Rattle.law_run_recovers.proofs.Vocabulary.{run, decided, decided_by, decisions_from, task_of, task_at, task_in, begins_now, puts_in, begins_job, with_job, step_events, asked_events, events_of, history_from, no_task, hinders}
+use Rattle.law_run_recovers.proofs.Vocabulary.{unhindered_from, SweepsKeepEffects, sweeps, goes_round}
 use Rattle.law_suite_machine.specs.Machine as machine
-use Rattle.law_run_machine.specs.Machines.{step_events, asked_events, events_of, moved, history_from}
-use Rattle.law_one_table.proofs.Logs.{no_task}
-use Rattle.law_run_recovers.specs.Alone.{hinders, unhindered_from}
-use Rattle.law_run_recovers.specs.Sweeping.{SweepsKeepEffects, sweeps, goes_round}
+use Rattle.law_run_machine.specs.Machines.{moved}
 use Rattle.law_run_recovers.proofs.Aside.{Aside, event_aside}
 use Rattle.law_run_recovers.proofs.OwnStep.{own_step, then_does}
 use Rattle.law_run_recovers.proofs.Quiet.{AllQuiet, all_both, quiet_begin, quiet_lack, quiet_round, Calm, effects_stay, decisions_stay}

@@ -1,6 +1,5 @@
 -- Runs by computation.
-use Rattle.std.proofs.Common.{refl}
-use Rattle.law_run_recovers.specs.Contending.{NoneOfTwoCrossed, NoneOfTwoThatRaise, NoneOfTwoOfWhichOneRaises, NoneOfTwoThatWriteAll, NoneOfThree, NoneOfTwoThatSetVotes, SomeRunsStarve}
+use Rattle.law_run_recovers.proofs.Vocabulary.{refl, NoneOfTwoCrossed, NoneOfTwoThatRaise, NoneOfTwoOfWhichOneRaises, NoneOfTwoThatWriteAll, NoneOfThree, NoneOfTwoThatSetVotes, SomeRunsStarve}
 
 crossed : NoneOfTwoCrossed
 crossed = record {

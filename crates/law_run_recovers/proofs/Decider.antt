@@ -1,26 +1,9 @@
 -- As long as nobody hinders an agent, the first decision is its own, and so are its jobs that end.
-use Rattle.std.proofs.Common.{◌≡◌, ⊎_elim, ℕ, Bool, true, false, cond, List, [], ◌∷◌, ◌++◌, Option, Some, None, is_some, refl, sym, ap, subst, ◌∙◌}
-use Rattle.std.specs.Prelude.{◌==◌, ◌-◌, ◌&&◌, not}
-use Rattle.std.specs.List.{list_any, cons_option}
-use Rattle.std.proofs.lemmas.Bool.{false≢true, and_parts, eqb-true, not-true}
-use Rattle.std.proofs.lemmas.Option.{none-some, same_Some}
-use Rattle.suite_prefix.specs.SettingsRules.{Opening}
-use Rattle.rep_core.specs.declared.request.Request.{Request}
-use Rattle.rep_core.specs.State.{State}
-use Rattle.rep_core.specs.Serving.{is_full, answer_of}
-use Rattle.txn_core.specs.Doing.{Fixed, Doing}
-use Rattle.txn_core.specs.Agents.{Agent, fixed_of, is_idle, next_of}
-use Rattle.run_core.specs.declared.event.Event.{Event}
-use Rattle.run_core.specs.declared.event.Event.TheVariants.{Begin, Step, Crash, Return, Forget, Lack}
-use Rattle.run_core.specs.declared.done.Served.{Served}
-use Rattle.run_core.specs.Worlds.{Actor, World, server_at, actor_at, answered, asks_at, outcome_of, asks, steps_once, has_no_job, step}
-use Rattle.run_core.specs.Runs.{after, dones, outcomes}
-use Rattle.run_core.specs.Decisions.{Decided, decided, decided_by, decisions_from, task_of, task_at}
-use Rattle.txn_core.specs.declared.ending.Ending.{Ending}
+use Rattle.law_run_recovers.proofs.Vocabulary.{◌≡◌, ⊎_elim, ℕ, Bool, true, false, cond, List, [], ◌∷◌, ◌++◌, Option, Some, None, is_some, refl, sym, ap, subst, ◌∙◌, ◌==◌, ◌-◌, ◌&&◌, not, list_any, cons_option, false≢true, and_parts}
+use Rattle.law_run_recovers.proofs.Vocabulary.{eqb-true, not-true, none-some, same_Some, Opening, Request, State, is_full, answer_of, Fixed, Doing, Agent, fixed_of, is_idle, next_of, Event, Begin, Step, Crash, Return, Forget, Lack}
+use Rattle.law_run_recovers.proofs.Vocabulary.{Served, Actor, World, server_at, actor_at, answered, asks_at, outcome_of, asks, steps_once, has_no_job, step, after, dones, outcomes, Decided, decided, decided_by, decisions_from, task_of}
+use Rattle.law_run_recovers.proofs.Vocabulary.{task_at, Ending, Has, no_task, hinders, unhindered_from}
 use Rattle.run_core.specs.declared.done.EndedJob.{EndedJob as Outcome'}
-use Rattle.rep_core.proofs.Members.{Has}
-use Rattle.law_one_table.proofs.Logs.{no_task}
-use Rattle.law_run_recovers.specs.Alone.{hinders, unhindered_from}
 use Rattle.law_run_recovers.proofs.Aside.{event_aside}
 use Rattle.law_run_recovers.proofs.Since.{Now, event_now}
 

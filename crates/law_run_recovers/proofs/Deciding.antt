@@ -1,22 +1,10 @@
 -- What is decided by a Decide that is served is answered as it was to be.
-use Rattle.std.proofs.Common.{◌≡◌, ℕ, true, false, cond, List, Option, Some, None, is_some, Result, Ok, Err, sym, ap, ◌∙◌}
-use Rattle.std.proofs.lemmas.Option.{none-some, same_Some}
-use Rattle.file_ops.specs.declared.answer.Answer.{Answer}
-use Rattle.file_ops.specs.declared.refusal.Refusal.{Refusal}
-use Rattle.rep_core.specs.declared.request.Request.{Request}
+use Rattle.law_run_recovers.proofs.Vocabulary.{◌≡◌, ℕ, true, false, cond, List, Option, Some, None, is_some, Result, Ok, Err, sym, ap, ◌∙◌, none-some, same_Some, Answer, Refusal, Request, Verdict, Stamped, reply_of, recorded}
+use Rattle.law_run_recovers.proofs.Vocabulary.{verdict_of, is_full, answer_of, State, record_of, Fixed, Task, Proposal, decision_of, Served, Actor, World, server_at, answered, asks_at, Decided, answer_in, decided_as, decided_at}
+use Rattle.law_run_recovers.proofs.Vocabulary.{decided_by}
 use Rattle.rep_core.specs.declared.request.Request.TheVariants as request
 use Rattle.rep_core.specs.declared.reply.Reply.TheVariants as reply
-use Rattle.rep_core.specs.declared.reply.Verdict.{Verdict}
-use Rattle.rep_core.specs.declared.stamped.Stamped.{Stamped}
-use Rattle.rep_core.specs.Service.{reply_of, recorded, verdict_of}
-use Rattle.rep_core.specs.Serving.{is_full, answer_of}
-use Rattle.rep_core.specs.State.{State, record_of}
-use Rattle.txn_core.specs.Doing.{Fixed, Task, Proposal}
-use Rattle.txn_core.specs.Transactions.{decision_of}
-use Rattle.run_core.specs.declared.done.Served.{Served}
-use Rattle.run_core.specs.Worlds.{Actor, World, server_at, answered, asks_at}
 use Rattle.run_core.specs.Decisions as decisions
-use Rattle.run_core.specs.Decisions.{Decided, answer_in, decided_as, decided_at, decided_by}
 use Rattle.law_run_recovers.proofs.AtDecision.{decided_none}
 
 -- the answer of an outcome

@@ -1,14 +1,6 @@
 -- Lists of locks that are filtered, and how many transactions have some.
-use Rattle.std.proofs.Common.{◌≡◌, inl, inr, ℕ, ◌+◌, Bool, true, false, cond, List, [], ◌∷◌, ◌++◌, refl, sym, ap, ◌∙◌, arith}
-use Rattle.std.specs.Prelude.{◌==◌, ◌&&◌, ◌||◌, not, filter}
-use Rattle.std.specs.List.{list_all, list_any}
-use Rattle.std.proofs.lemmas.Bool.{and_parts, eqb-true}
-use Rattle.std.proofs.lemmas.Bool.Decides.{nat_tests}
-use Rattle.rep_core.specs.declared.lock.Lock.{Lock}
-use Rattle.rep_core.specs.Locks.{before, rise, with_lock}
-use Rattle.rep_core.proofs.Members.{Has, all_at}
-use Rattle.txn_core.specs.Sweeps.{rising, others}
-use Rattle.law_run_recovers.specs.Standing.{one_if, holders}
+use Rattle.law_run_recovers.proofs.Vocabulary.{◌≡◌, inl, inr, ℕ, ◌+◌, Bool, true, false, cond, List, [], ◌∷◌, ◌++◌, refl, sym, ap, ◌∙◌, arith, ◌==◌, ◌&&◌, ◌||◌, not, filter, list_all, list_any, and_parts, eqb-true, nat_tests, Lock}
+use Rattle.law_run_recovers.proofs.Vocabulary.{before, rise, with_lock, Has, all_at, rising, others, one_if, holders}
 
 module _ {X : Type 0} where
   -- a filter of a filter

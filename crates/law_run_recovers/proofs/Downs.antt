@@ -1,28 +1,10 @@
 -- What a server that is down says and does: it tells of no lock, decides nothing, and no agent brings it up.
-use Rattle.std.proofs.Common.{◌≡◌, ⊎_elim, ℕ, Bool, true, false, cond, List, [], ◌∷◌, ◌++◌, Option, Some, None, refl, sym, ap, ◌∙◌}
-use Rattle.std.specs.Prelude.{◌==◌, ◌&&◌, ◌||◌}
-use Rattle.std.proofs.lemmas.Bool.{false≢true, and_parts, or_cases, or_right}
-use Rattle.suite_prefix.specs.declared.lock_mode.LockMode.{LockMode}
-use Rattle.suite_prefix.specs.declared.lock_mode.LockMode.TheVariants.{Shared, Exclusive}
-use Rattle.suite_prefix.specs.LockModes.{serves}
-use Rattle.rep_core.specs.declared.request.Request.{Request}
+use Rattle.law_run_recovers.proofs.Vocabulary.{◌≡◌, ⊎_elim, ℕ, Bool, true, false, cond, List, [], ◌∷◌, ◌++◌, Option, Some, None, refl, sym, ap, ◌∙◌, ◌==◌, ◌&&◌, ◌||◌, false≢true, and_parts, or_cases, or_right, LockMode, Shared}
+use Rattle.law_run_recovers.proofs.Vocabulary.{Exclusive, serves, Request, Stamped, State, reply_of, reply_up, reply_down, after_up, after_down, served, Told, holds, is_held, Replied, Suites, suite_of, parts_at, Fixed, Task, Phase}
+use Rattle.law_run_recovers.proofs.Vocabulary.{Gathering, Fetching, Widening, Preparing, Deciding, Finishing, Sweeping, Listing, Resolving, Telling, Breaking, Doing, Running, RunningSweep, home_of, request_in, changes_of, decision_of}
+use Rattle.law_run_recovers.proofs.Vocabulary.{next_in, Exchange, was_held, says_held, locks, asks_same, asked_as, fetched_as, answer_in}
 use Rattle.rep_core.specs.declared.request.Request.TheVariants as request
-use Rattle.rep_core.specs.declared.stamped.Stamped.{Stamped}
-use Rattle.rep_core.specs.State.{State}
-use Rattle.rep_core.specs.Service.{reply_of, reply_up, reply_down, after_up, after_down}
-use Rattle.rep_core.specs.Serving.{served}
-use Rattle.suite_collect.specs.declared.told.Told.{Told}
-use Rattle.suite_collect.specs.Telling.{holds, is_held}
-use Rattle.txn_core.specs.declared.response.Response.TheVariants.{Replied}
-use Rattle.txn_core.specs.Suites.{Suites, suite_of}
-use Rattle.txn_core.specs.Writing.{parts_at}
-use Rattle.txn_core.specs.Doing.{Fixed, Task, Phase, Gathering, Fetching, Widening, Preparing, Deciding, Finishing, Sweeping, Listing, Resolving, Telling, Breaking, Doing, Running, RunningSweep, home_of}
 use Rattle.txn_core.specs.Sweeps as sweep
-use Rattle.txn_core.specs.Transactions.{request_in, changes_of, decision_of}
-use Rattle.txn_core.specs.Agents.{next_in}
-use Rattle.txn_core.specs.Laws.{Exchange, was_held, says_held, locks}
-use Rattle.txn_core.proofs.Asks.{asks_same, asked_as, fetched_as}
-use Rattle.run_core.specs.Decisions.{answer_in}
 
 -- ---- what a transaction asks
 

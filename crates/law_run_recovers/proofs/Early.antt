@@ -1,17 +1,7 @@
 -- What a transaction asks for where it may execute next, and how its job ends.
-use Rattle.std.proofs.Common.{◌≡◌, ℕ, false, Option, Some, None, refl, sym, ap}
-use Rattle.std.proofs.lemmas.Option.{none-some, same_Some}
-use Rattle.rep_core.specs.declared.request.Request.{Request}
+use Rattle.law_run_recovers.proofs.Vocabulary.{◌≡◌, ℕ, false, Option, Some, None, refl, sym, ap, none-some, same_Some, Request, Ending, ReadPoint, GatheredSuite, Suites, suite_of, Fixed, Task, Phase, Gathering, Fetching, Widening}
+use Rattle.law_run_recovers.proofs.Vocabulary.{Preparing, Deciding, Finishing, fetched_at, fetched_for, request_in, is_decide, asks_same, asked_as, fetched_as, EndedJob, Actor, outcome_of, releases}
 use Rattle.rep_core.specs.declared.request.Request.TheVariants as request
-use Rattle.txn_core.specs.declared.ending.Ending.{Ending}
-use Rattle.txn_core.specs.Suites.{ReadPoint, GatheredSuite, Suites, suite_of}
-use Rattle.txn_core.specs.Doing.{Fixed, Task, Phase, Gathering, Fetching, Widening, Preparing, Deciding, Finishing}
-use Rattle.txn_core.specs.Transactions.{fetched_at, fetched_for, request_in}
-use Rattle.txn_core.specs.Laws.{is_decide}
-use Rattle.txn_core.proofs.Asks.{asks_same, asked_as, fetched_as}
-use Rattle.run_core.specs.declared.done.EndedJob.{EndedJob}
-use Rattle.run_core.specs.Worlds.{Actor, outcome_of}
-use Rattle.law_run_alone.proofs.Standing.{releases}
 use Rattle.law_run_recovers.proofs.Heard.{MayExecute}
 use Rattle.law_run_recovers.proofs.Still.{IsOpenPhase}
 

@@ -1,69 +1,17 @@
 -- A transaction executes on what it gathered: what it needs next on the table is asked for, or all is known.
-use Rattle.std.proofs.Common.{◌≡◌, inl, inr, ℕ, zero, suc, Bool, true, false, cond, List, [], ◌∷◌, length, Option, Some, None, is_some, Result, Ok, Err, refl, sym, ap, subst, ◌∙◌}
-use Rattle.std.specs.Prelude.{◌==◌, ◌&&◌, ◌||◌, not, map, filter, find, unwrap_or}
-use Rattle.std.specs.List.{list_any}
-use Rattle.std.specs.Ordering.{nat_cmp}
-use Rattle.std.proofs.lemmas.Bool.{false≢true, and_parts, and_from, false_from_ne_true}
-use Rattle.std.proofs.lemmas.Option.{none-some, same_Some}
-use Rattle.sorted_map.specs.SortedMap.{IsOrdered}
-use Rattle.vote_core.specs.Quorums.{Configuration}
-use Rattle.suite_content.specs.declared.content.Content.{Content}
-use Rattle.suite_prefix.specs.Absent.{absent_prefix}
-use Rattle.suite_prefix.specs.declared.copies.Prefix.{Prefix}
-use Rattle.suite_prefix.specs.declared.lock_mode.LockMode.{LockMode}
-use Rattle.suite_prefix.specs.declared.lock_mode.LockMode.TheVariants.{Shared, Exclusive}
-use Rattle.suite_prefix.specs.LockModes.{serves}
-use Rattle.rep_core.proofs.Members.{Has, any_has, has_any}
-use Rattle.file_ops.specs.declared.answer.Answer.{Answer}
-use Rattle.file_ops.specs.declared.refusal.Refusal.{Refusal}
-use Rattle.file_ops.specs.Rows.{PlainTable, row_of}
-use Rattle.file_ops.specs.Transactions.{replies}
-use Rattle.file_exec.specs.declared.changes.Change.{Change}
-use Rattle.file_exec.specs.declared.need.Need.{Need}
-use Rattle.file_exec.specs.declared.need.Need.TheVariants.{Hold, Know}
+use Rattle.law_run_recovers.proofs.Vocabulary.{◌≡◌, inl, inr, ℕ, zero, suc, Bool, true, false, cond, List, [], ◌∷◌, length, Option, Some, None, is_some, Result, Ok, Err, refl, sym, ap, subst, ◌∙◌, ◌==◌, ◌&&◌, ◌||◌, not, map, filter}
+use Rattle.law_run_recovers.proofs.Vocabulary.{find, unwrap_or, list_any, nat_cmp, false≢true, and_parts, and_from, false_from_ne_true, none-some, same_Some, IsOrdered, Configuration, Content, absent_prefix, Prefix, LockMode, Shared}
+use Rattle.law_run_recovers.proofs.Vocabulary.{Exclusive, serves, Has, any_has, has_any, Answer, Refusal, PlainTable, row_of, replies, Change, Need, Hold, Know, Ended, Heard, heard, Done, first_unmet, exec_of, AgreesWith, on_table}
+use Rattle.law_run_recovers.proofs.Vocabulary.{transaction, goes_alike, on_transaction, changes_are_held, Collector, collect, raise, Cache, hint, searched, search_keeps_all, ReadPoint, GatheredSuite, Suites, suite_of, with_suite}
+use Rattle.law_run_recovers.proofs.Vocabulary.{known_of, Fixed, Task, Granted, Gathered, start_from, raised_or_new, gather, widen_all, heard_on, after_search, free_content, opened_with, open_first, open_suite, open_needed, or_all}
+use Rattle.law_run_recovers.proofs.Vocabulary.{opened, proceed, execute, prepare, locked_at, self, with_at, each_but, each_with, but_with, are_nil, World, is_met, MayStart, has_asked, not_asked, changes_on, mode_or, first_mode}
 use Rattle.file_exec.specs.declared.executor.Outcome.{Outcome as Executed}
 use Rattle.file_exec.specs.declared.executor.Outcome.TheVariants as exec
 use Rattle.file_exec.specs.Changes as changes
 use Rattle.file_exec.specs.Changes.{answered}
-use Rattle.file_exec.specs.Following.{Ended}
 use Rattle.file_exec.specs.Known as known
-use Rattle.file_exec.specs.Known.{Heard, heard, Done, is_held, first_unmet, exec_of, AgreesWith, on_table}
-use Rattle.file_exec.specs.Operations.{transaction}
-use Rattle.file_exec.proofs.Alike.{goes_alike}
-use Rattle.file_exec.proofs.OnTable.{on_transaction}
-use Rattle.file_exec.proofs.Unset.{changes_are_held}
-use Rattle.suite_collect.specs.Collecting.{Collector, collect, raise}
-use Rattle.weak_cache.specs.Entries.{Cache}
-use Rattle.weak_cache.specs.Cache.{hint, searched}
-use Rattle.weak_cache.proofs.Origins.{search_keeps_all}
-use Rattle.txn_core.specs.Suites.{ReadPoint, GatheredSuite, Suites, suite_of, with_suite, known_of}
-use Rattle.txn_core.specs.Doing.{Fixed, Task, Granted}
-use Rattle.txn_core.specs.Transactions.{
-  Step,
-  Gathered,
-  start_from,
-  raised_or_new,
-  gather,
-  widen_all,
-  heard_on,
-  after_search,
-  free_content,
-  opened_with,
-  open_first,
-  open_suite,
-  open_needed,
-  or_all,
-  opened,
-  proceed,
-  execute,
-  prepare,
-  locked_at,
-}
-use Rattle.txn_core.proofs.Gathers.{self, with_at, each_but, each_with, but_with}
-use Rattle.txn_core.proofs.ToldLists.{are_nil}
-use Rattle.run_core.specs.Worlds.{World}
-use Rattle.law_run_recovers.specs.Demands.{is_met, MayStart, has_asked, not_asked, changes_on}
-use Rattle.law_run_recovers.specs.OpenDemands.{mode_or, first_mode}
+use Rattle.file_exec.specs.Known.{is_held}
+use Rattle.txn_core.specs.Transactions.{Step}
 use Rattle.law_run_recovers.proofs.Asking.{onto, any_onto, first_hold, first_new, none_left, held_in, held_if, held_is}
 use Rattle.law_run_recovers.proofs.Led.{reached_first, reached_raise}
 use Rattle.law_run_recovers.proofs.VotesSet.{as_set, sets, votes_of, same_votes, changes_ordered, IsSet, set_by}

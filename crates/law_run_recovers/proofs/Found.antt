@@ -1,37 +1,13 @@
 -- Where a suite's votes are found, they are those of its row: a prefix that the suite had, of which servers that are up have a quorum, none of which
 -- shows a newer one, is the row's, as long as no server that is up has a lock.
-use Rattle.std.proofs.Common.{◌≡◌, inl, inr, ⊎_elim, ℕ, suc, ◌+◌, ◌≤◌, Bool, true, false, cond, List, [], ◌∷◌, length, Option, Some, None, refl, sym, ap, subst, ◌∙◌, arith}
-use Rattle.std.specs.Prelude.{◌==◌, ◌&&◌, ◌||◌, not, nat_lt, nat_le, find, option_map, unwrap_or}
-use Rattle.std.specs.List.{list_any}
-use Rattle.std.specs.Ordering.{nat_cmp}
-use Rattle.std.proofs.lemmas.Bool.{false≢true, and_parts, cases_Bool, eqb-true, eq-eqb, and_from, ltb-false}
-use Rattle.std.proofs.lemmas.Bool.Decides.{nat_tests}
-use Rattle.std.proofs.lemmas.Option.{none-some}
-use Rattle.sorted_map.specs.SortedMap.{get}
-use Rattle.vote_core.specs.Quorums.{Representative, Configuration, votes_in}
-use Rattle.suite_prefix.specs.SettingsRules.{Opening}
-use Rattle.suite_prefix.specs.declared.copies.Prefix.{Prefix}
-use Rattle.suite_prefix.specs.declared.copies.Replica.{Replica}
-use Rattle.rep_core.specs.declared.lock.Lock.{Lock}
+use Rattle.law_run_recovers.proofs.Vocabulary.{◌≡◌, inl, inr, ⊎_elim, ℕ, suc, ◌+◌, ◌≤◌, Bool, true, false, cond, List, [], ◌∷◌, length, Option, Some, None, refl, sym, ap, subst, ◌∙◌, arith, ◌==◌, ◌&&◌, ◌||◌, not, nat_lt, nat_le, find}
+use Rattle.law_run_recovers.proofs.Vocabulary.{option_map, unwrap_or, list_any, nat_cmp, false≢true, and_parts, cases_Bool, eqb-true, eq-eqb, and_from, ltb-false, nat_tests, none-some, get, Representative, Configuration, votes_in}
+use Rattle.law_run_recovers.proofs.Vocabulary.{Opening, Prefix, Replica, Lock, IsConsistent, copy_of, State, Has, has_from, all_at, any_has, has_any, find_none, Fixed, fixed_of, server_at, Beginning, row, prefix_at, WasPrefix, IsQuorum}
+use Rattle.law_run_recovers.proofs.Vocabulary.{in_effect, effect, Inv, plan_of, Shows, beginning, servers_of, home_in, at_has, up_in, is_up, up_free, shown_at, shown_in, shows_newer_by, newer_by}
 use Rattle.rep_core.specs.Intentions as server
-use Rattle.rep_core.specs.Consistency.{IsConsistent}
-use Rattle.rep_core.specs.Store.{copy_of}
 use Rattle.rep_core.specs.State as state
-use Rattle.rep_core.specs.State.{State}
-use Rattle.rep_core.proofs.Members.{Has, has_from, all_at, any_has, has_any, find_none}
-use Rattle.txn_core.specs.Doing.{Fixed}
-use Rattle.txn_core.specs.Agents.{fixed_of}
 use Rattle.run_core.specs.Worlds as worlds
-use Rattle.run_core.specs.Worlds.{server_at}
-use Rattle.law_suite_machine.specs.Registers.{Beginning, row, prefix_at, WasPrefix}
-use Rattle.law_suite_machine.specs.Machine.{World, IsQuorum, in_effect, effect}
-use Rattle.law_suite_machine.proofs.Invariant.{Inv}
-use Rattle.law_server_moves.specs.Views.{plan_of, Shows}
-use Rattle.law_server_moves.specs.Laws.{beginning}
-use Rattle.law_run_machine.specs.Machines.{servers_of, home_in}
-use Rattle.law_run_alone.proofs.Clear.{at_has}
-use Rattle.law_run_recovers.specs.Standing.{up_in, is_up, up_free, shown_at, shown_in}
-use Rattle.law_run_recovers.specs.Demands.{shows_newer_by, newer_by}
+use Rattle.law_suite_machine.specs.Machine.{World}
 
 -- ---- votes of those that have some
 

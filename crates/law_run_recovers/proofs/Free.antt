@@ -1,32 +1,8 @@
 -- Once all servers are up and each was swept, no server has a lock.
-use Rattle.std.proofs.Common.{◌≡◌, inl, ℕ, zero, suc, ◌<◌, ◌+◌, Bool, true, false, cond, List, [], ◌∷◌, ◌++◌, length, Option, Some, None, is_some, refl, sym, ap, ◌∙◌, arith}
-use Rattle.std.specs.Prelude.{◌==◌, ◌%◌, ◌/◌, ◌&&◌, ◌*◌, not, nat_lt, slice_get}
-use Rattle.std.specs.List.{list_all}
-use Rattle.std.proofs.Math.Nat.{mod-lt}
-use Rattle.std.proofs.lemmas.Bool.{false≢true, and_parts, and_right, ltb-true}
-use Rattle.std.proofs.lemmas.Option.{slice_get_within}
-use Rattle.suite_prefix.specs.SettingsRules.{Opening}
-use Rattle.rep_core.specs.declared.lock.Lock.{Lock}
-use Rattle.rep_core.specs.Locks.{has_prepared}
-use Rattle.rep_core.specs.State.{State}
-use Rattle.rep_core.proofs.Members.{all_at}
-use Rattle.txn_core.specs.Doing.{home_of}
-use Rattle.txn_core.specs.declared.job.Job.{Job}
-use Rattle.txn_core.specs.declared.job.Job.TheVariants.{Sweep}
-use Rattle.txn_core.specs.Agents.{fixed_of, is_idle, has_sense, max_jobs}
-use Rattle.run_core.specs.declared.event.Event.{Event}
-use Rattle.run_core.specs.declared.event.Event.TheVariants.{Begin}
-use Rattle.run_core.specs.Worlds.{Actor, World, actor_at, step}
-use Rattle.run_core.specs.Runs.{after, run}
-use Rattle.law_runs.specs.Numbers.{begins_now}
-use Rattle.law_runs.proofs.Lengths.{so_many}
-use Rattle.law_run_alone.specs.Alone.{begins_job}
-use Rattle.law_run_alone.proofs.Turns.{with_job}
-use Rattle.law_run_alone.proofs.Clear.{at_has}
-use Rattle.law_run_recovers.specs.Alone.{unhindered_from}
-use Rattle.law_run_alone.specs.Undisturbed.{all_up}
-use Rattle.law_run_recovers.specs.Standing.{up_in, is_up, locks_in, locks_at, is_in_doubt}
-use Rattle.law_run_recovers.specs.Sweeping.{sweeps, goes_round, NoLockIsLeft}
+use Rattle.law_run_recovers.proofs.Vocabulary.{◌≡◌, inl, ℕ, zero, suc, ◌<◌, ◌+◌, Bool, true, false, cond, List, [], ◌∷◌, ◌++◌, length, Option, Some, None, is_some, refl, sym, ap, ◌∙◌, arith, ◌==◌, ◌%◌, ◌/◌, ◌&&◌, ◌*◌, not, nat_lt}
+use Rattle.law_run_recovers.proofs.Vocabulary.{slice_get, list_all, mod-lt, false≢true, and_parts, and_right, ltb-true, slice_get_within, Opening, Lock, has_prepared, State, all_at, home_of, Job, Sweep, fixed_of, is_idle, has_sense}
+use Rattle.law_run_recovers.proofs.Vocabulary.{max_jobs, Event, Begin, Actor, World, actor_at, step, after, run, begins_now, so_many, begins_job, with_job, at_has, unhindered_from, all_up, up_in, is_up, locks_in, locks_at, is_in_doubt}
+use Rattle.law_run_recovers.proofs.Vocabulary.{sweeps, goes_round, NoLockIsLeft}
 use Rattle.law_run_recovers.proofs.Doubts.{filter_none}
 use Rattle.law_run_recovers.proofs.Rounds.{Ends, ends}
 

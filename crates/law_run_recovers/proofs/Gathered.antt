@@ -1,31 +1,11 @@
 -- A suite that a transaction gathers: it falls short as its demand says, or had a Current.
-use Rattle.std.proofs.Common.{◌≡◌, inl, inr, ⊎_elim, ℕ, ◌+◌, ◌<◌, ◌≤◌, Bool, true, false, cond, List, [], ◌∷◌, Option, Some, None, is_some, refl, sym, ap, subst, ◌∙◌, arith}
-use Rattle.std.specs.Prelude.{◌==◌, ◌&&◌, ◌||◌, not, nat_lt, nat_le}
-use Rattle.std.proofs.lemmas.Bool.{eqb-true}
-use Rattle.std.proofs.lemmas.Bool.Decides.{nat_tests}
-use Rattle.std.proofs.lemmas.Cmp.{nat_cmp_total}
-use Rattle.std.proofs.lemmas.List.Elements.{All-contains}
-use Rattle.std.proofs.lemmas.Option.{same_Some}
-use Rattle.sorted_map.specs.Laws.{IsOrdered-insert}
-use Rattle.vote_core.specs.Quorums.{Representative, Configuration, votes_in}
-use Rattle.vote_core.specs.Validity.{IsValid, max_servers}
-use Rattle.suite_prefix.specs.declared.copies.Prefix.{Prefix}
-use Rattle.suite_prefix.specs.declared.lock_mode.LockMode.{LockMode}
-use Rattle.suite_prefix.specs.declared.lock_mode.LockMode.TheVariants.{Shared, Exclusive}
-use Rattle.suite_prefix.specs.LockModes.{serves}
-use Rattle.rep_core.proofs.Members.{Has, contains_from}
+use Rattle.law_run_recovers.proofs.Vocabulary.{◌≡◌, inl, inr, ⊎_elim, ℕ, ◌+◌, ◌<◌, ◌≤◌, Bool, true, false, cond, List, [], ◌∷◌, Option, Some, None, is_some, refl, sym, ap, subst, ◌∙◌, arith, ◌==◌, ◌&&◌, ◌||◌, not, nat_lt, nat_le}
+use Rattle.law_run_recovers.proofs.Vocabulary.{eqb-true, nat_tests, nat_cmp_total, All-contains, same_Some, IsOrdered-insert, Representative, Configuration, votes_in, IsValid, max_servers, Prefix, LockMode, Shared, Exclusive, serves}
+use Rattle.law_run_recovers.proofs.Vocabulary.{Has, contains_from, PlainTable, holds, newest, Collector, all_told, first_members, version, needed, needed_of, got, Next, Current, Ask, Short, next, Cache, Undecided, ReadPoint}
+use Rattle.law_run_recovers.proofs.Vocabulary.{GatheredSuite, Suites, suite_of, with_suite, settled, first_or, source_of, Fixed, Task, short_cause, gather_by, locked_at, self, with_at, each_but, each_with, World, is_met, demand_by}
+use Rattle.law_run_recovers.proofs.Vocabulary.{led_to_by, has_asked}
 use Rattle.rep_core.specs.declared.reply.Verdict.TheVariants as verdict
-use Rattle.file_ops.specs.Rows.{PlainTable}
-use Rattle.suite_collect.specs.Telling.{holds, newest}
-use Rattle.suite_collect.specs.Collecting.{Collector, all_told, first_members, version, needed, needed_of, got, Next, Current, Ask, Short, next}
-use Rattle.weak_cache.specs.Entries.{Cache}
-use Rattle.txn_core.specs.declared.ending.Ending.TheVariants.{Undecided}
-use Rattle.txn_core.specs.Suites.{ReadPoint, GatheredSuite, Suites, suite_of, with_suite, settled, first_or, source_of}
-use Rattle.txn_core.specs.Doing.{Fixed, Task}
-use Rattle.txn_core.specs.Transactions.{Step, short_cause, gather_by, locked_at}
-use Rattle.txn_core.proofs.Gathers.{self, with_at, each_but, each_with}
-use Rattle.run_core.specs.Worlds.{World}
-use Rattle.law_run_recovers.specs.Demands.{is_met, demand_by, led_to_by, has_asked}
+use Rattle.txn_core.specs.Transactions.{Step}
 use Rattle.law_run_recovers.proofs.Asking.{onto, held_in, held_if}
 use Rattle.law_run_recovers.proofs.Led.{EndsShort, reached_short, reached_current, reached_settled}
 use Rattle.law_run_recovers.proofs.Polled.{Sight, finds_at, AllBelow, greatest_below, Refusing, gathering, at_current}

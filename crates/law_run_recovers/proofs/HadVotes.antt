@@ -1,63 +1,19 @@
 -- What is decided had its home and its votes up: each server that told it of a lock was up then, as it was when it began.
-use Rattle.std.proofs.Common.{◌≡◌, inl, inr, ⊎_elim, ℕ, ◌+◌, ◌*◌, ◌≤◌, Bool, true, false, cond, List, [], ◌∷◌, ◌++◌, append_assoc, append-nil, le_trans, Option, Some, None, refl, sym, ap, subst, ◌∙◌, arith}
-use Rattle.std.specs.Prelude.{◌==◌, ◌-◌, Contains, ◌&&◌, nat_le, nat_lt}
-use Rattle.std.specs.List.{list_any, cons_option}
-use Rattle.std.proofs.lemmas.Bool.{false≢true, eqb-true, or_cases, or_right, le-leb, leb-true, eq-eqb}
-use Rattle.std.proofs.lemmas.List.Elements.{Contains-append_right}
-use Rattle.std.proofs.lemmas.Option.{none-some, same_Some}
-use Rattle.acl_core.specs.Identity.{Identity}
-use Rattle.vote_core.specs.Quorums.{Representative, votes_in, is_write_quorum}
-use Rattle.suite_prefix.specs.SettingsRules.{Opening}
-use Rattle.suite_prefix.specs.declared.lock_mode.LockMode.{LockMode}
-use Rattle.suite_prefix.specs.declared.lock_mode.LockMode.TheVariants.{Shared, Exclusive}
-use Rattle.rep_core.specs.declared.request.Request.{Request}
+use Rattle.law_run_recovers.proofs.Vocabulary.{◌≡◌, inl, inr, ⊎_elim, ℕ, ◌+◌, ◌*◌, ◌≤◌, Bool, true, false, cond, List, [], ◌∷◌, ◌++◌, append_assoc, append-nil, le_trans, Option, Some, None, refl, sym, ap, subst, ◌∙◌, arith, ◌==◌, ◌-◌}
+use Rattle.law_run_recovers.proofs.Vocabulary.{Contains, ◌&&◌, nat_le, nat_lt, list_any, cons_option, false≢true, eqb-true, or_cases, or_right, le-leb, leb-true, eq-eqb, Contains-append_right, none-some, same_Some, Identity}
+use Rattle.law_run_recovers.proofs.Vocabulary.{Representative, votes_in, is_write_quorum, Opening, LockMode, Shared, Exclusive, Request, Op, row_of, votes_in-wider, holds, needed_of, all_told, Job, Transaction, GatheredSuite, suite_of}
+use Rattle.law_run_recovers.proofs.Vocabulary.{is_changed, Running, home_of, request_in, changes_of, decision_of, votes_after, Agent, fixed_of, is_idle, has_sense, max_jobs, next_in, next_of, begin, started, after_all, exchanges}
+use Rattle.law_run_recovers.proofs.Vocabulary.{newest_of, IsReady, Keeps, nothing_held, plus_all, begin_keeps, decides_on_quorums, Event, Begin, Step, EndedJob, Actor, World, server_at, actor_at, becomes, asks, steps_once, opening}
+use Rattle.law_run_recovers.proofs.Vocabulary.{step, after, dones, outcomes, run, Decided, decided, decided_by, decisions, decisions_from, task_of, task_at, table_of, table_after_all, dones-append, outcomes-append}
+use Rattle.law_run_recovers.proofs.Vocabulary.{decisions_from-append, answers_follow_knowledge, IsAnsweredAsKnown, Runs, IsAt, not_begun, has_append, holds_of, decided_once, number_of, ended, is_decided, Ending, Has, has_any, has_from}
+use Rattle.law_run_recovers.proofs.Vocabulary.{agent_of, agent_at, puts_in, with_job, can_front, facts_of, no_task, CanBe, demand, is_met, votes_of_row, OneIsDecided, GoesAlone, HadVotesUp, DecidedHadVotesUp, begins_now, is_up}
 use Rattle.rep_core.specs.declared.request.Request.TheVariants as request
-use Rattle.file_ops.specs.declared.operation.Op.{Op}
 use Rattle.file_ops.specs.Rows as rows
-use Rattle.file_ops.specs.Rows.{row_of}
-use Rattle.vote_core.proofs.QuorumLemmas.{votes_in-wider}
-use Rattle.suite_collect.specs.Telling.{holds}
-use Rattle.suite_collect.specs.Collecting.{needed_of, all_told}
-use Rattle.txn_core.specs.declared.job.Job.{Job}
-use Rattle.txn_core.specs.declared.job.Job.TheVariants.{Transaction}
-use Rattle.txn_core.specs.Suites.{GatheredSuite, suite_of, told_in}
-use Rattle.txn_core.specs.Writing.{is_changed, sets_votes}
-use Rattle.txn_core.specs.Doing.{Running, home_of}
-use Rattle.txn_core.specs.Transactions.{request_in, changes_of, decision_of, votes_after}
-use Rattle.txn_core.specs.Agents.{Agent, fixed_of, is_idle, has_sense, max_jobs, next_in, next_of, begin, started, after_all}
-use Rattle.txn_core.specs.Laws.{exchanges, newest_of, IsReady}
+use Rattle.txn_core.specs.Suites.{told_in}
+use Rattle.txn_core.specs.Writing.{sets_votes}
 use Rattle.txn_core.proofs.Locks as keeping
-use Rattle.txn_core.proofs.Locks.{Keeps, nothing_held, plus_all, begin_keeps}
-use Rattle.txn_core.proofs.Quorums.{decides_on_quorums}
-use Rattle.run_core.specs.declared.event.Event.{Event}
-use Rattle.run_core.specs.declared.event.Event.TheVariants.{Begin, Step}
-use Rattle.run_core.specs.declared.done.EndedJob.{EndedJob}
-use Rattle.run_core.specs.Worlds.{Actor, World, server_at, actor_at, becomes, asks, steps_once, opening, step}
-use Rattle.run_core.specs.Runs.{after, dones, outcomes, run}
-use Rattle.run_core.specs.Decisions.{Decided, decided, decided_by, decisions, decisions_from, task_of, task_at}
-use Rattle.run_core.specs.TableOfRun.{table_of, table_after_all}
 use Rattle.run_core.proofs.Appending as appending
-use Rattle.run_core.proofs.Appending.{dones-append, outcomes-append, decisions_from-append}
-use Rattle.law_runs.proofs.Answering.{answers_follow_knowledge}
-use Rattle.law_runs.specs.Answers.{IsAnsweredAsKnown}
-use Rattle.law_runs.proofs.Agents.{Runs, IsAt, not_begun}
-use Rattle.law_runs.proofs.Standing.{has_append}
-use Rattle.law_runs.proofs.Conclusions.{holds_of, decided_once}
-use Rattle.law_runs.specs.Numbers.{number_of}
-use Rattle.law_runs.specs.Claims.{ended}
-use Rattle.law_run_alone.specs.Undisturbed.{is_decided}
-use Rattle.txn_core.specs.declared.ending.Ending.{Ending}
 use Rattle.txn_core.specs.declared.ending.Ending.TheVariants as ending
-use Rattle.rep_core.proofs.Members.{Has, has_any, has_from}
-use Rattle.law_runs.proofs.Worlds.{agent_of, agent_at, puts_in}
-use Rattle.law_run_alone.proofs.Turns.{with_job}
-use Rattle.law_run_alone.proofs.Reached.{can_front, facts_of}
-use Rattle.law_one_table.proofs.Logs.{no_task}
-use Rattle.law_headline.specs.Premises.{CanBe}
-use Rattle.law_run_recovers.specs.Demands.{demand, is_met, votes_of_row}
-use Rattle.law_run_recovers.specs.Laws.{OneIsDecided, GoesAlone, HadVotesUp, DecidedHadVotesUp}
-use Rattle.law_runs.specs.Numbers.{begins_now}
-use Rattle.law_run_recovers.specs.Standing.{is_up}
 use Rattle.law_run_recovers.proofs.Downs.{holds_shared}
 use Rattle.law_run_recovers.proofs.Since.{Now, now_after}
 use Rattle.law_run_recovers.proofs.Decider.{Found, found_in, count_in}

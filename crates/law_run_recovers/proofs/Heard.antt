@@ -1,63 +1,18 @@
 -- What a transaction makes of a reply that is right: it stands as before, or ends as it should.
-use Rattle.std.proofs.Common.{◌≡◌, inl, ◌⊎◌, ⊎_elim, ℕ, true, false, cond, List, [], ◌∷◌, Option, Some, None, is_some, Ok, Err, refl, sym, ap, subst, ◌∙◌}
-use Rattle.std.specs.Prelude.{option_map}
-use Rattle.std.proofs.lemmas.Bool.{false≢true}
-use Rattle.std.proofs.lemmas.Cmp.{nat_cmp_total}
-use Rattle.std.proofs.lemmas.Option.{none-some, same_Some}
-use Rattle.sorted_map.specs.Edits.{insert-insert}
-use Rattle.suite_content.specs.declared.content.Content.{Content}
-use Rattle.suite_prefix.specs.declared.copies.Prefix.{Prefix}
-use Rattle.suite_prefix.specs.declared.lock_mode.LockMode.{LockMode}
-use Rattle.rep_core.specs.Fits.{is_prepared}
-use Rattle.rep_core.specs.Service.{verdict_of}
-use Rattle.rep_core.specs.declared.request.Request.{Request}
-use Rattle.rep_core.specs.declared.reply.Reply.{Reply}
+use Rattle.law_run_recovers.proofs.Vocabulary.{◌≡◌, inl, ◌⊎◌, ⊎_elim, ℕ, true, false, cond, List, [], ◌∷◌, Option, Some, None, is_some, Ok, Err, refl, sym, ap, subst, ◌∙◌, option_map, false≢true, nat_cmp_total, none-some, same_Some}
+use Rattle.law_run_recovers.proofs.Vocabulary.{insert-insert, Content, Prefix, LockMode, is_prepared, verdict_of, Request, Reply, PlainTable, row_of, IsSoAt, Told, Collector, Asked, request_for, mode_of, mode_asked, tell, tell_at}
+use Rattle.law_run_recovers.proofs.Vocabulary.{told_by, Next, Current, Ask, Short, next, Cache, put, Undecided, Lost, ReadPoint, GatheredSuite, Suites, suite_of, with_suite, known_of, first_or, settled, Fixed, Task, Granted, Phase}
+use Rattle.law_run_recovers.proofs.Vocabulary.{Gathering, Fetching, Preparing, Deciding, Finishing, TransactionRun, GoesOn, home_of, Gathered, asked_by, asked_for, fetched_at, fetched_for, request_in, decision_of, hear, collected}
+use Rattle.law_run_recovers.proofs.Vocabulary.{heard_of, given_in, keep_content, fetched, prepare, give_up, short_cause, verdict_in, cause_of_abort, locked_at, widen_all, execute, after_reply, self, with_at, but_with, World, is_up}
+use Rattle.law_run_recovers.proofs.Vocabulary.{MayStart, is_met, ending_of}
 use Rattle.rep_core.specs.declared.reply.Reply.TheVariants as reply
 use Rattle.rep_core.specs.declared.reply.Verdict.TheVariants as verdict
-use Rattle.file_ops.specs.Rows.{PlainTable, row_of}
 use Rattle.file_exec.specs.Known as known
-use Rattle.file_exec.specs.Known.{IsSoAt}
-use Rattle.suite_collect.specs.declared.told.Told.{Told}
-use Rattle.suite_collect.specs.Collecting.{Collector, Widening, Asked, request_for, mode_of, mode_asked, tell, tell_at, told_by, Next, Current, Ask, Short, next}
-use Rattle.weak_cache.specs.Entries.{Cache}
-use Rattle.weak_cache.specs.Cache.{put}
-use Rattle.txn_core.specs.declared.ending.Ending.TheVariants.{Undecided}
-use Rattle.txn_core.specs.declared.ending.Cause.TheVariants.{Lost}
-use Rattle.txn_core.specs.Suites.{ReadPoint, GatheredSuite, Suites, suite_of, with_suite, known_of, first_or, settled}
+use Rattle.suite_collect.specs.Collecting.{Widening}
 use Rattle.txn_core.specs.Doing as doing
-use Rattle.txn_core.specs.Doing.{Fixed, Task, Granted, Phase, Gathering, Fetching, Preparing, Deciding, Finishing, TransactionRun, GoesOn, home_of}
 use Rattle.txn_core.specs.Transactions as txn_run
-use Rattle.txn_core.specs.Transactions.{
-  Step,
-  Gathered,
-  asked_by,
-  asked_for,
-  fetched_at,
-  fetched_for,
-  request_in,
-  decision_of,
-  hear,
-  collected,
-  heard_of,
-  given_in,
-  keep_content,
-  fetched,
-  prepare,
-  give_up,
-  short_cause,
-  verdict_in,
-  cause_of_abort,
-  locked_at,
-  widen_all,
-  execute,
-  after_reply,
-}
-use Rattle.txn_core.proofs.Gathers.{self, with_at, but_with}
-use Rattle.run_core.specs.Worlds.{World}
-use Rattle.law_run_recovers.specs.Standing.{is_up}
-use Rattle.law_run_recovers.specs.Demands.{MayStart, is_met}
+use Rattle.txn_core.specs.Transactions.{Step}
 use Rattle.law_run_recovers.specs.Laws as laws
-use Rattle.law_run_recovers.specs.Laws.{ending_of}
 use Rattle.law_run_recovers.proofs.Asking.{held_in, held_if}
 use Rattle.law_run_recovers.proofs.Led.{reached_told}
 use Rattle.law_run_recovers.proofs.Polled.{Sight, Answers, hears}

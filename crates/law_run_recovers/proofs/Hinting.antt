@@ -1,14 +1,6 @@
 -- What a cache hints of a suite after another was put: what it did before, or nothing.
-use Rattle.std.proofs.Common.{◌≡◌, ℕ, Bool, true, false, cond, [], ◌∷◌, Option, Some, None, refl, sym, ap, subst, ◌∙◌, arith}
-use Rattle.std.specs.Prelude.{◌==◌, ◌-◌, ◌&&◌, not, nat_le, nat_lt, option_map}
-use Rattle.std.proofs.lemmas.Bool.{false≢true, and_parts, eqb-true}
-use Rattle.std.proofs.lemmas.Bool.Decides.{nat_tests}
-use Rattle.std.proofs.lemmas.Option.{none-some, same_Some}
-use Rattle.suite_prefix.specs.declared.copies.Prefix.{Prefix}
-use Rattle.rep_core.proofs.Finding.{find_some}
-use Rattle.weak_cache.specs.Entries.{Entry, Cache, is_at, is_of, size_of, entry_of, without, forgotten}
-use Rattle.weak_cache.specs.Cache.{Limits, hint, put, has_room, within_quota, within_budget}
-use Rattle.weak_cache.proofs.Origins.{forgotten_has}
+use Rattle.law_run_recovers.proofs.Vocabulary.{◌≡◌, ℕ, Bool, true, false, cond, [], ◌∷◌, Option, Some, None, refl, sym, ap, subst, ◌∙◌, arith, ◌==◌, ◌-◌, ◌&&◌, not, nat_le, nat_lt, option_map, false≢true, and_parts, eqb-true, nat_tests}
+use Rattle.law_run_recovers.proofs.Vocabulary.{none-some, same_Some, Prefix, find_some, Entry, Cache, is_at, is_of, size_of, entry_of, without, forgotten, Limits, hint, put, has_room, within_quota, within_budget, forgotten_has}
 
 module _ (site z : ℕ) where
   -- what is found in one is found in the other

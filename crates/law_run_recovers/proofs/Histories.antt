@@ -1,13 +1,7 @@
 -- What one server served, in its order, was served so in the run.
-use Rattle.std.proofs.Common.{◌≡◌, ℕ, Bool, true, false, cond, List, [], ◌∷◌, ◌++◌, Option, Some, None, refl, ap, ◌∙◌}
-use Rattle.std.specs.Prelude.{◌==◌}
-use Rattle.std.specs.List.{cons_option}
-use Rattle.std.proofs.lemmas.Option.{none-some}
+use Rattle.law_run_recovers.proofs.Vocabulary.{◌≡◌, ℕ, Bool, true, false, cond, List, [], ◌∷◌, ◌++◌, Option, Some, None, refl, ap, ◌∙◌, ◌==◌, cons_option, none-some, Served, done_in, finished_before, finished_changes_are_met, if_at}
+use Rattle.law_run_recovers.proofs.Vocabulary.{served_at, FinishedBeforeAtServer, ChangesAreMetAtServer}
 use Rattle.run_core.specs.declared.done.Done.{Done}
-use Rattle.run_core.specs.declared.done.Served.{Served}
-use Rattle.run_core.specs.Runs.{done_in}
-use Rattle.law_runs.proofs.Finishes.{finished_before, finished_changes_are_met}
-use Rattle.law_run_recovers.specs.Histories.{if_at, served_at, FinishedBeforeAtServer, ChangesAreMetAtServer}
 
 abbrev head_or : Served → List Served → Served
 head_or what [] = what

@@ -1,13 +1,5 @@
 -- Homes go round: of as many jobs in a row as there are servers one has each server as its home.
-use Rattle.std.proofs.Common.{◌≡◌, ⊎_elim, ℕ, ◌+◌, ◌*◌, ◌-◌, ◌<◌, ◌≤◌, ◌⊎◌, ap, ◌∙◌, arith}
-use Rattle.std.specs.Prelude.{◌%◌, ◌/◌}
-use Rattle.std.proofs.Math.Nat.{mod-lt, add-mod_right}
-use Rattle.std.proofs.lemmas.Nat.{div-add-mod', mod-mul-add}
-use Rattle.suite_prefix.specs.SettingsRules.{Opening}
-use Rattle.txn_core.specs.Doing.{home_of}
-use Rattle.txn_core.specs.Agents.{fixed_of}
-use Rattle.law_runs.proofs.Conclusions.{rest_of}
-use Rattle.law_run_recovers.specs.Laws.{HomesGoRound}
+use Rattle.law_run_recovers.proofs.Vocabulary.{◌≡◌, ⊎_elim, ℕ, ◌+◌, ◌*◌, ◌-◌, ◌<◌, ◌≤◌, ◌⊎◌, ap, ◌∙◌, arith, ◌%◌, ◌/◌, mod-lt, add-mod_right, div-add-mod', mod-mul-add, Opening, home_of, fixed_of, rest_of, HomesGoRound}
 
 place_of : (place index : ℕ) → index < 64 → (64 * place + index) / 64 ≡ place
 place_of place index small = omega arith

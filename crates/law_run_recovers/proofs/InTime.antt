@@ -1,42 +1,15 @@
 -- The votes that a job meets in a run are valid.
-use Rattle.std.proofs.Common.{◌≡◌, inl, inr, ⊎_elim, ℕ, Bool, true, false, cond, List, [], ◌∷◌, ◌++◌, append_assoc, Option, Some, None, refl, sym, ap, subst, ◌∙◌, arith}
-use Rattle.std.specs.Prelude.{◌==◌, ◌&&◌, is_some, Contains}
-use Rattle.vote_core.specs.Validity.{IsValid}
-use Rattle.suite_prefix.specs.SettingsRules.{Opening}
-use Rattle.rep_core.specs.declared.request.Request.{Request}
+use Rattle.law_run_recovers.proofs.Vocabulary.{◌≡◌, inl, inr, ⊎_elim, ℕ, Bool, true, false, cond, List, [], ◌∷◌, ◌++◌, append_assoc, Option, Some, None, refl, sym, ap, subst, ◌∙◌, arith, ◌==◌, ◌&&◌, is_some, Contains, IsValid, Opening}
+use Rattle.law_run_recovers.proofs.Vocabulary.{Request, Reply, Stamped, State, copy_of, reply_of, reply_up, reply_down, is_full, answer_of, Has, has_from, Response, Replied, Lacked, Fixed, Agent, Take, fixed_of, next_of, take, begin}
+use Rattle.law_run_recovers.proofs.Vocabulary.{forget, Exchange, exchange_of, exchanges, Event, Begin, Step, Crash, Return, Forget, Lack, Served, EndedJob, World, Actor, server_at, actor_at, serve, answered, asks_at, asks, steps_once}
+use Rattle.law_run_recovers.proofs.Vocabulary.{step, run, ShowsValidVotes, VotesAreValid, asks_now, told_of, told_at, told_in, EndsInItsTime, runs_end_in_time, has_append, CanBe, front, TellsValid, up_valid, copy_valid, cache_valid}
+use Rattle.law_run_recovers.proofs.Vocabulary.{RunsEndByTheBounds}
 use Rattle.rep_core.specs.declared.request.Request.TheVariants as request
-use Rattle.rep_core.specs.declared.reply.Reply.{Reply}
 use Rattle.rep_core.specs.declared.reply.Reply.TheVariants as reply
-use Rattle.rep_core.specs.declared.stamped.Stamped.{Stamped}
-use Rattle.rep_core.specs.State.{State}
-use Rattle.rep_core.specs.Store.{copy_of}
-use Rattle.rep_core.specs.Service.{reply_of, reply_up, reply_down}
-use Rattle.rep_core.specs.Serving.{is_full, answer_of}
-use Rattle.rep_core.proofs.Members.{Has, has_from}
-use Rattle.txn_core.specs.declared.response.Response.{Response}
-use Rattle.txn_core.specs.declared.response.Response.TheVariants.{Replied, Lacked}
-use Rattle.txn_core.specs.Doing.{Fixed}
 use Rattle.txn_core.specs.Agents as agents
-use Rattle.txn_core.specs.Agents.{Agent, Take, fixed_of, next_of, take, begin, forget}
-use Rattle.txn_core.specs.Laws.{Exchange, exchange_of, exchanges}
-use Rattle.run_core.specs.declared.event.Event.{Event}
-use Rattle.run_core.specs.declared.event.Event.TheVariants.{Begin, Step, Crash, Return, Forget, Lack}
-use Rattle.run_core.specs.declared.done.Served.{Served}
-use Rattle.run_core.specs.declared.done.EndedJob.{EndedJob}
 use Rattle.run_core.specs.Worlds as worlds
-use Rattle.run_core.specs.Worlds.{World, Actor, server_at, actor_at, serve, answered, asks_at, asks, steps_once, step}
-use Rattle.run_core.specs.Runs.{run}
 use Rattle.run_core.proofs.Appending as going
-use Rattle.law_agents.specs.Steps.{ShowsValidVotes, VotesAreValid}
-use Rattle.law_agents.specs.RunBounds.{asks_now, told_by, told_of, told_at, told_in, EndsInItsTime}
-use Rattle.law_agents.proofs.RunBounds.{runs_end_in_time}
-use Rattle.law_runs.proofs.Standing.{has_append}
-use Rattle.law_headline.specs.Premises.{CanBe}
-use Rattle.law_headline.proofs.Promised.{front}
-use Rattle.law_run_alone.proofs.Exchanged.{TellsValid}
-use Rattle.law_run_alone.proofs.Unhindered.{up_valid}
-use Rattle.law_run_alone.proofs.Votes.{copy_valid, cache_valid}
-use Rattle.law_run_recovers.specs.InTime.{RunsEndByTheBounds}
+use Rattle.law_agents.specs.RunBounds.{told_by}
 
 -- ---- what a server replies
 

@@ -1,49 +1,14 @@
 -- While a transaction goes among locks that stay, and until its end is fixed, what near servers have stored of its suites stays where they are open to it.
-use Rattle.std.proofs.Common.{◌≡◌, ℕ, ◌+◌, ◌≤◌, Bool, true, false, cond, List, [], ◌∷◌, ◌++◌, append_assoc, append-nil, Option, Some, None, refl, sym, ap, subst, ◌∙◌, arith}
-use Rattle.std.specs.Prelude.{◌*◌, ◌==◌, ◌&&◌, ◌||◌, not, nat_lt, Contains}
-use Rattle.std.specs.List.{list_any}
-use Rattle.std.proofs.lemmas.Bool.{false≢true, eqb-true, eq-eqb}
-use Rattle.std.proofs.lemmas.Bool.Decides.{nat_tests}
-use Rattle.std.proofs.lemmas.Option.{none-some, same_Some}
-use Rattle.acl_core.specs.Identity.{Identity}
-use Rattle.suite_prefix.specs.SettingsRules.{Opening}
-use Rattle.suite_prefix.specs.declared.copies.Replica.{Replica}
-use Rattle.suite_prefix.specs.declared.lock_mode.LockMode.{LockMode}
-use Rattle.suite_prefix.specs.declared.lock_mode.LockMode.TheVariants.{Exclusive}
-use Rattle.file_ops.specs.declared.operation.Op.{Op}
-use Rattle.rep_core.specs.declared.lock.Lock.{Lock}
-use Rattle.rep_core.specs.declared.reply.Verdict.{Verdict}
-use Rattle.rep_core.specs.declared.request.Request.{Request}
+use Rattle.law_run_recovers.proofs.Vocabulary.{◌≡◌, ℕ, ◌+◌, ◌≤◌, Bool, true, false, cond, List, [], ◌∷◌, ◌++◌, append_assoc, append-nil, Option, Some, None, refl, sym, ap, subst, ◌∙◌, arith, ◌*◌, ◌==◌, ◌&&◌, ◌||◌, not, nat_lt, Contains}
+use Rattle.law_run_recovers.proofs.Vocabulary.{list_any, false≢true, eqb-true, eq-eqb, nat_tests, none-some, same_Some, Identity, Opening, Replica, LockMode, Exclusive, Op, Lock, Verdict, Request, copy_of, State, is_full, answer_of}
+use Rattle.law_run_recovers.proofs.Vocabulary.{Job, Transaction, Response, Lacked, Fixed, Doing, Running, RunningSweep, Phase, Gathering, Fetching, Widening, Preparing, Deciding, Finishing, is_finish, Agent, fixed_of, is_idle}
+use Rattle.law_run_recovers.proofs.Vocabulary.{has_sense, max_jobs, begin, started, forget, take, take_in, next_of, Served, Event, Begin, Step, Crash, Return, Forget, Lack, Actor, World, server_at, actor_at, becomes, serve, operated}
+use Rattle.law_run_recovers.proofs.Vocabulary.{operates, asks_at, asks, answered, steps_once, lacks_for, lacks, step, Decided, decisions, after, run, IsAt, take_keeps, holds_of, new_of, each_event, agent_of, agent_at, CanBe, begins_job}
+use Rattle.law_run_recovers.proofs.Vocabulary.{all_consistent, asks_for, is_open_way, way_in, is_open_at, runs, running_in, is_running, is_told, tells, telling_in, is_telling, world_after, takes, up_and, of_up, robs, hinders_itself}
+use Rattle.law_run_recovers.proofs.Vocabulary.{GoesAmongLocks, shows_same, SameWay, told_as_first, AsAtItsBegin}
 use Rattle.rep_core.specs.declared.request.Request.TheVariants as request
 use Rattle.rep_core.specs.declared.stamped.Lack.{Lack as Why}
-use Rattle.rep_core.specs.Store.{copy_of}
-use Rattle.rep_core.specs.State.{State}
-use Rattle.rep_core.specs.Serving.{is_full, answer_of}
-use Rattle.txn_core.specs.declared.job.Job.{Job}
-use Rattle.txn_core.specs.declared.job.Job.TheVariants.{Transaction}
-use Rattle.txn_core.specs.declared.response.Response.{Response}
-use Rattle.txn_core.specs.declared.response.Response.TheVariants.{Lacked}
-use Rattle.txn_core.specs.Doing.{Fixed, Doing, Running, RunningSweep, Phase, Gathering, Fetching, Widening, Preparing, Deciding, Finishing}
-use Rattle.txn_core.specs.Undecided.{is_finish}
-use Rattle.txn_core.specs.Agents.{Agent, fixed_of, is_idle, has_sense, max_jobs, begin, started, forget, take, take_in, next_of}
-use Rattle.run_core.specs.declared.done.Served.{Served}
-use Rattle.run_core.specs.declared.event.Event.{Event}
-use Rattle.run_core.specs.declared.event.Event.TheVariants.{Begin, Step, Crash, Return, Forget, Lack}
-use Rattle.run_core.specs.Worlds.{Actor, World, server_at, actor_at, becomes, serve, operated, operates, asks_at, asks, answered, steps_once, lacks_for, lacks, step}
 use Rattle.run_core.specs.Worlds as worlds
-use Rattle.run_core.specs.Decisions.{Decided, decisions}
-use Rattle.run_core.specs.Runs.{after, run}
-use Rattle.law_runs.proofs.Agents.{IsAt, take_keeps}
-use Rattle.law_runs.proofs.Conclusions.{holds_of}
-use Rattle.law_runs.proofs.Each.{new_of, each_event}
-use Rattle.law_runs.proofs.Worlds.{agent_of, agent_at}
-use Rattle.law_headline.specs.Premises.{CanBe}
-use Rattle.law_run_alone.specs.Alone.{begins_job}
-use Rattle.law_run_alone.proofs.Unhindered.{all_consistent}
-use Rattle.law_run_recovers.specs.Near.{asks_for, is_open_way, way_in, is_open_at}
-use Rattle.law_run_recovers.specs.Unmet.{runs, running_in, is_running, is_told, tells, telling_in, is_telling, world_after, takes, up_and, of_up, robs, hinders_itself}
-use Rattle.law_run_recovers.specs.Among.{GoesAmongLocks}
-use Rattle.law_run_recovers.specs.Told.{shows_same, SameWay, told_as_first, AsAtItsBegin}
 use Rattle.law_run_recovers.proofs.Serves.{Serves}
 use Rattle.law_run_recovers.proofs.Still.{IsOpen, IsOpenPhase, open_before, open_next}
 use Rattle.law_run_recovers.proofs.Open.{begun_there, begun_servers, its_begin}

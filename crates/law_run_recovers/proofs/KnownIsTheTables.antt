@@ -1,41 +1,10 @@
 -- What a transaction knows is what the registers of the run hold, and so on its table, as long as no lock of it was taken away and it is not answered.
-use Rattle.std.proofs.Common.{◌≡◌, ◌≢◌, ⊎_elim, ℕ, false, List, Option, Some, None, refl, sym, ap, ◌∙◌}
-use Rattle.std.specs.Prelude.{unwrap_or, slice_get, slice_set}
-use Rattle.std.specs.Ordering.{nat_cmp}
-use Rattle.std.proofs.lemmas.Option.{none-some, same_Some}
-use Rattle.sorted_map.specs.SortedMap.{IsOrdered}
-use Rattle.suite_prefix.specs.SettingsRules.{Opening}
-use Rattle.rep_core.specs.declared.request.Request.{Request}
-use Rattle.rep_core.specs.declared.stamped.Stamped.{Stamped}
-use Rattle.rep_core.specs.Serving.{served}
+use Rattle.law_run_recovers.proofs.Vocabulary.{◌≡◌, ◌≢◌, ⊎_elim, ℕ, false, List, Option, Some, None, refl, sym, ap, ◌∙◌, unwrap_or, slice_get, slice_set, nat_cmp, none-some, same_Some, IsOrdered, Opening, Request, Stamped, served}
+use Rattle.law_run_recovers.proofs.Vocabulary.{State, record_of, is_resolve, row_of, AgreesWith, ReadPoint, GatheredSuite, suite_of, known_of, Fixed, TransactionRun, Running, is_decide, Event, Actor, World, Stepped, server_at, actor_at}
+use Rattle.law_run_recovers.proofs.Vocabulary.{run, table_of, Answered, IsKnown, beginning, home_in, machine_of, known_by, same_or, step_is, puts_in, register, agrees, all_shown, CanBe, all_keep, holds_after, Stands, is_known}
+use Rattle.law_run_recovers.proofs.Vocabulary.{known_owed}
 use Rattle.rep_core.specs.State as state
-use Rattle.rep_core.specs.State.{State, record_of}
-use Rattle.law_run_alone.proofs.Unswept.{is_resolve}
-use Rattle.file_ops.specs.Rows.{row_of}
-use Rattle.file_exec.specs.Known.{AgreesWith}
-use Rattle.txn_core.specs.Suites.{ReadPoint, GatheredSuite, suite_of, known_of}
-use Rattle.txn_core.specs.Doing.{Fixed, TransactionRun, Running}
-use Rattle.txn_core.specs.Laws.{is_decide}
-use Rattle.run_core.specs.declared.event.Event.{Event}
-use Rattle.run_core.specs.Worlds.{Actor, World, Stepped, server_at, actor_at}
-use Rattle.run_core.specs.Runs.{run}
-use Rattle.run_core.specs.TableOfRun.{table_of}
-use Rattle.law_suite_machine.specs.Machine.{Answered}
-use Rattle.law_suite_machine.specs.Registers.{IsKnown}
-use Rattle.law_server_moves.specs.Laws.{beginning}
 use Rattle.law_server_moves.specs.Views.{verdict_of}
-use Rattle.law_run_machine.specs.Machines.{home_in, machine_of}
-use Rattle.law_run_machine.specs.Deciding.{known_by}
-use Rattle.law_runs.proofs.Places.{same_or}
-use Rattle.law_runs.proofs.Turns.{step_is}
-use Rattle.law_runs.proofs.Worlds.{puts_in}
-use Rattle.law_one_table.specs.Tables.{register}
-use Rattle.law_one_table.proofs.Knowing.{agrees}
-use Rattle.law_one_table.proofs.Running.{all_shown}
-use Rattle.law_headline.specs.Premises.{CanBe}
-use Rattle.law_headline.proofs.Keeping.{all_keep, holds_after}
-use Rattle.law_run_alone.proofs.Standing.{Stands}
-use Rattle.law_run_alone.proofs.Known.{is_known, known_owed}
 use Rattle.law_run_recovers.proofs.StepsServed.{OwnTook}
 use Rattle.law_run_recovers.proofs.Still.{record_stays}
 

@@ -1,37 +1,15 @@
 -- What a transaction knows as it executes it still knows once it goes on, whatever it does next.
-use Rattle.std.proofs.Common.{◌≡◌, inl, inr, ℕ, zero, suc, ◌+◌, ◌≤◌, ◌<◌, Bool, true, false, cond, List, [], ◌∷◌, length, Option, Some, None, is_some, Ok, Err, refl, sym, ap, subst, ◌∙◌, arith}
-use Rattle.std.specs.Prelude.{◌==◌, ◌||◌, nat_lt}
-use Rattle.std.specs.List.{list_any}
-use Rattle.std.specs.Ordering.{nat_cmp, is_eq}
-use Rattle.std.proofs.lemmas.Bool.{false≢true, eqb-true}
-use Rattle.std.proofs.lemmas.Bool.Decides.{nat_tests}
-use Rattle.std.proofs.lemmas.Cmp.{nat_cmp_total}
-use Rattle.std.proofs.lemmas.Option.{none-some, same_Some}
-use Rattle.sorted_map.specs.SortedMap.{IsOrdered}
-use Rattle.sorted_map.specs.Laws.{IsOrdered-insert}
-use Rattle.vote_core.specs.Validity.{max_servers}
-use Rattle.suite_prefix.specs.declared.copies.Prefix.{Prefix}
-use Rattle.suite_prefix.specs.declared.lock_mode.LockMode.TheVariants.{Shared}
-use Rattle.rep_core.proofs.Members.{Has, filter_has}
-use Rattle.rep_core.specs.declared.reply.Verdict.{Verdict}
+use Rattle.law_run_recovers.proofs.Vocabulary.{◌≡◌, inl, inr, ℕ, zero, suc, ◌+◌, ◌≤◌, ◌<◌, Bool, true, false, cond, List, [], ◌∷◌, length, Option, Some, None, is_some, Ok, Err, refl, sym, ap, subst, ◌∙◌, arith, ◌==◌, ◌||◌, nat_lt}
+use Rattle.law_run_recovers.proofs.Vocabulary.{list_any, nat_cmp, is_eq, false≢true, eqb-true, nat_tests, nat_cmp_total, none-some, same_Some, IsOrdered, IsOrdered-insert, max_servers, Prefix, Shared, Has, filter_has, Verdict}
+use Rattle.law_run_recovers.proofs.Vocabulary.{PlainTable, row_of, Hold, Know, IsSoAt, AgreesWith, holds, raise, all_told, Next, Current, Ask, Short, next, Cache, Ending, Undecided, ReadPoint, GatheredSuite, Suites, suite_of}
+use Rattle.law_run_recovers.proofs.Vocabulary.{with_suite, known_of, holds_lock, has_locks, Fixed, Task, Granted, TransactionRun, GoesOn, Gathered, numbers_from, locked_at, tell_end, prepare, short_cause, gather_by, gather}
+use Rattle.law_run_recovers.proofs.Vocabulary.{raised_or_new, widened, widen_by, widen_one, widen_all, to_widen, proceed, opened, heard_on, execute, with_at, World}
 use Rattle.rep_core.specs.declared.reply.Verdict.TheVariants as verdict
-use Rattle.file_ops.specs.Rows.{PlainTable, row_of}
-use Rattle.file_exec.specs.declared.need.Need.TheVariants.{Hold, Know}
 use Rattle.file_exec.specs.declared.executor.Outcome.{Outcome as Executed}
 use Rattle.file_exec.specs.declared.executor.Outcome.TheVariants as exec
 use Rattle.file_exec.specs.Known as known
-use Rattle.file_exec.specs.Known.{IsSoAt, AgreesWith}
-use Rattle.suite_collect.specs.Telling.{holds}
-use Rattle.suite_collect.specs.Collecting.{raise, all_told, Next, Current, Ask, Short, next}
-use Rattle.weak_cache.specs.Entries.{Cache}
-use Rattle.txn_core.specs.declared.ending.Ending.{Ending}
-use Rattle.txn_core.specs.declared.ending.Ending.TheVariants.{Undecided}
-use Rattle.txn_core.specs.Suites.{ReadPoint, GatheredSuite, Suites, suite_of, with_suite, known_of, holds_lock, has_locks}
 use Rattle.txn_core.specs.Doing as doing
-use Rattle.txn_core.specs.Doing.{Fixed, Task, Granted, TransactionRun, GoesOn}
-use Rattle.txn_core.specs.Transactions.{Step, Gathered, numbers_from, locked_at, tell_end, prepare, short_cause, gather_by, gather, raised_or_new, widened, widen_by, widen_one, widen_all, to_widen, proceed, opened, heard_on, execute}
-use Rattle.txn_core.proofs.Gathers.{with_at}
-use Rattle.run_core.specs.Worlds.{World}
+use Rattle.txn_core.specs.Transactions.{Step}
 use Rattle.law_run_recovers.proofs.Asking.{known_in, known_if_first, known_is}
 use Rattle.law_run_recovers.proofs.Polled.{Sight}
 use Rattle.law_run_recovers.proofs.Stands.{Ground, asks_of, locks_on, Hints, IsReady}

@@ -1,23 +1,9 @@
 -- What comes of an own step of an agent that is not served, and of what tells it so.
-use Rattle.std.proofs.Common.{◌≡◌, ◌⊎◌, inl, inr, ℕ, Bool, true, false, cond, Option, Some, None, is_some, refl, sym, ap, subst, ◌∙◌}
-use Rattle.std.specs.Prelude.{◌==◌, not}
-use Rattle.std.proofs.lemmas.Bool.{false≢true, and_parts, eqb-true}
-use Rattle.std.proofs.lemmas.Option.{none-some, same_Some}
-use Rattle.suite_prefix.specs.SettingsRules.{Opening}
-use Rattle.rep_core.specs.declared.request.Request.{Request}
+use Rattle.law_run_recovers.proofs.Vocabulary.{◌≡◌, ◌⊎◌, inl, inr, ℕ, Bool, true, false, cond, Option, Some, None, is_some, refl, sym, ap, subst, ◌∙◌, ◌==◌, not, false≢true, and_parts, eqb-true, none-some, same_Some, Opening, Request}
+use Rattle.law_run_recovers.proofs.Vocabulary.{Stamped, State, is_full, answer_of, Lacked, fixed_of, next_of, take, Served, Event, Begin, Step, Crash, Return, Forget, Lack, Actor, World, Stepped, server_at, actor_at, quiet, serve}
+use Rattle.law_run_recovers.proofs.Vocabulary.{moved, outcome_of, answered, asks_at, asks, steps_once, lacks_for, lacks, step, puts_in, hinders_itself}
 use Rattle.rep_core.specs.declared.stamped.Lack.{Lack as Why}
 use Rattle.rep_core.specs.declared.stamped.Lack.TheVariants as lack
-use Rattle.rep_core.specs.declared.stamped.Stamped.{Stamped}
-use Rattle.rep_core.specs.State.{State}
-use Rattle.rep_core.specs.Serving.{is_full, answer_of}
-use Rattle.txn_core.specs.declared.response.Response.TheVariants.{Lacked}
-use Rattle.txn_core.specs.Agents.{fixed_of, next_of, take}
-use Rattle.run_core.specs.declared.done.Served.{Served}
-use Rattle.run_core.specs.declared.event.Event.{Event}
-use Rattle.run_core.specs.declared.event.Event.TheVariants.{Begin, Step, Crash, Return, Forget, Lack}
-use Rattle.run_core.specs.Worlds.{Actor, World, Stepped, server_at, actor_at, quiet, serve, moved, outcome_of, answered, asks_at, asks, steps_once, lacks_for, lacks, step}
-use Rattle.law_runs.proofs.Worlds.{puts_in}
-use Rattle.law_run_recovers.specs.Unmet.{hinders_itself}
 
 module _ (given : Opening) (agent : ℕ) (w : World) (here : Actor) (there : actor_at w agent ≡ Some here) where
   -- it was told that its request was not served

@@ -1,27 +1,9 @@
 -- Where a suite is led to: to a prefix that it had, of whose voting members that are up none shows a newer one.
-use Rattle.std.proofs.Common.{◌≡◌, inl, inr, ℕ, zero, suc, ◌<◌, ◌≤◌, Bool, true, false, cond, List, [], ◌∷◌, length, Option, Some, None, refl, sym, ap, subst, ◌∙◌, arith}
-use Rattle.std.specs.Prelude.{◌&&◌, nat_lt, filter, find, option_map}
-use Rattle.std.proofs.lemmas.Bool.{false≢true, and_parts, and_from}
-use Rattle.std.proofs.lemmas.Bool.Decides.{nat_tests}
-use Rattle.std.proofs.lemmas.Option.{none-some, same_Some}
-use Rattle.vote_core.specs.Quorums.{Representative}
-use Rattle.suite_prefix.specs.SettingsRules.{Opening}
-use Rattle.suite_prefix.specs.declared.copies.Prefix.{Prefix}
-use Rattle.rep_core.specs.Store.{copy_of}
-use Rattle.rep_core.specs.State.{State}
-use Rattle.rep_core.proofs.Finding.{find_some}
-use Rattle.rep_core.proofs.Members.{Has}
-use Rattle.txn_core.specs.Agents.{fixed_of}
-use Rattle.txn_core.specs.Doing.{Fixed}
+use Rattle.law_run_recovers.proofs.Vocabulary.{◌≡◌, inl, inr, ℕ, zero, suc, ◌<◌, ◌≤◌, Bool, true, false, cond, List, [], ◌∷◌, length, Option, Some, None, refl, sym, ap, subst, ◌∙◌, arith, ◌&&◌, nat_lt, filter, find, option_map}
+use Rattle.law_run_recovers.proofs.Vocabulary.{false≢true, and_parts, and_from, nat_tests, none-some, same_Some, Representative, Opening, Prefix, copy_of, State, find_some, Has, fixed_of, Fixed, server_at, WasPrefix, Inv, beginning}
+use Rattle.law_run_recovers.proofs.Vocabulary.{at_has, up_in, is_up, shown_at, shown_in, shows_newer_by, newer_by, led_on, led_so_far_by, led_to_by}
 use Rattle.run_core.specs.Worlds as worlds
-use Rattle.run_core.specs.Worlds.{server_at}
-use Rattle.law_suite_machine.specs.Registers.{WasPrefix}
 use Rattle.law_suite_machine.specs.Machine.{World}
-use Rattle.law_suite_machine.proofs.Invariant.{Inv}
-use Rattle.law_server_moves.specs.Laws.{beginning}
-use Rattle.law_run_alone.proofs.Clear.{at_has}
-use Rattle.law_run_recovers.specs.Standing.{up_in, is_up, shown_at, shown_in}
-use Rattle.law_run_recovers.specs.Demands.{shows_newer_by, newer_by, led_on, led_so_far_by, led_to_by}
 use Rattle.law_run_recovers.proofs.Found.{Answering}
 
 pub not_itself : (a : ℕ) → nat_lt a a ≡ false

@@ -1,34 +1,9 @@
 -- Where a collector ends to which servers stand as a sight says: at the prefix that its start leads to, with the votes of the servers that are open.
-use Rattle.std.proofs.Common.{◌≡◌, ◌⊎◌, inl, inr, ℕ, suc, ◌≤◌, Bool, true, false, cond, List, [], ◌∷◌, length, Option, Some, None, refl, sym, ap, subst, ◌∙◌, arith}
-use Rattle.std.specs.Prelude.{◌&&◌, not, nat_lt, nat_le, find, option_map}
-use Rattle.std.proofs.lemmas.Bool.{false≢true, and_parts, and_from, ltb-false}
-use Rattle.std.proofs.lemmas.Bool.Decides.{nat_tests}
-use Rattle.std.proofs.lemmas.Option.{none-some}
-use Rattle.vote_core.specs.Quorums.{Representative, votes_in}
-use Rattle.vote_core.proofs.QuorumLemmas.{votes_in-wider}
-use Rattle.suite_prefix.specs.declared.copies.Prefix.{Prefix}
-use Rattle.suite_prefix.specs.declared.lock_mode.LockMode.{LockMode}
-use Rattle.suite_prefix.specs.declared.lock_mode.LockMode.TheVariants.{Shared, Exclusive}
-use Rattle.suite_prefix.specs.LockModes.{serves}
-use Rattle.rep_core.specs.declared.reply.Reply.{Reply}
-use Rattle.rep_core.proofs.Finding.{find_some}
-use Rattle.rep_core.proofs.Members.{Has}
-use Rattle.suite_collect.specs.declared.told.Said.{Said}
-use Rattle.suite_collect.specs.declared.told.Said.TheVariants.{Held, Busy, Down}
-use Rattle.suite_collect.specs.declared.told.Told.{Told}
-use Rattle.suite_collect.specs.Telling.{newer, newest, holds, has_refused}
-use Rattle.suite_collect.specs.Collecting.{Collector, needed_of, is_left, tell, told_by, Current, Short, next, collect, raise}
-use Rattle.suite_prefix.specs.SettingsRules.{Opening}
-use Rattle.txn_core.specs.Agents.{fixed_of}
-use Rattle.txn_core.specs.Doing.{Fixed}
-use Rattle.run_core.specs.Worlds.{World}
-use Rattle.law_suite_machine.specs.Registers.{row, WasPrefix}
+use Rattle.law_run_recovers.proofs.Vocabulary.{◌≡◌, ◌⊎◌, inl, inr, ℕ, suc, ◌≤◌, Bool, true, false, cond, List, [], ◌∷◌, length, Option, Some, None, refl, sym, ap, subst, ◌∙◌, arith, ◌&&◌, not, nat_lt, nat_le, find, option_map}
+use Rattle.law_run_recovers.proofs.Vocabulary.{false≢true, and_parts, and_from, ltb-false, nat_tests, none-some, Representative, votes_in, votes_in-wider, Prefix, LockMode, Shared, Exclusive, serves, Reply, find_some, Has, Said, Held}
+use Rattle.law_run_recovers.proofs.Vocabulary.{Busy, Down, Told, newer, newest, holds, has_refused, Collector, needed_of, is_left, tell, told_by, Current, Short, next, collect, raise, Opening, fixed_of, Fixed, World, row, WasPrefix}
+use Rattle.law_run_recovers.proofs.Vocabulary.{IsQuorum, Inv, beginning, shown_at, shows_newer_by, newer_by, led_so_far_by, led_to_by}
 use Rattle.law_suite_machine.specs.Machine as machine
-use Rattle.law_suite_machine.specs.Machine.{IsQuorum}
-use Rattle.law_suite_machine.proofs.Invariant.{Inv}
-use Rattle.law_server_moves.specs.Laws.{beginning}
-use Rattle.law_run_recovers.specs.Standing.{shown_at}
-use Rattle.law_run_recovers.specs.Demands.{shows_newer_by, newer_by, led_so_far_by, led_to_by}
 use Rattle.law_run_recovers.proofs.Found.{Answering, newest_is_row}
 use Rattle.law_run_recovers.proofs.Leading as leading
 use Rattle.law_run_recovers.proofs.Leading.{one_step, one_end}

@@ -1,3 +1,4 @@
+mod Vocabulary
 pub mod Homes
 pub mod Aside
 pub mod Doubts

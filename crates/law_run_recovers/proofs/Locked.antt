@@ -1,32 +1,10 @@
 -- Where a transaction has a lock on a suite no other's exclusive one stands beside it, and the copy stays as it is while it has the lock.
-use Rattle.std.proofs.Common.{◌≡◌, ℕ, Bool, true, false, cond, Option, Some, None, refl, sym, ap, subst, ◌∙◌, arith}
-use Rattle.std.specs.Prelude.{◌==◌, ◌&&◌, ◌||◌, not, slice_get, slice_set}
-use Rattle.std.specs.List.{list_any}
-use Rattle.std.proofs.lemmas.Bool.{false≢true, eqb-true, eq-eqb}
-use Rattle.std.proofs.lemmas.Bool.Decides.{nat_tests}
-use Rattle.std.proofs.lemmas.Option.{same_Some}
-use Rattle.suite_prefix.specs.declared.copies.Prefix.{Prefix}
-use Rattle.suite_prefix.specs.declared.copies.Replica.{Replica}
-use Rattle.suite_prefix.specs.declared.lock_mode.LockMode.{LockMode}
-use Rattle.suite_prefix.specs.declared.lock_mode.LockMode.TheVariants.{Shared}
-use Rattle.suite_prefix.specs.LockModes.{is_exclusive}
-use Rattle.rep_core.specs.declared.lock.Lock.{Lock}
-use Rattle.rep_core.specs.declared.reply.Verdict.{Verdict}
-use Rattle.rep_core.specs.declared.reply.Reply.{Reply}
+use Rattle.law_run_recovers.proofs.Vocabulary.{◌≡◌, ℕ, Bool, true, false, cond, Option, Some, None, refl, sym, ap, subst, ◌∙◌, arith, ◌==◌, ◌&&◌, ◌||◌, not, slice_get, slice_set, list_any, false≢true, eqb-true, eq-eqb, nat_tests}
+use Rattle.law_run_recovers.proofs.Vocabulary.{same_Some, Prefix, Replica, LockMode, Shared, is_exclusive, Lock, Verdict, Reply, IsConsistent, conflicts, in_the_way, released, copy_of, State, after_locking, after_up, after_down, held}
+use Rattle.law_run_recovers.proofs.Vocabulary.{locking_reply, reply_of, served, find_some, Has, contains_from, has_filter, Fixed, Event, World, server_at, step, puts_in}
 use Rattle.rep_core.specs.declared.reply.Reply.TheVariants as reply
 use Rattle.rep_core.specs.declared.request.Request.TheVariants as request
-use Rattle.rep_core.specs.Consistency.{IsConsistent}
-use Rattle.rep_core.specs.Locks.{conflicts, in_the_way, released}
-use Rattle.rep_core.specs.Store.{copy_of}
-use Rattle.rep_core.specs.State.{State}
-use Rattle.rep_core.specs.Service.{after_locking, after_up, after_down, after, held, locking_reply, reply_of}
-use Rattle.rep_core.specs.Serving.{served}
-use Rattle.rep_core.proofs.Finding.{find_some}
-use Rattle.rep_core.proofs.Members.{Has, contains_from, has_filter}
-use Rattle.txn_core.specs.Doing.{Fixed}
-use Rattle.run_core.specs.declared.event.Event.{Event}
-use Rattle.run_core.specs.Worlds.{World, server_at, step}
-use Rattle.law_runs.proofs.Worlds.{puts_in}
+use Rattle.rep_core.specs.Service.{after}
 use Rattle.law_run_recovers.proofs.Serves.{On, Serves}
 use Rattle.law_run_recovers.proofs.Stand.{Spares, event_stands}
 

@@ -1,33 +1,13 @@
 -- A transaction that had a lock at a server, and has none there any more, is not decided from then on.
-use Rattle.std.proofs.Common.{◌≡◌, ◌⊎◌, inl, inr, ⊎_elim, ℕ, zero, suc, ◌+◌, true, false, List, [], ◌∷◌, ◌++◌, append_assoc, Option, Some, None, refl, sym, ap, subst, ◌∙◌}
-use Rattle.std.specs.Prelude.{◌==◌, ◌&&◌, ◌||◌, unwrap_or, slice_get}
-use Rattle.std.specs.List.{cons_option}
-use Rattle.std.proofs.lemmas.Bool.{false≢true, and_parts, cases_Bool, eqb-true, eq-eqb}
-use Rattle.std.proofs.lemmas.Option.{none-some}
-use Rattle.suite_prefix.specs.SettingsRules.{Opening}
-use Rattle.suite_prefix.specs.LockModes.{serves}
-use Rattle.rep_core.specs.declared.lock.Lock.{Lock}
+use Rattle.law_run_recovers.proofs.Vocabulary.{◌≡◌, ◌⊎◌, inl, inr, ⊎_elim, ℕ, zero, suc, ◌+◌, true, false, List, [], ◌∷◌, ◌++◌, append_assoc, Option, Some, None, refl, sym, ap, subst, ◌∙◌, ◌==◌, ◌&&◌, ◌||◌, unwrap_or, slice_get}
+use Rattle.law_run_recovers.proofs.Vocabulary.{cons_option, false≢true, and_parts, cases_Bool, eqb-true, eq-eqb, none-some, Opening, serves, Lock, State, is_own, Has, any_has, can_front, fixed_of, Event, Begin, Step, Crash, Return}
+use Rattle.law_run_recovers.proofs.Vocabulary.{Forget, Lack, World, opening, server_at, servers_from, step, after, run, Decided, decided, decisions, decisions_from, decisions_from-append, servers_of, no_task, CanBe, TellsOfLock}
+use Rattle.law_run_recovers.proofs.Vocabulary.{has_lock_after, locks_stand, locks_in, locks_at, stands, TakenAwayAreNeverDecided}
 use Rattle.rep_core.specs.State as state
-use Rattle.rep_core.specs.State.{State}
-use Rattle.rep_core.specs.Locks.{is_own}
 use Rattle.rep_core.proofs.Members as members
-use Rattle.rep_core.proofs.Members.{Has, any_has}
 use Rattle.rep_core.specs.declared.request.Request.TheVariants as request
-use Rattle.law_run_alone.proofs.Reached.{can_front}
-use Rattle.txn_core.specs.Agents.{fixed_of}
-use Rattle.run_core.specs.declared.event.Event.{Event}
-use Rattle.run_core.specs.declared.event.Event.TheVariants.{Begin, Step, Crash, Return, Forget, Lack}
-use Rattle.run_core.specs.Worlds.{World, opening, server_at, servers_from, step}
-use Rattle.run_core.specs.Runs.{after, run}
-use Rattle.run_core.specs.Decisions.{Decided, decided, decisions, decisions_from}
-use Rattle.run_core.proofs.Appending.{after-append, decisions_from-append}
-use Rattle.law_run_machine.specs.Machines.{servers_of}
-use Rattle.law_one_table.proofs.Logs.{no_task}
-use Rattle.law_headline.specs.Premises.{CanBe}
-use Rattle.law_headline.specs.Laws.{TellsOfLock, has_lock_after}
-use Rattle.law_headline.proofs.Stood.{locks_stand}
-use Rattle.law_run_recovers.specs.Standing.{locks_in, locks_at}
-use Rattle.law_run_recovers.specs.Sweeping.{stands, has_any, TakenAwayAreNeverDecided}
+use Rattle.run_core.proofs.Appending.{after-append}
+use Rattle.law_run_recovers.specs.Sweeping.{has_any}
 use Rattle.law_run_recovers.proofs.Serves.{Was, Told, lock_told}
 
 module _ (given : Opening) where

@@ -1,29 +1,7 @@
 -- Of two that meet no two locks that clash stand at one server: what one was granted stands as long as it is at work, and keeps out the other.
-use Rattle.std.proofs.Common.{◌≡◌, ◌⊎◌, ⊎_elim, ℕ, Bool, true, false, List, [], ◌∷◌, ◌++◌, append_assoc, Some, None, is_some, refl, sym, ap, subst, ◌∙◌}
-use Rattle.std.specs.Prelude.{◌==◌, slice_get}
-use Rattle.std.proofs.lemmas.Bool.{false≢true, eqb-true, eq-eqb}
-use Rattle.std.proofs.lemmas.Option.{same_Some}
-use Rattle.suite_prefix.specs.SettingsRules.{Opening}
-use Rattle.suite_prefix.specs.declared.lock_mode.LockMode.{LockMode}
-use Rattle.suite_prefix.specs.declared.lock_mode.LockMode.TheVariants.{Shared, Exclusive}
-use Rattle.suite_prefix.specs.LockModes.{serves}
-use Rattle.rep_core.specs.declared.request.Request.{Request}
-use Rattle.rep_core.specs.declared.stamped.Stamped.{Stamped}
-use Rattle.rep_core.specs.Locks.{in_the_way}
-use Rattle.rep_core.specs.State.{State}
-use Rattle.rep_core.specs.Serving.{served, answer_of}
-use Rattle.suite_collect.specs.Collecting.{mode_of}
-use Rattle.txn_core.specs.declared.job.Job.TheVariants.{Transaction}
-use Rattle.txn_core.specs.Agents.{fixed_of, next_of}
-use Rattle.run_core.specs.declared.done.Served.{Served}
-use Rattle.run_core.specs.declared.event.Event.{Event}
-use Rattle.run_core.specs.declared.event.Event.TheVariants.{Begin, Step}
-use Rattle.run_core.specs.Worlds.{Actor, World, server_at, actor_at, step}
-use Rattle.run_core.specs.Runs.{run}
-use Rattle.law_runs.proofs.Worlds.{puts_in}
-use Rattle.law_run_recovers.specs.Beside.{clashes, Begun}
-use Rattle.law_run_recovers.specs.Standing.{locks_in, locks_at}
-use Rattle.law_run_recovers.specs.Unmet.{world_after}
+use Rattle.law_run_recovers.proofs.Vocabulary.{◌≡◌, ◌⊎◌, ⊎_elim, ℕ, Bool, true, false, List, [], ◌∷◌, ◌++◌, append_assoc, Some, None, is_some, refl, sym, ap, subst, ◌∙◌, ◌==◌, slice_get, false≢true, eqb-true, eq-eqb, same_Some, Opening}
+use Rattle.law_run_recovers.proofs.Vocabulary.{LockMode, Shared, Exclusive, serves, Request, Stamped, in_the_way, State, served, answer_of, mode_of, Transaction, fixed_of, next_of, Served, Event, Begin, Step, Actor, World, server_at}
+use Rattle.law_run_recovers.proofs.Vocabulary.{actor_at, step, run, puts_in, clashes, Begun, locks_in, locks_at, world_after}
 use Rattle.law_run_recovers.proofs.AmongCourse.{tail_or}
 use Rattle.law_run_recovers.proofs.Keeps.{IsAtWork, step_asks}
 use Rattle.law_run_recovers.proofs.Sides.{compared, names_one}

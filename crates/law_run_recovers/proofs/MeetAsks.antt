@@ -1,31 +1,8 @@
 -- What a transaction sets votes of it asks for exclusively.
-use Rattle.std.proofs.Common.{◌≡◌, ◌⊎◌, inl, inr, ⊎_elim, ℕ, Bool, true, false, cond, List, [], ◌∷◌, Option, Some, None, Result, Ok, Err, Less, Equal, Greater, refl, ap, subst, ◌∙◌, arith}
-use Rattle.std.specs.Prelude.{◌==◌, ◌&&◌, ◌||◌, filter}
-use Rattle.std.specs.List.{list_any}
-use Rattle.std.specs.Ordering.{nat_cmp, match_ordering}
-use Rattle.std.specs.declared.cmp.Ordering.{Ordering}
-use Rattle.std.proofs.lemmas.Bool.{false≢true, eqb-true, eq-eqb}
-use Rattle.std.proofs.lemmas.Bool.Decides.{nat_tests}
-use Rattle.sorted_map.specs.SortedMap.{insert}
-use Rattle.acl_core.specs.Identity.{Identity}
-use Rattle.vote_core.specs.Quorums.{Configuration}
-use Rattle.suite_prefix.specs.declared.lock_mode.LockMode.{LockMode}
-use Rattle.suite_prefix.specs.declared.lock_mode.LockMode.TheVariants.{Shared, Exclusive}
-use Rattle.suite_prefix.specs.LockModes.{serves}
-use Rattle.file_ops.specs.declared.answer.Answer.{Answer}
-use Rattle.file_ops.specs.declared.operation.Op.{Op}
-use Rattle.file_ops.specs.declared.refusal.Refusal.{Refusal}
-use Rattle.file_ops.specs.Rows.{PlainTable, Row, row_of}
-use Rattle.file_exec.specs.declared.changes.Change.{Change}
-use Rattle.file_exec.specs.declared.edit_log.Edit.{Edit}
-use Rattle.file_exec.specs.declared.need.Need.{Need}
-use Rattle.file_exec.specs.declared.need.Need.TheVariants.{Hold, Know}
-use Rattle.file_exec.specs.Changes.{with_change, changes_at}
-use Rattle.file_exec.specs.Courses.{Course, Give, Refuse, Look, Read, Set}
-use Rattle.file_exec.specs.Following.{Edits, Ended, is_set, unless_set, looked, content_read, needs, ending}
-use Rattle.file_exec.specs.Operations.{transaction}
-use Rattle.rep_core.proofs.Members.{Has, has_filter, has_map}
-use Rattle.law_run_recovers.specs.Demands.{has_asked, not_asked, locks_asked, change_in, changes_on, votes_set}
+use Rattle.law_run_recovers.proofs.Vocabulary.{◌≡◌, ◌⊎◌, inl, inr, ⊎_elim, ℕ, Bool, true, false, cond, List, [], ◌∷◌, Option, Some, None, Result, Ok, Err, Less, Equal, Greater, refl, ap, subst, ◌∙◌, arith, ◌==◌, ◌&&◌, ◌||◌, filter}
+use Rattle.law_run_recovers.proofs.Vocabulary.{list_any, nat_cmp, match_ordering, Ordering, false≢true, eqb-true, eq-eqb, nat_tests, insert, Identity, Configuration, LockMode, Shared, Exclusive, serves, Answer, Op, Refusal, PlainTable}
+use Rattle.law_run_recovers.proofs.Vocabulary.{Row, row_of, Change, Edit, Need, Hold, Know, with_change, changes_at, Course, Give, Refuse, Look, Read, Set, Edits, Ended, is_set, unless_set, looked, content_read, needs, ending}
+use Rattle.law_run_recovers.proofs.Vocabulary.{transaction, Has, has_filter, has_map, has_asked, not_asked, locks_asked, change_in, changes_on, votes_set}
 use Rattle.law_run_recovers.proofs.Asked.{asked_exclusive}
 
 or_parts : (a b : Bool) → (a || b) ≡ true → (a ≡ true) ⊎ (b ≡ true)

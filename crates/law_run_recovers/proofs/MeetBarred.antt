@@ -1,36 +1,10 @@
 -- One that meets another and is refused a lock: it asked for it, and a lock of the other was in the way there.
-use Rattle.std.proofs.Common.{◌≡◌, ◌⊎◌, ℕ, Bool, true, false, cond, List, ◌∷◌, ◌++◌, append_assoc, Option, Some, None, is_some, refl, sym, ap, subst, ◌∙◌}
-use Rattle.std.specs.Prelude.{◌==◌, ◌&&◌, ◌||◌, not}
-use Rattle.std.proofs.lemmas.Bool.{false≢true, and_parts, and_from, eqb-true, eq-eqb}
-use Rattle.suite_prefix.specs.SettingsRules.{Opening}
-use Rattle.suite_prefix.specs.declared.lock_mode.LockMode.{LockMode}
-use Rattle.suite_prefix.specs.declared.lock_mode.LockMode.TheVariants.{Exclusive}
-use Rattle.suite_prefix.specs.LockModes.{is_exclusive, serves}
-use Rattle.rep_core.specs.declared.lock.Lock.{Lock}
-use Rattle.rep_core.specs.declared.request.Request.{Request}
+use Rattle.law_run_recovers.proofs.Vocabulary.{◌≡◌, ◌⊎◌, ℕ, Bool, true, false, cond, List, ◌∷◌, ◌++◌, append_assoc, Option, Some, None, is_some, refl, sym, ap, subst, ◌∙◌, ◌==◌, ◌&&◌, ◌||◌, not, false≢true, and_parts, and_from}
+use Rattle.law_run_recovers.proofs.Vocabulary.{eqb-true, eq-eqb, Opening, LockMode, Exclusive, is_exclusive, serves, Lock, Request, Stamped, in_the_way, conflicts, has_lock, copy_of, State, reply_of, reply_up, reply_down, locking_reply}
+use Rattle.law_run_recovers.proofs.Vocabulary.{answer_of, find_some, Has, mode_of, same_Some, Transaction, fixed_of, next_of, Served, Event, Begin, Step, Actor, World, server_at, actor_at, step, run, clashes, Begun, VotesNeverMovedOf}
+use Rattle.law_run_recovers.proofs.Vocabulary.{asks_for, begun_world}
 use Rattle.rep_core.specs.declared.request.Request.TheVariants as request
 use Rattle.rep_core.specs.declared.reply.Reply.TheVariants as reply
-use Rattle.rep_core.specs.declared.stamped.Stamped.{Stamped}
-use Rattle.rep_core.specs.Locks.{in_the_way, conflicts, has_lock}
-use Rattle.rep_core.specs.Store.{copy_of}
-use Rattle.rep_core.specs.State.{State}
-use Rattle.rep_core.specs.Service.{reply_of, reply_up, reply_down, locking_reply}
-use Rattle.rep_core.specs.Serving.{answer_of}
-use Rattle.rep_core.proofs.Finding.{find_some}
-use Rattle.rep_core.proofs.Members.{Has}
-use Rattle.suite_collect.specs.Collecting.{mode_of}
-use Rattle.std.proofs.lemmas.Option.{same_Some}
-use Rattle.txn_core.specs.declared.job.Job.TheVariants.{Transaction}
-use Rattle.txn_core.specs.Agents.{fixed_of, next_of}
-use Rattle.run_core.specs.declared.done.Served.{Served}
-use Rattle.run_core.specs.declared.event.Event.{Event}
-use Rattle.run_core.specs.declared.event.Event.TheVariants.{Begin, Step}
-use Rattle.run_core.specs.Worlds.{Actor, World, server_at, actor_at, step}
-use Rattle.run_core.specs.Runs.{run}
-use Rattle.law_run_recovers.specs.Beside.{clashes, Begun}
-use Rattle.law_run_recovers.specs.Local.{VotesNeverMovedOf}
-use Rattle.law_run_recovers.specs.Near.{asks_for}
-use Rattle.law_run_recovers.specs.Unmet.{begun_world}
 use Rattle.law_run_recovers.proofs.Keeps.{step_asks}
 use Rattle.law_run_recovers.proofs.StepsServed.{OwnTook, own_took}
 use Rattle.law_run_recovers.proofs.MeetBoth.{its_event, in_part, IsAsked, asked_now}

@@ -1,61 +1,17 @@
 -- A run in which nothing is decided for a while, all servers are up, and nothing spoils it: who is busy runs a transaction that began there, tables, logs and stored copies stand still.
-use Rattle.std.proofs.Common.{◌≡◌, ⊎_elim, ℕ, true, false, List, [], ◌∷◌, ◌++◌, append-nil, append_assoc, Option, Some, None, is_some, refl, sym, ap, subst, ◌∙◌}
-use Rattle.std.specs.Prelude.{Contains}
-use Rattle.std.specs.List.{cons_option}
-use Rattle.std.proofs.lemmas.Bool.{false≢true, eqb-true}
-use Rattle.std.proofs.lemmas.Option.{none-some, same_Some}
-use Rattle.acl_core.specs.Identity.{Identity}
-use Rattle.suite_prefix.specs.SettingsRules.{Opening, IsAccepted}
-use Rattle.file_ops.specs.declared.operation.Op.{Op}
-use Rattle.rep_core.specs.declared.request.Request.{Request}
+use Rattle.law_run_recovers.proofs.Vocabulary.{◌≡◌, ⊎_elim, ℕ, true, false, List, [], ◌∷◌, ◌++◌, append-nil, append_assoc, Option, Some, None, is_some, refl, sym, ap, subst, ◌∙◌, Contains, cons_option, false≢true, eqb-true, none-some}
+use Rattle.law_run_recovers.proofs.Vocabulary.{same_Some, Identity, Opening, IsAccepted, Op, Request, Verdict, Stamped, is_answered, copy_of, finished, State, Ways, by_step, Job, Transaction, Sweep, Response, Doing, fixed_of, is_idle}
+use Rattle.law_run_recovers.proofs.Vocabulary.{next_of, take_in, Event, Begin, Step, Crash, Return, Forget, Lack, Actor, World, opening, server_at, actor_at, step, run, decided, decisions, table_of, table_after_all}
+use Rattle.law_run_recovers.proofs.Vocabulary.{decisions_from-append, IsNotDecided, EndedSo, names, begins_now, holds_of, finish_is_after, same_or, agent_of, machine_of, LogIs, decision_at, event_log, machine_one, beginning, CanBe}
+use Rattle.law_run_recovers.proofs.Vocabulary.{all_keep, all_idle, begins_job, all_up, no_locks, clear_servers, names_mine, can_front, run_more, doing_of, doing_at, with_job, all_none, AllAt, MayAsk, asks_servers, BeginsNone}
+use Rattle.law_run_recovers.proofs.Vocabulary.{none_begins, event_doing, Begun, spoils, runs, running_in, is_running}
 use Rattle.rep_core.specs.declared.request.Request.TheVariants as request
-use Rattle.rep_core.specs.declared.reply.Verdict.{Verdict}
 use Rattle.rep_core.specs.declared.reply.Verdict.TheVariants as verdict
-use Rattle.rep_core.specs.declared.stamped.Stamped.{Stamped}
-use Rattle.rep_core.specs.Service.{is_answered}
 use Rattle.rep_core.specs.Serving as serving
-use Rattle.rep_core.specs.Store.{copy_of, finished}
-use Rattle.rep_core.specs.State.{State}
-use Rattle.rep_core.proofs.Ways.{Ways, by_step}
-use Rattle.txn_core.specs.declared.job.Job.{Job}
-use Rattle.txn_core.specs.declared.job.Job.TheVariants.{Transaction, Sweep}
-use Rattle.txn_core.specs.declared.response.Response.{Response}
-use Rattle.txn_core.specs.Doing.{Doing}
-use Rattle.txn_core.specs.Agents.{fixed_of, is_idle, next_of, take_in}
-use Rattle.run_core.specs.declared.event.Event.{Event}
-use Rattle.run_core.specs.declared.event.Event.TheVariants.{Begin, Step, Crash, Return, Forget, Lack}
-use Rattle.run_core.specs.Worlds.{Actor, World, opening, server_at, actor_at, step}
-use Rattle.run_core.specs.Runs.{run}
-use Rattle.run_core.specs.Decisions.{decided, decisions}
-use Rattle.run_core.specs.TableOfRun.{table_of, table_after_all}
-use Rattle.run_core.proofs.Appending.{decisions_from-append}
 use Rattle.file_ops.specs.Rows as rows
-use Rattle.law_runs.specs.Claims.{IsNotDecided}
-use Rattle.law_runs.specs.Finishes.{EndedSo}
-use Rattle.law_runs.specs.Naming.{names}
-use Rattle.law_runs.specs.Numbers.{begins_now}
-use Rattle.law_runs.proofs.Conclusions.{holds_of}
-use Rattle.law_runs.proofs.Finishes.{finish_is_after}
-use Rattle.law_runs.proofs.Places.{same_or}
-use Rattle.law_runs.proofs.Worlds.{agent_of}
-use Rattle.law_run_machine.specs.Machines.{machine_of}
 use Rattle.law_suite_machine.specs.Machine as machine
 use Rattle.law_one_table.proofs.Effects as effects
-use Rattle.law_one_table.proofs.Logs.{LogIs, decision_at, event_log}
-use Rattle.law_one_table.proofs.Running.{machine_one}
-use Rattle.law_server_moves.specs.Laws.{beginning}
 use Rattle.law_run_machine.specs.Machines.{moved}
-use Rattle.law_headline.specs.Premises.{CanBe}
-use Rattle.law_headline.proofs.Keeping.{all_keep}
-use Rattle.law_run_alone.specs.Alone.{all_idle, begins_job}
-use Rattle.law_run_alone.specs.Undisturbed.{all_up, no_locks}
-use Rattle.law_run_alone.proofs.Clear.{clear_servers}
-use Rattle.law_run_alone.proofs.Owns.{names_mine}
-use Rattle.law_run_alone.proofs.Reached.{can_front, run_more}
-use Rattle.law_run_alone.proofs.Turns.{doing_of, doing_at, with_job, all_none}
-use Rattle.law_run_alone.proofs.Walks.{AllAt, MayAsk, asks_servers, BeginsNone, none_begins, event_doing}
-use Rattle.law_run_recovers.specs.Beside.{Begun, spoils}
-use Rattle.law_run_recovers.specs.Unmet.{runs, running_in, is_running}
 use Rattle.law_run_recovers.proofs.AtWork.{mine_where}
 use Rattle.law_run_recovers.proofs.BesideAll.{asks_busy}
 use Rattle.law_run_recovers.proofs.BesideNext.{mine_taken, mine_runs}

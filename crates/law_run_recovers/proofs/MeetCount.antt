@@ -1,15 +1,6 @@
 -- Two that meet are not both short: who is refused by the one has given its votes to the other, and where the votes are tight these are enough.
-use Rattle.std.proofs.Common.{◌≡◌, ◌⊎◌, inl, inr, ℕ, ◌<◌, ◌≤◌, Bool, true, false, cond, List, [], ◌∷◌, refl, sym, ap, subst, ◌∙◌, arith, IsTrue}
-use Rattle.std.specs.Prelude.{◌+◌, ◌&&◌, ◌||◌, not, Contains}
-use Rattle.std.proofs.lemmas.Bool.{false≢true, eq-eqb}
-use Rattle.vote_core.specs.Quorums.{Representative, Configuration, votes_in, votes_at, total_votes}
-use Rattle.vote_core.proofs.Meet.{shared_member}
-use Rattle.suite_prefix.specs.declared.lock_mode.LockMode.{LockMode}
-use Rattle.suite_prefix.specs.declared.lock_mode.LockMode.TheVariants.{Shared, Exclusive}
-use Rattle.suite_prefix.specs.LockModes.{is_exclusive, serves}
-use Rattle.suite_collect.specs.Collecting.{needed_of}
-use Rattle.law_run_recovers.specs.Beside.{clashes}
-use Rattle.law_run_recovers.specs.Meets.{AreTight}
+use Rattle.law_run_recovers.proofs.Vocabulary.{◌≡◌, ◌⊎◌, inl, inr, ℕ, ◌<◌, ◌≤◌, Bool, true, false, cond, List, [], ◌∷◌, refl, sym, ap, subst, ◌∙◌, arith, IsTrue, ◌+◌, ◌&&◌, ◌||◌, not, Contains, false≢true, eq-eqb, Representative}
+use Rattle.law_run_recovers.proofs.Vocabulary.{Configuration, votes_in, votes_at, total_votes, shared_member, LockMode, Shared, Exclusive, is_exclusive, serves, needed_of, clashes, AreTight}
 
 -- ---- votes
 

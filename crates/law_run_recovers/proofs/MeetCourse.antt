@@ -1,81 +1,26 @@
 -- How a transaction stands in whose run nothing is decided, at each moment at which it is at work: servers are open to it that a sight says, as long as this fits what
 -- it is told; and where its end is fixed some want of it is not met by these.
-use Rattle.std.proofs.Common.{◌≡◌, ◌≢◌, ◌⊎◌, inl, inr, ⊎_elim, ℕ, Bool, true, false, cond, List, [], ◌∷◌, ◌++◌, append-nil, append_assoc, Option, Some, None, is_some, refl, sym, ap, subst, ◌∙◌}
-use Rattle.std.specs.Prelude.{◌*◌, ◌+◌, ◌||◌}
-use Rattle.std.specs.Ordering.{nat_cmp}
-use Rattle.std.proofs.lemmas.Bool.{eq-eqb}
-use Rattle.std.proofs.lemmas.Option.{none-some, same_Some}
-use Rattle.sorted_map.specs.SortedMap.{IsOrdered}
-use Rattle.acl_core.specs.Identity.{Identity}
-use Rattle.vote_core.specs.Validity.{IsValid}
-use Rattle.suite_prefix.specs.SettingsRules.{Opening}
-use Rattle.suite_prefix.specs.declared.copies.Prefix.{Prefix}
-use Rattle.suite_prefix.specs.declared.lock_mode.LockMode.{LockMode}
-use Rattle.suite_prefix.specs.declared.lock_mode.LockMode.TheVariants.{Shared, Exclusive}
-use Rattle.file_ops.specs.declared.operation.Op.{Op}
+use Rattle.law_run_recovers.proofs.Vocabulary.{◌≡◌, ◌≢◌, ◌⊎◌, inl, inr, ⊎_elim, ℕ, Bool, true, false, cond, List, [], ◌∷◌, ◌++◌, append-nil, append_assoc, Option, Some, None, is_some, refl, sym, ap, subst, ◌∙◌, ◌*◌, ◌+◌, ◌||◌, nat_cmp}
+use Rattle.law_run_recovers.proofs.Vocabulary.{eq-eqb, none-some, same_Some, IsOrdered, Identity, IsValid, Opening, Prefix, LockMode, Shared, Exclusive, Op, PlainTable, row_of, AgreesWith, IsSoAt, Lock, Request, Reply, is_prepared}
+use Rattle.law_run_recovers.proofs.Vocabulary.{in_the_way, copy_of, State, record_of, reply_of, reply_up, reply_down, poll_reply, locking_reply, stands_prepared, can_prepare, recorded, verdict_of, Asked, Poll, Upgrade, request_for}
+use Rattle.law_run_recovers.proofs.Vocabulary.{mode_asked, Cache, forgotten, Ending, Undecided, Cause, Transaction, Replied, Suites, suite_of, known_of, parts_at, Fixed, Task, Phase, Gathering, Fetching, Preparing, Deciding, Finishing}
+use Rattle.law_run_recovers.proofs.Vocabulary.{TransactionRun, Doing, Running, RunningSweep, After, GoesOn, Ends, home_of, execute, given_in, changes_of, decision_of, request_in, after_reply, Agent, Taken, fixed_of, next_in, next_of}
+use Rattle.law_run_recovers.proofs.Vocabulary.{left, with_step, take_in, take, begins, begin, started, forget, exchanges, is_decide, said_by, asks_same, Keeps, nothing_held, plus_all, begin_keeps, after-append, Served, Event, Begin}
+use Rattle.law_run_recovers.proofs.Vocabulary.{Step, Actor, World, server_at, actor_at, step, run, decisions, table_of, holds_of, service_stays, agent_of, WasPrefix, beginning, machine_of, CanBe, all_keep, IsMine, can_front, Finds}
+use Rattle.law_run_recovers.proofs.Vocabulary.{Stands, all_consistent, is_resolve, never_resolves, is_up, locks_asked, asks_for, first_mode, runs, world_after}
 use Rattle.file_ops.specs.Rows as rows
-use Rattle.file_ops.specs.Rows.{PlainTable, row_of}
 use Rattle.file_exec.specs.Known as known
-use Rattle.file_exec.specs.Known.{AgreesWith, IsSoAt}
-use Rattle.rep_core.specs.declared.lock.Lock.{Lock}
-use Rattle.rep_core.specs.declared.request.Request.{Request}
 use Rattle.rep_core.specs.declared.request.Request.TheVariants as request
-use Rattle.rep_core.specs.declared.reply.Reply.{Reply}
 use Rattle.rep_core.specs.declared.reply.Reply.TheVariants as reply
 use Rattle.rep_core.specs.declared.reply.Verdict.TheVariants as verdict
-use Rattle.rep_core.specs.Fits.{is_prepared}
-use Rattle.rep_core.specs.Locks.{in_the_way}
-use Rattle.rep_core.specs.Store.{copy_of}
-use Rattle.rep_core.specs.State.{State, record_of}
-use Rattle.rep_core.specs.Service.{reply_of, reply_up, reply_down, poll_reply, locking_reply, given as gives, stands_prepared, can_prepare, recorded, verdict_of}
-use Rattle.suite_collect.specs.Collecting.{Asked, Poll, Upgrade, request_for, mode_asked}
-use Rattle.weak_cache.specs.Entries.{Cache, forgotten}
-use Rattle.txn_core.specs.declared.ending.Ending.{Ending}
-use Rattle.txn_core.specs.declared.ending.Ending.TheVariants.{Undecided}
-use Rattle.txn_core.specs.declared.ending.Cause.{Cause}
-use Rattle.txn_core.specs.declared.job.Job.TheVariants.{Transaction}
-use Rattle.txn_core.specs.declared.response.Response.TheVariants.{Replied}
-use Rattle.txn_core.specs.Suites.{Suites, suite_of, known_of}
-use Rattle.txn_core.specs.Writing.{parts_at}
+use Rattle.rep_core.specs.Service.{given as gives}
 use Rattle.txn_core.specs.Doing as doing
-use Rattle.txn_core.specs.Doing.{Fixed, Task, Phase, Gathering, Fetching, Preparing, Deciding, Finishing, TransactionRun, Doing, Running, RunningSweep, After, GoesOn, Ends, home_of}
-use Rattle.txn_core.specs.Transactions.{Step as CourseStep, execute, given_in, changes_of, decision_of, request_in, after_reply}
+use Rattle.txn_core.specs.Transactions.{Step as CourseStep}
 use Rattle.txn_core.specs.Agents as agents
-use Rattle.txn_core.specs.Agents.{Agent, Taken, fixed_of, next_in, next_of, left, with_step, take_in, take, begins, begin, started, forget}
-use Rattle.txn_core.specs.Laws.{exchanges, is_decide, said_by}
-use Rattle.txn_core.proofs.Asks.{asks_same}
 use Rattle.txn_core.proofs.Locks as keeping
-use Rattle.txn_core.proofs.Locks.{Keeps, nothing_held, plus_all, begin_keeps}
-use Rattle.txn_core.proofs.Upheld.{after-append}
-use Rattle.run_core.specs.declared.done.Served.{Served}
-use Rattle.run_core.specs.declared.event.Event.{Event}
-use Rattle.run_core.specs.declared.event.Event.TheVariants.{Begin, Step}
-use Rattle.run_core.specs.Worlds.{Actor, World, server_at, actor_at, step}
-use Rattle.run_core.specs.Runs.{run}
-use Rattle.run_core.specs.Decisions.{decisions}
-use Rattle.run_core.specs.TableOfRun.{table_of}
-use Rattle.law_runs.proofs.Conclusions.{holds_of}
-use Rattle.law_runs.proofs.Table.{service_stays}
-use Rattle.law_runs.proofs.Worlds.{agent_of}
 use Rattle.law_runs.proofs.Words as words
 use Rattle.law_suite_machine.specs.Machine.{Answered as AnsweredVerdict}
-use Rattle.law_suite_machine.specs.Registers.{WasPrefix}
-use Rattle.law_server_moves.specs.Laws.{beginning}
-use Rattle.law_run_machine.specs.Machines.{machine_of}
 use Rattle.law_one_table.proofs.Effects as effects
-use Rattle.law_headline.specs.Premises.{CanBe}
-use Rattle.law_headline.proofs.Keeping.{all_keep}
-use Rattle.law_run_alone.proofs.Owns.{IsMine}
-use Rattle.law_run_alone.proofs.Reached.{can_front}
-use Rattle.law_run_alone.proofs.Requests.{Finds}
-use Rattle.law_run_alone.proofs.Standing.{Stands}
-use Rattle.law_run_alone.proofs.Unhindered.{all_consistent}
-use Rattle.law_run_alone.proofs.Unswept.{is_resolve, never_resolves}
-use Rattle.law_run_recovers.specs.Standing.{is_up}
-use Rattle.law_run_recovers.specs.Demands.{locks_asked}
-use Rattle.law_run_recovers.specs.Near.{asks_for}
-use Rattle.law_run_recovers.specs.OpenDemands.{first_mode}
-use Rattle.law_run_recovers.specs.Unmet.{runs, world_after}
 use Rattle.law_run_recovers.proofs.Apart.{Apart, hint_forgotten}
 use Rattle.law_run_recovers.proofs.AtWork.{stands_next, locks_stand}
 use Rattle.law_run_recovers.proofs.BesideNext.{mine_taken}

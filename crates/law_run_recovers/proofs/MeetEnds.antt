@@ -1,30 +1,9 @@
 -- Two that meet, of which neither was decided: then nothing was. And the moment at which the end of one is fixed.
-use Rattle.std.proofs.Common.{◌≡◌, ◌⊎◌, inl, inr, ⊎_elim, ℕ, Bool, true, false, List, [], ◌∷◌, ◌++◌, append-nil, append_assoc, Option, Some, None, refl, sym, ap, subst, ◌∙◌}
-use Rattle.std.specs.List.{cons_option}
-use Rattle.std.proofs.lemmas.Bool.{false≢true, eqb-true}
-use Rattle.suite_prefix.specs.SettingsRules.{Opening}
-use Rattle.rep_core.proofs.Members.{Has, has_from, contains_from}
-use Rattle.txn_core.specs.declared.ending.Ending.{Ending}
-use Rattle.txn_core.specs.declared.ending.Ending.TheVariants.{Answered, Refused, Swept, Undecided}
-use Rattle.txn_core.specs.declared.job.Job.TheVariants.{Transaction}
-use Rattle.txn_core.specs.Agents.{fixed_of, is_idle}
-use Rattle.run_core.specs.declared.done.EndedJob.{EndedJob}
-use Rattle.run_core.specs.declared.event.Event.{Event}
-use Rattle.run_core.specs.declared.event.Event.TheVariants.{Begin}
-use Rattle.run_core.specs.Worlds.{World, opening, step}
-use Rattle.run_core.specs.Runs.{dones, done_in, outcomes, run}
-use Rattle.run_core.specs.Decisions.{Decided, decided, decisions, decisions_from}
-use Rattle.run_core.proofs.Appending.{dones-append, outcomes-append, decisions_from-append}
-use Rattle.law_runs.specs.Claims.{ended, IsNotDecided}
-use Rattle.law_runs.specs.Numbers.{number_of}
-use Rattle.law_runs.proofs.Agents.{EndStands}
-use Rattle.law_runs.proofs.Answering.{answers_follow_knowledge}
-use Rattle.law_runs.proofs.Conclusions.{holds_of}
-use Rattle.law_runs.proofs.Standing.{NotIn, append_has_left, append_has_right}
-use Rattle.law_run_alone.specs.Undisturbed.{is_decided}
-use Rattle.law_run_recovers.specs.Beside.{Begun}
-use Rattle.law_run_recovers.specs.Local.{EndsThen}
-use Rattle.law_run_recovers.specs.Unmet.{runs, is_running, is_telling, begun_world, world_after}
+use Rattle.law_run_recovers.proofs.Vocabulary.{◌≡◌, ◌⊎◌, inl, inr, ⊎_elim, ℕ, Bool, true, false, List, [], ◌∷◌, ◌++◌, append-nil, append_assoc, Option, Some, None, refl, sym, ap, subst, ◌∙◌, cons_option, false≢true, eqb-true, Opening}
+use Rattle.law_run_recovers.proofs.Vocabulary.{Has, has_from, contains_from, Ending, Refused, Swept, Undecided, Transaction, fixed_of, is_idle, EndedJob, Event, Begin, World, opening, step, dones, done_in, outcomes, run, Decided}
+use Rattle.law_run_recovers.proofs.Vocabulary.{decided, decisions, decisions_from, dones-append, outcomes-append, decisions_from-append, ended, IsNotDecided, number_of, EndStands, answers_follow_knowledge, holds_of, NotIn}
+use Rattle.law_run_recovers.proofs.Vocabulary.{append_has_left, append_has_right, is_decided, Begun, EndsThen, runs, is_running, is_telling, begun_world, world_after}
+use Rattle.txn_core.specs.declared.ending.Ending.TheVariants.{Answered}
 use Rattle.law_run_recovers.proofs.AmongCourse.{head_or, tail_or, parted}
 use Rattle.law_run_recovers.proofs.AmongOver.{has_after}
 use Rattle.law_run_recovers.proofs.Keeps.{IsAtWork}

@@ -1,32 +1,8 @@
 -- Of two that meet at one suite, by votes that are tight, one is decided: else each had been refused by the other, and had votes that the other wanted.
-use Rattle.std.proofs.Common.{◌≡◌, ◌⊎◌, inl, inr, ⊎_elim, ℕ, ◌<◌, Bool, true, false, List, [], ◌∷◌, ◌++◌, append-nil, append_assoc, Some, refl, sym, ap, subst, ◌∙◌, arith}
-use Rattle.std.specs.Prelude.{◌==◌, ◌||◌, Contains}
-use Rattle.std.specs.List.{list_any}
-use Rattle.std.proofs.lemmas.Bool.{false≢true, eqb-true, eq-eqb}
-use Rattle.suite_prefix.specs.SettingsRules.{Opening}
-use Rattle.suite_prefix.specs.declared.lock_mode.LockMode.{LockMode}
-use Rattle.suite_collect.specs.Collecting.{mode_of}
-use Rattle.vote_core.specs.Quorums.{Configuration, votes_at}
-use Rattle.rep_core.specs.declared.lock.Lock.{Lock}
-use Rattle.rep_core.specs.State.{State}
-use Rattle.rep_core.proofs.Finding.{find_some}
-use Rattle.rep_core.proofs.Members.{Has, has_any, has_from, contains_from}
-use Rattle.txn_core.specs.declared.job.Job.TheVariants.{Transaction}
-use Rattle.txn_core.specs.Agents.{fixed_of}
-use Rattle.run_core.specs.declared.done.EndedJob.{EndedJob}
-use Rattle.run_core.specs.declared.done.Served.{Served}
-use Rattle.run_core.specs.declared.event.Event.{Event}
-use Rattle.run_core.specs.declared.event.Event.TheVariants.{Begin, Step}
-use Rattle.run_core.specs.Worlds.{server_at, step}
-use Rattle.run_core.specs.Runs.{run}
-use Rattle.run_core.specs.TableOfRun.{table_of}
-use Rattle.law_run_alone.specs.Undisturbed.{is_decided}
-use Rattle.law_run_recovers.specs.Beside.{clashes, Begun, its_asks}
-use Rattle.law_run_recovers.specs.Demands.{locks_asked, votes_set}
-use Rattle.law_run_recovers.specs.Local.{EndsThen, VotesNeverMovedOf}
-use Rattle.law_run_recovers.specs.Meets.{first_clash, AreTight, its_votes, TheyMeet, OneThatMeetsIsDecided}
-use Rattle.law_run_recovers.specs.Near.{asks_for}
-use Rattle.law_run_recovers.specs.Unmet.{world_after}
+use Rattle.law_run_recovers.proofs.Vocabulary.{◌≡◌, ◌⊎◌, inl, inr, ⊎_elim, ℕ, ◌<◌, Bool, true, false, List, [], ◌∷◌, ◌++◌, append-nil, append_assoc, Some, refl, sym, ap, subst, ◌∙◌, arith, ◌==◌, ◌||◌, Contains, list_any, false≢true}
+use Rattle.law_run_recovers.proofs.Vocabulary.{eqb-true, eq-eqb, Opening, LockMode, mode_of, Configuration, votes_at, Lock, State, find_some, Has, has_any, has_from, contains_from, Transaction, fixed_of, EndedJob, Served, Event, Begin}
+use Rattle.law_run_recovers.proofs.Vocabulary.{Step, server_at, step, run, table_of, is_decided, clashes, Begun, its_asks, locks_asked, votes_set, EndsThen, VotesNeverMovedOf, first_clash, AreTight, its_votes, TheyMeet}
+use Rattle.law_run_recovers.proofs.Vocabulary.{OneThatMeetsIsDecided, asks_for, world_after}
 use Rattle.law_run_recovers.proofs.AmongCourse.{head_or, tail_or}
 use Rattle.law_run_recovers.proofs.Keeps.{IsAtWork, at_work_before}
 use Rattle.law_run_recovers.proofs.MeetApart.{clashes_back, Room, stand_apart}

@@ -1,45 +1,15 @@
 -- Locks in a calm run: one that was granted stands while its transaction is at work, and keeps out what clashes; and each that there is was granted.
-use Rattle.std.proofs.Common.{◌≡◌, inl, inr, ⊎_elim, ℕ, Bool, true, false, cond, List, [], ◌∷◌, ◌++◌, append_assoc, append-nil, Option, Some, None, is_some, refl, sym, ap, subst, ◌∙◌, arith}
-use Rattle.std.specs.Prelude.{◌==◌, ◌&&◌, ◌||◌, not, filter, map, slice_get, slice_set}
-use Rattle.std.specs.List.{list_any}
-use Rattle.std.proofs.lemmas.Bool.{false≢true, and_parts, and_from, eqb-true, eq-eqb}
-use Rattle.std.proofs.lemmas.Bool.Decides.{nat_tests}
-use Rattle.acl_core.specs.Identity.{Identity}
-use Rattle.suite_prefix.specs.SettingsRules.{Opening}
-use Rattle.suite_prefix.specs.declared.lock_mode.LockMode.{LockMode}
-use Rattle.suite_prefix.specs.declared.lock_mode.LockMode.TheVariants.{Shared, Exclusive}
-use Rattle.suite_prefix.specs.LockModes.{is_exclusive, serves, stronger}
-use Rattle.file_ops.specs.declared.audit.AuditItem.{AuditItem}
-use Rattle.file_ops.specs.declared.operation.Op.{Op}
-use Rattle.rep_core.specs.declared.lock.Lock.{Lock}
-use Rattle.rep_core.specs.declared.request.Request.{Request}
+use Rattle.law_run_recovers.proofs.Vocabulary.{◌≡◌, inl, inr, ⊎_elim, ℕ, Bool, true, false, cond, List, [], ◌∷◌, ◌++◌, append_assoc, append-nil, Option, Some, None, is_some, refl, sym, ap, subst, ◌∙◌, arith, ◌==◌, ◌&&◌, ◌||◌, not}
+use Rattle.law_run_recovers.proofs.Vocabulary.{filter, map, slice_get, slice_set, list_any, false≢true, and_parts, and_from, eqb-true, eq-eqb, nat_tests, Identity, Opening, LockMode, Shared, Exclusive, is_exclusive, serves, stronger}
+use Rattle.law_run_recovers.proofs.Vocabulary.{AuditItem, Op, Lock, Request, Verdict, Stamped, in_the_way, conflicts, has_lock, is_own, raised, raised_lock, with_lock, before, prepared_lock, copy_of, intended, State, record_of}
+use Rattle.law_run_recovers.proofs.Vocabulary.{reply_of, reply_up, reply_down, locking_reply, after_up, after_down, after_locking, after_record, prepares, served, Has, filter_has, between_has, map_has, any_has, has_any, find_none}
+use Rattle.law_run_recovers.proofs.Vocabulary.{mode_of, Transaction, fixed_of, Served, Event, Begin, Step, Crash, Return, Forget, Lack, Actor, World, server_at, actor_at, step, run, same_or, at_puts, step_is, puts_in, AllAt, MayAsk}
+use Rattle.law_run_recovers.proofs.Vocabulary.{asks_servers, clashes, locks_in, locks_at, takes, robs, hinders_itself, world_after, drops, bereaves}
 use Rattle.rep_core.specs.declared.request.Request.TheVariants as request
 use Rattle.rep_core.specs.declared.reply.Reply.TheVariants as reply
-use Rattle.rep_core.specs.declared.reply.Verdict.{Verdict}
-use Rattle.rep_core.specs.declared.stamped.Stamped.{Stamped}
-use Rattle.rep_core.specs.Locks.{in_the_way, conflicts, has_lock, is_own, locked, raised, raised_lock, with_lock, before, prepared_lock}
-use Rattle.rep_core.specs.Store.{copy_of, intended}
-use Rattle.rep_core.specs.State.{State, record_of}
-use Rattle.rep_core.specs.Service.{reply_of, reply_up, reply_down, locking_reply, after, after_up, after_down, after_locking, after_record, prepares}
+use Rattle.rep_core.specs.Locks.{locked}
+use Rattle.rep_core.specs.Service.{after}
 use Rattle.rep_core.specs.Serving as serving
-use Rattle.rep_core.specs.Serving.{served}
-use Rattle.rep_core.proofs.Members.{Has, filter_has, between_has, map_has, any_has, has_any, find_none}
-use Rattle.suite_collect.specs.Collecting.{mode_of}
-use Rattle.txn_core.specs.declared.job.Job.TheVariants.{Transaction}
-use Rattle.txn_core.specs.Agents.{fixed_of}
-use Rattle.run_core.specs.declared.done.Served.{Served}
-use Rattle.run_core.specs.declared.event.Event.{Event}
-use Rattle.run_core.specs.declared.event.Event.TheVariants.{Begin, Step, Crash, Return, Forget, Lack}
-use Rattle.run_core.specs.Worlds.{Actor, World, server_at, actor_at, step}
-use Rattle.run_core.specs.Runs.{run}
-use Rattle.law_runs.proofs.Places.{same_or, at_puts}
-use Rattle.law_runs.proofs.Turns.{step_is}
-use Rattle.law_runs.proofs.Worlds.{puts_in}
-use Rattle.law_run_alone.proofs.Walks.{AllAt, MayAsk, asks_servers}
-use Rattle.law_run_recovers.specs.Beside.{clashes}
-use Rattle.law_run_recovers.specs.Standing.{locks_in, locks_at}
-use Rattle.law_run_recovers.specs.Unmet.{takes, robs, hinders_itself, world_after}
-use Rattle.law_run_recovers.specs.Told.{drops, bereaves}
 use Rattle.law_run_recovers.proofs.AtWork.{takes_nothing}
 use Rattle.law_run_recovers.proofs.Keeps.{IsAtWork, run_at, step_asks}
 use Rattle.law_run_recovers.proofs.Owned.{AllOwned, MayLock, owned_stays}

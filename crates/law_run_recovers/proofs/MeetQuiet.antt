@@ -1,51 +1,13 @@
 -- A transaction in whose run nothing is decided: no server is down or crashes, nobody takes a lock of it, stored copies and the table stand still.
-use Rattle.std.proofs.Common.{◌≡◌, ◌⊎◌, inl, ⊎_elim, ℕ, Bool, true, false, cond, List, [], ◌∷◌, ◌++◌, Some, None, is_some, refl, sym, ap, subst, ◌∙◌, arith}
-use Rattle.std.specs.Prelude.{◌==◌, ◌&&◌, ◌||◌, not, nat_lt}
-use Rattle.std.proofs.lemmas.Bool.{false≢true, and_parts, and_from, eq-eqb}
-use Rattle.std.proofs.lemmas.Bool.Decides.{nat_tests}
-use Rattle.std.proofs.lemmas.Option.{same_Some}
-use Rattle.acl_core.specs.Identity.{Identity}
-use Rattle.suite_prefix.specs.SettingsRules.{Opening}
-use Rattle.suite_prefix.specs.declared.copies.Prefix.{Prefix}
-use Rattle.suite_prefix.specs.declared.lock_mode.LockMode.{LockMode}
-use Rattle.suite_prefix.specs.declared.lock_mode.LockMode.TheVariants.{Shared, Exclusive}
-use Rattle.suite_prefix.specs.LockModes.{serves}
-use Rattle.file_ops.specs.declared.operation.Op.{Op}
-use Rattle.rep_core.specs.declared.request.Request.{Request}
+use Rattle.law_run_recovers.proofs.Vocabulary.{◌≡◌, ◌⊎◌, inl, ⊎_elim, ℕ, Bool, true, false, cond, List, [], ◌∷◌, ◌++◌, Some, None, is_some, refl, sym, ap, subst, ◌∙◌, arith, ◌==◌, ◌&&◌, ◌||◌, not, nat_lt, false≢true, and_parts}
+use Rattle.law_run_recovers.proofs.Vocabulary.{and_from, eq-eqb, nat_tests, same_Some, Identity, Opening, Prefix, LockMode, Shared, Exclusive, serves, Op, Request, reply_of, copy_of, State, Has, has_any, find_some, Said, is_held}
+use Rattle.law_run_recovers.proofs.Vocabulary.{mode_of, Transaction, Replied, Agent, fixed_of, is_idle, has_sense, max_jobs, next_of, take, begin, forget, after_all, Exchange, exchange_of, of_job, locks, has_said, is_said, holding}
+use Rattle.law_run_recovers.proofs.Vocabulary.{refusing, heard_in, after-append, exchanges-take, exchanges-forget, Served, Event, Begin, Step, Actor, World, server_at, actor_at, step, run, table_of, gathers_in_order, WasPrefix}
+use Rattle.law_run_recovers.proofs.Vocabulary.{beginning, machine_of, append_has_left, append_has_right, CanBe, begins_job, is_up, up_free, shown_at, MayStart, begun_world, world_after, robs, hinders_itself, bereaves}
 use Rattle.rep_core.specs.declared.request.Request.TheVariants as request
-use Rattle.rep_core.specs.Service.{reply_of}
-use Rattle.rep_core.specs.Store.{copy_of}
-use Rattle.rep_core.specs.State.{State}
-use Rattle.rep_core.proofs.Members.{Has, has_any}
-use Rattle.rep_core.proofs.Finding.{find_some}
-use Rattle.suite_collect.specs.declared.told.Said.{Said}
-use Rattle.suite_collect.specs.Telling.{is_held}
-use Rattle.suite_collect.specs.Collecting.{mode_of}
-use Rattle.txn_core.specs.declared.job.Job.TheVariants.{Transaction}
-use Rattle.txn_core.specs.declared.response.Response.TheVariants.{Replied}
 use Rattle.txn_core.specs.Agents as agents
-use Rattle.txn_core.specs.Agents.{Agent, fixed_of, is_idle, has_sense, max_jobs, next_of, take, begin, forget, after_all}
-use Rattle.txn_core.specs.Laws.{Exchange, exchange_of, of_job, locks, has_said, is_said, holding, refusing, heard_in}
-use Rattle.txn_core.proofs.Upheld.{after-append, exchanges-take, exchanges-forget}
-use Rattle.run_core.specs.declared.done.Served.{Served}
-use Rattle.run_core.specs.declared.event.Event.{Event}
-use Rattle.run_core.specs.declared.event.Event.TheVariants.{Begin, Step}
-use Rattle.run_core.specs.Worlds.{Actor, World, server_at, actor_at, step}
-use Rattle.run_core.specs.Runs.{run}
-use Rattle.run_core.specs.TableOfRun.{table_of}
 use Rattle.law_agents.specs.Gathers as gathers
 use Rattle.law_agents.specs.Orders.{number_of}
-use Rattle.law_agents.proofs.Gathered.{gathers_in_order}
-use Rattle.law_suite_machine.specs.Registers.{WasPrefix}
-use Rattle.law_server_moves.specs.Laws.{beginning}
-use Rattle.law_run_machine.specs.Machines.{machine_of}
-use Rattle.law_runs.proofs.Standing.{append_has_left, append_has_right}
-use Rattle.law_headline.specs.Premises.{CanBe}
-use Rattle.law_run_alone.specs.Alone.{begins_job}
-use Rattle.law_run_recovers.specs.Standing.{is_up, up_free, shown_at}
-use Rattle.law_run_recovers.specs.Demands.{MayStart}
-use Rattle.law_run_recovers.specs.Unmet.{begun_world, world_after, robs, hinders_itself}
-use Rattle.law_run_recovers.specs.Told.{bereaves}
 use Rattle.law_run_recovers.proofs.AmongCourse.{parted}
 use Rattle.law_run_recovers.proofs.Apart.{Apart, event_apart}
 use Rattle.law_run_recovers.proofs.Keeps.{IsAtWork, works, after_append, at_work_before}

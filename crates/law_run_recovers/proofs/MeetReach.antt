@@ -1,51 +1,15 @@
 -- A transaction in whose run nothing is decided, where votes were never moved, nor moves it any: whatever lock it asks for, it has had all those before; and where its end
 -- is fixed, it was refused too many votes of one.
-use Rattle.std.proofs.Common.{◌≡◌, ◌⊎◌, inl, inr, ⊎_elim, ℕ, ◌≤◌, ◌<◌, Bool, true, false, cond, List, [], ◌∷◌, ◌++◌, Option, Some, None, Result, Ok, Err, refl, sym, ap, subst, ◌∙◌, arith}
-use Rattle.std.specs.Prelude.{◌==◌, not, nat_le, map, find, Contains}
-use Rattle.std.proofs.lemmas.Bool.{false≢true, and_parts, eqb-true}
-use Rattle.std.proofs.lemmas.Bool.Decides.{nat_tests}
-use Rattle.std.proofs.lemmas.Option.{none-some, same_Some}
-use Rattle.acl_core.specs.Identity.{Identity}
-use Rattle.vote_core.specs.Quorums.{Configuration, votes_in}
-use Rattle.vote_core.proofs.QuorumLemmas.{votes_in-wider}
-use Rattle.suite_prefix.specs.SettingsRules.{Opening}
-use Rattle.suite_prefix.specs.declared.copies.Prefix.{Prefix}
-use Rattle.suite_prefix.specs.declared.lock_mode.LockMode.{LockMode}
-use Rattle.suite_prefix.specs.declared.lock_mode.LockMode.TheVariants.{Shared, Exclusive}
-use Rattle.file_ops.specs.declared.answer.Answer.{Answer}
-use Rattle.file_ops.specs.declared.operation.Op.{Op}
-use Rattle.file_ops.specs.declared.refusal.Refusal.{Refusal}
-use Rattle.rep_core.specs.declared.request.Request.{Request}
+use Rattle.law_run_recovers.proofs.Vocabulary.{◌≡◌, ◌⊎◌, inl, inr, ⊎_elim, ℕ, ◌≤◌, ◌<◌, Bool, true, false, cond, List, [], ◌∷◌, ◌++◌, Option, Some, None, Result, Ok, Err, refl, sym, ap, subst, ◌∙◌, arith, ◌==◌, not, nat_le, map, find}
+use Rattle.law_run_recovers.proofs.Vocabulary.{Contains, false≢true, and_parts, eqb-true, nat_tests, none-some, same_Some, Identity, Configuration, votes_in, votes_in-wider, Opening, Prefix, LockMode, Shared, Exclusive, Answer, Op}
+use Rattle.law_run_recovers.proofs.Vocabulary.{Refusal, Request, find_some, Has, has_map, contains_from, Collector, Asked, Poll, Upgrade, needed_of, wanted, mode_of, mode_asked, request_for, Cache, Undecided, Suites, suite_of, parts_at}
+use Rattle.law_run_recovers.proofs.Vocabulary.{Phase, Gathering, Fetching, Preparing, Deciding, Finishing, home_of, request_in, asked_for, changes_of, decision_of, fixed_of, next_in, next_of, is_decide, asks_same, Served, Event, Step}
+use Rattle.law_run_recovers.proofs.Vocabulary.{Actor, actor_at, step, run, table_of, machine_of, all_keep, is_up, locks_asked, votes_set, is_met, demand_by, led_to_by, MayStart, ending_by, ending_of, answer_on, VotesNeverMovedOf}
+use Rattle.law_run_recovers.proofs.Vocabulary.{asks_for, Want, world_after}
 use Rattle.rep_core.specs.declared.request.Request.TheVariants as request
-use Rattle.rep_core.proofs.Finding.{find_some}
-use Rattle.rep_core.proofs.Members.{Has, has_map, contains_from}
-use Rattle.suite_collect.specs.Collecting.{Collector, Asked, Poll, Upgrade, needed_of, wanted, mode_or, mode_of, mode_asked, request_for}
-use Rattle.weak_cache.specs.Entries.{Cache}
-use Rattle.txn_core.specs.declared.ending.Ending.TheVariants.{Undecided}
-use Rattle.txn_core.specs.Suites.{Suites, suite_of}
-use Rattle.txn_core.specs.Writing.{parts_at}
+use Rattle.suite_collect.specs.Collecting.{mode_or}
 use Rattle.txn_core.specs.Doing as doing
-use Rattle.txn_core.specs.Doing.{Phase, Gathering, Fetching, Preparing, Deciding, Finishing, home_of}
-use Rattle.txn_core.specs.Transactions.{request_in, asked_for, changes_of, decision_of}
-use Rattle.txn_core.specs.Agents.{fixed_of, next_in, next_of}
-use Rattle.txn_core.specs.Laws.{is_decide}
-use Rattle.txn_core.proofs.Asks.{asks_same}
-use Rattle.run_core.specs.declared.done.Served.{Served}
-use Rattle.run_core.specs.declared.event.Event.{Event}
-use Rattle.run_core.specs.declared.event.Event.TheVariants.{Step}
-use Rattle.run_core.specs.Worlds.{Actor, actor_at, step}
-use Rattle.run_core.specs.Runs.{run}
-use Rattle.run_core.specs.TableOfRun.{table_of}
-use Rattle.law_run_machine.specs.Machines.{machine_of}
 use Rattle.law_one_table.proofs.Effects as effects
-use Rattle.law_headline.proofs.Keeping.{all_keep}
-use Rattle.law_run_recovers.specs.Standing.{is_up}
-use Rattle.law_run_recovers.specs.Demands.{locks_asked, votes_set, is_met, demand_by, led_to_by, MayStart}
-use Rattle.law_run_recovers.specs.Laws.{ending_by, ending_of, answer_on}
-use Rattle.law_run_recovers.specs.Local.{VotesNeverMovedOf}
-use Rattle.law_run_recovers.specs.Near.{asks_for}
-use Rattle.law_run_recovers.specs.OpenDemands.{Want}
-use Rattle.law_run_recovers.specs.Unmet.{world_after}
 use Rattle.law_run_recovers.proofs.Asked.{onto_left, onto_so_far, asked_exclusive, next_mode}
 use Rattle.law_run_recovers.proofs.Asking.{onto}
 use Rattle.law_run_recovers.proofs.Early.{fetch_is}

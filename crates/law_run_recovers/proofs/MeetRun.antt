@@ -1,40 +1,12 @@
 -- A transaction that begins in a calm run goes quietly: nobody hinders or robs it, servers stay up and show what they showed, and it never asks to be decided.
-use Rattle.std.proofs.Common.{◌≡◌, ℕ, Bool, true, false, cond, List, [], ◌∷◌, ◌++◌, append-nil, append_assoc, Option, Some, None, is_some, Ok, Err, refl, sym, ap, subst, ◌∙◌, arith}
-use Rattle.std.specs.Prelude.{◌%◌, ◌==◌, ◌&&◌, ◌||◌, not, length}
-use Rattle.std.specs.List.{list_all}
-use Rattle.std.proofs.lemmas.Bool.{false≢true, and_parts, and_from, eqb-true, eq-eqb}
-use Rattle.std.proofs.lemmas.Bool.Decides.{nat_tests}
-use Rattle.std.proofs.lemmas.Option.{same_Some}
-use Rattle.suite_prefix.specs.SettingsRules.{Opening}
-use Rattle.suite_prefix.specs.declared.copies.Replica.{Replica}
-use Rattle.rep_core.specs.declared.request.Request.{Request}
+use Rattle.law_run_recovers.proofs.Vocabulary.{◌≡◌, ℕ, Bool, true, false, cond, List, [], ◌∷◌, ◌++◌, append-nil, append_assoc, Option, Some, None, is_some, Ok, Err, refl, sym, ap, subst, ◌∙◌, arith, ◌%◌, ◌==◌, ◌&&◌, ◌||◌, not, length}
+use Rattle.law_run_recovers.proofs.Vocabulary.{list_all, false≢true, and_parts, and_from, eqb-true, eq-eqb, nat_tests, same_Some, Opening, Replica, Request, reply_of, reply_up, reply_down, recorded, verdict_of, copy_of, State}
+use Rattle.law_run_recovers.proofs.Vocabulary.{record_of, Transaction, Task, TransactionRun, Doing, Running, RunningSweep, decision_of, fixed_of, next_in, next_of, is_decide, Served, Event, Begin, Step, Crash, Return, Forget, Lack}
+use Rattle.law_run_recovers.proofs.Vocabulary.{Actor, World, server_at, actor_at, has_no_job, step, run, decided, decided_by, decided_at, decided_as, to_decide, answer_in, task_of, task_at, table_of, names, decides, WasPrefix}
+use Rattle.law_run_recovers.proofs.Vocabulary.{beginning, CanBe, Begun, spoils, up_in, is_up, shown_in, shown_at, runs, running_in, is_running, is_telling, takes, up_and, of_up, robs, hinders_itself, world_after, bereaves}
 use Rattle.rep_core.specs.declared.request.Request.TheVariants as request
 use Rattle.rep_core.specs.declared.reply.Reply.TheVariants as reply
-use Rattle.rep_core.specs.Service.{reply_of, reply_up, reply_down, recorded, verdict_of}
-use Rattle.rep_core.specs.Store.{copy_of}
-use Rattle.rep_core.specs.State.{State, record_of}
-use Rattle.txn_core.specs.declared.job.Job.TheVariants.{Transaction}
 use Rattle.txn_core.specs.Doing as doing
-use Rattle.txn_core.specs.Doing.{Task, TransactionRun, Doing, Running, RunningSweep}
-use Rattle.txn_core.specs.Transactions.{decision_of}
-use Rattle.txn_core.specs.Agents.{fixed_of, next_in, next_of}
-use Rattle.txn_core.specs.Laws.{is_decide}
-use Rattle.run_core.specs.declared.done.Served.{Served}
-use Rattle.run_core.specs.declared.event.Event.{Event}
-use Rattle.run_core.specs.declared.event.Event.TheVariants.{Begin, Step, Crash, Return, Forget, Lack}
-use Rattle.run_core.specs.Worlds.{Actor, World, server_at, actor_at, has_no_job, step}
-use Rattle.run_core.specs.Runs.{run}
-use Rattle.run_core.specs.Decisions.{decided, decided_by, decided_at, decided_as, to_decide, answer_in, task_of, task_at}
-use Rattle.run_core.specs.TableOfRun.{table_of}
-use Rattle.law_runs.specs.Naming.{names}
-use Rattle.law_runs.proofs.Asking.{decides}
-use Rattle.law_suite_machine.specs.Registers.{WasPrefix}
-use Rattle.law_server_moves.specs.Laws.{beginning}
-use Rattle.law_headline.specs.Premises.{CanBe}
-use Rattle.law_run_recovers.specs.Beside.{Begun, spoils}
-use Rattle.law_run_recovers.specs.Standing.{up_in, is_up, shown_in, shown_at}
-use Rattle.law_run_recovers.specs.Unmet.{runs, running_in, is_running, is_telling, takes, up_and, of_up, robs, hinders_itself, world_after}
-use Rattle.law_run_recovers.specs.Told.{bereaves}
 use Rattle.law_run_recovers.proofs.BesideAll.{own_served, others_none, not_both, no_job_of}
 use Rattle.law_run_recovers.proofs.BesideUnmet.{then_is, begins_there}
 use Rattle.law_run_recovers.proofs.Keeps.{IsAtWork, step_asks}

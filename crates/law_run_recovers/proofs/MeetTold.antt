@@ -1,41 +1,11 @@
 -- Which servers granted a transaction a lock in its run, and which refused one: a server never does both, of one mode. So sights go by either.
-use Rattle.std.proofs.Common.{◌≡◌, ⊎_elim, ℕ, Bool, true, false, List, [], ◌∷◌, ◌++◌, Option, Some, None, is_some, refl, sym, ap, subst, ◌∙◌, arith}
-use Rattle.std.specs.Prelude.{◌==◌, ◌&&◌, ◌||◌, not}
-use Rattle.std.proofs.lemmas.Bool.{false≢true, and_parts, and_from, eqb-true, eq-eqb}
-use Rattle.std.proofs.lemmas.Bool.Decides.{nat_tests}
-use Rattle.std.proofs.lemmas.Option.{none-some, same_Some}
-use Rattle.acl_core.specs.Identity.{Identity}
-use Rattle.suite_prefix.specs.SettingsRules.{Opening}
-use Rattle.suite_prefix.specs.declared.copies.Prefix.{Prefix}
-use Rattle.suite_prefix.specs.declared.lock_mode.LockMode.{LockMode}
-use Rattle.suite_prefix.specs.declared.lock_mode.LockMode.TheVariants.{Shared, Exclusive}
-use Rattle.suite_prefix.specs.LockModes.{serves}
-use Rattle.file_ops.specs.declared.operation.Op.{Op}
-use Rattle.rep_core.specs.declared.request.Request.{Request}
+use Rattle.law_run_recovers.proofs.Vocabulary.{◌≡◌, ⊎_elim, ℕ, Bool, true, false, List, [], ◌∷◌, ◌++◌, Option, Some, None, is_some, refl, sym, ap, subst, ◌∙◌, arith, ◌==◌, ◌&&◌, ◌||◌, not, false≢true, and_parts, and_from, eqb-true}
+use Rattle.law_run_recovers.proofs.Vocabulary.{eq-eqb, nat_tests, none-some, same_Some, Identity, Opening, Prefix, LockMode, Shared, Exclusive, serves, Op, Request, Reply, Said, is_held, Asked, Poll, Upgrade, mode_of, mode_asked}
+use Rattle.law_run_recovers.proofs.Vocabulary.{request_for, Transaction, Replied, Fixed, Doing, Running, RunningSweep, fixed_of, next_in, next_of, Exchange, locks, heard_in, is_finish, Served, Event, Begin, Step, Crash, Return, Forget}
+use Rattle.law_run_recovers.proofs.Vocabulary.{Lack, Actor, World, actor_at, step, after, run, task_of, names, may_sweep, agents_ask_for_themselves, names_mine, is_up, runs, begun_world, world_after}
 use Rattle.rep_core.specs.declared.request.Request.TheVariants as request
-use Rattle.rep_core.specs.declared.reply.Reply.{Reply}
 use Rattle.rep_core.specs.declared.reply.Reply.TheVariants as reply
-use Rattle.suite_collect.specs.declared.told.Said.{Said}
 use Rattle.suite_collect.specs.declared.told.Said.TheVariants as said
-use Rattle.suite_collect.specs.Telling.{is_held}
-use Rattle.suite_collect.specs.Collecting.{Asked, Poll, Upgrade, mode_of, mode_asked, request_for}
-use Rattle.txn_core.specs.declared.job.Job.TheVariants.{Transaction}
-use Rattle.txn_core.specs.declared.response.Response.TheVariants.{Replied}
-use Rattle.txn_core.specs.Doing.{Fixed, Doing, Running, RunningSweep}
-use Rattle.txn_core.specs.Agents.{fixed_of, next_in, next_of}
-use Rattle.txn_core.specs.Laws.{Exchange, locks, heard_in}
-use Rattle.txn_core.specs.Undecided.{is_finish}
-use Rattle.run_core.specs.declared.done.Served.{Served}
-use Rattle.run_core.specs.declared.event.Event.{Event}
-use Rattle.run_core.specs.declared.event.Event.TheVariants.{Begin, Step, Crash, Return, Forget, Lack}
-use Rattle.run_core.specs.Worlds.{Actor, World, actor_at, step}
-use Rattle.run_core.specs.Runs.{after, run}
-use Rattle.run_core.specs.Decisions.{task_of}
-use Rattle.law_runs.specs.Naming.{names, may_sweep}
-use Rattle.law_runs.proofs.Begun.{agents_ask_for_themselves}
-use Rattle.law_run_alone.proofs.Owns.{names_mine}
-use Rattle.law_run_recovers.specs.Standing.{is_up}
-use Rattle.law_run_recovers.specs.Unmet.{runs, begun_world, world_after}
 use Rattle.law_run_recovers.proofs.Keeps.{IsAtWork, works, at_work, run_at, step_asks}
 use Rattle.law_run_recovers.proofs.Sides.{compared, names_one}
 use Rattle.law_run_recovers.proofs.Still.{IsOpen, open_where}

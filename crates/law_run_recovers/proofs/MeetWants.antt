@@ -1,30 +1,7 @@
 -- One that meets another and is not decided wants votes: it asked for a lock, and of who has a vote too few did not refuse it.
-use Rattle.std.proofs.Common.{◌≡◌, inl, inr, ℕ, ◌+◌, ◌<◌, ◌≤◌, Bool, true, false, cond, List, [], ◌∷◌, ◌++◌, refl, sym, subst, arith}
-use Rattle.std.specs.Prelude.{◌==◌, ◌&&◌, ◌%◌, ◌/◌, not, All, Contains}
-use Rattle.std.proofs.Math.Nat.{mod-lt}
-use Rattle.std.proofs.lemmas.Bool.{false≢true, eqb-true}
-use Rattle.std.proofs.lemmas.List.Elements.{All-contains}
-use Rattle.suite_prefix.specs.SettingsRules.{Opening}
-use Rattle.suite_prefix.specs.declared.lock_mode.LockMode.{LockMode}
-use Rattle.suite_prefix.specs.declared.lock_mode.LockMode.TheVariants.{Shared, Exclusive}
-use Rattle.suite_collect.specs.Collecting.{needed_of}
-use Rattle.vote_core.specs.Quorums.{Representative, Configuration, votes_in, votes_at, total_votes}
-use Rattle.vote_core.specs.Validity.{IsValid}
-use Rattle.rep_core.proofs.Members.{Has, contains_from}
-use Rattle.txn_core.specs.declared.job.Job.TheVariants.{Transaction}
-use Rattle.txn_core.specs.Doing.{home_of}
-use Rattle.txn_core.specs.Agents.{fixed_of}
-use Rattle.run_core.specs.declared.event.Event.{Event}
-use Rattle.run_core.specs.declared.event.Event.TheVariants.{Begin}
-use Rattle.run_core.specs.Worlds.{Actor}
-use Rattle.run_core.specs.Runs.{run}
-use Rattle.run_core.specs.TableOfRun.{table_of}
-use Rattle.law_run_recovers.specs.Beside.{Begun}
-use Rattle.law_run_recovers.specs.Demands.{votes_set}
-use Rattle.law_run_recovers.specs.Local.{VotesNeverMovedOf}
-use Rattle.law_run_recovers.specs.Near.{asks_for}
-use Rattle.law_run_recovers.specs.Standing.{is_up}
-use Rattle.law_run_recovers.specs.Unmet.{begun_world}
+use Rattle.law_run_recovers.proofs.Vocabulary.{◌≡◌, inl, inr, ℕ, ◌+◌, ◌<◌, ◌≤◌, Bool, true, false, cond, List, [], ◌∷◌, ◌++◌, refl, sym, subst, arith, ◌==◌, ◌&&◌, ◌%◌, ◌/◌, not, All, Contains, mod-lt, false≢true, eqb-true, All-contains}
+use Rattle.law_run_recovers.proofs.Vocabulary.{Opening, LockMode, Shared, Exclusive, needed_of, Representative, Configuration, votes_in, votes_at, total_votes, IsValid, Has, contains_from, Transaction, home_of, fixed_of, Event, Begin}
+use Rattle.law_run_recovers.proofs.Vocabulary.{Actor, run, table_of, Begun, votes_set, VotesNeverMovedOf, asks_for, is_up, begun_world}
 use Rattle.law_run_recovers.proofs.Free.{is_up_of}
 use Rattle.law_run_recovers.proofs.MeetCalm.{Calm, calm_front}
 use Rattle.law_run_recovers.proofs.MeetCourse.{short_at}

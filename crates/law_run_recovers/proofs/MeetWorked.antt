@@ -1,33 +1,8 @@
 -- Two users meet, by computation.
-use Rattle.std.proofs.Common.{◌≡◌, ◌⊎◌, inl, inr, ℕ, false, List, [], ◌∷◌, ◌++◌, refl, sym, ap, subst, ◌∙◌}
-use Rattle.std.specs.Prelude.{◌+◌, Contains}
-use Rattle.std.specs.List.{list_all}
-use Rattle.suite_prefix.specs.declared.lock_mode.LockMode.{LockMode}
-use Rattle.suite_prefix.specs.declared.lock_mode.LockMode.TheVariants.{Shared, Exclusive}
-use Rattle.vote_core.specs.Quorums.{Configuration, total_votes}
-use Rattle.suite_collect.specs.Collecting.{needed_of}
+use Rattle.law_run_recovers.proofs.Vocabulary.{◌≡◌, ◌⊎◌, inl, inr, ℕ, false, List, [], ◌∷◌, ◌++◌, refl, sym, ap, subst, ◌∙◌, ◌+◌, Contains, list_all, LockMode, Shared, Exclusive, Configuration, total_votes, needed_of, row_of, has_from}
+use Rattle.law_run_recovers.proofs.Vocabulary.{Transaction, fixed_of, owner, a, Event, Begin, opening, run, Decided, decisions, decisions_from, table_after_all, decisions_from-append, EventGivesValidVotes, CanBe, with_caches}
+use Rattle.law_run_recovers.proofs.Vocabulary.{some_run_revokes, Begun, spoils, two_made, turns, puts, HasFirstVotes, VotesNeverMovedOf, two_meet, SomeRunsMeet}
 use Rattle.file_ops.specs.Rows as rows
-use Rattle.file_ops.specs.Rows.{row_of}
-use Rattle.rep_core.proofs.Members.{has_from}
-use Rattle.txn_core.specs.declared.job.Job.TheVariants.{Transaction}
-use Rattle.txn_core.specs.Agents.{fixed_of}
-use Rattle.txn_core.specs.Runs.{owner, a}
-use Rattle.run_core.specs.declared.event.Event.{Event}
-use Rattle.run_core.specs.declared.event.Event.TheVariants.{Begin}
-use Rattle.run_core.specs.Worlds.{opening}
-use Rattle.run_core.specs.Runs.{run}
-use Rattle.run_core.specs.Decisions.{Decided, decisions, decisions_from}
-use Rattle.run_core.specs.TableOfRun.{table_after_all}
-use Rattle.run_core.proofs.Appending.{decisions_from-append}
-use Rattle.law_headline.specs.Premises.{EventGivesValidVotes, CanBe}
-use Rattle.law_headline.specs.Worked.{with_caches}
-use Rattle.law_headline.proofs.Worked.{some_run_revokes}
-use Rattle.law_run_recovers.specs.Beside.{Begun, spoils}
-use Rattle.law_run_recovers.specs.BesideWorked.{two_made, turns}
-use Rattle.law_run_recovers.specs.Contending.{puts}
-use Rattle.law_run_recovers.specs.Laws.{HasFirstVotes}
-use Rattle.law_run_recovers.specs.Local.{VotesNeverMovedOf}
-use Rattle.law_run_recovers.specs.MeetsWorked.{two_meet, SomeRunsMeet}
 use Rattle.law_run_recovers.proofs.AmongCourse.{head_or, tail_or}
 use Rattle.law_run_recovers.proofs.BesideWorked.{all_by, event_sets_none, valid_event, none_spoils_it, is_step, none_begins}
 use Rattle.law_run_recovers.proofs.Keeps.{after_append}

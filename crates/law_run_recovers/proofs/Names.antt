@@ -1,38 +1,12 @@
 -- Which suites the requests of a transaction name, and how many requests it may make.
-use Rattle.std.proofs.Common.{◌≡◌, inl, ℕ, zero, suc, ◌+◌, ◌≤◌, true, List, [], ◌∷◌, length, Option, Some, None, refl, sym, ap, subst, ◌∙◌, arith}
-use Rattle.std.specs.Prelude.{◌*◌, ◌==◌, ◌&&◌, map}
-use Rattle.std.specs.List.{list_any}
-use Rattle.std.proofs.lemmas.Bool.{and_parts, eqb-true}
-use Rattle.std.proofs.lemmas.Bool.Decides.{nat_tests}
-use Rattle.std.proofs.lemmas.Option.{none-some}
-use Rattle.acl_core.specs.Identity.{Identity}
-use Rattle.suite_prefix.specs.SettingsRules.{Opening}
-use Rattle.suite_prefix.specs.declared.copies.Prefix.{Prefix}
-use Rattle.suite_prefix.specs.declared.lock_mode.LockMode.{LockMode}
-use Rattle.suite_prefix.specs.declared.lock_mode.LockMode.TheVariants.{Shared, Exclusive}
-use Rattle.suite_prefix.specs.LockModes.{serves}
-use Rattle.rep_core.specs.declared.request.Request.{Request}
+use Rattle.law_run_recovers.proofs.Vocabulary.{◌≡◌, inl, ℕ, zero, suc, ◌+◌, ◌≤◌, true, List, [], ◌∷◌, length, Option, Some, None, refl, sym, ap, subst, ◌∙◌, arith, ◌*◌, ◌==◌, ◌&&◌, map, list_any, and_parts, eqb-true, nat_tests}
+use Rattle.law_run_recovers.proofs.Vocabulary.{none-some, Identity, Opening, Prefix, LockMode, Shared, Exclusive, serves, Request, Has, any_has, has_any, map_has, Op, PlainTable, Asked, Poll, Upgrade, request_for, Cache, Transaction}
+use Rattle.law_run_recovers.proofs.Vocabulary.{ReadPoint, GatheredSuite, Suites, suite_of, Fixed, Task, Phase, Gathering, Fetching, Preparing, Deciding, Finishing, home_of, numbers_from, asked_for, fetched_at, fetched_for, request_in}
+use Rattle.law_run_recovers.proofs.Vocabulary.{changes_of, decision_of, parts_at, Agent, fixed_of, is_idle, begin, exchanges, among, asks_only, names_of, names_only, asks_same, ends_in_time, Event, World, table_of, has_asked}
+use Rattle.law_run_recovers.proofs.Vocabulary.{locks_asked}
 use Rattle.rep_core.specs.declared.request.Request.TheVariants as request
-use Rattle.rep_core.proofs.Members.{Has, any_has, has_any, map_has}
-use Rattle.file_ops.specs.declared.operation.Op.{Op}
-use Rattle.file_ops.specs.Rows.{PlainTable}
-use Rattle.suite_collect.specs.Collecting.{Asked, Poll, Upgrade, request_for}
-use Rattle.weak_cache.specs.Entries.{Cache}
-use Rattle.txn_core.specs.declared.job.Job.TheVariants.{Transaction}
-use Rattle.txn_core.specs.Suites.{ReadPoint, GatheredSuite, Suites, suite_of}
 use Rattle.txn_core.specs.Doing as doing
-use Rattle.txn_core.specs.Doing.{Fixed, Task, Phase, Gathering, Fetching, Preparing, Deciding, Finishing, home_of}
-use Rattle.txn_core.specs.Transactions.{numbers_from, asked_for, fetched_at, fetched_for, request_in, changes_of, decision_of}
-use Rattle.txn_core.specs.Writing.{parts_at}
 use Rattle.txn_core.specs.Agents as agents
-use Rattle.txn_core.specs.Agents.{Agent, fixed_of, is_idle, begin}
-use Rattle.txn_core.specs.Laws.{exchanges, among, asks_only, names_of, names_only}
-use Rattle.txn_core.proofs.Asks.{asks_same}
-use Rattle.txn_core.proofs.Bound.{ends_in_time}
-use Rattle.run_core.specs.declared.event.Event.{Event}
-use Rattle.run_core.specs.Worlds.{World}
-use Rattle.run_core.specs.TableOfRun.{table_of}
-use Rattle.law_run_recovers.specs.Demands.{has_asked, locks_asked}
 use Rattle.law_run_recovers.proofs.Asked.{onto_left, onto_so_far}
 use Rattle.law_run_recovers.proofs.Asking.{onto, held_in, held_if}
 use Rattle.law_run_recovers.proofs.Early.{fetch_is}

@@ -1,43 +1,10 @@
 -- What a transaction stands on that goes steadily: near servers that are open to it answer what is in effect, and prefixes that are found name
 -- near servers.
-use Rattle.std.proofs.Common.{◌≡◌, ℕ, Bool, true, false, List, [], ◌∷◌, Option, Some, None, refl, sym, ap, subst}
-use Rattle.std.specs.Prelude.{◌*◌, ◌+◌, ◌==◌, ◌&&◌, Contains}
-use Rattle.std.specs.List.{list_any}
-use Rattle.std.proofs.lemmas.Bool.{and_parts, and_from, eqb-true}
-use Rattle.acl_core.specs.Identity.{Identity}
-use Rattle.vote_core.specs.Validity.{IsValid}
-use Rattle.suite_prefix.specs.SettingsRules.{Opening}
-use Rattle.suite_prefix.specs.declared.copies.Prefix.{Prefix}
-use Rattle.suite_prefix.specs.declared.lock_mode.LockMode.{LockMode}
-use Rattle.suite_prefix.specs.declared.lock_mode.LockMode.TheVariants.{Shared, Exclusive}
-use Rattle.file_ops.specs.declared.operation.Op.{Op}
-use Rattle.file_ops.specs.Rows.{row_of}
-use Rattle.file_exec.specs.Following.{needs}
-use Rattle.file_exec.specs.Operations.{transaction}
-use Rattle.rep_core.proofs.Members.{Has, any_has, has_from, contains_from}
-use Rattle.txn_core.specs.declared.job.Job.TheVariants.{Transaction}
-use Rattle.txn_core.specs.Writing.{has_vote}
-use Rattle.txn_core.specs.Doing.{Task}
-use Rattle.txn_core.specs.Agents.{fixed_of}
-use Rattle.run_core.specs.declared.event.Event.{Event}
-use Rattle.run_core.specs.declared.event.Event.TheVariants.{Begin}
-use Rattle.run_core.specs.Worlds.{Actor, server_at}
-use Rattle.run_core.specs.Runs.{run}
-use Rattle.run_core.specs.TableOfRun.{table_of}
-use Rattle.law_suite_machine.specs.Registers.{WasPrefix}
-use Rattle.law_server_moves.specs.Laws.{beginning}
-use Rattle.law_run_machine.specs.Machines.{machine_of}
+use Rattle.law_run_recovers.proofs.Vocabulary.{◌≡◌, ℕ, Bool, true, false, List, [], ◌∷◌, Option, Some, None, refl, sym, ap, subst, ◌*◌, ◌+◌, ◌==◌, ◌&&◌, Contains, list_any, and_parts, and_from, eqb-true, Identity, IsValid, Opening}
+use Rattle.law_run_recovers.proofs.Vocabulary.{Prefix, LockMode, Shared, Exclusive, Op, row_of, needs, transaction, Has, any_has, has_from, contains_from, Transaction, has_vote, Task, fixed_of, Event, Begin, Actor, server_at, run}
+use Rattle.law_run_recovers.proofs.Vocabulary.{table_of, WasPrefix, beginning, machine_of, CanBe, all_keep, no_lock, can_front, all_consistent, is_up, locks_asked, MayStart, asks_for, way_at, is_open_at, first_mode}
 use Rattle.law_one_table.proofs.Effects as effects
-use Rattle.law_headline.specs.Premises.{CanBe}
-use Rattle.law_headline.proofs.Keeping.{all_keep}
-use Rattle.law_run_alone.proofs.Named.{no_lock}
-use Rattle.law_run_alone.proofs.Reached.{can_front}
-use Rattle.law_run_alone.proofs.Unhindered.{all_consistent}
-use Rattle.law_run_recovers.specs.Standing.{is_up}
-use Rattle.law_run_recovers.specs.Demands.{locks_asked, MayStart}
-use Rattle.law_run_recovers.specs.Near.{asks_for, way_at, is_open_at}
 use Rattle.law_run_recovers.proofs.Steady.{GoesSteadily}
-use Rattle.law_run_recovers.specs.OpenDemands.{first_mode}
 use Rattle.law_run_recovers.proofs.Found.{Answering}
 use Rattle.law_run_recovers.proofs.Led.{Rules, rules_of}
 use Rattle.law_run_recovers.proofs.NearRows.{first_in, start_near}

@@ -1,39 +1,9 @@
 -- Where nothing is in the way at near servers, its votes as it finds them are those of the rows.
-use Rattle.std.proofs.Common.{◌≡◌, inl, inr, ℕ, Bool, true, false, cond, List, [], ◌∷◌, Option, Some, None, refl, sym, ap, subst, ◌∙◌}
-use Rattle.std.specs.Prelude.{◌==◌, ◌&&◌, nat_lt, nat_le, find, map, option_map, length, zero, suc, Contains}
-use Rattle.std.specs.List.{list_all}
-use Rattle.std.proofs.lemmas.Bool.{false≢true, and_parts, eqb-true, eq-eqb}
-use Rattle.std.proofs.lemmas.List.Folds.{list_all-append}
-use Rattle.std.proofs.lemmas.Option.{none-some, same_Some}
-use Rattle.acl_core.specs.Identity.{Identity}
-use Rattle.vote_core.specs.Quorums.{Representative, Configuration, votes_in}
-use Rattle.vote_core.proofs.QuorumLemmas.{votes_in-wider}
-use Rattle.suite_prefix.specs.SettingsRules.{Opening}
-use Rattle.suite_prefix.specs.declared.copies.Prefix.{Prefix}
-use Rattle.suite_prefix.specs.declared.lock_mode.LockMode.{LockMode}
-use Rattle.suite_prefix.specs.declared.lock_mode.LockMode.TheVariants.{Shared}
-use Rattle.file_ops.specs.declared.operation.Op.{Op}
-use Rattle.file_ops.specs.Rows.{row_of}
-use Rattle.file_exec.specs.Following.{needs}
-use Rattle.file_exec.specs.Operations.{transaction}
-use Rattle.rep_core.proofs.Finding.{find_some}
-use Rattle.rep_core.proofs.Members.{Has, has_any, contains_from, find_none}
-use Rattle.suite_collect.specs.Collecting.{needed_of}
-use Rattle.txn_core.specs.Writing.{has_vote}
-use Rattle.txn_core.specs.Agents.{fixed_of}
-use Rattle.txn_core.specs.declared.job.Job.TheVariants.{Transaction}
-use Rattle.run_core.specs.declared.event.Event.{Event}
-use Rattle.run_core.specs.declared.event.Event.TheVariants.{Begin}
-use Rattle.run_core.specs.Worlds.{Actor, World, actor_at, server_at}
-use Rattle.run_core.specs.Runs.{run}
-use Rattle.run_core.specs.TableOfRun.{table_of}
-use Rattle.law_headline.specs.Premises.{CanBe}
-use Rattle.law_run_alone.specs.Alone.{begins_job}
-use Rattle.law_run_recovers.specs.Standing.{up_in, is_up, shown_at}
-use Rattle.law_run_recovers.specs.Demands.{Demand, demand, is_met, led_on, led_to, led_so_far_by, newer_by, shows_newer_by, locks_asked, votes_set, votes_of_row, MayStart}
-use Rattle.law_run_recovers.specs.Near.{AreNear, asks_for, is_open_way, is_open_at, in_its_way}
-use Rattle.law_run_recovers.specs.OpenDemands.{mode_or, first_mode}
-use Rattle.law_run_recovers.specs.Local.{NearVotesAreRows}
+use Rattle.law_run_recovers.proofs.Vocabulary.{◌≡◌, inl, inr, ℕ, Bool, true, false, cond, List, [], ◌∷◌, Option, Some, None, refl, sym, ap, subst, ◌∙◌, ◌==◌, ◌&&◌, nat_lt, nat_le, find, map, option_map, length, zero, suc, Contains}
+use Rattle.law_run_recovers.proofs.Vocabulary.{list_all, false≢true, and_parts, eqb-true, eq-eqb, list_all-append, none-some, same_Some, Identity, Representative, Configuration, votes_in, votes_in-wider, Opening, Prefix, LockMode}
+use Rattle.law_run_recovers.proofs.Vocabulary.{Shared, Op, row_of, needs, transaction, find_some, Has, has_any, contains_from, find_none, needed_of, has_vote, fixed_of, Transaction, Event, Begin, Actor, World, actor_at, server_at, run}
+use Rattle.law_run_recovers.proofs.Vocabulary.{table_of, CanBe, begins_job, up_in, is_up, shown_at, Demand, demand, is_met, led_on, led_to, led_so_far_by, newer_by, shows_newer_by, locks_asked, votes_set, votes_of_row, MayStart}
+use Rattle.law_run_recovers.proofs.Vocabulary.{AreNear, asks_for, is_open_way, is_open_at, in_its_way, mode_or, first_mode, NearVotesAreRows}
 use Rattle.law_run_recovers.proofs.Open.{plain_way}
 use Rattle.law_run_recovers.proofs.OpenRows.{open_row, weaker_first, up_of, up_to}
 use Rattle.law_run_recovers.proofs.Picks.{votes_alike}

@@ -1,52 +1,13 @@
 -- Who goes alone is left alone where it asks; and who meets no lock is among locks that stay.
-use Rattle.std.proofs.Common.{◌≡◌, ⊎_elim, ℕ, ◌+◌, Bool, true, false, cond, List, [], ◌∷◌, ◌++◌, Option, Some, None, is_some, refl, sym, ap, subst, ◌∙◌, arith}
-use Rattle.std.specs.Prelude.{◌*◌, ◌==◌, ◌&&◌, ◌||◌, not, nat_lt, option_map, length, slice_get, slice_set, Contains}
-use Rattle.std.proofs.lemmas.Bool.{false≢true, and_parts, eqb-true, eq-eqb, false_from_ne_true}
-use Rattle.std.proofs.lemmas.Bool.Decides.{nat_tests}
-use Rattle.std.proofs.lemmas.Option.{none-some, same_Some}
-use Rattle.acl_core.specs.Identity.{Identity}
-use Rattle.suite_prefix.specs.SettingsRules.{Opening}
-use Rattle.suite_prefix.specs.declared.lock_mode.LockMode.{LockMode}
-use Rattle.file_ops.specs.declared.operation.Op.{Op}
-use Rattle.rep_core.specs.declared.lock.Lock.{Lock}
-use Rattle.rep_core.specs.declared.reply.Verdict.{Verdict}
+use Rattle.law_run_recovers.proofs.Vocabulary.{◌≡◌, ⊎_elim, ℕ, ◌+◌, Bool, true, false, cond, List, [], ◌∷◌, ◌++◌, Option, Some, None, is_some, refl, sym, ap, subst, ◌∙◌, arith, ◌*◌, ◌==◌, ◌&&◌, ◌||◌, not, nat_lt, option_map, length}
+use Rattle.law_run_recovers.proofs.Vocabulary.{slice_get, slice_set, Contains, false≢true, and_parts, eqb-true, eq-eqb, false_from_ne_true, nat_tests, none-some, same_Some, Identity, Opening, LockMode, Op, Lock, Verdict, in_the_way}
+use Rattle.law_run_recovers.proofs.Vocabulary.{State, served, all_at, Job, Transaction, Fixed, Task, Doing, Running, RunningSweep, TransactionRun, After, GoesOn, Ends, execute, fixed_of, is_idle, has_sense, max_jobs, begins, begin}
+use Rattle.law_run_recovers.proofs.Vocabulary.{started, next_in, next_of, left, Event, Begin, Step, Crash, Return, Forget, Lack, Actor, World, server_at, actor_at, has_no_job, becomes, asks, steps_once, step, after, run, begins_now}
+use Rattle.law_run_recovers.proofs.Vocabulary.{same_or, holds_of, Leaves, leaves_begin, agent_of, puts_in, CanBe, begins_job, IsOwnAt, nothing_in_the_way, with_job, at_has, none_own, no_lock, IsCalm, busy, can_front, starts}
+use Rattle.law_run_recovers.proofs.Vocabulary.{cache_valid, up_in, is_up, hinders, unhindered_from, GoesAlone, asks_for, way_in, is_way_met, in_its_way, runs, running_in, is_running, is_telling, begun_world, world_after, takes, of_up}
+use Rattle.law_run_recovers.proofs.Vocabulary.{robs, hinders_itself, StandsOpen, GoesUnmet, StandsStill, GoesAmongLocks}
 use Rattle.rep_core.specs.declared.reply.Verdict.TheVariants as verdict
-use Rattle.rep_core.specs.Locks.{in_the_way}
-use Rattle.rep_core.specs.State.{State}
-use Rattle.rep_core.specs.Serving.{served}
-use Rattle.rep_core.proofs.Members.{all_at}
-use Rattle.txn_core.specs.declared.job.Job.{Job}
-use Rattle.txn_core.specs.declared.job.Job.TheVariants.{Transaction}
-use Rattle.txn_core.specs.Doing.{Fixed, Task, Doing, Running, RunningSweep, TransactionRun, After, GoesOn, Ends}
-use Rattle.txn_core.specs.Transactions.{execute}
-use Rattle.txn_core.specs.Agents.{fixed_of, is_idle, has_sense, max_jobs, begins, begin, started, next_in, next_of, left}
-use Rattle.run_core.specs.declared.event.Event.{Event}
-use Rattle.run_core.specs.declared.event.Event.TheVariants.{Begin, Step, Crash, Return, Forget, Lack}
-use Rattle.run_core.specs.Worlds.{Actor, World, server_at, actor_at, has_no_job, becomes, asks, steps_once, step}
-use Rattle.run_core.specs.Runs.{after, run}
-use Rattle.law_runs.specs.Numbers.{begins_now}
-use Rattle.law_runs.proofs.Places.{same_or}
-use Rattle.law_runs.proofs.Conclusions.{holds_of}
-use Rattle.law_runs.proofs.Words.{Leaves, leaves_begin}
-use Rattle.law_runs.proofs.Worlds.{agent_of, puts_in}
-use Rattle.law_headline.specs.Premises.{CanBe}
-use Rattle.law_run_alone.specs.Alone.{begins_job}
-use Rattle.law_run_alone.proofs.Own.{IsOwnAt, nothing_in_the_way}
-use Rattle.law_run_alone.proofs.Turns.{with_job}
-use Rattle.law_run_alone.proofs.Clear.{at_has, none_own}
 use Rattle.law_run_alone.proofs.Goes as alone
-use Rattle.law_run_alone.proofs.Named.{no_lock}
-use Rattle.law_run_alone.proofs.Owns.{IsCalm}
-use Rattle.law_run_alone.proofs.Went.{busy}
-use Rattle.law_run_alone.proofs.Reached.{can_front}
-use Rattle.law_run_alone.proofs.Starts.{starts}
-use Rattle.law_run_alone.proofs.Votes.{cache_valid}
-use Rattle.law_run_recovers.specs.Standing.{up_in, is_up}
-use Rattle.law_run_recovers.specs.Alone.{hinders, unhindered_from}
-use Rattle.law_run_recovers.specs.Laws.{GoesAlone}
-use Rattle.law_run_recovers.specs.Near.{asks_for, way_in, is_way_met, in_its_way}
-use Rattle.law_run_recovers.specs.Unmet.{runs, running_in, is_running, is_telling, begun_world, world_after, takes, of_up, robs, hinders_itself, StandsOpen, GoesUnmet}
-use Rattle.law_run_recovers.specs.Among.{StandsStill, GoesAmongLocks}
 use Rattle.law_run_recovers.proofs.Serves.{Serves, event_serves}
 
 -- ---- what does not hinder is calm

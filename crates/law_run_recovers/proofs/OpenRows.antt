@@ -1,59 +1,15 @@
 -- What servers show that are open to a transaction is in effect. So its votes as it finds them are those of the rows, whatever locks others have.
-use Rattle.std.proofs.Common.{◌≡◌, inl, inr, ⊎_elim, ℕ, ◌≤◌, Bool, true, false, cond, List, [], ◌∷◌, ◌++◌, Option, Some, None, refl, sym, ap, subst, ◌∙◌, arith}
-use Rattle.std.specs.Prelude.{◌==◌, ◌&&◌, ◌||◌, not, nat_le, find, map, option_map, unwrap_or}
-use Rattle.std.specs.List.{list_all}
-use Rattle.std.specs.Ordering.{nat_cmp}
-use Rattle.std.proofs.lemmas.Bool.{false≢true, and_parts, eqb-true, eq-eqb}
-use Rattle.std.proofs.lemmas.Bool.Decides.{nat_tests}
-use Rattle.sorted_map.specs.SortedMap.{get}
-use Rattle.acl_core.specs.Identity.{Identity}
-use Rattle.vote_core.specs.Quorums.{Configuration, votes_in}
-use Rattle.vote_core.proofs.QuorumLemmas.{votes_in-wider}
-use Rattle.suite_prefix.specs.SettingsRules.{Opening}
-use Rattle.suite_prefix.specs.declared.copies.Prefix.{Prefix}
-use Rattle.suite_prefix.specs.declared.copies.Replica.{Replica}
-use Rattle.suite_prefix.specs.declared.lock_mode.LockMode.{LockMode}
-use Rattle.suite_prefix.specs.declared.lock_mode.LockMode.TheVariants.{Shared, Exclusive}
-use Rattle.suite_prefix.specs.LockModes.{is_exclusive, serves}
-use Rattle.file_ops.specs.declared.operation.Op.{Op}
-use Rattle.file_ops.specs.Rows.{row_of}
-use Rattle.file_exec.specs.declared.need.Need.{Need}
-use Rattle.file_exec.specs.declared.need.Need.TheVariants.{Hold, Know}
-use Rattle.file_exec.specs.Following.{needs}
-use Rattle.file_exec.specs.Operations.{transaction}
-use Rattle.rep_core.specs.declared.lock.Lock.{Lock}
-use Rattle.rep_core.specs.Consistency.{IsConsistent}
+use Rattle.law_run_recovers.proofs.Vocabulary.{◌≡◌, inl, inr, ⊎_elim, ℕ, ◌≤◌, Bool, true, false, cond, List, [], ◌∷◌, ◌++◌, Option, Some, None, refl, sym, ap, subst, ◌∙◌, arith, ◌==◌, ◌&&◌, ◌||◌, not, nat_le, find, map, option_map}
+use Rattle.law_run_recovers.proofs.Vocabulary.{unwrap_or, list_all, nat_cmp, false≢true, and_parts, eqb-true, eq-eqb, nat_tests, get, Identity, Configuration, votes_in, votes_in-wider, Opening, Prefix, Replica, LockMode, Shared}
+use Rattle.law_run_recovers.proofs.Vocabulary.{Exclusive, is_exclusive, serves, Op, row_of, Need, Hold, Know, needs, transaction, Lock, IsConsistent, conflicts, in_the_way, State, copy_of, Has, has_from, find_none, needed_of, fixed_of}
+use Rattle.law_run_recovers.proofs.Vocabulary.{Event, Begin, Transaction, Actor, actor_at, server_at, run, table_of, IsQuorum, in_effect, effect, plan_of, Shows, servers_of, home_in, machine_of, AllKeepSides, row_at, CanBe, all_keep}
+use Rattle.law_run_recovers.proofs.Vocabulary.{begins_job, no_lock, all_consistent, up_in, shown_at, shown_in, demand_by, is_met, led_to_by, has_asked, not_asked, locks_asked, votes_set, votes_of_row, MayStart, is_open_way, way_in}
+use Rattle.law_run_recovers.proofs.Vocabulary.{is_open_at, Want, mode_or, first_mode, open_demand, OpenVotesAreRows}
 use Rattle.rep_core.specs.Intentions as server
-use Rattle.rep_core.specs.Locks.{conflicts, in_the_way}
 use Rattle.rep_core.specs.State as state
-use Rattle.rep_core.specs.State.{State}
-use Rattle.rep_core.specs.Store.{copy_of}
-use Rattle.rep_core.proofs.Members.{Has, has_from, find_none}
-use Rattle.suite_collect.specs.Collecting.{needed_of}
-use Rattle.txn_core.specs.Agents.{fixed_of}
-use Rattle.run_core.specs.declared.event.Event.{Event}
-use Rattle.run_core.specs.declared.event.Event.TheVariants.{Begin}
-use Rattle.txn_core.specs.declared.job.Job.TheVariants.{Transaction}
 use Rattle.run_core.specs.Worlds as worlds
-use Rattle.run_core.specs.Worlds.{Actor, actor_at, server_at}
-use Rattle.run_core.specs.Runs.{run}
-use Rattle.run_core.specs.TableOfRun.{table_of}
-use Rattle.law_suite_machine.specs.Machine.{World, IsQuorum, in_effect, effect}
-use Rattle.law_server_moves.specs.Views.{plan_of, Shows}
-use Rattle.law_run_machine.specs.Machines.{servers_of, home_in, machine_of}
-use Rattle.law_one_table.specs.Tables.{AllKeepSides}
-use Rattle.law_one_table.specs.Versions.{row_at}
+use Rattle.law_suite_machine.specs.Machine.{World}
 use Rattle.law_one_table.proofs.Effects as effects
-use Rattle.law_headline.specs.Premises.{CanBe}
-use Rattle.law_headline.proofs.Keeping.{all_keep}
-use Rattle.law_run_alone.specs.Alone.{begins_job}
-use Rattle.law_run_alone.proofs.Named.{no_lock}
-use Rattle.law_run_alone.proofs.Unhindered.{all_consistent}
-use Rattle.law_run_recovers.specs.Standing.{up_in, shown_at, shown_in}
-use Rattle.law_run_recovers.specs.Demands.{demand_by, is_met, led_to_by, has_asked, not_asked, locks_asked, votes_set, votes_of_row, MayStart}
-use Rattle.law_run_recovers.specs.Near.{is_open_way, way_in, is_open_at}
-use Rattle.law_run_recovers.specs.OpenDemands.{Want, mode_or, first_mode, open_demand}
-use Rattle.law_run_recovers.specs.Local.{OpenVotesAreRows}
 use Rattle.law_run_recovers.proofs.Found.{Answering, found_is_row}
 use Rattle.law_run_recovers.proofs.Leading.{led}
 use Rattle.law_run_recovers.proofs.Picks.{find_nobody}

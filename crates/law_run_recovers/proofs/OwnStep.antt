@@ -1,21 +1,7 @@
 -- A step of an agent that sweeps, where it was served.
-use Rattle.std.proofs.Common.{◌≡◌, ℕ, true, false, cond, Option, Some, None, is_some, refl, sym, ap, subst}
-use Rattle.std.specs.Prelude.{slice_set}
-use Rattle.std.proofs.lemmas.Bool.{false≢true}
-use Rattle.rep_core.specs.declared.request.Request.{Request}
-use Rattle.rep_core.specs.declared.stamped.Stamped.{Stamped}
-use Rattle.rep_core.specs.State.{State}
-use Rattle.rep_core.specs.Service.{reply_of}
-use Rattle.rep_core.specs.Serving.{is_full, served, answer_of}
-use Rattle.txn_core.specs.declared.response.Response.{Response}
-use Rattle.txn_core.specs.declared.response.Response.TheVariants.{Replied}
-use Rattle.txn_core.specs.Doing.{Fixed, SweepRun, RunningSweep, After}
-use Rattle.txn_core.specs.Sweeps.{asked_now, after_answer}
-use Rattle.txn_core.specs.Agents.{Taken, left, end_of, next_in, take_in, take}
-use Rattle.run_core.specs.declared.event.Event.TheVariants.{Step}
-use Rattle.run_core.specs.declared.done.Served.{Served}
-use Rattle.run_core.specs.Worlds.{Actor, World, Stepped, server_at, actor_at, serve, outcome_of, moved, answered, asks_at, asks, steps_once, step}
-use Rattle.law_runs.proofs.Worlds.{puts_in}
+use Rattle.law_run_recovers.proofs.Vocabulary.{◌≡◌, ℕ, true, false, cond, Option, Some, None, is_some, refl, sym, ap, subst, slice_set, false≢true, Request, Stamped, State, reply_of, is_full, served, answer_of, Response, Replied, Fixed}
+use Rattle.law_run_recovers.proofs.Vocabulary.{SweepRun, RunningSweep, After, asked_now, after_answer, Taken, left, end_of, next_in, take_in, take, Step, Served, Actor, World, Stepped, server_at, actor_at, serve, outcome_of, moved}
+use Rattle.law_run_recovers.proofs.Vocabulary.{answered, asks_at, asks, steps_once, step, puts_in}
 
 module _ (fixed : Fixed) (world : World) (i : ℕ) (actor : Actor) (sweep_run : SweepRun) where
   abbrev pub asked : ℕ × Request

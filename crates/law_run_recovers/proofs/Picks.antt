@@ -1,10 +1,6 @@
 -- What a test finds of a list, by what a wider or narrower test finds; and sets that have the same votes.
-use Rattle.std.proofs.Common.{◌≡◌, inl, inr, ⊎_elim, ℕ, ◌+◌, Bool, true, false, cond, List, [], ◌∷◌, Some, None, refl, sym, ap, subst, ◌∙◌}
-use Rattle.std.specs.Prelude.{◌&&◌, not, nat_lt, find}
-use Rattle.std.proofs.lemmas.Bool.{false≢true, cases_Bool}
-use Rattle.std.proofs.lemmas.Option.{none-some, same_Some}
-use Rattle.vote_core.specs.Quorums.{Representative, votes_in}
-use Rattle.rep_core.proofs.Members.{Has}
+use Rattle.law_run_recovers.proofs.Vocabulary.{◌≡◌, inl, inr, ⊎_elim, ℕ, ◌+◌, Bool, true, false, cond, List, [], ◌∷◌, Some, None, refl, sym, ap, subst, ◌∙◌, ◌&&◌, not, nat_lt, find, false≢true, cases_Bool, none-some, same_Some}
+use Rattle.law_run_recovers.proofs.Vocabulary.{Representative, votes_in, Has}
 use Rattle.law_run_recovers.proofs.Found.{none_left}
 
 module _ {X : Type 0} (f g : X → Bool) (so : (x : X) → g x ≡ true → f x ≡ true) where

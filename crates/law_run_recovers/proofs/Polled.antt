@@ -1,33 +1,11 @@
 -- A collector of a transaction to which servers stand as a sight says: what it is told, and what it asks next.
-use Rattle.std.proofs.Common.{◌≡◌, ◌⊎◌, inl, inr, ℕ, ◌≤◌, Bool, true, false, cond, List, [], ◌∷◌, Option, Some, None, refl, sym, ap, subst, ◌∙◌, arith}
-use Rattle.std.specs.Prelude.{◌==◌, ◌&&◌, not, nat_lt, nat_le, max, find, option_map}
-use Rattle.std.proofs.lemmas.Bool.{false≢true, and_parts, or_cases, false_from_ne_true, eqb-true}
-use Rattle.std.proofs.lemmas.Bool.Decides.{nat_tests}
-use Rattle.std.proofs.lemmas.Option.{none-some, same_Some}
-use Rattle.vote_core.specs.Quorums.{Representative, votes_in}
-use Rattle.suite_prefix.specs.declared.copies.Prefix.{Prefix}
-use Rattle.suite_prefix.specs.declared.lock_mode.LockMode.{LockMode}
-use Rattle.suite_prefix.specs.declared.lock_mode.LockMode.TheVariants.{Shared, Exclusive}
-use Rattle.suite_prefix.specs.LockModes.{serves}
-use Rattle.rep_core.specs.declared.lock.Lock.{Lock}
-use Rattle.rep_core.specs.declared.reply.Reply.{Reply}
+use Rattle.law_run_recovers.proofs.Vocabulary.{◌≡◌, ◌⊎◌, inl, inr, ℕ, ◌≤◌, Bool, true, false, cond, List, [], ◌∷◌, Option, Some, None, refl, sym, ap, subst, ◌∙◌, arith, ◌==◌, ◌&&◌, not, nat_lt, nat_le, max, find, option_map, false≢true}
+use Rattle.law_run_recovers.proofs.Vocabulary.{and_parts, or_cases, false_from_ne_true, eqb-true, nat_tests, none-some, same_Some, Representative, votes_in, Prefix, LockMode, Shared, Exclusive, serves, Lock, Reply, in_the_way, has_lock}
+use Rattle.law_run_recovers.proofs.Vocabulary.{locking_reply, poll_reply, reply_up, reply_of, copy_of, Said, Held, Busy, Down, Told, is_held, newer, newest, holds, has_refused, busy_in, first_busy, version_in, greatest, Collector}
+use Rattle.law_run_recovers.proofs.Vocabulary.{Asked, Poll, Upgrade, request_for, mode_asked, said_to, all_told, counted, needed, got, is_member, is_left, members_of, version, ask_or_short, told_by, Next, Current, Ask, Short, next}
+use Rattle.law_run_recovers.proofs.Vocabulary.{State, Has, Fixed, World, server_at, is_up, shown_at, way_in, is_open_way, shows_newer_by, newer_by}
 use Rattle.rep_core.specs.declared.reply.Reply.TheVariants as reply
-use Rattle.rep_core.specs.Locks.{in_the_way, has_lock}
-use Rattle.rep_core.specs.Service.{locking_reply, poll_reply, reply_up, reply_of}
-use Rattle.rep_core.specs.Store.{copy_of}
-use Rattle.suite_collect.specs.declared.told.Said.{Said}
-use Rattle.suite_collect.specs.declared.told.Said.TheVariants.{Held, Busy, Down}
-use Rattle.suite_collect.specs.declared.told.Told.{Told}
 use Rattle.suite_collect.specs.Telling as telling
-use Rattle.suite_collect.specs.Telling.{is_held, newer, newest, holds, has_refused, busy_in, first_busy, version_in, greatest}
-use Rattle.suite_collect.specs.Collecting.{Collector, Asked, Poll, Upgrade, request_for, mode_asked, said_to, all_told, counted, needed, got, is_member, is_left, members_of, version, ask_or_short, told_by, Next, Current, Ask, Short, next}
-use Rattle.rep_core.specs.State.{State}
-use Rattle.rep_core.proofs.Members.{Has}
-use Rattle.txn_core.specs.Doing.{Fixed}
-use Rattle.run_core.specs.Worlds.{World, server_at}
-use Rattle.law_run_recovers.specs.Standing.{is_up, shown_at}
-use Rattle.law_run_recovers.specs.Near.{way_in, is_open_way}
-use Rattle.law_run_recovers.specs.Demands.{shows_newer_by, newer_by}
 use Rattle.law_run_recovers.proofs.Leading.{not_itself}
 use Rattle.law_run_recovers.proofs.Picks.{find_nobody, find_fails, three, votes_alike}
 

@@ -1,55 +1,22 @@
 -- Events that decide nothing change nothing that is in effect.
-use Rattle.std.proofs.Common.{◌≡◌, ℕ, Bool, true, false, cond, List, [], ◌∷◌, ◌++◌, append-nil, Option, Some, None, refl, sym, ap, subst, ◌∙◌}
-use Rattle.std.specs.Prelude.{◌==◌, ◌&&◌}
-use Rattle.std.specs.List.{list_all}
-use Rattle.std.proofs.lemmas.Bool.{false≢true, and_parts}
-use Rattle.suite_prefix.specs.SettingsRules.{Opening}
-use Rattle.suite_prefix.specs.LockModes.{is_exclusive}
-use Rattle.rep_core.specs.declared.request.Part.{Part}
-use Rattle.rep_core.specs.declared.request.Request.{Request}
+use Rattle.law_run_recovers.proofs.Vocabulary.{◌≡◌, ℕ, Bool, true, false, cond, List, [], ◌∷◌, ◌++◌, append-nil, Option, Some, None, refl, sym, ap, subst, ◌∙◌, ◌==◌, ◌&&◌, list_all, false≢true, and_parts, Opening, is_exclusive, Part}
+use Rattle.law_run_recovers.proofs.Vocabulary.{Request, Reply, State, reply_of, is_full, answer_of, Job, Response, Replied, Lacked, Suites, Proposal, Doing, Running, RunningSweep, SweepRun, asked_now, is_decide, Taken, fixed_of}
+use Rattle.law_run_recovers.proofs.Vocabulary.{next_in, next_of, take, begin, Actor, opening, server_at, decisions, decisions_from, decisions_from-append, sweep_decides_none, Beginning, Aborted, effect, begun, Aim, Prepare, DecideRead}
+use Rattle.law_run_recovers.proofs.Vocabulary.{DecideRefused, DecideWrite, DecideElsewhere, Overrule, GiveUp, Finish, Lose, happens, May, Obeys, Inv, prepared_effect, finished_effect, decided_effect, part_of, moves, first_verdict}
+use Rattle.law_run_recovers.proofs.Vocabulary.{prepare_of, left_by_break, beginning, to_write, decision_by, fixed_in, aim_of, aims_once, aims, is_finishing, is_at_an_end, gives_up, tells_aborted, begun_events, own_events, home_in}
+use Rattle.law_run_recovers.proofs.Vocabulary.{begin_events, answered_events, asked_at_events, asked_events, lacks_for_events, lack_events, history_from, machine_of, history_of, run-append, AllKeepSides, copy_at, earlier, CanBe}
+use Rattle.law_run_recovers.proofs.Vocabulary.{all_keep}
 use Rattle.rep_core.specs.declared.request.Request.TheVariants as request
-use Rattle.rep_core.specs.declared.reply.Reply.{Reply}
 use Rattle.rep_core.specs.declared.reply.Reply.TheVariants as reply
 use Rattle.rep_core.specs.declared.stamped.Lack.TheVariants as lack
-use Rattle.rep_core.specs.State.{State}
-use Rattle.rep_core.specs.Service.{reply_of}
-use Rattle.rep_core.specs.Serving.{is_full, answer_of}
-use Rattle.txn_core.specs.declared.job.Job.{Job}
-use Rattle.txn_core.specs.declared.response.Response.{Response}
-use Rattle.txn_core.specs.declared.response.Response.TheVariants.{Replied, Lacked}
-use Rattle.txn_core.specs.Suites.{Suites}
-use Rattle.txn_core.specs.Doing.{Proposal, Doing, Running, RunningSweep, SweepRun}
-use Rattle.txn_core.specs.Sweeps.{asked_now}
-use Rattle.txn_core.specs.Laws.{is_decide}
-use Rattle.txn_core.specs.Agents.{Taken, fixed_of, next_in, next_of, take, begin}
 use Rattle.run_core.specs.declared.event.Event as happening
 use Rattle.run_core.specs.Worlds as worlds
-use Rattle.run_core.specs.Worlds.{Actor, opening, server_at}
 use Rattle.run_core.specs.Runs as runs
-use Rattle.run_core.specs.Decisions.{decisions, decisions_from}
-use Rattle.run_core.proofs.Appending.{decisions_from-append}
-use Rattle.law_runs.proofs.Asking.{sweep_decides_none}
-use Rattle.law_suite_machine.specs.Registers.{Beginning, Change}
-use Rattle.law_suite_machine.specs.Machine.{Verdict, Aborted, World, effect, begun}
-use Rattle.law_suite_machine.specs.Events.{Event, Held, Upgrade, Aim, Prepare, DecideRead, DecideRefused, DecideWrite, DecideElsewhere, Overrule, GiveUp, Finish, Lose, happens, run}
-use Rattle.law_suite_machine.specs.Conditions.{May, Obeys}
-use Rattle.law_suite_machine.proofs.Invariant.{Inv}
+use Rattle.law_suite_machine.specs.Registers.{Change}
+use Rattle.law_suite_machine.specs.Machine.{Verdict, World}
+use Rattle.law_suite_machine.specs.Events.{Event, Held, Upgrade, run}
 use Rattle.law_suite_machine.proofs.Steps as steps
-use Rattle.law_suite_machine.proofs.Preparing.{prepared_effect}
-use Rattle.law_suite_machine.proofs.Finishing.{finished_effect}
-use Rattle.law_suite_machine.proofs.Deciding.{decided_effect}
-use Rattle.law_server_moves.specs.Preparing.{part_of}
-use Rattle.law_server_moves.specs.Moves.{moves, first_verdict, prepare_of, left_by_break}
-use Rattle.law_server_moves.specs.Laws.{beginning}
-use Rattle.law_run_machine.specs.Deciding.{to_write, decision_by, fixed_in, aim_of, aims_once, aims, is_finishing, is_at_an_end, gives_up, tells_aborted, begun_events, own_events}
-use Rattle.law_run_machine.specs.Machines.{home_in, begin_events, answered_events, asked_at_events, asked_events, lacks_for_events, lack_events, history_from, machine_of, history_of}
-use Rattle.law_run_machine.proofs.Joining.{run-append}
-use Rattle.law_one_table.specs.Tables.{AllKeepSides}
-use Rattle.law_one_table.specs.Effects.{copy_at}
-use Rattle.law_one_table.proofs.Running.{earlier}
 use Rattle.law_one_table.proofs.Effects as effects
-use Rattle.law_headline.specs.Premises.{CanBe}
-use Rattle.law_headline.proofs.Keeping.{all_keep}
 
 -- ---- on the machine of a suite
 

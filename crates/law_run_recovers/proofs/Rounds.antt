@@ -1,28 +1,9 @@
 -- Sweeps of servers one after the other.
-use Rattle.std.proofs.Common.{◌≡◌, ◌≢◌, ◌⊎◌, inl, inr, ⊎_elim, ℕ, ◌+◌, Bool, true, false, cond, List, [], ◌∷◌, ◌++◌, append_assoc, append-nil, Option, Some, None, is_some, refl, sym, ap, subst, ◌∙◌}
-use Rattle.std.specs.Prelude.{◌*◌, ◌==◌, ◌&&◌, not, nat_lt}
-use Rattle.std.specs.List.{list_all, list_any}
-use Rattle.std.proofs.lemmas.Bool.{false≢true, and_parts, cases_Bool, eqb-true, and_from}
-use Rattle.suite_prefix.specs.SettingsRules.{Opening}
-use Rattle.rep_core.specs.declared.lock.Lock.{Lock}
-use Rattle.rep_core.specs.Locks.{has_prepared, rise}
-use Rattle.rep_core.proofs.Members.{has_filter, filter_has, any_has, has_any}
-use Rattle.txn_core.specs.declared.job.Job.{Job}
-use Rattle.txn_core.specs.declared.job.Job.TheVariants.{Sweep}
-use Rattle.txn_core.specs.Doing.{Fixed, Doing, RunningSweep, home_of}
-use Rattle.txn_core.specs.Agents.{fixed_of, is_idle, has_sense, max_jobs}
-use Rattle.run_core.specs.declared.event.Event.{Event}
-use Rattle.run_core.specs.declared.event.Event.TheVariants.{Begin}
-use Rattle.run_core.specs.Worlds.{Actor, World, opening, actor_at, has_no_job, step}
-use Rattle.run_core.specs.Runs.{after, run}
+use Rattle.law_run_recovers.proofs.Vocabulary.{◌≡◌, ◌≢◌, ◌⊎◌, inl, inr, ⊎_elim, ℕ, ◌+◌, Bool, true, false, cond, List, [], ◌∷◌, ◌++◌, append_assoc, append-nil, Option, Some, None, is_some, refl, sym, ap, subst, ◌∙◌, ◌*◌, ◌==◌, ◌&&◌}
+use Rattle.law_run_recovers.proofs.Vocabulary.{not, nat_lt, list_all, list_any, false≢true, and_parts, cases_Bool, eqb-true, and_from, Opening, Lock, has_prepared, rise, has_filter, filter_has, any_has, has_any, Job, Sweep, Fixed}
+use Rattle.law_run_recovers.proofs.Vocabulary.{Doing, RunningSweep, home_of, fixed_of, is_idle, has_sense, max_jobs, Event, Begin, Actor, World, opening, actor_at, has_no_job, step, after, run, begins_now, same_or, begins_job, with_job}
+use Rattle.law_run_recovers.proofs.Vocabulary.{is_up, locks_at, is_in_doubt, in_doubt, unhindered_from, sweeps, goes_round, OnlyDoubtsAreLeft}
 use Rattle.run_core.proofs.Appending.{after-append}
-use Rattle.law_runs.specs.Numbers.{begins_now}
-use Rattle.law_runs.proofs.Places.{same_or}
-use Rattle.law_run_alone.specs.Alone.{begins_job}
-use Rattle.law_run_alone.proofs.Turns.{with_job}
-use Rattle.law_run_recovers.specs.Standing.{is_up, locks_at, is_in_doubt, in_doubt}
-use Rattle.law_run_recovers.specs.Alone.{unhindered_from}
-use Rattle.law_run_recovers.specs.Sweeping.{sweeps, goes_round, OnlyDoubtsAreLeft}
 use Rattle.law_run_recovers.proofs.Doubts.{filter_alike, filter_all}
 use Rattle.law_run_recovers.proofs.Found.{or_rest}
 use Rattle.law_run_recovers.proofs.Swept.{Busy, Over, goes, busy_first, rises}

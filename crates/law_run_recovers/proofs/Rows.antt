@@ -1,42 +1,11 @@
 -- Where a transaction's demands are met, those by the votes of the table's own rows are.
-use Rattle.std.proofs.Common.{◌≡◌, inl, inr, ℕ, Bool, true, List, [], ◌∷◌, Option, Some, None, refl, sym, ap, subst, ◌∙◌, arith}
-use Rattle.std.specs.Prelude.{◌&&◌, map, option_map}
-use Rattle.std.specs.List.{list_all}
-use Rattle.std.proofs.lemmas.Bool.{and_parts}
-use Rattle.std.proofs.lemmas.Bool.Decides.{nat_tests}
-use Rattle.std.proofs.lemmas.List.Folds.{list_all-append}
-use Rattle.std.proofs.lemmas.Option.{none-some, same_Some}
-use Rattle.vote_core.specs.Quorums.{Configuration, votes_in}
-use Rattle.suite_prefix.specs.SettingsRules.{Opening}
-use Rattle.suite_prefix.specs.declared.copies.Prefix.{Prefix}
-use Rattle.suite_prefix.specs.declared.lock_mode.LockMode.{LockMode}
-use Rattle.suite_prefix.specs.declared.lock_mode.LockMode.TheVariants.{Shared, Exclusive}
-use Rattle.file_ops.specs.Rows.{Row, row_of}
-use Rattle.rep_core.proofs.Finding.{find_some}
-use Rattle.rep_core.proofs.Members.{contains_from}
-use Rattle.weak_cache.specs.Entries.{Entry, is_of, entry_of}
-use Rattle.txn_core.specs.Agents.{fixed_of}
-use Rattle.run_core.specs.declared.event.Event.{Event}
+use Rattle.law_run_recovers.proofs.Vocabulary.{◌≡◌, inl, inr, ℕ, Bool, true, List, [], ◌∷◌, Option, Some, None, refl, sym, ap, subst, ◌∙◌, arith, ◌&&◌, map, option_map, list_all, and_parts, nat_tests, list_all-append, none-some}
+use Rattle.law_run_recovers.proofs.Vocabulary.{same_Some, Configuration, votes_in, Opening, Prefix, LockMode, Shared, Exclusive, Row, row_of, find_some, contains_from, Entry, is_of, entry_of, fixed_of, Event, Actor, actor_at, run}
+use Rattle.law_run_recovers.proofs.Vocabulary.{table_of, prefix_at, WasPrefix, IsQuorum, Inv, beginning, machine_of, knowledge_was, AllKeepSides, register, row_at, CanBe, all_keep, all_consistent, is_up, up_free, Demand, demand, is_met}
+use Rattle.law_run_recovers.proofs.Vocabulary.{led_to, votes_of_row, locks_asked, votes_set, MayStart, MetDemandsAreRows}
 use Rattle.run_core.specs.Worlds as worlds
-use Rattle.run_core.specs.Worlds.{Actor, actor_at}
-use Rattle.run_core.specs.Runs.{run}
-use Rattle.run_core.specs.TableOfRun.{table_of}
-use Rattle.law_suite_machine.specs.Registers.{prefix_at, WasPrefix}
-use Rattle.law_suite_machine.specs.Machine.{IsQuorum}
-use Rattle.law_suite_machine.proofs.Invariant.{Inv}
-use Rattle.law_server_moves.specs.Laws.{beginning}
-use Rattle.law_run_machine.specs.Machines.{machine_of}
-use Rattle.law_run_knowledge.proofs.Events.{knowledge_was}
-use Rattle.law_one_table.specs.Tables.{AllKeepSides, register}
-use Rattle.law_one_table.specs.Versions.{row_at}
 use Rattle.law_one_table.proofs.Effects as effects
 use Rattle.law_one_table.proofs.Versions as versions
-use Rattle.law_headline.specs.Premises.{CanBe}
-use Rattle.law_headline.proofs.Keeping.{all_keep}
-use Rattle.law_run_alone.proofs.Unhindered.{all_consistent}
-use Rattle.law_run_recovers.specs.Standing.{is_up, up_free}
-use Rattle.law_run_recovers.specs.Demands.{Demand, demand, is_met, led_to, votes_of_row, locks_asked, votes_set, MayStart}
-use Rattle.law_run_recovers.specs.Laws.{MetDemandsAreRows}
 use Rattle.law_run_recovers.proofs.Found.{all_answer, found_is_row}
 use Rattle.law_run_recovers.proofs.Leading.{led}
 

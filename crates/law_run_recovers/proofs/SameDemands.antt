@@ -1,21 +1,7 @@
 -- Where servers are up as before, and show what they showed, a transaction demands what it did before.
-use Rattle.std.proofs.Common.{◌≡◌, ◌⊎◌, inl, inr, ⊎_elim, ℕ, zero, suc, Bool, true, false, cond, List, [], ◌∷◌, ◌++◌, length, Option, Some, None, refl, ap, ◌∙◌}
-use Rattle.std.specs.Prelude.{◌&&◌, nat_lt, find, map, option_map}
-use Rattle.std.proofs.lemmas.Bool.{and_parts}
-use Rattle.acl_core.specs.Identity.{Identity}
-use Rattle.vote_core.specs.Quorums.{Representative, Configuration, votes_in}
-use Rattle.suite_prefix.specs.Absent.{absent_prefix}
-use Rattle.suite_prefix.specs.declared.copies.Prefix.{Prefix}
-use Rattle.suite_prefix.specs.declared.lock_mode.LockMode.{LockMode}
-use Rattle.rep_core.proofs.Finding.{find_some}
-use Rattle.file_ops.specs.declared.operation.Op.{Op}
-use Rattle.file_ops.specs.Rows.{PlainTable}
-use Rattle.weak_cache.specs.Entries.{Cache}
-use Rattle.weak_cache.specs.Cache.{hint}
-use Rattle.txn_core.specs.Doing.{Fixed}
-use Rattle.run_core.specs.Worlds.{World}
-use Rattle.law_run_recovers.specs.Standing.{is_up, shown_at}
-use Rattle.law_run_recovers.specs.Demands.{Demand, demand, demands, all_met, shows_newer_by, newer_by, newer_from, led_on, led_so_far_by, led_to, locks_asked, votes_set, MayStart, VotesAreUp}
+use Rattle.law_run_recovers.proofs.Vocabulary.{◌≡◌, ◌⊎◌, inl, inr, ⊎_elim, ℕ, zero, suc, Bool, true, false, cond, List, [], ◌∷◌, ◌++◌, length, Option, Some, None, refl, ap, ◌∙◌, ◌&&◌, nat_lt, find, map, option_map, and_parts, Identity}
+use Rattle.law_run_recovers.proofs.Vocabulary.{Representative, Configuration, votes_in, absent_prefix, Prefix, LockMode, find_some, Op, PlainTable, Cache, hint, Fixed, World, is_up, shown_at, Demand, demand, demands, all_met}
+use Rattle.law_run_recovers.proofs.Vocabulary.{shows_newer_by, newer_by, newer_from, led_on, led_so_far_by, led_to, locks_asked, votes_set, MayStart, VotesAreUp}
 use Rattle.law_run_recovers.proofs.Leading.{stays}
 use Rattle.law_run_recovers.proofs.Picks.{votes_alike}
 use Rattle.law_run_recovers.proofs.Unmoved.{map_alike}

@@ -1,33 +1,12 @@
 -- What an event serves, if anything; and that whoever has a lock at a server was told so there.
-use Rattle.std.proofs.Common.{◌≡◌, ◌⊎◌, inl, inr, ⊎_elim, ℕ, Bool, true, false, cond, List, Option, Some, None, refl, sym, ap, subst, ◌∙◌}
-use Rattle.std.specs.Prelude.{◌==◌, ◌&&◌, not, filter, map, slice_get, slice_set}
-use Rattle.suite_prefix.specs.declared.lock_mode.LockMode.{LockMode}
-use Rattle.suite_prefix.specs.declared.lock_mode.LockMode.TheVariants.{Exclusive}
-use Rattle.suite_prefix.specs.declared.copies.Replica.{Replica}
-use Rattle.rep_core.specs.declared.lock.Lock.{Lock}
-use Rattle.rep_core.specs.declared.request.Request.{Request}
+use Rattle.law_run_recovers.proofs.Vocabulary.{◌≡◌, ◌⊎◌, inl, inr, ⊎_elim, ℕ, Bool, true, false, cond, List, Option, Some, None, refl, sym, ap, subst, ◌∙◌, ◌==◌, ◌&&◌, not, filter, map, slice_get, slice_set, LockMode, Exclusive}
+use Rattle.law_run_recovers.proofs.Vocabulary.{Replica, Lock, Request, Reply, Verdict, Stamped, AuditItem, in_the_way, has_lock, raised, raised_lock, with_lock, before, prepared_lock, is_own, copy_of, intended, State, record_of}
+use Rattle.law_run_recovers.proofs.Vocabulary.{reply_of, reply_up, reply_down, after_up, after_down, after_locking, locking_reply, held, after_record, prepares, is_full, served, answer_of, Has, has_filter, has_between, has_map, Lacked}
+use Rattle.law_run_recovers.proofs.Vocabulary.{Fixed, Agent, next_of, begin, forget, Event, Begin, Step, Crash, Return, Forget, Lack, Served, Actor, World, Stepped, server_at, actor_at, serve, answered, becomes, asks_at, asks}
+use Rattle.law_run_recovers.proofs.Vocabulary.{steps_once, lacks_for, lacks, operated, operates, step, same_or, puts_in, locks_in, locks_at}
 use Rattle.rep_core.specs.declared.request.Request.TheVariants as request
-use Rattle.rep_core.specs.declared.reply.Reply.{Reply}
-use Rattle.rep_core.specs.declared.reply.Verdict.{Verdict}
-use Rattle.rep_core.specs.declared.stamped.Stamped.{Stamped}
 use Rattle.rep_core.specs.declared.stamped.Lack.{Lack as Why}
-use Rattle.file_ops.specs.declared.audit.AuditItem.{AuditItem}
-use Rattle.rep_core.specs.Locks.{in_the_way, has_lock, raised, raised_lock, with_lock, before, prepared_lock, is_own}
-use Rattle.rep_core.specs.Store.{copy_of, intended}
-use Rattle.rep_core.specs.State.{State, record_of}
-use Rattle.rep_core.specs.Service.{reply_of, reply_up, reply_down, after, after_up, after_down, after_locking, locking_reply, held, after_record, prepares}
-use Rattle.rep_core.specs.Serving.{is_full, served, answer_of}
-use Rattle.rep_core.proofs.Members.{Has, has_filter, has_between, has_map}
-use Rattle.txn_core.specs.declared.response.Response.TheVariants.{Lacked}
-use Rattle.txn_core.specs.Doing.{Fixed}
-use Rattle.txn_core.specs.Agents.{Agent, next_of, begin, forget}
-use Rattle.run_core.specs.declared.event.Event.{Event}
-use Rattle.run_core.specs.declared.event.Event.TheVariants.{Begin, Step, Crash, Return, Forget, Lack}
-use Rattle.run_core.specs.declared.done.Served.{Served}
-use Rattle.run_core.specs.Worlds.{Actor, World, Stepped, server_at, actor_at, serve, answered, becomes, asks_at, asks, steps_once, lacks_for, lacks, operated, operates, step}
-use Rattle.law_runs.proofs.Places.{same_or}
-use Rattle.law_runs.proofs.Worlds.{puts_in}
-use Rattle.law_run_recovers.specs.Standing.{locks_in, locks_at}
+use Rattle.rep_core.specs.Service.{after}
 
 -- ---- one server
 

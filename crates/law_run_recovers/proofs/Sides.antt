@@ -1,38 +1,10 @@
 -- What is so of any run: who runs has not ended, a number is its agent's, nobody asks a server to crash, and servers that are up stay so.
-use Rattle.std.proofs.Common.{◌≡◌, ◌⊎◌, inl, inr, ⊎_elim, ℕ, zero, suc, ◌+◌, true, false, List, [], ◌∷◌, ◌++◌, length, Option, Some, None, is_some, refl, sym, ap, subst, ◌∙◌, arith}
-use Rattle.std.specs.Prelude.{◌%◌, ◌==◌, slice_get}
-use Rattle.std.proofs.lemmas.Bool.{false≢true, and_parts, eqb-true}
-use Rattle.std.proofs.lemmas.Option.{none-some, same_Some}
-use Rattle.suite_prefix.specs.SettingsRules.{Opening, IsAccepted}
-use Rattle.rep_core.specs.declared.request.Request.{Request}
+use Rattle.law_run_recovers.proofs.Vocabulary.{◌≡◌, ◌⊎◌, inl, inr, ⊎_elim, ℕ, zero, suc, ◌+◌, true, false, List, [], ◌∷◌, ◌++◌, length, Option, Some, None, is_some, refl, sym, ap, subst, ◌∙◌, arith, ◌%◌, ◌==◌, slice_get, false≢true}
+use Rattle.law_run_recovers.proofs.Vocabulary.{and_parts, eqb-true, none-some, same_Some, Opening, IsAccepted, Request, State, Has, Job, Agent, fixed_of, EndedJob, Event, Begin, Step, Crash, Return, Forget, Lack, Actor, World, opening}
+use Rattle.law_run_recovers.proofs.Vocabulary.{server_at, actor_at, step, dones, done_in, outcomes, run, decisions, dones-append, outcomes-append, ended, names, may_sweep, number_of, begins_at, same_place, agents_ask_for_themselves}
+use Rattle.law_run_recovers.proofs.Vocabulary.{each_is_begun_once, holds_of, so_many, append_has_left, agent_of, agent_at, begins_job, is_crash, up_stays, with_job, AllServers, MayAsk, asks_servers, spoils, up_in, is_up, runs}
+use Rattle.law_run_recovers.proofs.Vocabulary.{running_in, is_running, takes}
 use Rattle.rep_core.specs.declared.request.Request.TheVariants as request
-use Rattle.rep_core.specs.State.{State}
-use Rattle.rep_core.proofs.Members.{Has}
-use Rattle.txn_core.specs.declared.job.Job.{Job}
-use Rattle.txn_core.specs.Agents.{Agent, fixed_of}
-use Rattle.run_core.specs.declared.done.EndedJob.{EndedJob}
-use Rattle.run_core.specs.declared.event.Event.{Event}
-use Rattle.run_core.specs.declared.event.Event.TheVariants.{Begin, Step, Crash, Return, Forget, Lack}
-use Rattle.run_core.specs.Worlds.{Actor, World, opening, server_at, actor_at, step}
-use Rattle.run_core.specs.Runs.{dones, done_in, outcomes, run}
-use Rattle.run_core.specs.Decisions.{decisions}
-use Rattle.run_core.proofs.Appending.{dones-append, outcomes-append}
-use Rattle.law_runs.specs.Claims.{ended}
-use Rattle.law_runs.specs.Naming.{names, may_sweep}
-use Rattle.law_runs.specs.Numbers.{number_of, begins_at}
-use Rattle.law_runs.proofs.Agents.{same_place}
-use Rattle.law_runs.proofs.Begun.{agents_ask_for_themselves, each_is_begun_once}
-use Rattle.law_runs.proofs.Conclusions.{holds_of}
-use Rattle.law_runs.proofs.Lengths.{so_many}
-use Rattle.law_runs.proofs.Standing.{append_has_left}
-use Rattle.law_runs.proofs.Worlds.{agent_of, agent_at}
-use Rattle.law_run_alone.specs.Alone.{begins_job}
-use Rattle.law_run_alone.proofs.Own.{is_crash, up_stays}
-use Rattle.law_run_alone.proofs.Turns.{with_job}
-use Rattle.law_run_alone.proofs.Walks.{AllServers, MayAsk, asks_servers}
-use Rattle.law_run_recovers.specs.Beside.{spoils}
-use Rattle.law_run_recovers.specs.Standing.{up_in, is_up}
-use Rattle.law_run_recovers.specs.Unmet.{runs, running_in, is_running, takes}
 use Rattle.law_run_recovers.proofs.AmongCourse.{head_or, tail_or}
 use Rattle.law_run_recovers.proofs.Keeps.{last_of}
 

@@ -1,30 +1,9 @@
 -- What an agent that nobody hinders was told since it began: each server that told it of a lock was up then.
-use Rattle.std.proofs.Common.{◌≡◌, ⊎_elim, ℕ, true, false, cond, List, [], ◌∷◌, ◌++◌, Option, Some, None, is_some, refl, sym, ap, subst, ◌∙◌}
-use Rattle.std.specs.Prelude.{◌==◌, not, slice_get, slice_set}
-use Rattle.std.proofs.lemmas.Bool.{false≢true, and_parts, eqb-true, not-true, or_cases}
-use Rattle.suite_prefix.specs.SettingsRules.{Opening}
-use Rattle.rep_core.specs.declared.request.Request.{Request}
-use Rattle.rep_core.specs.declared.stamped.Stamped.{Stamped}
-use Rattle.rep_core.specs.State.{State}
-use Rattle.rep_core.specs.Service.{reply_of}
-use Rattle.rep_core.specs.Serving.{is_full, served, answer_of}
-use Rattle.txn_core.specs.declared.response.Response.{Response}
-use Rattle.txn_core.specs.declared.response.Response.TheVariants.{Replied}
-use Rattle.txn_core.specs.Doing.{Fixed}
+use Rattle.law_run_recovers.proofs.Vocabulary.{◌≡◌, ⊎_elim, ℕ, true, false, cond, List, [], ◌∷◌, ◌++◌, Option, Some, None, is_some, refl, sym, ap, subst, ◌∙◌, ◌==◌, not, slice_get, slice_set, false≢true, and_parts, eqb-true, not-true}
+use Rattle.law_run_recovers.proofs.Vocabulary.{or_cases, Opening, Request, Stamped, State, reply_of, is_full, served, answer_of, Response, Replied, Fixed, Agent, Take, fixed_of, next_of, take, after_all, exchange_of, exchanges}
+use Rattle.law_run_recovers.proofs.Vocabulary.{was_held, says_held, locks, after-append, exchanges-take, Event, Step, Served, Actor, World, Stepped, server_at, actor_at, serve, moved, answered, asks_at, asks, steps_once, step, after}
+use Rattle.law_run_recovers.proofs.Vocabulary.{take_keeps, puts_in, same_or, up_in, is_up, hinders, unhindered_from}
 use Rattle.txn_core.specs.Agents as agents
-use Rattle.txn_core.specs.Agents.{Agent, Take, fixed_of, next_of, take, after_all}
-use Rattle.txn_core.specs.Laws.{exchange_of, exchanges, was_held, says_held, locks}
-use Rattle.txn_core.proofs.Upheld.{after-append, exchanges-take}
-use Rattle.run_core.specs.declared.event.Event.{Event}
-use Rattle.run_core.specs.declared.event.Event.TheVariants.{Step}
-use Rattle.run_core.specs.declared.done.Served.{Served}
-use Rattle.run_core.specs.Worlds.{Actor, World, Stepped, server_at, actor_at, serve, moved, answered, asks_at, asks, steps_once, step}
-use Rattle.run_core.specs.Runs.{after}
-use Rattle.law_runs.proofs.Agents.{take_keeps}
-use Rattle.law_runs.proofs.Worlds.{puts_in}
-use Rattle.law_runs.proofs.Places.{same_or}
-use Rattle.law_run_recovers.specs.Standing.{up_in, is_up}
-use Rattle.law_run_recovers.specs.Alone.{hinders, unhindered_from}
 use Rattle.law_run_recovers.proofs.Aside.{Aside, event_aside}
 use Rattle.law_run_recovers.proofs.Downs.{is_return, never_returns, was_up, held_up, held-append, three}
 

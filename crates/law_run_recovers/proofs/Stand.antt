@@ -1,36 +1,12 @@
 -- What an open server has stored of a suite stands still, unless something is taken from the transaction to which it is open.
-use Rattle.std.proofs.Common.{◌≡◌, ⊎_elim, ℕ, Bool, true, false, cond, Option, Some, None, refl, sym, ap, ◌∙◌, arith}
-use Rattle.std.specs.Prelude.{◌==◌, ◌&&◌, ◌||◌, not, option_map, slice_get, slice_set}
-use Rattle.std.specs.List.{list_any}
-use Rattle.std.specs.Ordering.{nat_cmp}
-use Rattle.std.proofs.lemmas.Bool.{false≢true, eqb-true, eq-eqb}
-use Rattle.std.proofs.lemmas.Bool.Decides.{nat_tests}
-use Rattle.std.proofs.lemmas.Option.{same_Some}
-use Rattle.sorted_map.specs.SortedMap.{get}
-use Rattle.suite_prefix.specs.declared.lock_mode.LockMode.{LockMode}
-use Rattle.suite_prefix.specs.declared.lock_mode.LockMode.TheVariants.{Exclusive}
-use Rattle.suite_prefix.specs.LockModes.{is_exclusive}
-use Rattle.rep_core.specs.declared.lock.Lock.{Lock}
-use Rattle.file_ops.specs.declared.audit.AuditItem.{AuditItem}
-use Rattle.rep_core.specs.declared.reply.Verdict.{Verdict}
+use Rattle.law_run_recovers.proofs.Vocabulary.{◌≡◌, ⊎_elim, ℕ, Bool, true, false, cond, Option, Some, None, refl, sym, ap, ◌∙◌, arith, ◌==◌, ◌&&◌, ◌||◌, not, option_map, slice_get, slice_set, list_any, nat_cmp, false≢true, eqb-true}
+use Rattle.law_run_recovers.proofs.Vocabulary.{eq-eqb, nat_tests, same_Some, get, LockMode, Exclusive, is_exclusive, Lock, AuditItem, Verdict, Request, Intention, IsConsistent, HasPreparedLock, conflicts, in_the_way, has_lock}
+use Rattle.law_run_recovers.proofs.Vocabulary.{with_prepared, copy_of, copy_in, left_by, with_copies, finished, intended, State, record_of, after_locking, after_poll, after_record, after_up, after_down, prepares, is_answered}
+use Rattle.law_run_recovers.proofs.Vocabulary.{verdict_of, audit_of, served, Has, has_from, has_any, find_none, copy_in-with_copies, Fixed, Event, World, server_at, step, same_or, puts_in, is_open_way, way_in}
 use Rattle.rep_core.specs.declared.reply.Verdict.TheVariants as verdict
-use Rattle.rep_core.specs.declared.request.Request.{Request}
 use Rattle.rep_core.specs.declared.request.Request.TheVariants as request
-use Rattle.rep_core.specs.Intentions.{Intention}
-use Rattle.rep_core.specs.Consistency.{IsConsistent, HasPreparedLock}
-use Rattle.rep_core.specs.Locks.{conflicts, in_the_way, has_lock, with_prepared}
-use Rattle.rep_core.specs.Store.{copy_of, copy_in, in_effect, left_by, with_copies, finished, intended}
-use Rattle.rep_core.specs.State.{State, record_of}
-use Rattle.rep_core.specs.Service.{after_locking, after_poll, after_record, after_up, after_down, after, prepares, is_answered, verdict_of, audit_of}
-use Rattle.rep_core.specs.Serving.{served}
-use Rattle.rep_core.proofs.Members.{Has, has_from, has_any, find_none}
-use Rattle.rep_core.proofs.Intentions.{copy_in-with_copies}
-use Rattle.txn_core.specs.Doing.{Fixed}
-use Rattle.run_core.specs.declared.event.Event.{Event}
-use Rattle.run_core.specs.Worlds.{World, server_at, step}
-use Rattle.law_runs.proofs.Places.{same_or}
-use Rattle.law_runs.proofs.Worlds.{puts_in}
-use Rattle.law_run_recovers.specs.Near.{is_open_way, way_in}
+use Rattle.rep_core.specs.Store.{in_effect}
+use Rattle.rep_core.specs.Service.{after}
 use Rattle.law_run_recovers.proofs.Serves.{Serves, event_serves}
 
 -- a Finish of the transaction finds no lock of it

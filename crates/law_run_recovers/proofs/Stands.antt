@@ -1,46 +1,14 @@
 -- How a transaction stands to which servers stand as a sight says: what it has asked for so far and how that was found, and how it ends.
-use Rattle.std.proofs.Common.{◌≡◌, ◌⊎◌, inl, inr, ℕ, ◌≤◌, Bool, true, false, cond, List, [], ◌∷◌, ◌++◌, append-nil, Option, Some, None, is_some, Result, Ok, Err, refl, sym, ap, subst, ◌∙◌}
-use Rattle.std.specs.Prelude.{◌==◌, not, nat_lt, find, map}
-use Rattle.std.specs.List.{list_any}
-use Rattle.std.specs.Ordering.{nat_cmp}
-use Rattle.std.proofs.lemmas.Bool.{eqb-true}
-use Rattle.std.proofs.lemmas.Cmp.{nat_cmp_total}
-use Rattle.sorted_map.specs.SortedMap.{IsOrdered}
-use Rattle.sorted_map.specs.Laws.{IsOrdered-insert}
-use Rattle.acl_core.specs.Identity.{Identity}
-use Rattle.vote_core.specs.Quorums.{Representative, Configuration}
-use Rattle.vote_core.specs.Validity.{IsValid, max_servers}
-use Rattle.suite_prefix.specs.Absent.{absent_prefix}
-use Rattle.suite_prefix.specs.declared.copies.Prefix.{Prefix}
-use Rattle.suite_prefix.specs.declared.lock_mode.LockMode.{LockMode}
-use Rattle.suite_prefix.specs.declared.lock_mode.LockMode.TheVariants.{Shared, Exclusive}
-use Rattle.suite_prefix.specs.LockModes.{serves}
-use Rattle.rep_core.proofs.Members.{Has}
-use Rattle.rep_core.specs.declared.reply.Verdict.{Verdict}
-use Rattle.file_ops.specs.declared.answer.Answer.{Answer}
-use Rattle.file_ops.specs.declared.refusal.Refusal.{Refusal}
-use Rattle.file_ops.specs.declared.operation.Op.{Op}
-use Rattle.file_ops.specs.Rows.{PlainTable, row_of}
-use Rattle.file_exec.specs.declared.need.Need.{Need}
-use Rattle.file_exec.specs.Following.{Ended, needs, ending}
-use Rattle.file_exec.specs.Operations.{transaction}
-use Rattle.suite_collect.specs.Telling.{newest, holds}
-use Rattle.suite_collect.specs.Collecting.{Collector, Widening, all_told}
-use Rattle.weak_cache.specs.Entries.{Cache}
-use Rattle.weak_cache.specs.Cache.{hint}
-use Rattle.txn_core.specs.declared.ending.Ending.{Ending}
-use Rattle.txn_core.specs.declared.ending.Ending.TheVariants.{Undecided}
-use Rattle.txn_core.specs.declared.ending.Cause.TheVariants.{Busy, Unavailable}
-use Rattle.txn_core.specs.Suites.{ReadPoint, GatheredSuite, Suites, suite_of, with_suite}
+use Rattle.law_run_recovers.proofs.Vocabulary.{◌≡◌, ◌⊎◌, inl, inr, ℕ, ◌≤◌, Bool, true, false, cond, List, [], ◌∷◌, ◌++◌, append-nil, Option, Some, None, is_some, Result, Ok, Err, refl, sym, ap, subst, ◌∙◌, ◌==◌, not, nat_lt, find, map}
+use Rattle.law_run_recovers.proofs.Vocabulary.{list_any, nat_cmp, eqb-true, nat_cmp_total, IsOrdered, IsOrdered-insert, Identity, Representative, Configuration, IsValid, max_servers, absent_prefix, Prefix, LockMode, Shared, Exclusive}
+use Rattle.law_run_recovers.proofs.Vocabulary.{serves, Has, Verdict, Answer, Refusal, Op, PlainTable, row_of, Need, Ended, needs, ending, transaction, newest, holds, Collector, all_told, Cache, hint, Ending, Undecided, Unavailable}
+use Rattle.law_run_recovers.proofs.Vocabulary.{ReadPoint, GatheredSuite, Suites, suite_of, with_suite, Fixed, Task, Granted, Phase, Gathering, Fetching, Preparing, Deciding, Finishing, TransactionRun, After, GoesOn, Ends, home_of}
+use Rattle.law_run_recovers.proofs.Vocabulary.{short_cause, tell_end, prepare, Each, EachBut, with_at, each_but, each_with, World, is_up, Demand, demand_by, is_met, newer_by, led_to_by, has_asked, not_asked, locks_asked, votes_set}
+use Rattle.law_run_recovers.proofs.Vocabulary.{MayStart, MayStartAll, ending_by, answer_on, Want, first_mode}
+use Rattle.suite_collect.specs.Collecting.{Widening}
+use Rattle.txn_core.specs.declared.ending.Cause.TheVariants.{Busy}
 use Rattle.txn_core.specs.Doing as doing
-use Rattle.txn_core.specs.Doing.{Fixed, Task, Granted, Phase, Gathering, Fetching, Preparing, Deciding, Finishing, TransactionRun, After, GoesOn, Ends, home_of}
-use Rattle.txn_core.specs.Transactions.{Step, short_cause, tell_end, prepare}
-use Rattle.txn_core.proofs.Gathers.{Each, EachBut, with_at, each_but, each_with}
-use Rattle.run_core.specs.Worlds.{World}
-use Rattle.law_run_recovers.specs.Standing.{is_up}
-use Rattle.law_run_recovers.specs.Demands.{Demand, demand_by, is_met, newer_by, led_to_by, has_asked, not_asked, locks_asked, votes_set, MayStart, MayStartAll}
-use Rattle.law_run_recovers.specs.Laws.{ending_by, answer_on}
-use Rattle.law_run_recovers.specs.OpenDemands.{Want, first_mode}
+use Rattle.txn_core.specs.Transactions.{Step}
 use Rattle.law_run_recovers.proofs.Asking.{onto, find_past, held_if, held_in}
 use Rattle.law_run_recovers.proofs.Led.{Rules, Reached}
 use Rattle.law_run_recovers.proofs.Polled.{Sight, finds_at, serves_all, AllRight, all_wider, AllBelow, Refusing}

@@ -1,36 +1,11 @@
 -- What the course of a transaction stands on, be it among locks that stay, or told what it would have been told as it began.
-use Rattle.std.proofs.Common.{◌≡◌, ℕ, Bool, true, false, cond, List, [], ◌∷◌, ◌++◌, append_assoc, Option, Some, None, refl, sym, ap, subst, ◌∙◌, arith}
-use Rattle.std.specs.Prelude.{◌==◌, ◌&&◌, ◌||◌, not, slice_get}
-use Rattle.std.proofs.lemmas.Bool.{false≢true, and_parts, eqb-true}
-use Rattle.std.proofs.lemmas.Bool.Decides.{nat_tests}
-use Rattle.std.proofs.lemmas.Option.{none-some, same_Some}
-use Rattle.acl_core.specs.Identity.{Identity}
-use Rattle.suite_prefix.specs.SettingsRules.{Opening}
-use Rattle.file_ops.specs.declared.operation.Op.{Op}
-use Rattle.rep_core.specs.declared.lock.Lock.{Lock}
-use Rattle.rep_core.specs.declared.request.Request.{Request}
+use Rattle.law_run_recovers.proofs.Vocabulary.{◌≡◌, ℕ, Bool, true, false, cond, List, [], ◌∷◌, ◌++◌, append_assoc, Option, Some, None, refl, sym, ap, subst, ◌∙◌, arith, ◌==◌, ◌&&◌, ◌||◌, not, slice_get, false≢true, and_parts, eqb-true}
+use Rattle.law_run_recovers.proofs.Vocabulary.{nat_tests, none-some, same_Some, Identity, Opening, Op, Lock, Request, Stamped, State, after_up, after_down, is_full, served, answer_of, Has, any_has, Transaction, Fixed, fixed_of, next_of}
+use Rattle.law_run_recovers.proofs.Vocabulary.{Served, Event, Begin, Step, Crash, Return, Forget, Lack, Actor, World, server_at, actor_at, operates, operated, step, run, CanBe, begins_job, puts_in, up_in, is_up, locks_in, locks_at}
+use Rattle.law_run_recovers.proofs.Vocabulary.{AreNear, asks_for, running_in, is_running, is_telling, begun_world, world_after, up_and, of_up, robs, hinders_itself, GoesAmongLocks, AsAtItsBegin, ToldAsAtItsBegin, bereaves, drops}
+use Rattle.law_run_recovers.proofs.Vocabulary.{everywhere}
 use Rattle.rep_core.specs.declared.request.Request.TheVariants as request
-use Rattle.rep_core.specs.declared.stamped.Stamped.{Stamped}
-use Rattle.rep_core.specs.State.{State}
-use Rattle.rep_core.specs.Service.{after_up, after_down, after}
-use Rattle.rep_core.specs.Serving.{is_full, served, answer_of}
-use Rattle.rep_core.proofs.Members.{Has, any_has}
-use Rattle.txn_core.specs.declared.job.Job.TheVariants.{Transaction}
-use Rattle.txn_core.specs.Doing.{Fixed}
-use Rattle.txn_core.specs.Agents.{fixed_of, next_of}
-use Rattle.run_core.specs.declared.done.Served.{Served}
-use Rattle.run_core.specs.declared.event.Event.{Event}
-use Rattle.run_core.specs.declared.event.Event.TheVariants.{Begin, Step, Crash, Return, Forget, Lack}
-use Rattle.run_core.specs.Worlds.{Actor, World, server_at, actor_at, operates, operated, step}
-use Rattle.run_core.specs.Runs.{run}
-use Rattle.law_headline.specs.Premises.{CanBe}
-use Rattle.law_run_alone.specs.Alone.{begins_job}
-use Rattle.law_runs.proofs.Worlds.{puts_in}
-use Rattle.law_run_recovers.specs.Standing.{up_in, is_up, locks_in, locks_at}
-use Rattle.law_run_recovers.specs.Near.{AreNear, asks_for}
-use Rattle.law_run_recovers.specs.Unmet.{running_in, is_running, is_telling, begun_world, world_after, up_and, of_up, robs, hinders_itself}
-use Rattle.law_run_recovers.specs.Among.{GoesAmongLocks}
-use Rattle.law_run_recovers.specs.Told.{AsAtItsBegin, ToldAsAtItsBegin, bereaves, drops, everywhere}
+use Rattle.rep_core.specs.Service.{after}
 use Rattle.law_run_recovers.proofs.Keeps.{IsAtWork, OfAsks, after_append, as_at_its_begin, operates_it}
 use Rattle.law_run_recovers.proofs.Serves.{On}
 

@@ -1,19 +1,6 @@
 -- A step of an agent that was served: what it asked, of which server, and what it made of the reply.
-use Rattle.std.proofs.Common.{◌≡◌, ℕ, true, false, cond, Option, Some, None, is_some, refl, sym, subst}
-use Rattle.std.specs.Prelude.{slice_set}
-use Rattle.std.proofs.lemmas.Bool.{false≢true}
-use Rattle.rep_core.specs.declared.request.Request.{Request}
-use Rattle.rep_core.specs.declared.stamped.Stamped.{Stamped}
-use Rattle.rep_core.specs.State.{State}
-use Rattle.rep_core.specs.Service.{reply_of}
-use Rattle.rep_core.specs.Serving.{is_full, served, answer_of}
-use Rattle.txn_core.specs.declared.response.Response.TheVariants.{Replied}
-use Rattle.txn_core.specs.Doing.{Fixed}
-use Rattle.txn_core.specs.Agents.{next_of, take}
-use Rattle.run_core.specs.declared.event.Event.TheVariants.{Step}
-use Rattle.run_core.specs.declared.done.Served.{Served}
-use Rattle.run_core.specs.Worlds.{Actor, World, Stepped, server_at, actor_at, serve, moved, outcome_of, answered, asks_at, asks, steps_once, step}
-use Rattle.law_runs.proofs.Worlds.{puts_in}
+use Rattle.law_run_recovers.proofs.Vocabulary.{◌≡◌, ℕ, true, false, cond, Option, Some, None, is_some, refl, sym, subst, slice_set, false≢true, Request, Stamped, State, reply_of, is_full, served, answer_of, Replied, Fixed, next_of}
+use Rattle.law_run_recovers.proofs.Vocabulary.{take, Step, Served, Actor, World, Stepped, server_at, actor_at, serve, moved, outcome_of, answered, asks_at, asks, steps_once, step, puts_in}
 
 module _ (fixed : Fixed) (w : World) (agent : ℕ) (here : Actor) (there : actor_at w agent ≡ Some here) where
   abbrev pub with_stamp : Request → Stamped Request

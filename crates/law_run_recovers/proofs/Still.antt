@@ -1,29 +1,13 @@
 -- Until a transaction tells how it ended nothing that it asks finishes anything; and until it is decided nothing records how it ended.
-use Rattle.std.proofs.Common.{◌≡◌, ℕ, false, List, [], ◌∷◌, Option, Some, None, refl, sym, ap, ◌∙◌}
-use Rattle.std.proofs.lemmas.Bool.{false≢true}
-use Rattle.rep_core.specs.declared.request.Request.{Request}
+use Rattle.law_run_recovers.proofs.Vocabulary.{◌≡◌, ℕ, false, List, [], ◌∷◌, Option, Some, None, refl, sym, ap, ◌∙◌, false≢true, Request, Verdict, Stamped, State, record_of, Ways, by_step, Cache, Ending, Response, Replied, Lacked}
+use Rattle.law_run_recovers.proofs.Vocabulary.{Suites, suite_of, parts_at, Fixed, Task, Phase, Gathering, Fetching, Widening, Preparing, Deciding, Finishing, TransactionRun, SweepRun, Doing, Running, RunningSweep, After, GoesOn, Ends}
+use Rattle.law_run_recovers.proofs.Vocabulary.{home_of, tell_end, locked_at, lack_cause, after_response, request_in, changes_of, decision_of, verdict_in, cause_of_abort, Undecided, is_decide, is_resolve, is_finish, Agent, next_in, left}
+use Rattle.law_run_recovers.proofs.Vocabulary.{take_in, asks_same, asked_as, fetched_as}
 use Rattle.rep_core.specs.declared.request.Request.TheVariants as request
-use Rattle.rep_core.specs.declared.reply.Verdict.{Verdict}
 use Rattle.rep_core.specs.declared.reply.Verdict.TheVariants as verdict
-use Rattle.rep_core.specs.declared.stamped.Stamped.{Stamped}
-use Rattle.rep_core.specs.State.{State, record_of}
 use Rattle.rep_core.specs.Serving.{step}
-use Rattle.rep_core.proofs.Ways.{Ways, by_step}
-use Rattle.weak_cache.specs.Entries.{Cache}
-use Rattle.txn_core.specs.declared.ending.Ending.{Ending}
-use Rattle.txn_core.specs.declared.response.Response.{Response}
-use Rattle.txn_core.specs.declared.response.Response.TheVariants.{Replied, Lacked}
-use Rattle.txn_core.specs.Suites.{Suites, suite_of}
-use Rattle.txn_core.specs.Writing.{parts_at}
-use Rattle.txn_core.specs.Doing.{Fixed, Task, Phase, Gathering, Fetching, Widening, Preparing, Deciding, Finishing, TransactionRun, SweepRun, Doing, Running, RunningSweep, After, GoesOn, Ends, home_of}
 use Rattle.txn_core.specs.Sweeps as sweep
-use Rattle.txn_core.specs.Transactions.{tell_end, locked_at, lack_cause, after_response, request_in, changes_of, decision_of, verdict_in, ending_by, cause_of_abort}
-use Rattle.txn_core.specs.declared.ending.Ending.TheVariants.{Undecided}
-use Rattle.txn_core.specs.Laws.{is_decide}
-use Rattle.law_run_alone.proofs.Unswept.{is_resolve}
-use Rattle.txn_core.specs.Undecided.{is_finish}
-use Rattle.txn_core.specs.Agents.{Agent, next_in, left, take_in}
-use Rattle.txn_core.proofs.Asks.{asks_same, asked_as, fetched_as}
+use Rattle.txn_core.specs.Transactions.{ending_by}
 
 -- ---- a server
 

@@ -1,25 +1,8 @@
 -- Once all servers were swept, what is stored is in effect, and was before.
-use Rattle.std.proofs.Common.{◌≡◌, ℕ, true, List, [], ◌++◌, length, Option, Some, None, refl, sym, ap, subst, ◌∙◌}
-use Rattle.std.specs.Prelude.{◌==◌, unwrap_or}
-use Rattle.std.specs.Ordering.{nat_cmp}
-use Rattle.sorted_map.specs.SortedMap.{get}
-use Rattle.suite_prefix.specs.SettingsRules.{Opening}
-use Rattle.rep_core.specs.Intentions.{Intention}
-use Rattle.rep_core.specs.Consistency.{IsConsistent}
+use Rattle.law_run_recovers.proofs.Vocabulary.{◌≡◌, ℕ, true, List, [], ◌++◌, length, Option, Some, None, refl, sym, ap, subst, ◌∙◌, ◌==◌, unwrap_or, nat_cmp, get, Opening, Intention, IsConsistent, copy_of, State, Has, has_from, all_at}
+use Rattle.law_run_recovers.proofs.Vocabulary.{World, server_at, run, servers_of, servers_are_consistent, Event, answered_in, copy_at, at_has, all_free, sweeps, AllIsStored}
 use Rattle.rep_core.specs.Store as store
-use Rattle.rep_core.specs.Store.{copy_of}
 use Rattle.rep_core.specs.State as state
-use Rattle.rep_core.specs.State.{State}
-use Rattle.rep_core.proofs.Members.{Has, has_from, all_at}
-use Rattle.run_core.specs.Worlds.{World, server_at}
-use Rattle.run_core.specs.Runs.{run}
-use Rattle.law_run_machine.specs.Machines.{servers_of}
-use Rattle.law_run_machine.proofs.Consistent.{servers_are_consistent}
-use Rattle.run_core.specs.declared.event.Event.{Event}
-use Rattle.law_one_table.specs.Effects.{answered_in, copy_at}
-use Rattle.law_run_alone.proofs.Clear.{at_has}
-use Rattle.law_run_recovers.specs.Standing.{all_free}
-use Rattle.law_run_recovers.specs.Sweeping.{sweeps, AllIsStored}
 use Rattle.law_run_recovers.proofs.Found.{no_locks}
 use Rattle.law_run_recovers.proofs.Free.{no_lock_is_left}
 use Rattle.law_run_recovers.proofs.Quiet.{Calm, effects_stay, decisions_stay}

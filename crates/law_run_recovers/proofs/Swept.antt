@@ -1,31 +1,9 @@
 -- A sweep alone, from its begin on: as long as it goes on, and where it ended.
-use Rattle.std.proofs.Common.{◌≡◌, ◌⊎◌, inl, inr, ⊎_elim, ℕ, ◌+◌, true, false, cond, List, [], ◌∷◌, Option, Some, None, is_some, refl, sym, ap, subst, ◌∙◌, arith}
-use Rattle.std.specs.Prelude.{◌*◌, ◌&&◌, not, nat_lt, slice_get, slice_set}
-use Rattle.std.specs.List.{cons_option}
-use Rattle.std.proofs.lemmas.Bool.{false≢true, and_parts, not-true}
-use Rattle.std.proofs.lemmas.Option.{none-some, same_Some}
-use Rattle.suite_prefix.specs.SettingsRules.{Opening}
-use Rattle.rep_core.specs.Locks.{rise}
-use Rattle.rep_core.specs.State.{State}
-use Rattle.rep_core.proofs.Members.{Has, has_from}
-use Rattle.txn_core.specs.declared.ending.Ending.{Ending}
-use Rattle.txn_core.specs.declared.job.Job.TheVariants.{Sweep}
-use Rattle.txn_core.specs.Doing.{Fixed, Listing, SweepRun, RunningSweep, After, GoesOn, Ends}
-use Rattle.txn_core.specs.Agents.{Agent, fixed_of, is_idle, has_sense, max_jobs, next_in, left, end_of, begin, started}
-use Rattle.run_core.specs.declared.event.Event.{Event}
-use Rattle.run_core.specs.declared.event.Event.TheVariants.{Begin, Step}
-use Rattle.run_core.specs.declared.done.EndedJob.{EndedJob}
-use Rattle.run_core.specs.Worlds.{Actor, World, Stepped, opening, server_at, actor_at, outcome_of, becomes, asks, steps_once, step}
-use Rattle.run_core.specs.Runs.{after, dones, outcomes, run}
+use Rattle.law_run_recovers.proofs.Vocabulary.{◌≡◌, ◌⊎◌, inl, inr, ⊎_elim, ℕ, ◌+◌, true, false, cond, List, [], ◌∷◌, Option, Some, None, is_some, refl, sym, ap, subst, ◌∙◌, arith, ◌*◌, ◌&&◌, not, nat_lt, slice_get, slice_set}
+use Rattle.law_run_recovers.proofs.Vocabulary.{cons_option, false≢true, and_parts, not-true, none-some, same_Some, Opening, rise, State, Has, has_from, Ending, Sweep, Fixed, Listing, SweepRun, RunningSweep, After, GoesOn, Ends, Agent}
+use Rattle.law_run_recovers.proofs.Vocabulary.{fixed_of, is_idle, has_sense, max_jobs, next_in, left, end_of, begin, started, Event, Begin, Step, EndedJob, Actor, World, Stepped, opening, server_at, actor_at, outcome_of, becomes, asks}
+use Rattle.law_run_recovers.proofs.Vocabulary.{steps_once, step, after, dones, outcomes, run, begins_now, puts_in, begins_job, with_job, all_consistent, up_in, is_up, locks_in, locks_at, hinders, unhindered_from, SweepsLeaveDoubts}
 use Rattle.run_core.proofs.Appending.{after-append}
-use Rattle.law_runs.specs.Numbers.{begins_now}
-use Rattle.law_runs.proofs.Worlds.{puts_in}
-use Rattle.law_run_alone.specs.Alone.{begins_job}
-use Rattle.law_run_alone.proofs.Turns.{with_job}
-use Rattle.law_run_alone.proofs.Unhindered.{all_consistent}
-use Rattle.law_run_recovers.specs.Standing.{up_in, is_up, locks_in, locks_at}
-use Rattle.law_run_recovers.specs.Alone.{hinders, unhindered_from}
-use Rattle.law_run_recovers.specs.Sweeping.{SweepsLeaveDoubts}
 use Rattle.law_run_recovers.proofs.Aside.{Aside, event_aside}
 use Rattle.law_run_recovers.proofs.Doubts.{filter_all}
 use Rattle.law_run_recovers.proofs.OwnStep.{Went, then_does, own_step}

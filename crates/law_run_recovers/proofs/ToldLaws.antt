@@ -1,21 +1,7 @@
 -- What is promised to a transaction that is told what it would have been told as it began; and one that goes among locks that stay is told so.
-use Rattle.std.proofs.Common.{◌≡◌, ⊎_elim, ℕ, Bool, true, false, List, ◌∷◌, ◌++◌, Some, is_some, refl, sym, ap, subst, ◌∙◌, arith}
-use Rattle.std.specs.Prelude.{◌||◌}
-use Rattle.std.proofs.lemmas.Bool.Decides.{nat_tests}
-use Rattle.std.proofs.lemmas.Option.{same_Some}
-use Rattle.acl_core.specs.Identity.{Identity}
-use Rattle.suite_prefix.specs.SettingsRules.{Opening}
-use Rattle.file_ops.specs.declared.operation.Op.{Op}
-use Rattle.rep_core.specs.declared.request.Request.{Request}
-use Rattle.txn_core.specs.declared.job.Job.TheVariants.{Transaction}
-use Rattle.txn_core.specs.Agents.{fixed_of, next_of}
-use Rattle.run_core.specs.declared.event.Event.{Event}
-use Rattle.run_core.specs.declared.event.Event.TheVariants.{Begin, Step}
-use Rattle.run_core.specs.Worlds.{Actor, World, actor_at, step}
-use Rattle.run_core.specs.Runs.{run}
-use Rattle.law_run_recovers.specs.Unmet.{is_running, world_after, robs, hinders_itself}
-use Rattle.law_run_recovers.specs.Among.{GoesAmongLocks}
-use Rattle.law_run_recovers.specs.Told.{AsAtItsBegin, bereaves, AmongLocksAreToldAsBegun, ToldEndByVotes, ToldEndInTime, ToldHadVotesOpen, ToldAreDecidedWhereVotesAre, ToldAreAnsweredAsBegun, ToldGatherTheirAsks}
+use Rattle.law_run_recovers.proofs.Vocabulary.{◌≡◌, ⊎_elim, ℕ, Bool, true, false, List, ◌∷◌, ◌++◌, Some, is_some, refl, sym, ap, subst, ◌∙◌, arith, ◌||◌, nat_tests, same_Some, Identity, Opening, Op, Request, Transaction, fixed_of}
+use Rattle.law_run_recovers.proofs.Vocabulary.{next_of, Event, Begin, Step, Actor, World, actor_at, step, run, is_running, world_after, robs, hinders_itself, GoesAmongLocks, AsAtItsBegin, bereaves, AmongLocksAreToldAsBegun}
+use Rattle.law_run_recovers.proofs.Vocabulary.{ToldEndByVotes, ToldEndInTime, ToldHadVotesOpen, ToldAreDecidedWhereVotesAre, ToldAreAnsweredAsBegun, ToldGatherTheirAsks}
 use Rattle.law_run_recovers.proofs.AmongAsks.{of_its_asks}
 use Rattle.law_run_recovers.proofs.AmongCourse.{Course, RunsIt, runs_it}
 use Rattle.law_run_recovers.proofs.AmongDecided.{answered_begun, was_gathered, was_had}

@@ -1,36 +1,10 @@
 -- One try of a transaction where its votes are up: it is decided where its home is up, and leaves all as it was where it is not.
-use Rattle.std.proofs.Common.{◌≡◌, ◌⊎◌, inl, inr, ⊎_elim, ℕ, ◌+◌, true, false, cond, List, [], ◌∷◌, ◌++◌, append-nil, length, Option, Some, None, is_some, Result, Ok, Err, refl, sym, ap, subst, ◌∙◌}
-use Rattle.std.specs.Prelude.{◌&&◌, not}
-use Rattle.std.proofs.lemmas.Bool.{false≢true}
-use Rattle.std.proofs.lemmas.Option.{none-some, same_Some}
-use Rattle.acl_core.specs.Identity.{Identity}
-use Rattle.suite_prefix.specs.SettingsRules.{Opening}
-use Rattle.suite_prefix.specs.declared.copies.Prefix.{Prefix}
-use Rattle.file_ops.specs.declared.answer.Answer.{Answer}
-use Rattle.file_ops.specs.declared.operation.Op.{Op}
-use Rattle.file_ops.specs.declared.refusal.Refusal.{Refusal}
-use Rattle.rep_core.specs.Service.{reply_of}
-use Rattle.weak_cache.specs.Entries.{Cache}
-use Rattle.txn_core.specs.declared.job.Job.TheVariants.{Transaction}
-use Rattle.txn_core.specs.Doing.{Doing, home_of}
-use Rattle.txn_core.specs.Transactions.{after_reply}
-use Rattle.txn_core.specs.Agents.{Agent, fixed_of, is_idle, next_in, begin, started}
-use Rattle.run_core.specs.declared.event.Event.{Event}
-use Rattle.run_core.specs.declared.event.Event.TheVariants.{Begin, Step}
-use Rattle.run_core.specs.Worlds.{Actor, World, server_at, actor_at, has_no_job, step}
-use Rattle.run_core.specs.Runs.{dones, outcomes, run}
-use Rattle.run_core.specs.TableOfRun.{table_of}
-use Rattle.law_run_machine.specs.Machines.{machine_of}
+use Rattle.law_run_recovers.proofs.Vocabulary.{◌≡◌, ◌⊎◌, inl, inr, ⊎_elim, ℕ, ◌+◌, true, false, cond, List, [], ◌∷◌, ◌++◌, append-nil, length, Option, Some, None, is_some, Result, Ok, Err, refl, sym, ap, subst, ◌∙◌, ◌&&◌, not}
+use Rattle.law_run_recovers.proofs.Vocabulary.{false≢true, none-some, same_Some, Identity, Opening, Prefix, Answer, Op, Refusal, reply_of, Cache, Transaction, Doing, home_of, after_reply, Agent, fixed_of, is_idle, next_in, begin}
+use Rattle.law_run_recovers.proofs.Vocabulary.{started, Event, Begin, Step, Actor, World, server_at, actor_at, has_no_job, step, dones, outcomes, run, table_of, machine_of, all_keep, is_decided, all_consistent, is_up, up_free, Demand}
+use Rattle.law_run_recovers.proofs.Vocabulary.{demands, first_short, is_met, all_met, led_to, led_to_by, newer_from, MayStart, VotesAreUp, GoesAlone, ending_of, answer_on, OneIsDecided, is_open_at, way_at, begun_world, world_after}
 use Rattle.law_one_table.proofs.Effects as effects
-use Rattle.law_headline.proofs.Keeping.{all_keep}
-use Rattle.law_run_alone.specs.Undisturbed.{is_decided}
-use Rattle.law_run_alone.proofs.Unhindered.{all_consistent}
-use Rattle.law_run_recovers.specs.Standing.{is_up, up_free}
-use Rattle.law_run_recovers.specs.Demands.{Demand, demands, first_short, is_met, all_met, led_to, led_to_by, newer_from, MayStart, VotesAreUp}
 use Rattle.law_run_recovers.specs.Laws as laws
-use Rattle.law_run_recovers.specs.Laws.{GoesAlone, ending_of, answer_on, OneIsDecided}
-use Rattle.law_run_recovers.specs.Near.{is_open_at, way_at}
-use Rattle.law_run_recovers.specs.Unmet.{begun_world, world_after}
 use Rattle.law_run_recovers.proofs.AloneKept.{calm, up_same, many, free_then, table_same, shown_then}
 use Rattle.law_run_recovers.proofs.AloneLaws.{steadily, own_then}
 use Rattle.law_run_recovers.proofs.AmongCourse.{Course, RunsIt, runs_it, course_runs, next_is, apart_on}

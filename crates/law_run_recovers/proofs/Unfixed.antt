@@ -1,40 +1,12 @@
 -- A transaction that nobody robs: until its end is fixed no server has it recorded.
-use Rattle.std.proofs.Common.{◌≡◌, ⊎_elim, ℕ, ◌+◌, Bool, true, false, cond, List, Option, Some, None, is_some, refl, sym, ap, subst, ◌∙◌, arith}
-use Rattle.std.specs.Prelude.{◌*◌, ◌==◌, ◌&&◌, ◌||◌, not, slice_get, slice_set}
-use Rattle.std.proofs.lemmas.Bool.{false≢true, eqb-true, eq-eqb, false_from_ne_true}
-use Rattle.std.proofs.lemmas.Option.{none-some, same_Some}
-use Rattle.suite_prefix.specs.SettingsRules.{Opening, IsAccepted}
-use Rattle.suite_prefix.specs.declared.lock_mode.LockMode.{LockMode}
-use Rattle.suite_prefix.specs.declared.lock_mode.LockMode.TheVariants.{Exclusive}
-use Rattle.file_ops.specs.declared.audit.AuditItem.{AuditItem}
-use Rattle.rep_core.specs.declared.lock.Lock.{Lock}
-use Rattle.rep_core.specs.declared.reply.Verdict.{Verdict}
+use Rattle.law_run_recovers.proofs.Vocabulary.{◌≡◌, ⊎_elim, ℕ, ◌+◌, Bool, true, false, cond, List, Option, Some, None, is_some, refl, sym, ap, subst, ◌∙◌, arith, ◌*◌, ◌==◌, ◌&&◌, ◌||◌, not, slice_get, slice_set, false≢true, eqb-true}
+use Rattle.law_run_recovers.proofs.Vocabulary.{eq-eqb, false_from_ne_true, none-some, same_Some, Opening, IsAccepted, LockMode, Exclusive, AuditItem, Lock, Verdict, Request, in_the_way, has_lock, with_prepared, intended, State}
+use Rattle.law_run_recovers.proofs.Vocabulary.{record_of, after_locking, after_poll, after_record, after_up, after_down, prepares, verdict_of, audit_of, reply_of, served, record_apart, Replied, is_decide, Agent, fixed_of, begin, forget}
+use Rattle.law_run_recovers.proofs.Vocabulary.{take_in, next_of, Served, Event, Begin, Step, Crash, Return, Forget, Lack, Actor, World, server_at, actor_at, step, decisions, run, names, may_sweep, same_place, agents_ask_for_themselves}
+use Rattle.law_run_recovers.proofs.Vocabulary.{holds_of, same_or, agent_of, puts_in, takes, robs, hinders_itself, bereaves}
 use Rattle.rep_core.specs.declared.reply.Verdict.TheVariants as verdict
-use Rattle.rep_core.specs.declared.request.Request.{Request}
 use Rattle.rep_core.specs.declared.request.Request.TheVariants as request
-use Rattle.rep_core.specs.Locks.{in_the_way, has_lock, with_prepared}
-use Rattle.rep_core.specs.Store.{intended}
-use Rattle.rep_core.specs.State.{State, record_of}
-use Rattle.rep_core.specs.Service.{after_locking, after_poll, after_record, after_up, after_down, after, prepares, verdict_of, audit_of, reply_of}
-use Rattle.rep_core.specs.Serving.{served}
-use Rattle.rep_core.proofs.Records.{record_apart}
-use Rattle.txn_core.specs.declared.response.Response.TheVariants.{Replied}
-use Rattle.txn_core.specs.Laws.{is_decide}
-use Rattle.txn_core.specs.Agents.{Agent, fixed_of, begin, forget, take_in, next_of}
-use Rattle.run_core.specs.declared.done.Served.{Served}
-use Rattle.run_core.specs.declared.event.Event.{Event}
-use Rattle.run_core.specs.declared.event.Event.TheVariants.{Begin, Step, Crash, Return, Forget, Lack}
-use Rattle.run_core.specs.Worlds.{Actor, World, server_at, actor_at, step}
-use Rattle.run_core.specs.Decisions.{decisions}
-use Rattle.run_core.specs.Runs.{run}
-use Rattle.law_runs.specs.Naming.{names, may_sweep}
-use Rattle.law_runs.proofs.Agents.{same_place}
-use Rattle.law_runs.proofs.Begun.{agents_ask_for_themselves}
-use Rattle.law_runs.proofs.Conclusions.{holds_of}
-use Rattle.law_runs.proofs.Places.{same_or}
-use Rattle.law_runs.proofs.Worlds.{agent_of, puts_in}
-use Rattle.law_run_recovers.specs.Unmet.{takes, robs, hinders_itself}
-use Rattle.law_run_recovers.specs.Told.{bereaves}
+use Rattle.rep_core.specs.Service.{after}
 use Rattle.law_run_recovers.proofs.AtWork.{takes_nothing}
 use Rattle.law_run_recovers.proofs.Keeps.{IsAtWork, Works, works, last_of, step_asks, operates_it, becomes_none, lacks_none}
 use Rattle.law_run_recovers.proofs.Serves.{Serves, event_serves}

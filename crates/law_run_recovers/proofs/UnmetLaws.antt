@@ -1,35 +1,10 @@
 -- What is promised to a transaction that nobody meets, by servers that are up: it goes among locks none of which is in its way, so who is up is open to it.
-use Rattle.std.proofs.Common.{◌≡◌, inl, inr, ℕ, Bool, true, false, cond, List, [], ◌∷◌, ◌++◌, length, Option, Some, None, refl, sym, ap, subst, ◌∙◌}
-use Rattle.std.specs.Prelude.{◌&&◌, not, nat_lt, map, option_map, Contains}
-use Rattle.std.proofs.lemmas.Bool.{false≢true, and_parts}
-use Rattle.std.proofs.lemmas.Option.{none-some, same_Some}
-use Rattle.acl_core.specs.Identity.{Identity}
-use Rattle.vote_core.specs.Quorums.{Representative, Configuration, votes_in}
-use Rattle.vote_core.proofs.QuorumLemmas.{votes_in-wider}
-use Rattle.suite_prefix.specs.SettingsRules.{Opening}
-use Rattle.suite_prefix.specs.declared.copies.Prefix.{Prefix}
-use Rattle.suite_prefix.specs.declared.lock_mode.LockMode.{LockMode}
-use Rattle.file_ops.specs.declared.operation.Op.{Op}
-use Rattle.file_ops.specs.Rows.{row_of}
-use Rattle.rep_core.proofs.Members.{Has, contains_from}
-use Rattle.suite_collect.specs.Collecting.{needed_of}
-use Rattle.txn_core.specs.Doing.{home_of}
-use Rattle.txn_core.specs.Agents.{fixed_of}
-use Rattle.run_core.specs.declared.event.Event.{Event}
-use Rattle.run_core.specs.declared.done.EndedJob.{EndedJob}
-use Rattle.run_core.specs.Worlds.{Actor, World, server_at}
-use Rattle.run_core.specs.Runs.{run}
-use Rattle.run_core.specs.TableOfRun.{table_of}
-use Rattle.law_run_alone.specs.Undisturbed.{is_decided}
-use Rattle.law_run_recovers.specs.Standing.{is_up}
-use Rattle.law_run_recovers.specs.Demands.{Demand, demand, is_met, all_met, demands, demands_of_rows, first_short, led_to, votes_set, votes_of_row, MayStart, MayStartAll}
-use Rattle.law_run_recovers.specs.Laws.{EndsByVotes, ending_by, answer_on}
-use Rattle.law_run_recovers.specs.Near.{asks_for, is_open_way, is_way_met, way_at, is_open_at, in_its_way}
-use Rattle.law_run_recovers.specs.Unmet.{GoesUnmet}
-use Rattle.law_run_recovers.specs.Among.{EndsOpenly, first_wanting, has_votes_open, UnmetAreAmongLocks}
+use Rattle.law_run_recovers.proofs.Vocabulary.{◌≡◌, inl, inr, ℕ, Bool, true, false, cond, List, [], ◌∷◌, ◌++◌, length, Option, Some, None, refl, sym, ap, subst, ◌∙◌, ◌&&◌, not, nat_lt, map, option_map, Contains, false≢true, and_parts}
+use Rattle.law_run_recovers.proofs.Vocabulary.{none-some, same_Some, Identity, Representative, Configuration, votes_in, votes_in-wider, Opening, Prefix, LockMode, Op, row_of, Has, contains_from, needed_of, home_of, fixed_of, Event}
+use Rattle.law_run_recovers.proofs.Vocabulary.{EndedJob, Actor, World, server_at, run, table_of, is_decided, is_up, Demand, demand, is_met, all_met, demands, demands_of_rows, first_short, led_to, votes_set, votes_of_row, MayStart}
+use Rattle.law_run_recovers.proofs.Vocabulary.{MayStartAll, EndsByVotes, ending_by, answer_on, asks_for, is_open_way, is_way_met, way_at, is_open_at, in_its_way, GoesUnmet, EndsOpenly, first_wanting, has_votes_open, UnmetAreAmongLocks}
+use Rattle.law_run_recovers.proofs.Vocabulary.{Want, open_demand, open_demands, first_mode, wants, wants_of_rows, EndsThen, VotesNeverMovedOf, UnmetEndByVotes, UnmetAreDecidedWhereVotesAre}
 use Rattle.law_run_recovers.proofs.Steady.{GoesSteadily, steady}
-use Rattle.law_run_recovers.specs.OpenDemands.{Want, open_demand, open_demands, first_mode, wants, wants_of_rows}
-use Rattle.law_run_recovers.specs.Local.{EndsThen, VotesNeverMovedOf, UnmetEndByVotes, UnmetAreDecidedWhereVotesAre}
 use Rattle.law_run_recovers.proofs.AmongLaws.{map_members, among_by_votes, found_by, led_first, row_first}
 use Rattle.law_run_recovers.proofs.NearRows.{first_in, start_near, same_so_far, open_is_up}
 use Rattle.law_run_recovers.proofs.Open.{open_first, unmet_is_among_locks, near_back, plain_way}

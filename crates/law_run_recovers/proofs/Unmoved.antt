@@ -1,23 +1,7 @@
 -- How a transaction ends by what it demands decides whether it is decided; and where votes were never moved each prefix has the first ones.
-use Rattle.std.proofs.Common.{◌≡◌, ⊎_elim, ℕ, Bool, true, false, cond, List, [], ◌∷◌, ◌++◌, Some, Result, Ok, Err, refl, ap, subst, ◌∙◌}
-use Rattle.std.specs.Prelude.{◌&&◌, not, map}
-use Rattle.suite_prefix.specs.SettingsRules.{Opening}
-use Rattle.suite_prefix.specs.declared.copies.Prefix.{Prefix}
-use Rattle.file_ops.specs.declared.answer.Answer.{Answer}
-use Rattle.file_ops.specs.declared.refusal.Refusal.{Refusal}
-use Rattle.file_ops.specs.Rows.{row_of}
-use Rattle.run_core.specs.declared.event.Event.{Event}
-use Rattle.run_core.specs.TableOfRun.{table_of}
-use Rattle.law_suite_machine.specs.Registers.{WasPrefix}
-use Rattle.law_suite_machine.proofs.Rows.{none_or_some}
-use Rattle.law_server_moves.specs.Laws.{beginning}
-use Rattle.law_run_machine.specs.Machines.{machine_of}
+use Rattle.law_run_recovers.proofs.Vocabulary.{◌≡◌, ⊎_elim, ℕ, Bool, true, false, cond, List, [], ◌∷◌, ◌++◌, Some, Result, Ok, Err, refl, ap, subst, ◌∙◌, ◌&&◌, not, map, Opening, Prefix, Answer, Refusal, row_of, Event, table_of}
+use Rattle.law_run_recovers.proofs.Vocabulary.{WasPrefix, none_or_some, beginning, machine_of, CanBe, all_keep, is_decided, Demand, is_met, all_met, first_short, HasFirstVotes, ending_of, ending_by}
 use Rattle.law_one_table.proofs.Versions as versions
-use Rattle.law_headline.specs.Premises.{CanBe}
-use Rattle.law_headline.proofs.Keeping.{all_keep}
-use Rattle.law_run_alone.specs.Undisturbed.{is_decided}
-use Rattle.law_run_recovers.specs.Demands.{Demand, is_met, all_met, first_short}
-use Rattle.law_run_recovers.specs.Laws.{HasFirstVotes, ending_of, ending_by}
 
 pub map_alike : {X Y : Type 0} (f g : X → Y) → ((x : X) → f x ≡ g x) → (xs : List X) → map f xs ≡ map g xs
 map_alike f g same [] = refl

@@ -1,38 +1,8 @@
 -- What a transaction that nobody robs finds at each moment at which it is at work: no server has it recorded, its locks are there, and what it knows is so on the table of that moment.
-use Rattle.std.proofs.Common.{◌≡◌, ◌≢◌, ℕ, List, [], ◌∷◌, ◌++◌, append_assoc, append-nil, Option, Some, None, refl, sym, ap, subst, ◌∙◌}
-use Rattle.std.specs.Prelude.{true, false, ◌||◌}
-use Rattle.std.specs.Ordering.{nat_cmp}
-use Rattle.sorted_map.specs.SortedMap.{IsOrdered}
-use Rattle.acl_core.specs.Identity.{Identity}
-use Rattle.suite_prefix.specs.SettingsRules.{Opening}
-use Rattle.file_ops.specs.declared.operation.Op.{Op}
-use Rattle.file_ops.specs.Rows.{row_of}
-use Rattle.file_exec.specs.Known.{AgreesWith}
-use Rattle.rep_core.specs.declared.reply.Verdict.{Verdict}
-use Rattle.rep_core.specs.declared.request.Request.{Request}
-use Rattle.rep_core.specs.State.{State, record_of}
-use Rattle.txn_core.specs.declared.job.Job.TheVariants.{Transaction}
-use Rattle.txn_core.specs.Suites.{known_of}
-use Rattle.txn_core.specs.Doing.{TransactionRun, Running}
-use Rattle.txn_core.specs.Agents.{fixed_of, next_of}
-use Rattle.txn_core.specs.Undecided.{stands_on_locks}
-use Rattle.run_core.specs.declared.event.Event.{Event}
-use Rattle.run_core.specs.declared.event.Event.TheVariants.{Begin}
-use Rattle.run_core.specs.Worlds.{Actor, World, server_at, actor_at, step}
-use Rattle.run_core.specs.Runs.{run}
-use Rattle.run_core.specs.TableOfRun.{table_of}
-use Rattle.law_suite_machine.specs.Machine.{Answered}
-use Rattle.law_run_machine.specs.Machines.{machine_of}
-use Rattle.law_headline.specs.Premises.{CanBe}
-use Rattle.law_run_alone.specs.Alone.{begins_job}
-use Rattle.law_run_alone.proofs.Holding.{PhaseStands, doing_any}
-use Rattle.law_run_alone.proofs.Named.{no_record}
-use Rattle.law_run_alone.proofs.Reached.{can_front}
-use Rattle.law_run_alone.proofs.Requests.{Finds, HasSome, finds, stands_where}
-use Rattle.law_run_alone.proofs.Standing.{Stands}
-use Rattle.law_run_alone.proofs.Whole.{Carried, carried_by}
-use Rattle.law_run_recovers.specs.Unmet.{world_after, robs, hinders_itself}
-use Rattle.law_run_recovers.specs.Told.{bereaves}
+use Rattle.law_run_recovers.proofs.Vocabulary.{◌≡◌, ◌≢◌, ℕ, List, [], ◌∷◌, ◌++◌, append_assoc, append-nil, Option, Some, None, refl, sym, ap, subst, ◌∙◌, true, false, ◌||◌, nat_cmp, IsOrdered, Identity, Opening, Op, row_of, AgreesWith}
+use Rattle.law_run_recovers.proofs.Vocabulary.{Verdict, Request, State, record_of, Transaction, known_of, TransactionRun, Running, fixed_of, next_of, stands_on_locks, Event, Begin, Actor, World, server_at, actor_at, step, run, table_of}
+use Rattle.law_run_recovers.proofs.Vocabulary.{Answered, machine_of, CanBe, begins_job, PhaseStands, doing_any, no_record, can_front, Finds, HasSome, finds, stands_where, Stands, Carried, carried_by, world_after, robs, hinders_itself}
+use Rattle.law_run_recovers.proofs.Vocabulary.{bereaves}
 use Rattle.law_run_recovers.proofs.AtWork.{locks_stand}
 use Rattle.law_run_recovers.proofs.Keeps.{IsAtWork, after_append, run_at, at_work_before}
 use Rattle.law_run_recovers.proofs.KnownIsTheTables.{unanswered, knows_table}

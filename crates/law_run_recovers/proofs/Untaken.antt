@@ -1,49 +1,22 @@
 -- An event that takes nothing of a transaction leaves the locks standing that it was told of, whoever asks for it.
-use Rattle.std.proofs.Common.{◌≡◌, ℕ, Bool, true, false, cond, List, [], ◌∷◌, Option, Some, None, refl, sym, ap, subst, ◌∙◌, arith}
-use Rattle.std.specs.Prelude.{◌==◌, ◌&&◌, ◌||◌, not, find, unwrap_or}
-use Rattle.std.specs.List.{list_any}
-use Rattle.std.proofs.lemmas.Bool.{false≢true, and_parts, eqb-true}
-use Rattle.std.proofs.lemmas.Bool.Decides.{nat_tests}
-use Rattle.std.proofs.lemmas.Option.{none-some}
-use Rattle.suite_prefix.specs.SettingsRules.{Opening}
-use Rattle.rep_core.specs.declared.lock.Lock.{Lock}
-use Rattle.rep_core.specs.declared.request.Request.{Request}
+use Rattle.law_run_recovers.proofs.Vocabulary.{◌≡◌, ℕ, Bool, true, false, cond, List, [], ◌∷◌, Option, Some, None, refl, sym, ap, subst, ◌∙◌, arith, ◌==◌, ◌&&◌, ◌||◌, not, find, unwrap_or, list_any, false≢true, and_parts, eqb-true}
+use Rattle.law_run_recovers.proofs.Vocabulary.{nat_tests, none-some, Opening, Lock, Request, Reply, Stamped, is_own, lock_at, State, reply_up, reply_down, reply_of, is_full, answer_of, find_some, has_any, Job, Replied, Lacked, fixed_of}
+use Rattle.law_run_recovers.proofs.Vocabulary.{next_of, take, begin, Served, Event, Begin, Step, Crash, Return, Forget, Lack, Actor, server_at, actor_at, answered, asks_at, asks, steps_once, operated, operates, step, Beginning, kept}
+use Rattle.law_run_recovers.proofs.Vocabulary.{lost, at2, left_by_break, left_by_crash, moves, ended_as, hold_of, ShowsAt, Shows, beginning, decision_by, own_events, home_in, servers_of, answered_events, asked_at_events, asked_events}
+use Rattle.law_run_recovers.proofs.Vocabulary.{step_events, lacks_for_events, lack_events, begin_events, operated_events, operator_events, run-append, StandsAs, Stands, Spares, AllSpare, stands_all, spare_begun, spare_own}
+use Rattle.law_run_recovers.proofs.Vocabulary.{spare_decision, spare_moves, takes, drops}
 use Rattle.rep_core.specs.declared.request.Request.TheVariants as request
-use Rattle.rep_core.specs.declared.reply.Reply.{Reply}
 use Rattle.rep_core.specs.declared.reply.Reply.TheVariants as reply
 use Rattle.rep_core.specs.declared.reply.Verdict as replied
-use Rattle.rep_core.specs.declared.stamped.Stamped.{Stamped}
 use Rattle.rep_core.specs.declared.stamped.Lack.{Lack as Why}
 use Rattle.rep_core.specs.declared.stamped.Lack.TheVariants as lack
-use Rattle.rep_core.specs.Locks.{is_own, lock_at}
 use Rattle.rep_core.specs.State as state
-use Rattle.rep_core.specs.State.{State}
-use Rattle.rep_core.specs.Service.{reply_up, reply_down, reply_of}
-use Rattle.rep_core.specs.Serving.{is_full, answer_of}
-use Rattle.rep_core.proofs.Finding.{find_some}
-use Rattle.rep_core.proofs.Members.{has_any}
-use Rattle.txn_core.specs.declared.job.Job.{Job}
-use Rattle.txn_core.specs.declared.response.Response.TheVariants.{Replied, Lacked}
-use Rattle.txn_core.specs.Agents.{fixed_of, next_of, take, begin}
-use Rattle.run_core.specs.declared.done.Served.{Served}
-use Rattle.run_core.specs.declared.event.Event.{Event}
-use Rattle.run_core.specs.declared.event.Event.TheVariants.{Begin, Step, Crash, Return, Forget, Lack}
 use Rattle.run_core.specs.Worlds as worlds
-use Rattle.run_core.specs.Worlds.{Actor, server_at, actor_at, answered, asks_at, asks, steps_once, operated, operates, step}
-use Rattle.law_suite_machine.specs.Registers.{Beginning}
 use Rattle.law_suite_machine.specs.Machine.{Hold, Verdict, World}
 use Rattle.law_suite_machine.specs.Events as machine
-use Rattle.law_suite_machine.specs.Events.{kept, finished, lost, run}
-use Rattle.law_suite_machine.proofs.Places.{at2}
-use Rattle.law_server_moves.specs.Moves.{is_prepared, left_by_break, left_by_crash, moves}
-use Rattle.law_server_moves.specs.Views.{ended_as, hold_of, ShowsAt, Shows}
-use Rattle.law_server_moves.specs.Laws.{beginning}
-use Rattle.law_run_machine.specs.Deciding.{decision_by, own_events}
-use Rattle.law_run_machine.specs.Machines.{home_in, servers_of, answered_events, asked_at_events, asked_events, step_events, lacks_for_events, lack_events, begin_events, operated_events, operator_events, moved}
-use Rattle.law_run_machine.proofs.Joining.{run-append}
-use Rattle.law_run_alone.proofs.Standing.{StandsAs, Stands, Spares, AllSpare, stands_all, spare_begun, spare_own, spare_decision, spare_moves}
-use Rattle.law_run_recovers.specs.Unmet.{takes}
-use Rattle.law_run_recovers.specs.Told.{drops}
+use Rattle.law_suite_machine.specs.Events.{finished, run}
+use Rattle.law_server_moves.specs.Moves.{is_prepared}
+use Rattle.law_run_machine.specs.Machines.{moved}
 
 -- ---- locks at a server
 

@@ -1,34 +1,11 @@
 -- The votes that a transaction sets by what it knows are those that it sets on the table.
-use Rattle.std.proofs.Common.{◌≡◌, inl, inr, ℕ, Bool, true, false, cond, List, [], ◌∷◌, Option, Some, None, Ok, Less, Equal, Greater, refl, sym, ap, ◌∙◌}
-use Rattle.std.specs.Prelude.{map, filter, option_map}
+use Rattle.law_run_recovers.proofs.Vocabulary.{◌≡◌, inl, inr, ℕ, Bool, true, false, cond, List, [], ◌∷◌, Option, Some, None, Ok, Less, Equal, Greater, refl, sym, ap, ◌∙◌, map, filter, option_map, nat_cmp, match_ordering, Ordering}
+use Rattle.law_run_recovers.proofs.Vocabulary.{nat_cmp_total, eq_by_cmp_equiv, IsDistinct-from_sorted, lookup-from_Contains, none-some, same_Some, IsOrdered, insert, IsOrdered-insert, Identity, Configuration, Exclusive, Has, has_filter}
+use Rattle.law_run_recovers.proofs.Vocabulary.{has_map, contains_from, all_at, Answer, Op, Service, Row, Rows, row_of, Change, Edit, some, makes, sets_acl, sets_votes, with_change, changes_at, Edits, Ended, seen, is_set, emptied, head}
+use Rattle.law_run_recovers.proofs.Vocabulary.{Known, known_rows, is_held_for, Done, exec_of, AgreesWith, held_head, head_seen, sets_what_is_held, Changes, change_of, change_in, changes_on}
 use Rattle.std.specs.List.Sorted.{IsStrictlySortedBy}
-use Rattle.std.specs.Ordering.{nat_cmp, match_ordering}
-use Rattle.std.specs.declared.cmp.Ordering.{Ordering}
-use Rattle.std.proofs.lemmas.Cmp.{nat_cmp_total, eq_by_cmp_equiv}
-use Rattle.std.proofs.lemmas.Map.Keys.{IsDistinct-from_sorted}
-use Rattle.std.proofs.lemmas.Map.Views.{lookup-from_Contains}
-use Rattle.std.proofs.lemmas.Option.{none-some, same_Some}
-use Rattle.sorted_map.specs.SortedMap.{IsOrdered, insert}
-use Rattle.sorted_map.specs.Laws.{IsOrdered-insert}
-use Rattle.acl_core.specs.Identity.{Identity}
-use Rattle.vote_core.specs.Quorums.{Configuration}
-use Rattle.suite_prefix.specs.declared.lock_mode.LockMode.TheVariants.{Exclusive}
-use Rattle.rep_core.proofs.Members.{Has, has_filter, has_map, contains_from, all_at}
-use Rattle.file_ops.specs.declared.answer.Answer.{Answer}
-use Rattle.file_ops.specs.declared.operation.Op.{Op}
-use Rattle.file_ops.specs.declared.service.Service.{Service}
-use Rattle.file_ops.specs.Rows.{Row, Rows, row_of}
-use Rattle.file_exec.specs.declared.changes.Change.{Change}
-use Rattle.file_exec.specs.declared.edit_log.Edit.{Edit}
 use Rattle.file_exec.specs.Changes as changes
-use Rattle.file_exec.specs.Changes.{some, makes, sets_acl, sets_votes, with_change, changes_at}
-use Rattle.file_exec.specs.Following.{Edits, Ended, seen, is_set, emptied, head}
-use Rattle.file_exec.specs.Known.{Known, known_of, known_rows, is_held, is_held_for, Done, exec_of, AgreesWith}
-use Rattle.file_exec.proofs.Alike.{held_head, head_seen}
-use Rattle.file_exec.proofs.Unmet.{sets_what_is_held}
-use Rattle.txn_core.specs.Doing.{Changes}
-use Rattle.txn_core.specs.Writing.{change_of}
-use Rattle.law_run_recovers.specs.Demands.{change_in, changes_on}
+use Rattle.file_exec.specs.Known.{known_of, is_held}
 
 -- ---- what is seen of the values of a map
 

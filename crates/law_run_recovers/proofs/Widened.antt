@@ -1,21 +1,9 @@
 -- A collector of whatever votes to which servers stand as a sight says: what it hears, and where one that is widened ends.
-use Rattle.std.proofs.Common.{◌≡◌, ℕ, ◌≤◌, true, false, List, ◌++◌, Option, Some, None, refl, sym, ap, subst, ◌∙◌, arith}
-use Rattle.std.specs.Prelude.{nat_le}
-use Rattle.std.proofs.lemmas.Bool.Decides.{nat_tests}
-use Rattle.vote_core.specs.Quorums.{Configuration, votes_in}
-use Rattle.vote_core.proofs.QuorumLemmas.{votes_in-wider}
-use Rattle.suite_prefix.specs.Absent.{absent_prefix}
-use Rattle.suite_prefix.specs.declared.copies.Prefix.{Prefix}
-use Rattle.suite_prefix.specs.declared.lock_mode.LockMode.TheVariants.{Exclusive}
-use Rattle.rep_core.specs.declared.reply.Reply.{Reply}
+use Rattle.law_run_recovers.proofs.Vocabulary.{◌≡◌, ℕ, ◌≤◌, true, false, List, ◌++◌, Option, Some, None, refl, sym, ap, subst, ◌∙◌, arith, nat_le, nat_tests, Configuration, votes_in, votes_in-wider, absent_prefix, Prefix, Exclusive}
+use Rattle.law_run_recovers.proofs.Vocabulary.{Reply, Told, holds, Collector, Asked, Poll, Upgrade, request_for, mode_asked, mode_of, said_to, all_told, tell, tell_at, told_by, Current, Ask, Short, next, all_told-tell, Fixed, World}
 use Rattle.rep_core.specs.declared.reply.Reply.TheVariants as reply
-use Rattle.suite_collect.specs.declared.told.Told.{Told}
-use Rattle.suite_collect.specs.Telling.{holds}
-use Rattle.suite_collect.specs.Collecting.{Widening, Collector, Asked, Poll, Upgrade, request_for, mode_asked, mode_of, said_to, all_told, tell, tell_at, told_by, Current, Ask, Short, next}
-use Rattle.suite_collect.proofs.Fewness.{all_told-tell}
-use Rattle.txn_core.specs.Doing.{Fixed}
+use Rattle.suite_collect.specs.Collecting.{Widening}
 use Rattle.txn_core.specs.Transactions as txn_run
-use Rattle.run_core.specs.Worlds.{World}
 use Rattle.law_run_recovers.proofs.Polled.{Sight, serves_all, Answers, AllRight, right_wider, held_open, Refusing, refusing, told_is, held_are_open, at_current, at_short}
 
 -- ---- what a collector is told

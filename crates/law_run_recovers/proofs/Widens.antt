@@ -1,29 +1,14 @@
 -- A transaction that sets votes: one suite after the other is widened to them.
-use Rattle.std.proofs.Common.{◌≡◌, inl, inr, ⊎_elim, ℕ, Bool, true, false, cond, List, [], ◌∷◌, ◌++◌, Option, Some, None, is_some, Ok, refl, sym, ap, subst, ◌∙◌}
-use Rattle.std.specs.Prelude.{◌==◌, not, map}
-use Rattle.std.proofs.lemmas.Bool.{false≢true, eqb-true}
-use Rattle.std.proofs.lemmas.Option.{same_Some}
-use Rattle.vote_core.specs.Quorums.{Configuration}
-use Rattle.suite_prefix.specs.declared.copies.Prefix.{Prefix}
-use Rattle.suite_prefix.specs.declared.lock_mode.LockMode.{LockMode}
-use Rattle.suite_prefix.specs.declared.lock_mode.LockMode.TheVariants.{Exclusive}
+use Rattle.law_run_recovers.proofs.Vocabulary.{◌≡◌, inl, inr, ⊎_elim, ℕ, Bool, true, false, cond, List, [], ◌∷◌, ◌++◌, Option, Some, None, is_some, Ok, refl, sym, ap, subst, ◌∙◌, ◌==◌, not, map, false≢true, eqb-true, same_Some}
+use Rattle.law_run_recovers.proofs.Vocabulary.{Configuration, Prefix, LockMode, Exclusive, PlainTable, Change, Collector, all_told, told_since, widen, Next, Current, Ask, Short, next, Cache, Undecided, GatheredSuite, Suites, suite_of}
+use Rattle.law_run_recovers.proofs.Vocabulary.{with_suite, Fixed, Task, Granted, short_cause, votes_then, widened, widen_by, widen_one, widen_all, locked_at, self, with_at, each_but, each_with, World, is_met, Has}
 use Rattle.rep_core.specs.declared.reply.Verdict.TheVariants as verdict
-use Rattle.file_ops.specs.Rows.{PlainTable}
-use Rattle.file_exec.specs.declared.changes.Change.{Change}
-use Rattle.suite_collect.specs.Collecting.{Collector, Widening, all_told, told_since, widen, Next, Current, Ask, Short, next}
-use Rattle.weak_cache.specs.Entries.{Cache}
-use Rattle.txn_core.specs.declared.ending.Ending.TheVariants.{Undecided}
-use Rattle.txn_core.specs.Suites.{GatheredSuite, Suites, suite_of, with_suite}
+use Rattle.suite_collect.specs.Collecting.{Widening}
 use Rattle.txn_core.specs.Doing as doing
-use Rattle.txn_core.specs.Doing.{Fixed, Task, Granted}
-use Rattle.txn_core.specs.Transactions.{Step, short_cause, votes_then, widened, widen_by, widen_one, widen_all, locked_at}
-use Rattle.txn_core.proofs.Gathers.{self, with_at, each_but, each_with}
-use Rattle.run_core.specs.Worlds.{World}
-use Rattle.law_run_recovers.specs.Demands.{is_met}
+use Rattle.txn_core.specs.Transactions.{Step}
 use Rattle.law_run_recovers.proofs.Polled.{Sight, AllRight}
 use Rattle.law_run_recovers.proofs.Widened.{WidenedShort, widened_short, widened_current}
 use Rattle.law_run_recovers.proofs.VotesSet.{IsSet}
-use Rattle.rep_core.proofs.Members.{Has}
 use Rattle.law_run_recovers.proofs.Asking.{held_in}
 use Rattle.law_run_recovers.proofs.Stands.{
   IsKept,

@@ -1,6 +1,5 @@
 -- Runs by computation.
-use Rattle.std.proofs.Common.{refl}
-use Rattle.law_run_recovers.specs.Worked.{AreNotFound, AreFoundTwiceOn, FewerToWrite, AreMissing, IsSweptAway, IsInNoWay, IsInDoubt, SomeRunsRecover}
+use Rattle.law_run_recovers.proofs.Vocabulary.{refl, AreNotFound, AreFoundTwiceOn, FewerToWrite, AreMissing, IsSweptAway, IsInNoWay, IsInDoubt, SomeRunsRecover}
 
 not_found : AreNotFound
 not_found = record {

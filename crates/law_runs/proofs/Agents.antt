@@ -1,27 +1,11 @@
 -- Where agents stand among the decisions so far.
-use Rattle.std.proofs.Common.{◌≡◌, ◌≢◌, ◌⊎◌, inl, inr, ⊎_elim, ℕ, ◌+◌, ◌≤◌, ◌<◌, Bool, true, false, cond, List, [], ◌∷◌, ◌++◌, Option, Some, None, refl, sym, ap, subst, ◌∙◌, arith}
-use Rattle.std.specs.Prelude.{◌*◌, ◌==◌, ◌&&◌, nat_lt, Ok, Err}
-use Rattle.std.proofs.lemmas.Bool.{and_parts}
-use Rattle.std.proofs.lemmas.Option.{none-some, same_Some}
-use Rattle.file_ops.specs.declared.service.Service.{Service}
-use Rattle.rep_core.specs.declared.lock.Lock.{Lock}
-use Rattle.rep_core.specs.declared.reply.Reply.{Reply}
+use Rattle.law_runs.proofs.Vocabulary.{◌≡◌, ◌≢◌, ◌⊎◌, inl, inr, ⊎_elim, ℕ, ◌+◌, ◌≤◌, ◌<◌, Bool, true, false, cond, List, [], ◌∷◌, ◌++◌, Option, Some, None, refl, sym, ap, subst, ◌∙◌, arith, ◌*◌, ◌==◌, ◌&&◌, nat_lt, Ok, Err, and_parts}
+use Rattle.law_runs.proofs.Vocabulary.{none-some, same_Some, Service, Lock, Reply, Replied, Lacked, Request, Verdict, Has, Response, Ending, Answered, Refused, Swept, Undecided, Job, Transaction, Sweep, home_of, Fixed, Task}
+use Rattle.law_runs.proofs.Vocabulary.{TransactionRun, SweepRun, Doing, Running, RunningSweep, After, GoesOn, Ends, Sweeping, Listing, Resolving, Telling, Breaking, is_decide, said_by, Agent, next_in, left, end_of, take_in, begin}
+use Rattle.law_runs.proofs.Vocabulary.{started, is_idle, has_sense, max_jobs, Decided}
 use Rattle.rep_core.specs.declared.reply.Reply.TheVariants as reply
-use Rattle.txn_core.specs.declared.response.Response.TheVariants.{Replied, Lacked}
-use Rattle.rep_core.specs.declared.request.Request.{Request}
-use Rattle.rep_core.specs.declared.reply.Verdict.{Verdict}
 use Rattle.rep_core.specs.declared.reply.Verdict.TheVariants as verdict
-use Rattle.rep_core.proofs.Members.{Has}
-use Rattle.txn_core.specs.declared.response.Response.{Response}
-use Rattle.txn_core.specs.declared.ending.Ending.{Ending}
-use Rattle.txn_core.specs.declared.ending.Ending.TheVariants.{Answered, Refused, Swept, Undecided}
-use Rattle.txn_core.specs.declared.job.Job.{Job}
-use Rattle.txn_core.specs.declared.job.Job.TheVariants.{Transaction, Sweep}
-use Rattle.txn_core.specs.Doing.{home_of, Fixed, Task, TransactionRun, SweepRun, Doing, Running, RunningSweep, After, GoesOn, Ends, Sweeping, Listing, Resolving, Telling, Breaking}
 use Rattle.txn_core.specs.Sweeps as sweep
-use Rattle.txn_core.specs.Laws.{is_decide, said_by}
-use Rattle.txn_core.specs.Agents.{Agent, next_in, left, end_of, take_in, begin, started, is_idle, has_sense, max_jobs}
-use Rattle.run_core.specs.Decisions.{Decided}
 use Rattle.law_runs.proofs.Standing.{In, NotIn, Stands, in_more, not_in_more, stands_more, has_append}
 use Rattle.law_runs.proofs.Places.{Puts, at_puts, same_or}
 use Rattle.law_runs.proofs.Words.{EndsAs, Tells, Leaves, leaves_begin, leaves_response}

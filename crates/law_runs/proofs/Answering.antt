@@ -1,39 +1,13 @@
 -- A decision is what its transaction comes to on what its agent knows.
-use Rattle.std.proofs.Common.{◌≡◌, ℕ, ◌+◌, Bool, true, false, cond, List, [], ◌∷◌, Option, Some, None, refl, sym, ap, subst, ◌∙◌}
-use Rattle.std.specs.Prelude.{◌*◌, ◌&&◌, nat_lt, is_some, Result, Ok, Err}
-use Rattle.std.proofs.lemmas.Option.{none-some, same_Some}
-use Rattle.suite_prefix.specs.SettingsRules.{Opening}
-use Rattle.file_ops.specs.declared.answer.Answer.{Answer}
-use Rattle.file_ops.specs.declared.refusal.Refusal.{Refusal}
-use Rattle.file_ops.specs.Rows.{Rows}
-use Rattle.file_ops.specs.Transactions.{replies}
-use Rattle.rep_core.specs.declared.request.Request.{Request}
+use Rattle.law_runs.proofs.Vocabulary.{◌≡◌, ℕ, ◌+◌, Bool, true, false, cond, List, [], ◌∷◌, Option, Some, None, refl, sym, ap, subst, ◌∙◌, ◌*◌, ◌&&◌, nat_lt, is_some, Result, Ok, Err, none-some, same_Some, Opening, Answer, Refusal}
+use Rattle.law_runs.proofs.Vocabulary.{Rows, replies, Request, Verdict, State, record_of, reply_of, recorded, verdict_of, is_full, answer_of, Ended, on_table, done_is_the_tables, Job, Transaction, Sweep, Response, known_of, Fixed, Task}
+use Rattle.law_runs.proofs.Vocabulary.{Proposal, TransactionRun, SweepRun, Doing, Running, RunningSweep, After, GoesOn, Ends, decision_of, is_decide, Agent, next_in, next_of, left, take_in, begin, started, fixed_of, is_idle, has_sense}
+use Rattle.law_runs.proofs.Vocabulary.{max_jobs, Event, Begin, Step, Crash, Return, Forget, Lack, Served, Actor, World, server_at, actor_at, opening, answered, asks_at, asks, steps_once, step, after, run, Decided, to_decide, answer_in}
+use Rattle.law_runs.proofs.Vocabulary.{decided_as, decided_at, decided_by, task_of, task_at, IsAnsweredAsKnown, AnswersFollowKnowledge}
 use Rattle.rep_core.specs.declared.request.Request.TheVariants as request
 use Rattle.rep_core.specs.declared.reply.Reply.TheVariants as reply
-use Rattle.rep_core.specs.declared.reply.Verdict.{Verdict}
-use Rattle.rep_core.specs.State.{State, record_of}
-use Rattle.rep_core.specs.Service.{reply_of, recorded, verdict_of}
-use Rattle.rep_core.specs.Serving.{is_full, answer_of}
-use Rattle.file_exec.specs.Following.{Ended}
-use Rattle.file_exec.specs.Known.{on_table}
-use Rattle.file_exec.proofs.More.{done_is_the_tables}
-use Rattle.txn_core.specs.declared.job.Job.{Job}
-use Rattle.txn_core.specs.declared.job.Job.TheVariants.{Transaction, Sweep}
-use Rattle.txn_core.specs.declared.response.Response.{Response}
-use Rattle.txn_core.specs.Suites.{known_of}
-use Rattle.txn_core.specs.Doing.{Fixed, Task, Proposal, TransactionRun, SweepRun, Doing, Running, RunningSweep, After, GoesOn, Ends}
-use Rattle.txn_core.specs.Transactions.{decision_of}
 use Rattle.txn_core.specs.Sweeps as sweep
-use Rattle.txn_core.specs.Laws.{is_decide}
-use Rattle.txn_core.specs.Agents.{Agent, next_in, next_of, left, take_in, begin, started, fixed_of, is_idle, has_sense, max_jobs}
-use Rattle.run_core.specs.declared.event.Event.{Event}
-use Rattle.run_core.specs.declared.event.Event.TheVariants.{Begin, Step, Crash, Return, Forget, Lack}
-use Rattle.run_core.specs.declared.done.Served.{Served}
-use Rattle.run_core.specs.Worlds.{Actor, World, server_at, actor_at, opening, answered, asks_at, asks, steps_once, step}
-use Rattle.run_core.specs.Runs.{after, run}
-use Rattle.run_core.specs.Decisions.{Decided, to_decide, answer_in, decided_as, decided_at, decided_by, task_of, task_at}
 use Rattle.run_core.specs.Decisions as decisions
-use Rattle.law_runs.specs.Answers.{IsAnsweredAsKnown, AnswersFollowKnowledge}
 use Rattle.law_runs.proofs.Asking.{decides}
 use Rattle.law_runs.proofs.Turns.{decides_at, no_decide}
 use Rattle.law_runs.proofs.Worlds.{agent_of, agent_at}

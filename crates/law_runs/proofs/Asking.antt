@@ -1,19 +1,8 @@
 -- What an agent asks in a transaction's name, and where it asks for a decision.
-use Rattle.std.proofs.Common.{◌≡◌, ℕ, true, false, [], ◌∷◌, Option, Some, refl, sym, ap, ◌∙◌, arith}
-use Rattle.std.specs.Prelude.{◌==◌}
-use Rattle.std.proofs.lemmas.Bool.Decides.{nat_tests}
-use Rattle.std.proofs.lemmas.Option.{same_Some}
-use Rattle.rep_core.specs.declared.request.Request.{Request}
+use Rattle.law_runs.proofs.Vocabulary.{◌≡◌, ℕ, true, false, [], ◌∷◌, Option, Some, refl, sym, ap, ◌∙◌, arith, ◌==◌, nat_tests, same_Some, Request, Service, Suites, suite_of, parts_at, Fixed, Task, home_of, Proposal, Phase, Gathering}
+use Rattle.law_runs.proofs.Vocabulary.{Fetching, Widening, Preparing, Deciding, Finishing, Sweeping, Listing, Resolving, Telling, Breaking, SweepRun, request_in, changes_of, decision_of, asked_now, is_decide, asks_same, asked_as}
+use Rattle.law_runs.proofs.Vocabulary.{fetched_as, names, may_sweep}
 use Rattle.rep_core.specs.declared.request.Request.TheVariants as request
-use Rattle.file_ops.specs.declared.service.Service.{Service}
-use Rattle.txn_core.specs.Suites.{Suites, suite_of}
-use Rattle.txn_core.specs.Writing.{parts_at}
-use Rattle.txn_core.specs.Doing.{Fixed, Task, home_of, Proposal, Phase, Gathering, Fetching, Widening, Preparing, Deciding, Finishing, Sweeping, Listing, Resolving, Telling, Breaking, SweepRun}
-use Rattle.txn_core.specs.Transactions.{request_in, changes_of, decision_of}
-use Rattle.txn_core.specs.Sweeps.{asked_now}
-use Rattle.txn_core.specs.Laws.{is_decide}
-use Rattle.txn_core.proofs.Asks.{asks_same, asked_as, fetched_as}
-use Rattle.law_runs.specs.Naming.{names, may_sweep}
 
 itself : (t : ℕ) → (t == t) ≡ true
 itself t = grind (arith, nat_tests)

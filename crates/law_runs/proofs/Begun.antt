@@ -1,28 +1,9 @@
 -- Each number of a transaction is begun once, and asked for by its agent alone.
-use Rattle.std.proofs.Common.{◌≡◌, ◌⊎◌, inl, inr, ⊎_elim, ℕ, ◌+◌, ◌≤◌, ◌<◌, true, false, cond, List, [], ◌∷◌, ◌++◌, Option, Some, None, refl, sym, ap, subst, ◌∙◌, arith}
-use Rattle.std.specs.Prelude.{◌*◌, ◌%◌, ◌&&◌, nat_eq, nat_lt}
-use Rattle.std.specs.List.{AllByRecursion, IsDistinct, cons_option}
-use Rattle.std.proofs.lemmas.Bool.{ne_eqb}
-use Rattle.std.proofs.lemmas.Option.{none-some, same_Some, cond_some}
-use Rattle.std.proofs.lemmas.Map.Keys.{IsDistinct-cons}
-use Rattle.suite_prefix.specs.SettingsRules.{Opening}
-use Rattle.rep_core.specs.declared.request.Request.{Request}
-use Rattle.rep_core.proofs.Members.{Has, contains_from}
-use Rattle.txn_core.specs.declared.ending.Ending.TheVariants.{Answered}
-use Rattle.txn_core.specs.declared.job.Job.{Job}
-use Rattle.txn_core.specs.declared.response.Response.{Response}
-use Rattle.txn_core.specs.Doing.{Fixed, Doing, Running, RunningSweep}
-use Rattle.txn_core.specs.Agents.{Agent, next_in, next_of, take, begin, started, fixed_of, is_idle, has_sense, max_jobs}
-use Rattle.txn_core.proofs.Asks.{asks_same}
-use Rattle.run_core.specs.declared.event.Event.{Event}
-use Rattle.run_core.specs.declared.event.Event.TheVariants.{Begin, Step, Crash, Return, Forget, Lack}
-use Rattle.run_core.specs.declared.done.EndedJob.{EndedJob}
-use Rattle.run_core.specs.Worlds.{Actor, World, actor_at, opening, becomes, step}
-use Rattle.run_core.specs.Runs.{run}
-use Rattle.run_core.specs.Decisions.{Decided, decisions, task_of}
-use Rattle.law_runs.specs.Naming.{may_sweep}
-use Rattle.law_runs.specs.Numbers.{begins_now, begins_at, begun_from, begun, EachIsBegunOnce, AgentsAskForThemselves, AsksForItself, AsksToSweep}
-use Rattle.law_runs.specs.Claims.{ChangesAreMet}
+use Rattle.law_runs.proofs.Vocabulary.{◌≡◌, ◌⊎◌, inl, inr, ⊎_elim, ℕ, ◌+◌, ◌≤◌, ◌<◌, true, false, cond, List, [], ◌∷◌, ◌++◌, Option, Some, None, refl, sym, ap, subst, ◌∙◌, arith, ◌*◌, ◌%◌, ◌&&◌, nat_eq, nat_lt, AllByRecursion}
+use Rattle.law_runs.proofs.Vocabulary.{cons_option, ne_eqb, none-some, same_Some, cond_some, IsDistinct-cons, Opening, Request, Has, contains_from, Answered, Job, Response, Fixed, Doing, Running, RunningSweep, Agent, next_in, next_of}
+use Rattle.law_runs.proofs.Vocabulary.{take, begin, started, fixed_of, is_idle, has_sense, max_jobs, asks_same, Event, Begin, Step, Crash, Return, Forget, Lack, EndedJob, Actor, World, actor_at, opening, becomes, step, run, Decided}
+use Rattle.law_runs.proofs.Vocabulary.{decisions, task_of, may_sweep, begins_now, begins_at, begun_from, begun, EachIsBegunOnce, AgentsAskForThemselves, AsksForItself, AsksToSweep, ChangesAreMet}
+use Rattle.std.specs.List.{IsDistinct}
 use Rattle.law_runs.proofs.Asking.{asks_in_its_name, asks_to_sweep, decides}
 use Rattle.law_runs.proofs.Agents.{same_place, IsAt, take_keeps, Begun, not_begun}
 use Rattle.law_runs.proofs.Worlds.{agent_of, agent_at, puts_agent, Holds, event_holds}

@@ -1,25 +1,9 @@
 -- A transaction that tells its end is not decided any more.
-use Rattle.std.proofs.Common.{◌≡◌, ℕ, ◌+◌, ◌<◌, true, false, cond, List, [], ◌∷◌, ◌++◌, Option, Some, None, refl, sym, ap, subst, ◌∙◌, arith, ⊎_elim}
-use Rattle.std.specs.Prelude.{◌*◌, ◌&&◌, nat_lt}
-use Rattle.std.specs.List.{cons_option}
-use Rattle.std.proofs.lemmas.Option.{same_Some}
-use Rattle.suite_prefix.specs.SettingsRules.{Opening, IsAccepted}
-use Rattle.rep_core.specs.declared.request.Request.{Request}
-use Rattle.rep_core.proofs.Members.{Has}
-use Rattle.weak_cache.specs.Entries.{Cache}
-use Rattle.txn_core.specs.declared.job.Job.{Job}
-use Rattle.txn_core.specs.declared.response.Response.{Response}
-use Rattle.txn_core.specs.declared.response.Response.TheVariants.{Replied, Lacked}
-use Rattle.txn_core.specs.Suites.{Suites}
-use Rattle.txn_core.specs.Doing.{Fixed, Task, Phase, Gathering, Fetching, Widening, Preparing, Deciding, Finishing, SweepRun, Doing, Running, RunningSweep, After, GoesOn, Ends}
-use Rattle.txn_core.specs.Transactions.{after_response}
+use Rattle.law_runs.proofs.Vocabulary.{◌≡◌, ℕ, ◌+◌, ◌<◌, true, false, cond, List, [], ◌∷◌, ◌++◌, Option, Some, None, refl, sym, ap, subst, ◌∙◌, arith, ⊎_elim, ◌*◌, ◌&&◌, nat_lt, cons_option, same_Some, Opening, IsAccepted, Request, Has}
+use Rattle.law_runs.proofs.Vocabulary.{Cache, Job, Response, Replied, Lacked, Suites, Fixed, Task, Phase, Gathering, Fetching, Widening, Preparing, Deciding, Finishing, SweepRun, Doing, Running, RunningSweep, After, GoesOn, Ends}
+use Rattle.law_runs.proofs.Vocabulary.{after_response, Agent, next_of, left, take_in, take, begin, started, fixed_of, is_idle, has_sense, max_jobs, Event, opening, step, run, Decided, decided, decisions, decisions_from, after-append}
+use Rattle.law_runs.proofs.Vocabulary.{decisions_from-append}
 use Rattle.txn_core.specs.Sweeps as sweep
-use Rattle.txn_core.specs.Agents.{Agent, next_of, left, take_in, take, begin, started, fixed_of, is_idle, has_sense, max_jobs}
-use Rattle.run_core.specs.declared.event.Event.{Event}
-use Rattle.run_core.specs.Worlds.{opening, step}
-use Rattle.run_core.specs.Runs.{run}
-use Rattle.run_core.specs.Decisions.{Decided, decided, decisions, decisions_from}
-use Rattle.run_core.proofs.Appending.{after-append, decisions_from-append}
 use Rattle.law_runs.proofs.Standing.{NotIn, not_in_more}
 use Rattle.law_runs.proofs.Agents.{IsAt, same_place, take_keeps}
 use Rattle.law_runs.proofs.Worlds.{agent_of, agent_at}

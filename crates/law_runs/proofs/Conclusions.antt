@@ -1,30 +1,13 @@
 -- The laws of all runs, from what every event keeps.
-use Rattle.std.proofs.Common.{◌≡◌, inl, inr, ℕ, zero, suc, ◌+◌, ◌<◌, true, false, cond, List, [], ◌∷◌, ◌++◌, Option, Some, None, refl, sym, ap, subst, ◌∙◌, arith}
-use Rattle.std.specs.Prelude.{◌*◌, ◌%◌, ◌/◌, ◌==◌, nat_lt, slice_get, Contains, Ok, Err}
-use Rattle.std.proofs.lemmas.Bool.{false≢true}
-use Rattle.std.proofs.lemmas.Bool.Decides.{nat_tests}
-use Rattle.std.proofs.lemmas.Option.{none-some, same_Some}
-use Rattle.std.specs.Ordering.{nat_cmp}
-use Rattle.sorted_map.specs.SortedMap.{get}
-use Rattle.suite_prefix.specs.SettingsRules.{Opening, IsAccepted}
+use Rattle.law_runs.proofs.Vocabulary.{◌≡◌, inl, inr, ℕ, zero, suc, ◌+◌, ◌<◌, true, false, cond, List, [], ◌∷◌, ◌++◌, Option, Some, None, refl, sym, ap, subst, ◌∙◌, arith, ◌*◌, ◌%◌, ◌/◌, ◌==◌, nat_lt, slice_get, Contains, Ok, Err}
+use Rattle.law_runs.proofs.Vocabulary.{false≢true, nat_tests, none-some, same_Some, nat_cmp, get, Opening, IsAccepted, State, Verdict, Has, has_from, contains_from, Ending, Answered, Refused, Swept, Undecided, home_of, Agent, fixed_of}
+use Rattle.law_runs.proofs.Vocabulary.{Event, EndedJob, Actor, World, opening, servers_from, actors_from, server_at, actor_at, recorded_by, after, dones, outcomes, run, done_in, Decided, decisions, decisions_from, dones-append}
+use Rattle.law_runs.proofs.Vocabulary.{outcomes-append, decisions_from-append, number_of, has_begun, was_begun, ended, IsDecidedAs, DecidedOnce, record_by, DecisionsAreTheRecords, denials_of, denials_at, AuditIsTheDenials}
+use Rattle.law_runs.proofs.Vocabulary.{AnsweredBefore}
 use Rattle.rep_core.specs.State as state
-use Rattle.rep_core.specs.State.{State}
-use Rattle.rep_core.specs.declared.reply.Verdict.{Verdict}
 use Rattle.rep_core.specs.declared.reply.Verdict.TheVariants as verdict
-use Rattle.rep_core.proofs.Members.{Has, has_from, contains_from}
-use Rattle.txn_core.specs.declared.ending.Ending.{Ending}
-use Rattle.txn_core.specs.declared.ending.Ending.TheVariants.{Answered, Refused, Swept, Undecided}
-use Rattle.txn_core.specs.Doing.{home_of}
 use Rattle.txn_core.specs.Agents as agent
-use Rattle.txn_core.specs.Agents.{Agent, fixed_of}
-use Rattle.run_core.specs.declared.event.Event.{Event}
-use Rattle.run_core.specs.declared.done.EndedJob.{EndedJob}
-use Rattle.run_core.specs.Worlds.{Actor, World, opening, servers_from, actors_from, server_at, actor_at, recorded_by}
-use Rattle.run_core.specs.Runs.{after, dones, outcomes, run, done_in}
-use Rattle.run_core.specs.Decisions.{Decided, decisions, decisions_from}
-use Rattle.run_core.proofs.Appending.{dones-append, outcomes-append, decisions_from-append}
-use Rattle.law_runs.specs.Numbers.{number_of, has_begun, was_begun}
-use Rattle.law_runs.specs.Claims.{ended, IsDecidedAs, DecidedOnce, verdict_of, record_by, DecisionsAreTheRecords, denials_of, denials_at, AuditIsTheDenials, AnsweredBefore}
+use Rattle.law_runs.specs.Claims.{verdict_of}
 use Rattle.law_runs.proofs.Standing.{Answer', In, NotIn, Recorded, append_has_left, verdict_as}
 use Rattle.law_runs.proofs.Agents.{IsAt, EndStands, AreAt}
 use Rattle.law_runs.proofs.Worlds.{agent_of, agent_at, Holds, run_holds}

@@ -1,20 +1,10 @@
 -- What an event makes of each agent: it is as it was, or it began, forgot, or took a response.
-use Rattle.std.proofs.Common.{◌≡◌, ⊎_elim, ℕ, List, Option, Some, None, refl, sym, subst}
-use Rattle.rep_core.specs.declared.request.Request.{Request}
+use Rattle.law_runs.proofs.Vocabulary.{◌≡◌, ⊎_elim, ℕ, List, Option, Some, None, refl, sym, subst, Request, State, none-some, same_Some, Job, Response, Replied, Lacked, Fixed, Agent, next_of, take, begin, forget, Event, Begin, Step}
+use Rattle.law_runs.proofs.Vocabulary.{Crash, Return, Forget, Lack, Served, Actor, World, server_at, actor_at, with_actor, serve, after_serving, moved, becomes, answered, asks_at, asks, steps_once, lacks_for, lacks, operated, operates}
+use Rattle.law_runs.proofs.Vocabulary.{step}
 use Rattle.rep_core.specs.declared.request.Request.TheVariants as request
 use Rattle.rep_core.specs.declared.stamped.Lack.{Lack as Why}
 use Rattle.rep_core.specs.declared.stamped.Lack.TheVariants as lack
-use Rattle.rep_core.specs.State.{State}
-use Rattle.std.proofs.lemmas.Option.{none-some, same_Some}
-use Rattle.txn_core.specs.declared.job.Job.{Job}
-use Rattle.txn_core.specs.declared.response.Response.{Response}
-use Rattle.txn_core.specs.declared.response.Response.TheVariants.{Replied, Lacked}
-use Rattle.txn_core.specs.Doing.{Fixed}
-use Rattle.txn_core.specs.Agents.{Agent, next_of, take, begin, forget}
-use Rattle.run_core.specs.declared.event.Event.{Event}
-use Rattle.run_core.specs.declared.event.Event.TheVariants.{Begin, Step, Crash, Return, Forget, Lack}
-use Rattle.run_core.specs.declared.done.Served.{Served}
-use Rattle.run_core.specs.Worlds.{Actor, World, server_at, actor_at, with_actor, serve, after_serving, moved, becomes, answered, asks_at, asks, steps_once, lacks_for, lacks, operated, operates, step}
 use Rattle.law_runs.proofs.Places.{same_or}
 use Rattle.law_runs.proofs.Worlds.{agent_at, puts_agent}
 

@@ -1,83 +1,18 @@
 -- What a transaction is to be decided with is what the executor came to on what is known.
-use Rattle.std.proofs.Common.{◌≡◌, ℕ, zero, suc, true, false, cond, List, [], ◌∷◌, Option, Some, None, refl, sym, ap, subst, ◌∙◌}
-use Rattle.std.specs.Prelude.{length, is_some, Result, Ok, Err}
-use Rattle.std.proofs.lemmas.Bool.{false≢true}
-use Rattle.suite_content.specs.declared.content.Content.{Content}
-use Rattle.suite_prefix.specs.declared.copies.Prefix.{Prefix}
-use Rattle.suite_prefix.specs.declared.lock_mode.LockMode.{LockMode}
-use Rattle.suite_prefix.specs.declared.lock_mode.LockMode.TheVariants.{Shared, Exclusive}
-use Rattle.suite_prefix.specs.LockModes.{serves}
-use Rattle.file_ops.specs.declared.answer.Answer.{Answer}
-use Rattle.file_ops.specs.declared.refusal.Refusal.{Refusal}
-use Rattle.file_ops.specs.Rows.{Row}
-use Rattle.rep_core.specs.declared.request.Request.{Request}
-use Rattle.rep_core.specs.declared.reply.Reply.{Reply}
-use Rattle.rep_core.specs.declared.reply.Verdict.{Verdict}
+use Rattle.law_runs.proofs.Vocabulary.{◌≡◌, ℕ, zero, suc, true, false, cond, List, [], ◌∷◌, Option, Some, None, refl, sym, ap, subst, ◌∙◌, length, is_some, Result, Ok, Err, false≢true, Content, Prefix, LockMode, Shared, Exclusive}
+use Rattle.law_runs.proofs.Vocabulary.{serves, Answer, Refusal, Row, Request, Reply, Verdict, is_prepared, Hold, Know, Ended, KnownSuite, Known, IsSoAt, AgreesWith, Heard, Needs, Done, exec_of, IsMoreAt, MoreKnown}
+use Rattle.law_runs.proofs.Vocabulary.{more_known_changes_nothing, Told, Said, Collector, raised, tell, tell_at, mode_of, Next, Ask, Current, Short, next, Cache, ReadPoint, GatheredSuite, Suites, suite_of, with_suite, known_of, settled}
+use Rattle.law_runs.proofs.Vocabulary.{first_or, Response, Replied, Lacked, Cause, Lost, Ending, Undecided, Changes, Granted, Fixed, Task, Proposal, Phase, Gathering, Fetching, Widening, Preparing, Deciding, Finishing, TransactionRun}
+use Rattle.law_runs.proofs.Vocabulary.{After, GoesOn, Ends, changes_of, Gathered, tell_end, give_up, prepare, locked_at, short_cause, gather_by, widen_by, widen_one, widened, widen_all, to_widen, opened, or_all, open_needed, open_suite}
+use Rattle.law_runs.proofs.Vocabulary.{open_first, opened_with, free_content, heard_on, raised_or_new, keep_content, heard_of, said_to, proceed, execute, collected, hear, fetched, prepared, after_response, given_in, lack_cause}
+use Rattle.law_runs.proofs.Vocabulary.{verdict_in, ending_by, cause_of_abort, serves_itself}
 use Rattle.rep_core.specs.declared.reply.Verdict.TheVariants as verdict
-use Rattle.rep_core.specs.Fits.{is_prepared}
-use Rattle.file_exec.specs.declared.need.Need.TheVariants.{Hold, Know}
 use Rattle.file_exec.specs.declared.executor.Outcome.{Outcome as Executed}
 use Rattle.file_exec.specs.declared.executor.Outcome.TheVariants as exec
 use Rattle.file_exec.specs.Changes as changes
-use Rattle.file_exec.specs.Following.{Ended}
-use Rattle.file_exec.specs.KnownSuites.{KnownSuite}
 use Rattle.file_exec.specs.Known as known
-use Rattle.file_exec.specs.Known.{Known, IsSoAt, AgreesWith, Heard, Needs, Done, exec_of}
-use Rattle.file_exec.specs.Laws.{IsMoreAt, MoreKnown}
-use Rattle.file_exec.proofs.More.{more_known_changes_nothing}
-use Rattle.suite_collect.specs.declared.told.Told.{Told}
-use Rattle.suite_collect.specs.declared.told.Said.{Said}
-use Rattle.suite_collect.specs.Collecting.{Collector, Widening as Wider, raised, tell, tell_at, mode_of, Next, Ask, Current, Short, next}
-use Rattle.weak_cache.specs.Entries.{Cache}
-use Rattle.txn_core.specs.Suites.{ReadPoint, GatheredSuite, Suites, suite_of, with_suite, known_of, settled, first_or}
-use Rattle.txn_core.specs.declared.response.Response.{Response}
-use Rattle.txn_core.specs.declared.response.Response.TheVariants.{Replied, Lacked}
-use Rattle.txn_core.specs.declared.ending.Cause.{Cause}
-use Rattle.txn_core.specs.declared.ending.Cause.TheVariants.{Lost}
-use Rattle.txn_core.specs.declared.ending.Ending.{Ending}
-use Rattle.txn_core.specs.declared.ending.Ending.TheVariants.{Undecided}
-use Rattle.txn_core.specs.Doing.{Changes, Granted, Fixed, Task, Proposal, Phase, Gathering, Fetching, Widening, Preparing, Deciding, Finishing, TransactionRun, After, GoesOn, Ends}
-use Rattle.txn_core.specs.Transactions.{
-  Step,
-  changes_of,
-  Gathered,
-  tell_end,
-  give_up,
-  prepare,
-  locked_at,
-  short_cause,
-  gather_by,
-  widen_by,
-  widen_one,
-  widened,
-  widen_all,
-  to_widen,
-  opened,
-  or_all,
-  open_needed,
-  open_suite,
-  open_first,
-  opened_with,
-  free_content,
-  heard_on,
-  raised_or_new,
-  keep_content,
-  heard_of,
-  said_to,
-  proceed,
-  execute,
-  collected,
-  hear,
-  fetched,
-  prepared,
-  after_response,
-  given_in,
-  lack_cause,
-  verdict_in,
-  ending_by,
-  cause_of_abort,
-}
-use Rattle.txn_core.proofs.Growing.{serves_itself}
+use Rattle.suite_collect.specs.Collecting.{Widening as Wider}
+use Rattle.txn_core.specs.Transactions.{Step}
 use Rattle.law_runs.proofs.Standing.{Answer'}
 use Rattle.law_runs.proofs.Knowing.{AreFit, with_fit, more_after}
 

@@ -1,42 +1,14 @@
 -- A Finish says how its transaction ended; and whose Finish was served before a transaction was decided, was decided before it.
-use Rattle.std.proofs.Common.{◌≡◌, ℕ, Bool, true, false, cond, List, [], ◌∷◌, ◌++◌, append_assoc, Option, Some, None, refl, sym, ap, subst, ◌∙◌, arith}
-use Rattle.std.specs.Prelude.{◌==◌, not, Ok, Err, Contains}
-use Rattle.std.proofs.lemmas.Bool.{and_parts, false≢true}
-use Rattle.std.proofs.lemmas.Bool.Decides.{nat_tests}
-use Rattle.std.proofs.lemmas.Option.{none-some, same_Some}
-use Rattle.file_ops.specs.declared.service.Service.{Service}
-use Rattle.suite_prefix.specs.SettingsRules.{Opening, IsAccepted}
-use Rattle.rep_core.specs.declared.request.Request.{Request}
+use Rattle.law_runs.proofs.Vocabulary.{◌≡◌, ℕ, Bool, true, false, cond, List, [], ◌∷◌, ◌++◌, append_assoc, Option, Some, None, refl, sym, ap, subst, ◌∙◌, arith, ◌==◌, not, Ok, Err, Contains, and_parts, false≢true, nat_tests, none-some}
+use Rattle.law_runs.proofs.Vocabulary.{same_Some, Service, Opening, IsAccepted, Request, Verdict, Stamped, Lock, State, record_of, is_full, answer_of, is_finish, Has, has_from, contains_from, Ending, Lacked, Suites, suite_of, parts_at}
+use Rattle.law_runs.proofs.Vocabulary.{home_of, Fixed, Task, Phase, Gathering, Fetching, Widening, Preparing, Deciding, Finishing, TransactionRun, SweepRun, Doing, Running, RunningSweep, Sweeping, Listing, Resolving, Telling, Breaking}
+use Rattle.law_runs.proofs.Vocabulary.{request_in, changes_of, decision_of, asked_now, Agent, next_in, next_of, fixed_of, asks_same, asked_as, fetched_as, Event, Begin, Step, Crash, Return, Forget, Lack, Served, Actor, World, opening}
+use Rattle.law_runs.proofs.Vocabulary.{server_at, actor_at, serve, becomes, answered, asks_at, asks, steps_once, lacks_for, lacks, operated, operates, step, after, dones, run, Decided, decisions, after-append, names, may_sweep}
+use Rattle.law_runs.proofs.Vocabulary.{IsDecidedAs, EndedSo, FinishIsAfter, asks_for_itself, FinishedBefore, FinishedChangesAreMet, SomeRunsFinish}
 use Rattle.rep_core.specs.declared.request.Request.TheVariants as request
-use Rattle.rep_core.specs.declared.reply.Verdict.{Verdict}
 use Rattle.rep_core.specs.declared.reply.Verdict.TheVariants as verdict
-use Rattle.rep_core.specs.declared.stamped.Stamped.{Stamped}
 use Rattle.rep_core.specs.declared.stamped.Lack.{Lack as Why}
-use Rattle.rep_core.specs.declared.lock.Lock.{Lock}
-use Rattle.rep_core.specs.State.{State, record_of}
-use Rattle.rep_core.specs.Serving.{is_full, answer_of}
-use Rattle.rep_core.specs.Laws.{is_finish}
-use Rattle.rep_core.proofs.Members.{Has, has_from, contains_from}
-use Rattle.txn_core.specs.declared.ending.Ending.{Ending}
-use Rattle.txn_core.specs.declared.response.Response.TheVariants.{Lacked}
-use Rattle.txn_core.specs.Suites.{Suites, suite_of}
-use Rattle.txn_core.specs.Writing.{parts_at}
-use Rattle.txn_core.specs.Doing.{home_of, Fixed, Task, Phase, Gathering, Fetching, Widening, Preparing, Deciding, Finishing, TransactionRun, SweepRun, Doing, Running, RunningSweep, Sweeping, Listing, Resolving, Telling, Breaking}
-use Rattle.txn_core.specs.Transactions.{request_in, changes_of, decision_of}
-use Rattle.txn_core.specs.Sweeps.{asked_now}
-use Rattle.txn_core.specs.Agents.{Agent, next_in, next_of, fixed_of}
-use Rattle.txn_core.proofs.Asks.{asks_same, asked_as, fetched_as}
-use Rattle.run_core.specs.declared.event.Event.{Event}
-use Rattle.run_core.specs.declared.event.Event.TheVariants.{Begin, Step, Crash, Return, Forget, Lack}
-use Rattle.run_core.specs.declared.done.Served.{Served}
 use Rattle.run_core.specs.declared.done.Done.{Done}
-use Rattle.run_core.specs.Worlds.{Actor, World, opening, server_at, actor_at, serve, becomes, answered, asks_at, asks, steps_once, lacks_for, lacks, operated, operates, step}
-use Rattle.run_core.specs.Runs.{after, dones, run}
-use Rattle.run_core.specs.Decisions.{Decided, decisions}
-use Rattle.run_core.proofs.Appending.{after-append}
-use Rattle.law_runs.specs.Naming.{names, may_sweep}
-use Rattle.law_runs.specs.Claims.{IsDecidedAs}
-use Rattle.law_runs.specs.Finishes.{EndedSo, FinishIsAfter, asks_for_itself, FinishedBefore, FinishedChangesAreMet, SomeRunsFinish}
 use Rattle.law_runs.proofs.Standing.{Answer', In, NotIn, Stands, append_has_left, verdict_as}
 use Rattle.law_runs.proofs.Asking.{asks_in_its_name, asks_to_sweep}
 use Rattle.law_runs.proofs.Words.{Tells}

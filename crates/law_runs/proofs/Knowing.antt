@@ -1,16 +1,7 @@
 -- Suites in order, each collected in its mode or a stronger one; and what is known of them grows with them.
-use Rattle.std.proofs.Common.{◌≡◌, ⊎_elim, ℕ, true, [], Some, sym, ap, subst, ◌∙◌}
-use Rattle.std.specs.Ordering.{nat_cmp}
+use Rattle.law_runs.proofs.Vocabulary.{◌≡◌, ⊎_elim, ℕ, true, [], Some, sym, ap, subst, ◌∙◌, nat_cmp, nat_cmp_total, none-some, same_Some, IsOrdered, IsOrdered-insert, get_insert_here, get_insert_apart, serves, MoreKnown, GatheredSuite}
+use Rattle.law_runs.proofs.Vocabulary.{Suites, suite_of, with_suite, known_of, GoesOnFrom, more_known}
 use Rattle.std.specs.List.Sorted.{IsStrictlySortedBy}
-use Rattle.std.proofs.lemmas.Cmp.{nat_cmp_total}
-use Rattle.std.proofs.lemmas.Option.{none-some, same_Some}
-use Rattle.sorted_map.specs.SortedMap.{IsOrdered}
-use Rattle.sorted_map.specs.Laws.{IsOrdered-insert}
-use Rattle.sorted_map.specs.Numbers.{get_insert_here, get_insert_apart}
-use Rattle.suite_prefix.specs.LockModes.{serves}
-use Rattle.file_exec.specs.Laws.{MoreKnown}
-use Rattle.txn_core.specs.Suites.{GatheredSuite, Suites, suite_of, with_suite, known_of}
-use Rattle.txn_core.proofs.Growing.{GoesOnFrom, more_known}
 use Rattle.law_runs.proofs.Places.{same_or}
 
 -- more is known once a suite stands in the place of one that it goes on from

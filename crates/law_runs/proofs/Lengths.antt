@@ -1,20 +1,8 @@
 -- A world has as many servers and agents as it opened with.
-use Rattle.std.proofs.Common.{◌≡◌, ℕ, zero, suc, ◌+◌, List, [], ◌∷◌, length, Option, Some, None, refl, ap, ◌∙◌}
-use Rattle.std.proofs.lemmas.List.{length-set}
-use Rattle.suite_prefix.specs.SettingsRules.{Opening}
-use Rattle.rep_core.specs.declared.request.Request.{Request}
+use Rattle.law_runs.proofs.Vocabulary.{◌≡◌, ℕ, zero, suc, ◌+◌, List, [], ◌∷◌, length, Option, Some, None, refl, ap, ◌∙◌, length-set, Opening, Request, served, State, Response, Lacked, Fixed, Agent, begin, fixed_of, forget, next_of}
+use Rattle.law_runs.proofs.Vocabulary.{Event, Begin, Step, Crash, Return, Forget, Lack, Served, after, run, Actor, World, actor_at, actors_from, answered, asks, asks_at, becomes, lacks, lacks_for, opening, operated, operates, serve}
+use Rattle.law_runs.proofs.Vocabulary.{server_at, servers_from, step, steps_once}
 use Rattle.rep_core.specs.declared.request.Request.TheVariants as request
-use Rattle.rep_core.specs.Serving.{served}
-use Rattle.rep_core.specs.State.{State}
-use Rattle.txn_core.specs.declared.response.Response.{Response}
-use Rattle.txn_core.specs.declared.response.Response.TheVariants.{Lacked}
-use Rattle.txn_core.specs.Doing.{Fixed}
-use Rattle.txn_core.specs.Agents.{Agent, begin, fixed_of, forget, next_of}
-use Rattle.run_core.specs.declared.event.Event.{Event}
-use Rattle.run_core.specs.declared.event.Event.TheVariants.{Begin, Step, Crash, Return, Forget, Lack}
-use Rattle.run_core.specs.declared.done.Served.{Served}
-use Rattle.run_core.specs.Runs.{after, run}
-use Rattle.run_core.specs.Worlds.{Actor, World, actor_at, actors_from, answered, asks, asks_at, becomes, lacks, lacks_for, opening, operated, operates, serve, server_at, servers_from, step, steps_once}
 
 -- as many of both
 abbrev AsMany : World → World → Type 0

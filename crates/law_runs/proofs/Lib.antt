@@ -1,3 +1,4 @@
+mod Vocabulary
 pub mod Words
 pub mod Asking
 pub mod Records

@@ -1,11 +1,6 @@
 -- Decisions in their order: what was decided so far stands before what is decided later.
-use Rattle.std.proofs.Common.{◌≡◌, inl, inr, ⊎_elim, ℕ, false, List, [], ◌∷◌, ◌++◌, refl, sym, ap, ◌∙◌}
-use Rattle.std.specs.Prelude.{nat_eq, map}
-use Rattle.std.specs.List.{AllByRecursion, IsDistinct}
-use Rattle.std.proofs.lemmas.Bool.{ne_eqb}
-use Rattle.std.proofs.lemmas.Map.Keys.{IsDistinct-cons}
-use Rattle.rep_core.proofs.Members.{Has}
-use Rattle.run_core.specs.Decisions.{Decided}
+use Rattle.law_runs.proofs.Vocabulary.{◌≡◌, inl, inr, ⊎_elim, ℕ, false, List, [], ◌∷◌, ◌++◌, refl, sym, ap, ◌∙◌, nat_eq, map, AllByRecursion, ne_eqb, IsDistinct-cons, Has, Decided}
+use Rattle.std.specs.List.{IsDistinct}
 use Rattle.law_runs.proofs.Standing.{NotIn}
 use Rattle.law_runs.proofs.Worlds.{AreApart}
 

@@ -1,11 +1,5 @@
 -- What jobs that ended say of the decisions, and go on to say.
-use Rattle.std.proofs.Common.{◌≡◌, ⊎_elim, ℕ, ◌+◌, ◌≤◌, ◌<◌, List, ◌++◌, Option, Some, None, sym, ap, subst, ◌∙◌, arith}
-use Rattle.std.specs.Prelude.{◌*◌}
-use Rattle.std.proofs.lemmas.Option.{same_Some}
-use Rattle.rep_core.proofs.Members.{Has}
-use Rattle.txn_core.specs.Agents.{Agent}
-use Rattle.run_core.specs.Decisions.{Decided}
-use Rattle.run_core.specs.declared.done.EndedJob.{EndedJob}
+use Rattle.law_runs.proofs.Vocabulary.{◌≡◌, ⊎_elim, ℕ, ◌+◌, ◌≤◌, ◌<◌, List, ◌++◌, Option, Some, None, sym, ap, subst, ◌∙◌, arith, ◌*◌, same_Some, Has, Agent, Decided, EndedJob}
 use Rattle.law_runs.proofs.Standing.{NotIn, has_append}
 use Rattle.law_runs.proofs.Places.{Puts, same_or}
 use Rattle.law_runs.proofs.Agents.{same_place, AreOf, EndStands, EndsAt, end_more, AreAt}

@@ -1,9 +1,5 @@
 -- A list of servers, or of agents, in which one is put in another's place: as functions of their numbers.
-use Rattle.std.proofs.Common.{◌≡◌, ◌≢◌, ◌⊎◌, inl, inr, ℕ, true, Option, Some, sym, ap, ◌∙◌, arith, ⊎_elim}
-use Rattle.std.specs.Prelude.{◌==◌}
-use Rattle.std.proofs.lemmas.Bool.{cases_Bool, false≢true}
-use Rattle.std.proofs.lemmas.Bool.Decides.{nat_tests}
-use Rattle.std.proofs.lemmas.Option.{same_Some}
+use Rattle.law_runs.proofs.Vocabulary.{◌≡◌, ◌≢◌, ◌⊎◌, inl, inr, ℕ, true, Option, Some, sym, ap, ◌∙◌, arith, ⊎_elim, ◌==◌, cases_Bool, false≢true, nat_tests, same_Some}
 
 -- the new one stands where the old one was, and all others where they were
 pub record Puts {A : Type 0} (f g : ℕ → Option A) (i : ℕ) (old new : A) : Type 0 where

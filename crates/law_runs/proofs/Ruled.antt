@@ -1,34 +1,15 @@
 -- What a sweep tells of a transaction is its home's record: event by event.
-use Rattle.std.proofs.Common.{◌≡◌, ⊎_elim, ℕ, ◌+◌, Bool, true, false, cond, List, [], ◌∷◌, Option, Some, None, refl, sym, ap, subst, ◌∙◌}
-use Rattle.std.specs.Prelude.{◌==◌, ◌&&◌, nat_lt, slice_get, slice_set}
-use Rattle.std.proofs.lemmas.Option.{none-some, same_Some}
-use Rattle.suite_prefix.specs.SettingsRules.{Opening}
-use Rattle.rep_core.specs.declared.lock.Lock.{Lock}
-use Rattle.rep_core.specs.declared.request.Request.{Request}
+use Rattle.law_runs.proofs.Vocabulary.{◌≡◌, ⊎_elim, ℕ, ◌+◌, Bool, true, false, cond, List, [], ◌∷◌, Option, Some, None, refl, sym, ap, subst, ◌∙◌, ◌==◌, ◌&&◌, nat_lt, slice_get, slice_set, none-some, same_Some, Opening, Lock, Request}
+use Rattle.law_runs.proofs.Vocabulary.{Reply, Verdict, Stamped, has_prepared, State, record_of, reply_of, is_full, served, answer_of, resolve_ruled, Job, Transaction, Sweep, Response, Replied, Lacked, home_of, Fixed, TransactionRun}
+use Rattle.law_runs.proofs.Vocabulary.{SweepRun, Doing, Running, RunningSweep, After, GoesOn, Ends, Sweeping, Listing, Resolving, Telling, Breaking, Agent, next_in, next_of, left, take_in, take, begin, started, forget, fixed_of}
+use Rattle.law_runs.proofs.Vocabulary.{is_idle, has_sense, max_jobs, Event, Begin, Step, Crash, Return, Forget, Lack, Served, Actor, World, server_at, actor_at, with_actor, opening, serve, after_serving, moved, becomes, lacked}
+use Rattle.law_runs.proofs.Vocabulary.{answered, asks_at, asks, steps_once, lacks_for, lacks, operated, operates, step, after, run}
 use Rattle.rep_core.specs.declared.request.Request.TheVariants as request
-use Rattle.rep_core.specs.declared.reply.Reply.{Reply}
 use Rattle.rep_core.specs.declared.reply.Reply.TheVariants as reply
-use Rattle.rep_core.specs.declared.reply.Verdict.{Verdict}
-use Rattle.rep_core.specs.declared.stamped.Stamped.{Stamped}
 use Rattle.rep_core.specs.declared.stamped.Lack.{Lack as Why}
 use Rattle.rep_core.specs.declared.stamped.Lack.TheVariants as lack
-use Rattle.rep_core.specs.Locks.{has_prepared}
-use Rattle.rep_core.specs.State.{State, record_of}
-use Rattle.rep_core.specs.Service.{reply_of, after as after_request}
-use Rattle.rep_core.specs.Serving.{is_full, served, answer_of}
-use Rattle.rep_core.proofs.Records.{resolve_ruled}
-use Rattle.txn_core.specs.declared.job.Job.{Job}
-use Rattle.txn_core.specs.declared.job.Job.TheVariants.{Transaction, Sweep}
-use Rattle.txn_core.specs.declared.response.Response.{Response}
-use Rattle.txn_core.specs.declared.response.Response.TheVariants.{Replied, Lacked}
-use Rattle.txn_core.specs.Doing.{home_of, Fixed, TransactionRun, SweepRun, Doing, Running, RunningSweep, After, GoesOn, Ends, Sweeping, Listing, Resolving, Telling, Breaking}
+use Rattle.rep_core.specs.Service.{after as after_request}
 use Rattle.txn_core.specs.Sweeps as sweep
-use Rattle.txn_core.specs.Agents.{Agent, next_in, next_of, left, take_in, take, begin, started, forget, fixed_of, is_idle, has_sense, max_jobs}
-use Rattle.run_core.specs.declared.event.Event.{Event}
-use Rattle.run_core.specs.declared.event.Event.TheVariants.{Begin, Step, Crash, Return, Forget, Lack}
-use Rattle.run_core.specs.declared.done.Served.{Served}
-use Rattle.run_core.specs.Worlds.{Actor, World, server_at, actor_at, with_actor, opening, serve, after_serving, moved, becomes, lacked, answered, asks_at, asks, steps_once, lacks_for, lacks, operated, operates, step}
-use Rattle.run_core.specs.Runs.{after, run}
 use Rattle.law_runs.proofs.Places.{Puts, at_puts, same_or}
 use Rattle.law_runs.proofs.Turns.{stays_served}
 use Rattle.law_runs.proofs.Worlds.{agent_of, agent_at, puts_in, puts_agent}

@@ -1,15 +1,7 @@
 -- What servers have recorded of the decisions so far, and what a served request adds.
-use Rattle.std.proofs.Common.{◌≡◌, ◌≢◌, ◌⊎◌, ⊎_elim, ℕ, true, false, cond, List, [], ◌∷◌, ◌++◌, append_assoc, Option, Some, None, refl, sym, ap, subst, ◌∙◌, arith}
-use Rattle.std.specs.Prelude.{◌==◌}
-use Rattle.std.proofs.lemmas.Bool.Decides.{nat_tests}
-use Rattle.std.proofs.lemmas.Option.{same_Some}
-use Rattle.rep_core.specs.declared.reply.Verdict.{Verdict}
+use Rattle.law_runs.proofs.Vocabulary.{◌≡◌, ◌≢◌, ◌⊎◌, ⊎_elim, ℕ, true, false, cond, List, [], ◌∷◌, ◌++◌, append_assoc, Option, Some, None, refl, sym, ap, subst, ◌∙◌, arith, ◌==◌, nat_tests, same_Some, Verdict, State, record_of, Has}
+use Rattle.law_runs.proofs.Vocabulary.{Fixed, home_of, Decided, denials_of, denials_at}
 use Rattle.rep_core.specs.declared.reply.Verdict.TheVariants as verdict
-use Rattle.rep_core.specs.State.{State, record_of}
-use Rattle.rep_core.proofs.Members.{Has}
-use Rattle.txn_core.specs.Doing.{Fixed, home_of}
-use Rattle.run_core.specs.Decisions.{Decided}
-use Rattle.law_runs.specs.Claims.{denials_of, denials_at}
 use Rattle.law_runs.proofs.Standing.{Recorded, recorded_more, recorded_last, verdict_as, has_append}
 use Rattle.law_runs.proofs.Places.{Puts, at_puts, same_or}
 

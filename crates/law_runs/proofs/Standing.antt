@@ -1,12 +1,6 @@
 -- What stands among decisions, and what stays so when more are made.
-use Rattle.std.proofs.Common.{◌≡◌, ◌⊎◌, inl, inr, ℕ, List, [], ◌∷◌, ◌++◌, refl}
-use Rattle.std.specs.Prelude.{Result, Ok, Err}
-use Rattle.rep_core.proofs.Members.{Has}
-use Rattle.rep_core.specs.declared.reply.Verdict.{Verdict}
+use Rattle.law_runs.proofs.Vocabulary.{◌≡◌, ◌⊎◌, inl, inr, ℕ, List, [], ◌∷◌, ◌++◌, refl, Result, Ok, Err, Has, Verdict, Answer, Refusal, Decided}
 use Rattle.rep_core.specs.declared.reply.Verdict.TheVariants as verdict
-use Rattle.file_ops.specs.declared.answer.Answer.{Answer}
-use Rattle.file_ops.specs.declared.refusal.Refusal.{Refusal}
-use Rattle.run_core.specs.Decisions.{Decided}
 
 -- ---- members of two lists
 

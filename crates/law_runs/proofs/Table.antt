@@ -1,21 +1,8 @@
 -- Where agents know the table, every run is answered as the table answers it.
-use Rattle.std.proofs.Common.{◌≡◌, List, [], ◌∷◌, ◌++◌, append_assoc, Option, Some, None, refl, sym, ap, subst, ◌∙◌}
-use Rattle.std.specs.Prelude.{option_to_list, Result, Ok, Err}
-use Rattle.std.specs.List.{cons_option}
-use Rattle.suite_prefix.specs.SettingsRules.{Opening}
-use Rattle.file_ops.specs.declared.refusal.Refusal.{Refusal}
+use Rattle.law_runs.proofs.Vocabulary.{◌≡◌, List, [], ◌∷◌, ◌++◌, append_assoc, Option, Some, None, refl, sym, ap, subst, ◌∙◌, option_to_list, Result, Ok, Err, cons_option, Opening, Refusal, PlainTable, Played, transaction, replies}
+use Rattle.law_runs.proofs.Vocabulary.{table_after, fixed_of, Event, opening, step, run, Decided, decided, decisions, decisions_from, played_on, table_with, table_after_all, table_of, AnswersAreTheTables, after-append}
+use Rattle.law_runs.proofs.Vocabulary.{decisions_from-append, denied_in, denials_of, KnowsTheTable, KnownAnswersAreTheTables, all_denials, TablesAuditIsTheDenials}
 use Rattle.file_ops.specs.Rows as rows
-use Rattle.file_ops.specs.Rows.{PlainTable}
-use Rattle.file_ops.specs.Transactions.{Played, transaction, replies, table_after}
-use Rattle.txn_core.specs.Agents.{fixed_of}
-use Rattle.run_core.specs.declared.event.Event.{Event}
-use Rattle.run_core.specs.Worlds.{opening, step}
-use Rattle.run_core.specs.Runs.{run}
-use Rattle.run_core.specs.Decisions.{Decided, decided, decisions, decisions_from}
-use Rattle.run_core.specs.TableOfRun.{played_on, table_with, table_after_all, table_of, AnswersAreTheTables}
-use Rattle.run_core.proofs.Appending.{after-append, decisions_from-append}
-use Rattle.law_runs.specs.Claims.{denied_in, denials_of}
-use Rattle.law_runs.specs.Answers.{KnowsTheTable, KnownAnswersAreTheTables, all_denials, TablesAuditIsTheDenials}
 use Rattle.law_runs.proofs.Servers.{append_none}
 use Rattle.law_runs.proofs.Answering.{answers_follow_knowledge}
 

@@ -1,31 +1,14 @@
 -- A request that an agent's transaction makes of a server: what it decides, and what it says.
-use Rattle.std.proofs.Common.{◌≡◌, ◌⊎◌, inl, inr, ⊎_elim, ℕ, Bool, true, false, cond, List, [], ◌∷◌, ◌++◌, Option, Some, None, refl, sym, ap, subst, ◌∙◌}
-use Rattle.std.specs.Prelude.{is_some, option_to_list, Ok, Err}
-use Rattle.std.proofs.lemmas.Bool.{false≢true}
-use Rattle.std.proofs.lemmas.Option.{same_Some}
-use Rattle.file_ops.specs.declared.audit.AuditItem.{AuditItem}
-use Rattle.file_ops.specs.declared.refusal.Refusal.{Refusal}
-use Rattle.file_ops.specs.declared.refusal.Why.{Why}
+use Rattle.law_runs.proofs.Vocabulary.{◌≡◌, ◌⊎◌, inl, inr, ⊎_elim, ℕ, Bool, true, false, cond, List, [], ◌∷◌, ◌++◌, Option, Some, None, refl, sym, ap, subst, ◌∙◌, is_some, option_to_list, Ok, Err, false≢true, same_Some, AuditItem}
+use Rattle.law_runs.proofs.Vocabulary.{Refusal, Why, denials, Request, Reply, Verdict, Stamped, State, record_of, reply_of, after_record, recorded, verdict_of, audit_of, denial_of, with_item, is_full, served, record_here, record_apart}
+use Rattle.law_runs.proofs.Vocabulary.{record_step, recording, Replied, Fixed, Task, Phase, Deciding, Proposal, home_of, decision_of, is_decide, said_by, Agent, Decided, to_decide, answer_in, decided_as, decided_at}
 use Rattle.file_ops.specs.declared.refusal.Why.TheVariants as why
-use Rattle.file_ops.specs.Transactions.{denials}
-use Rattle.rep_core.specs.declared.request.Request.{Request}
 use Rattle.rep_core.specs.declared.request.Request.TheVariants as request
-use Rattle.rep_core.specs.declared.reply.Reply.{Reply}
 use Rattle.rep_core.specs.declared.reply.Reply.TheVariants as reply
-use Rattle.rep_core.specs.declared.reply.Verdict.{Verdict}
 use Rattle.rep_core.specs.declared.reply.Verdict.TheVariants as verdict
-use Rattle.rep_core.specs.declared.stamped.Stamped.{Stamped}
-use Rattle.rep_core.specs.State.{State, record_of}
-use Rattle.rep_core.specs.Service.{reply_of, after, after_record, recorded, verdict_of, audit_of, denial_of, with_item}
-use Rattle.rep_core.specs.Serving.{is_full, served, step}
-use Rattle.rep_core.proofs.Records.{record_here, record_apart, record_step}
-use Rattle.rep_core.proofs.Ways.{recording}
-use Rattle.txn_core.specs.declared.response.Response.TheVariants.{Replied}
-use Rattle.txn_core.specs.Doing.{Fixed, Task, Phase, Deciding, Proposal, home_of}
-use Rattle.txn_core.specs.Transactions.{decision_of}
-use Rattle.txn_core.specs.Laws.{is_decide, said_by}
-use Rattle.txn_core.specs.Agents.{Agent}
-use Rattle.run_core.specs.Decisions.{Decided, to_decide, answer_in, answer_of, decided_as, decided_at}
+use Rattle.rep_core.specs.Service.{after}
+use Rattle.rep_core.specs.Serving.{step}
+use Rattle.run_core.specs.Decisions.{answer_of}
 use Rattle.law_runs.proofs.Standing.{Stands, Recorded, none_in, stands_more, stands_last, stands_if}
 use Rattle.law_runs.proofs.Records as records
 use Rattle.law_runs.proofs.Records.{Records, Same, Decided as Decided', Aborted}

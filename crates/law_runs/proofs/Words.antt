@@ -1,25 +1,10 @@
 -- What an agent makes of a response: it stays with its task, and ends it as the home said.
-use Rattle.std.proofs.Common.{◌≡◌, ℕ, true, false, cond, List, [], ◌∷◌, Some, refl, sym, ap, subst}
-use Rattle.rep_core.specs.declared.request.Request.{Request}
+use Rattle.law_runs.proofs.Vocabulary.{◌≡◌, ℕ, true, false, cond, List, [], ◌∷◌, Some, refl, sym, ap, subst, Request, Verdict, Reply, is_prepared, Cache, Suites, suite_of, parts_at, Response, Replied, Lacked, Cause, Lost, Ending}
+use Rattle.law_runs.proofs.Vocabulary.{Undecided, Fixed, Task, home_of, Proposal, Phase, Gathering, Fetching, Widening, Preparing, Deciding, Finishing, TransactionRun, After, GoesOn, Ends, execute, tell_end, give_up, prepare, locked_at}
+use Rattle.law_runs.proofs.Vocabulary.{lack_cause, prepared, after_response, request_in, changes_of, decision_of, verdict_in, ending_by, cause_of_abort, is_decide, said_by, asks_same, asked_as, fetched_as, IsEarly, goes_response}
+use Rattle.law_runs.proofs.Vocabulary.{goes_execute}
 use Rattle.rep_core.specs.declared.request.Request.TheVariants as request
-use Rattle.rep_core.specs.declared.reply.Verdict.{Verdict}
 use Rattle.rep_core.specs.declared.reply.Verdict.TheVariants as verdict
-use Rattle.rep_core.specs.declared.reply.Reply.{Reply}
-use Rattle.rep_core.specs.Fits.{is_prepared}
-use Rattle.weak_cache.specs.Entries.{Cache}
-use Rattle.txn_core.specs.Suites.{Suites, suite_of}
-use Rattle.txn_core.specs.Writing.{parts_at}
-use Rattle.txn_core.specs.declared.response.Response.{Response}
-use Rattle.txn_core.specs.declared.response.Response.TheVariants.{Replied, Lacked}
-use Rattle.txn_core.specs.declared.ending.Cause.{Cause}
-use Rattle.txn_core.specs.declared.ending.Cause.TheVariants.{Lost}
-use Rattle.txn_core.specs.declared.ending.Ending.{Ending}
-use Rattle.txn_core.specs.declared.ending.Ending.TheVariants.{Undecided}
-use Rattle.txn_core.specs.Doing.{Fixed, Task, home_of, Proposal, Phase, Gathering, Fetching, Widening, Preparing, Deciding, Finishing, TransactionRun, After, GoesOn, Ends}
-use Rattle.txn_core.specs.Transactions.{execute, tell_end, give_up, prepare, locked_at, lack_cause, prepared, after_response, request_in, changes_of, decision_of, verdict_in, ending_by, cause_of_abort}
-use Rattle.txn_core.specs.Laws.{is_decide, said_by}
-use Rattle.txn_core.proofs.Asks.{asks_same, asked_as, fetched_as}
-use Rattle.txn_core.proofs.Walk.{IsEarly, goes_response, goes_execute}
 
 -- a transaction of which this was said ends so
 abbrev pub EndsAs : Verdict → Ending → Type 0

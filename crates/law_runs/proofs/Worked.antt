@@ -1,13 +1,7 @@
 -- It holds by computation.
-use Rattle.std.proofs.Common.{◌≡◌, ℕ, ◌<◌, [], ◌∷◌, refl, sym, ap, ◌∙◌, subst, arith}
-use Rattle.std.specs.Ordering.{nat_cmp}
-use Rattle.std.specs.FinSet.{contains-empty}
-use Rattle.std.proofs.lemmas.Bool.{false≢true}
-use Rattle.std.proofs.lemmas.List.Elements.{All-nil, All-cons}
+use Rattle.law_runs.proofs.Vocabulary.{◌≡◌, ℕ, ◌<◌, [], ◌∷◌, refl, sym, ap, ◌∙◌, subst, arith, nat_cmp, contains-empty, false≢true, All-nil, All-cons, decisions, table_of, table_after_all, AnswersAreTheTables, two_agents, revoked, item}
+use Rattle.law_runs.proofs.Vocabulary.{the_decisions, SomeRunsDecide}
 use Rattle.file_ops.specs.Rows as rows
-use Rattle.run_core.specs.Decisions.{decisions}
-use Rattle.run_core.specs.TableOfRun.{table_of, table_after_all, AnswersAreTheTables}
-use Rattle.law_runs.specs.Worked.{two_agents, revoked, item, the_decisions, SomeRunsDecide}
 
 abbrev known : ℕ × ℕ → Type 0
 known rep = rep.0 < 3

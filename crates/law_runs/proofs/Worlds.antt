@@ -1,33 +1,14 @@
 -- What holds of the decisions and the jobs that ended in every run: one event after the other.
-use Rattle.std.proofs.Common.{◌≡◌, ◌≢◌, ◌⊎◌, inl, inr, ⊎_elim, ℕ, zero, suc, ◌+◌, ◌≤◌, Bool, true, false, cond, List, [], ◌∷◌, ◌++◌, append_assoc, Option, Some, None, refl, sym, ap, subst, ◌∙◌, arith}
-use Rattle.std.specs.Prelude.{◌*◌, slice_get, slice_set, option_map, option_to_list}
-use Rattle.std.specs.List.{cons_option}
-use Rattle.std.proofs.lemmas.Option.{none-some, same_Some}
-use Rattle.rep_core.specs.declared.request.Request.{Request}
+use Rattle.law_runs.proofs.Vocabulary.{◌≡◌, ◌≢◌, ◌⊎◌, inl, inr, ⊎_elim, ℕ, zero, suc, ◌+◌, ◌≤◌, Bool, true, false, cond, List, [], ◌∷◌, ◌++◌, append_assoc, Option, Some, None, refl, sym, ap, subst, ◌∙◌, arith, ◌*◌, slice_get, slice_set}
+use Rattle.law_runs.proofs.Vocabulary.{option_map, option_to_list, cons_option, none-some, same_Some, Request, Reply, Verdict, Stamped, State, record_of, reply_of, is_full, served, answer_of, next_stamp, Ending, Job, Response, Replied}
+use Rattle.law_runs.proofs.Vocabulary.{Lacked, Fixed, Task, TransactionRun, SweepRun, Doing, Running, RunningSweep, home_of, is_decide, said_by, Agent, next_in, next_of, take_in, take, begin, forget, Event, Begin, Step, Crash, Return}
+use Rattle.law_runs.proofs.Vocabulary.{Forget, Lack, Served, EndedJob, Actor, World, server_at, actor_at, with_actor, Stepped, serve, after_serving, moved, outcome_of, lacked, answered, becomes, asks_at, asks, steps_once, lacks_for}
+use Rattle.law_runs.proofs.Vocabulary.{lacks, operated, operates, step, after, dones, outcomes, Decided, task_of, task_at, task_in, decided_by, decided, decisions_from, decided_at, to_decide, decided_as, answer_in, asks_same}
 use Rattle.rep_core.specs.declared.request.Request.TheVariants as request
-use Rattle.rep_core.specs.declared.reply.Reply.{Reply}
-use Rattle.rep_core.specs.declared.reply.Verdict.{Verdict}
-use Rattle.rep_core.specs.declared.stamped.Stamped.{Stamped}
 use Rattle.rep_core.specs.declared.stamped.Lack.{Lack as Why}
 use Rattle.rep_core.specs.declared.stamped.Lack.TheVariants as lack
-use Rattle.rep_core.specs.State.{State, record_of}
-use Rattle.rep_core.specs.Service.{reply_of, after as after_request}
-use Rattle.rep_core.specs.Serving.{is_full, served, answer_of, next_stamp}
-use Rattle.txn_core.specs.declared.ending.Ending.{Ending}
-use Rattle.txn_core.specs.declared.job.Job.{Job}
-use Rattle.txn_core.specs.declared.response.Response.{Response}
-use Rattle.txn_core.specs.declared.response.Response.TheVariants.{Replied, Lacked}
-use Rattle.txn_core.specs.Doing.{Fixed, Task, TransactionRun, SweepRun, Doing, Running, RunningSweep, home_of, Deciding as Deciding'}
-use Rattle.txn_core.specs.Laws.{is_decide, said_by}
-use Rattle.txn_core.specs.Agents.{Agent, next_in, next_of, take_in, take, begin, forget}
-use Rattle.run_core.specs.declared.event.Event.{Event}
-use Rattle.run_core.specs.declared.event.Event.TheVariants.{Begin, Step, Crash, Return, Forget, Lack}
-use Rattle.run_core.specs.declared.done.Served.{Served}
-use Rattle.run_core.specs.declared.done.EndedJob.{EndedJob}
-use Rattle.run_core.specs.Worlds.{Actor, World, server_at, actor_at, with_actor, Stepped, serve, after_serving, moved, outcome_of, lacked, answered, becomes, asks_at, asks, steps_once, lacks_for, lacks, operated, operates, step}
-use Rattle.run_core.specs.Runs.{after, dones, outcomes}
-use Rattle.run_core.specs.Decisions.{Decided, task_of, task_at, task_in, decided_by, decided, decisions_from, decided_at, to_decide, decided_as, answer_in}
-use Rattle.txn_core.proofs.Asks.{asks_same}
+use Rattle.rep_core.specs.Service.{after as after_request}
+use Rattle.txn_core.specs.Doing.{Deciding as Deciding'}
 use Rattle.law_runs.proofs.Standing.{NotIn, Stands, Recorded, none_in, stands_more, has_append}
 use Rattle.law_runs.proofs.Places.{Puts}
 use Rattle.law_runs.proofs.Servers.{AreKept, Quiet, Deciding, append_none, kept_quietly, kept_deciding, kept_none}

@@ -1,29 +1,10 @@
 -- Requests for locks move the machine, and what lets locks go.
-use Rattle.std.proofs.Common.{◌≡◌, ℕ, Bool, true, false, cond, [], ◌∷◌, Option, Some, None, refl, sym, ap, subst, ◌∙◌, inl, inr}
-use Rattle.std.specs.Prelude.{◌==◌, ◌&&◌, ◌||◌, not}
-use Rattle.suite_prefix.specs.declared.lock_mode.LockMode.{LockMode}
-use Rattle.suite_prefix.specs.declared.lock_mode.LockMode.TheVariants.{Exclusive}
-use Rattle.suite_prefix.specs.LockModes.{is_exclusive}
-use Rattle.rep_core.specs.declared.lock.Lock.{Lock}
-use Rattle.rep_core.specs.declared.request.Request.{Request}
+use Rattle.law_server_moves.proofs.Vocabulary.{◌≡◌, ℕ, Bool, true, false, cond, [], ◌∷◌, Option, Some, None, refl, sym, ap, subst, ◌∙◌, inl, inr, ◌==◌, ◌&&◌, ◌||◌, not, LockMode, Exclusive, is_exclusive, Lock, Request, Reply, rise}
+use Rattle.law_server_moves.proofs.Vocabulary.{lock_at, in_the_way, has_lock, broken, copy_of, State, locking_reply, after_locking, poll_reply, after_poll, after_crash, lock_there, way_free, with_locked, Beginning, World, set1, Event}
+use Rattle.law_server_moves.proofs.Vocabulary.{Held, Upgrade, Lose, upgraded, upgraded_hold, lost, kept, IsFree, MayLose, itself, one_is, hold_of, ShowsAt, Shows, is_prepared, left_by_break, left_by_crash, moves, Follows}
 use Rattle.rep_core.specs.declared.request.Request.TheVariants as request
-use Rattle.rep_core.specs.declared.reply.Reply.{Reply}
 use Rattle.rep_core.specs.declared.reply.Reply.TheVariants as reply
-use Rattle.rep_core.specs.Locks.{rise, lock_at, in_the_way, has_lock, broken}
-use Rattle.rep_core.specs.Store.{copy_of}
-use Rattle.rep_core.specs.State.{State}
-use Rattle.rep_core.specs.Service.{locking_reply, after_locking, poll_reply, after_poll, after_crash}
-use Rattle.rep_core.proofs.LockLookups.{lock_there, way_free}
-use Rattle.rep_core.proofs.Ways.{with_locked}
-use Rattle.law_suite_machine.specs.Registers.{Beginning}
-use Rattle.law_suite_machine.specs.Machine.{World, set1}
-use Rattle.law_suite_machine.specs.Events.{Event, Held, Upgrade, Lose, upgraded, upgraded_hold, lost, kept}
 use Rattle.law_suite_machine.specs.Events as events
-use Rattle.law_suite_machine.specs.Conditions.{IsFree, MayLose}
-use Rattle.law_suite_machine.proofs.Places.{itself, one_is}
-use Rattle.law_server_moves.specs.Views.{hold_of, ShowsAt, Shows}
-use Rattle.law_server_moves.specs.Moves.{is_prepared, left_by_break, left_by_crash, moves}
-use Rattle.law_server_moves.specs.Laws.{Follows}
 use Rattle.law_server_moves.proofs.Placing.{here2}
 use Rattle.law_server_moves.proofs.Holds.{hold_none, hold_some, hold_at-new, hold_at-elsewhere, hold_at-raised, hold_at-crashed, hold_at-broken, hold_at-unbroken}
 use Rattle.law_server_moves.proofs.Elsewhere.{held_apart, upgraded_apart, broken_apart, crashed_apart}

@@ -1,33 +1,14 @@
 -- Finish, Decide and Resolve move the machine.
-use Rattle.std.proofs.Common.{◌≡◌, ℕ, Bool, true, false, cond, List, [], ◌∷◌, Option, Some, None, refl, sym, ap, subst, ◌∙◌}
-use Rattle.std.specs.Prelude.{◌==◌}
-use Rattle.std.specs.Ordering.{nat_cmp}
-use Rattle.sorted_map.specs.SortedMap.{get}
-use Rattle.suite_prefix.specs.declared.copies.Replica.{Replica}
-use Rattle.file_ops.specs.declared.audit.AuditItem.{AuditItem}
+use Rattle.law_server_moves.proofs.Vocabulary.{◌≡◌, ℕ, Bool, true, false, cond, List, [], ◌∷◌, Option, Some, None, refl, sym, ap, subst, ◌∙◌, ◌==◌, nat_cmp, get, Replica, AuditItem, Decision, IsSound, copy_of, left_by, State, record_of}
+use Rattle.law_server_moves.proofs.Vocabulary.{after_finish, after_record, recorded, recording, record_here, record_apart, others, stored, get-without_intentions, copy_finished, Beginning, Entry, World, Aborted, set1, Event, Finish}
+use Rattle.law_server_moves.proofs.Vocabulary.{Overrule, copy_after, plan_after, decided, MayFinish, at1, one_is, one_not, plan_of, ended_as, verdict_of, ShowsAt, Shows, first_verdict, moves, Decides, Follows}
 use Rattle.rep_core.specs.Intentions as server
-use Rattle.rep_core.specs.declared.request.Decision.{Decision}
 use Rattle.rep_core.specs.declared.request.Request.TheVariants as request
 use Rattle.rep_core.specs.declared.reply.Reply.TheVariants as reply
 use Rattle.rep_core.specs.declared.reply.Verdict as replied
 use Rattle.rep_core.specs.declared.reply.Verdict.TheVariants as verdict
-use Rattle.rep_core.specs.Store.{IsSound, copy_of, left_by}
-use Rattle.rep_core.specs.State.{State, record_of}
 use Rattle.rep_core.specs.Service as service
-use Rattle.rep_core.specs.Service.{after_finish, after_record, recorded}
-use Rattle.rep_core.proofs.Ways.{recording}
-use Rattle.rep_core.proofs.Records.{record_here, record_apart}
-use Rattle.rep_core.proofs.IntentionLookups.{others, stored, get-without_intentions, copy_finished}
-use Rattle.law_suite_machine.specs.Registers.{Beginning, Entry}
-use Rattle.law_suite_machine.specs.Machine.{World, Aborted, set1}
 use Rattle.law_suite_machine.specs.Events as events
-use Rattle.law_suite_machine.specs.Events.{Event, Finish, Overrule, copy_after, plan_after, decided}
-use Rattle.law_suite_machine.specs.Conditions.{MayFinish}
-use Rattle.law_suite_machine.proofs.Places.{at1, one_is, one_not}
-use Rattle.law_server_moves.specs.Views.{plan_of, ended_as, verdict_of, ShowsAt, Shows}
-use Rattle.law_server_moves.specs.Moves.{first_verdict, moves}
-use Rattle.law_server_moves.specs.Agents.{Decides}
-use Rattle.law_server_moves.specs.Laws.{Follows}
 use Rattle.law_server_moves.proofs.Placing.{here1, here2, placed, records_stay}
 use Rattle.law_server_moves.proofs.Holds.{hold_at-released}
 use Rattle.law_server_moves.proofs.Elsewhere.{finished_apart, decided_shows}

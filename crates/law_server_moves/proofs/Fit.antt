@@ -1,21 +1,9 @@
 -- What a take of a prefix or of a whole copy leaves is a take of the machine.
-use Rattle.std.proofs.Common.{◌≡◌, ℕ, true, false, cond, ◌⊎◌, inl, inr, List, [], ◌∷◌, length, zero, suc, refl, sym, ap, ◌∙◌, arith}
-use Rattle.std.specs.Prelude.{◌==◌, ◌&&◌, not, nat_lt}
-use Rattle.std.proofs.lemmas.Bool.{and_parts, false≢true, lt-ltb}
-use Rattle.std.proofs.lemmas.Bool.Decides.{nat_tests}
-use Rattle.suite_content.specs.declared.content.Content.{Content}
-use Rattle.suite_content.specs.declared.content.Content.TheVariants.{Bytes, Names}
-use Rattle.suite_prefix.specs.declared.copies.PrefixKind.{PrefixKind}
-use Rattle.suite_prefix.specs.declared.copies.PrefixKind.TheVariants.{Absent, File, Folder}
-use Rattle.suite_prefix.specs.declared.copies.Prefix.{Prefix}
-use Rattle.suite_prefix.specs.declared.copies.Replica.{Replica}
-use Rattle.suite_prefix.specs.Tests.{is_valid_prefix, is_valid_copy, is_absent, is_empty, holds, version_agrees, is_within_limits}
-use Rattle.rep_core.specs.declared.request.Take.{Take}
+use Rattle.law_server_moves.proofs.Vocabulary.{◌≡◌, ℕ, true, false, cond, ◌⊎◌, inl, inr, List, [], ◌∷◌, length, zero, suc, refl, sym, ap, ◌∙◌, arith, ◌==◌, ◌&&◌, not, nat_lt, and_parts, false≢true, lt-ltb, nat_tests, Content, Bytes}
+use Rattle.law_server_moves.proofs.Vocabulary.{Names, PrefixKind, Absent, File, Folder, Prefix, Replica, is_valid_prefix, is_valid_copy, is_absent, is_empty, holds, version_agrees, is_within_limits, Take, Change, empty_of, IsTake}
+use Rattle.law_server_moves.proofs.Vocabulary.{GoesBy}
 use Rattle.rep_core.specs.Store as server
 use Rattle.rep_core.specs.declared.request.Take.TheVariants as take
-use Rattle.law_suite_machine.specs.Registers.{Change, empty_of}
-use Rattle.law_suite_machine.specs.Conditions.{IsTake}
-use Rattle.law_server_moves.specs.Preparing.{GoesBy}
 
 no_items : {X : Type 0} (xs : List X) → (length xs == 0) ≡ true → xs ≡ []
 no_items [] e = refl

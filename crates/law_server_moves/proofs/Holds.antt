@@ -1,18 +1,8 @@
 -- The lock that the machine has of a transaction, after each change of a server's locks.
-use Rattle.std.proofs.Common.{◌≡◌, ℕ, Bool, true, false, cond, List, Option, Some, None, refl, sym, ap, ◌∙◌, arith}
-use Rattle.std.specs.Prelude.{◌==◌, ◌&&◌, ◌||◌, not, option_map}
-use Rattle.std.proofs.lemmas.Bool.Decides.{nat_tests}
-use Rattle.suite_prefix.specs.declared.lock_mode.LockMode.{LockMode}
-use Rattle.suite_prefix.specs.declared.lock_mode.LockMode.TheVariants.{Shared, Exclusive}
-use Rattle.suite_prefix.specs.LockModes.{is_exclusive, stronger}
-use Rattle.rep_core.specs.declared.lock.Lock.{Lock}
-use Rattle.rep_core.specs.declared.request.Part.{Part}
-use Rattle.rep_core.specs.Locks.{rise, lock_at, has_lock, locked, with_prepared, released, broken, prepared_locks}
-use Rattle.rep_core.proofs.LockLookups.{lock_there, taken, ready, names, if_prepared, lock_at-locked, lock_at-prepared, lock_at-released, lock_at-crashed, lock_at-broken}
-use Rattle.law_suite_machine.specs.Machine.{Hold}
-use Rattle.law_suite_machine.specs.Events.{upgraded_hold, prepared_hold, kept}
-use Rattle.law_server_moves.specs.Views.{hold_of}
-use Rattle.law_server_moves.specs.Moves.{is_prepared}
+use Rattle.law_server_moves.proofs.Vocabulary.{◌≡◌, ℕ, Bool, true, false, cond, List, Option, Some, None, refl, sym, ap, ◌∙◌, arith, ◌==◌, ◌&&◌, ◌||◌, not, option_map, nat_tests, LockMode, Shared, Exclusive, is_exclusive, stronger}
+use Rattle.law_server_moves.proofs.Vocabulary.{Lock, Part, rise, lock_at, has_lock, with_prepared, released, broken, prepared_locks, lock_there, taken, ready, names, if_prepared, lock_at-locked, lock_at-prepared, lock_at-released}
+use Rattle.law_server_moves.proofs.Vocabulary.{lock_at-crashed, lock_at-broken, Hold, upgraded_hold, prepared_hold, kept, hold_of, is_prepared}
+use Rattle.rep_core.specs.Locks.{locked}
 
 -- ---- tests
 

@@ -1,15 +1,6 @@
 -- A server that keeps what it has of a suite, and the machine after a change of one server.
-use Rattle.std.proofs.Common.{◌≡◌, ℕ, Bool, true, false, cond, [], refl, sym, ap, ◌∙◌}
-use Rattle.std.specs.Prelude.{◌==◌}
-use Rattle.std.specs.Ordering.{nat_cmp}
-use Rattle.sorted_map.specs.SortedMap.{get}
-use Rattle.rep_core.specs.Locks.{lock_at}
-use Rattle.rep_core.specs.State.{State, record_of}
-use Rattle.rep_core.specs.Store.{copy_of}
-use Rattle.law_suite_machine.specs.Registers.{Beginning}
-use Rattle.law_suite_machine.specs.Machine.{World, set1}
-use Rattle.law_server_moves.specs.Views.{hold_of, plan_of, verdict_of, ShowsAt, Shows}
-use Rattle.law_server_moves.specs.Laws.{Follows}
+use Rattle.law_server_moves.proofs.Vocabulary.{◌≡◌, ℕ, Bool, true, false, cond, [], refl, sym, ap, ◌∙◌, ◌==◌, nat_cmp, get, lock_at, State, record_of, copy_of, Beginning, World, set1, hold_of, plan_of, verdict_of, ShowsAt, Shows}
+use Rattle.law_server_moves.proofs.Vocabulary.{Follows}
 use Rattle.law_server_moves.proofs.Placing.{placed, records_stay}
 
 -- what one server has of the suite stays

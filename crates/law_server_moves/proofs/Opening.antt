@@ -1,20 +1,6 @@
 -- The servers as they open show the machine as it begins, and what agents do by themselves is nothing to the servers.
-use Rattle.std.proofs.Common.{◌≡◌, ℕ, Bool, true, false, cond, [], ◌∷◌, Some, None, refl, sym, ap, ◌∙◌, ◌⊎◌, inl, inr, arith}
-use Rattle.std.specs.Prelude.{◌==◌, unwrap_or}
-use Rattle.std.specs.List.{list_any}
-use Rattle.std.specs.Ordering.{nat_cmp}
-use Rattle.std.specs.BTreeMap.{is_at}
-use Rattle.std.proofs.lemmas.Bool.Decides.{nat_tests}
-use Rattle.vote_core.specs.Validity.{IsValid}
-use Rattle.suite_prefix.specs.Absent.{absent_copy}
-use Rattle.suite_prefix.specs.SettingsRules.{Opening}
-use Rattle.rep_core.specs.Store.{root_copy, copy_in}
-use Rattle.rep_core.specs.State.{State, opening}
-use Rattle.law_suite_machine.specs.Registers.{IsBeginning, Change}
-use Rattle.law_suite_machine.specs.Machine.{World, begun}
-use Rattle.law_suite_machine.specs.Events.{aimed, given_up}
-use Rattle.law_server_moves.specs.Views.{Shows}
-use Rattle.law_server_moves.specs.Laws.{beginning, OpeningShows}
+use Rattle.law_server_moves.proofs.Vocabulary.{◌≡◌, ℕ, Bool, true, false, cond, [], ◌∷◌, Some, None, refl, sym, ap, ◌∙◌, ◌⊎◌, inl, inr, arith, ◌==◌, unwrap_or, list_any, nat_cmp, is_at, nat_tests, IsValid, absent_copy, Opening}
+use Rattle.law_server_moves.proofs.Vocabulary.{root_copy, copy_in, State, opening, IsBeginning, Change, World, begun, aimed, given_up, Shows, beginning, OpeningShows}
 
 is_beginning : (z : ℕ) (given : Opening) → IsValid given.c0 → IsBeginning (beginning z given)
 is_beginning z given valid = record {

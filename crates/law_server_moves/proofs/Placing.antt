@@ -1,10 +1,5 @@
 -- One server changes, and the machine with it.
-use Rattle.std.proofs.Common.{◌≡◌, ℕ, cond, ◌&&◌, refl, sym, ap, ◌∙◌}
-use Rattle.std.specs.Prelude.{◌==◌}
-use Rattle.rep_core.specs.State.{State, record_of}
-use Rattle.law_suite_machine.specs.Machine.{World, set1, set2}
-use Rattle.law_suite_machine.proofs.Places.{at1, itself, another}
-use Rattle.law_server_moves.specs.Views.{ShowsAt, verdict_of}
+use Rattle.law_server_moves.proofs.Vocabulary.{◌≡◌, ℕ, cond, ◌&&◌, refl, sym, ap, ◌∙◌, ◌==◌, State, record_of, World, set1, set2, at1, itself, another, ShowsAt, verdict_of}
 
 -- ---- functions changed at one place, read there and elsewhere
 

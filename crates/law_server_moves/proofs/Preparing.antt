@@ -1,40 +1,13 @@
 -- Prepare moves the machine.
-use Rattle.std.proofs.Common.{◌≡◌, ℕ, Bool, true, false, cond, List, [], ◌∷◌, length, Option, Some, None, is_some, refl, sym, ap, subst, ◌∙◌, arith}
-use Rattle.std.specs.Prelude.{◌==◌, ◌&&◌, ◌||◌, not, nat_lt}
-use Rattle.std.specs.List.{list_any}
-use Rattle.std.specs.Ordering.{nat_cmp}
-use Rattle.std.proofs.lemmas.Bool.{false≢true, and_parts, or_parts}
-use Rattle.std.proofs.lemmas.Bool.Decides.{nat_tests}
-use Rattle.sorted_map.specs.SortedMap.{get}
-use Rattle.suite_prefix.specs.declared.copies.Replica.{Replica}
-use Rattle.suite_prefix.specs.declared.lock_mode.LockMode.{LockMode}
-use Rattle.suite_prefix.specs.declared.lock_mode.LockMode.TheVariants.{Shared, Exclusive}
-use Rattle.suite_prefix.specs.LockModes.{is_exclusive, serves}
-use Rattle.suite_prefix.specs.Tests.{is_valid_copy}
+use Rattle.law_server_moves.proofs.Vocabulary.{◌≡◌, ℕ, Bool, true, false, cond, List, [], ◌∷◌, length, Option, Some, None, is_some, refl, sym, ap, subst, ◌∙◌, arith, ◌==◌, ◌&&◌, ◌||◌, not, nat_lt, list_any, nat_cmp, false≢true}
+use Rattle.law_server_moves.proofs.Vocabulary.{and_parts, or_parts, nat_tests, get, Replica, LockMode, Shared, Exclusive, is_exclusive, serves, is_valid_copy, Part, rise, is_own, has_prepared, has_lock_for, IsSound, is_sound}
+use Rattle.law_server_moves.proofs.Vocabulary.{is_used_up, copy_of, left_by, is_keep, goes_with, holds_last, is_sound_part, lists_twice, intended, suites_with, max_suites, overfills, State, stands_prepared, can_prepare, prepares, laid}
+use Rattle.law_server_moves.proofs.Vocabulary.{any_find, find_some, all_at, none_at, once_both, one_each, planned, get_unnamed, get-with_intentions, Looked, looked, left_sound, Beginning, World, set1, Event, prepared_hold, IsTake}
+use Rattle.law_server_moves.proofs.Vocabulary.{MayPrepare, at1, itself, another, hold_of, plan_of, ShowsAt, Shows, part_of, left_of, SendsFixed, Sends, prepare_of, moves, Follows}
 use Rattle.rep_core.specs.Intentions as server
-use Rattle.rep_core.specs.declared.request.Part.{Part}
 use Rattle.rep_core.specs.declared.request.Request.TheVariants as request
 use Rattle.rep_core.specs.declared.reply.Reply.TheVariants as reply
-use Rattle.rep_core.specs.Locks.{rise, is_own, has_prepared, has_lock_for}
-use Rattle.rep_core.specs.Store.{IsSound, is_sound, is_used_up, copy_of, left_by, is_keep, goes_with, holds_last, is_sound_part, lists_twice, intended, suites_with, max_suites, overfills}
-use Rattle.rep_core.specs.State.{State}
-use Rattle.rep_core.specs.Service.{stands_prepared, can_prepare, prepares}
-use Rattle.rep_core.proofs.Ways.{laid}
-use Rattle.rep_core.proofs.Finding.{any_find, find_some, all_at, none_at, once_both}
-use Rattle.rep_core.proofs.LockLookups.{one_each}
-use Rattle.rep_core.proofs.IntentionLookups.{planned, get_unnamed, get-with_intentions}
-use Rattle.rep_core.proofs.Consistent.{Looked, looked}
-use Rattle.rep_core.proofs.Soundness.{left_sound}
-use Rattle.law_suite_machine.specs.Registers.{Beginning}
-use Rattle.law_suite_machine.specs.Machine.{World, set1}
 use Rattle.law_suite_machine.specs.Events as events
-use Rattle.law_suite_machine.specs.Events.{Event, prepared_hold}
-use Rattle.law_suite_machine.specs.Conditions.{IsTake, MayPrepare}
-use Rattle.law_suite_machine.proofs.Places.{at1, itself, another}
-use Rattle.law_server_moves.specs.Views.{hold_of, plan_of, ShowsAt, Shows}
-use Rattle.law_server_moves.specs.Preparing.{part_of, left_of, SendsFixed, Sends}
-use Rattle.law_server_moves.specs.Moves.{prepare_of, moves}
-use Rattle.law_server_moves.specs.Laws.{Follows}
 use Rattle.law_server_moves.proofs.Placing.{here1, here2}
 use Rattle.law_server_moves.proofs.Holds.{hold_at-prepared, hold_at-unnamed}
 use Rattle.law_server_moves.proofs.Elsewhere.{prepared_apart}

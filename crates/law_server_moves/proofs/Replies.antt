@@ -1,25 +1,9 @@
 -- What a reply tells is what the machine has.
-use Rattle.std.proofs.Common.{◌≡◌, ℕ, false, cond, Some, refl, ap, ◌∙◌}
-use Rattle.suite_content.specs.declared.content.Content.{Content}
-use Rattle.suite_prefix.specs.declared.copies.Prefix.{Prefix}
-use Rattle.suite_prefix.specs.declared.copies.Replica.{Replica}
-use Rattle.suite_prefix.specs.declared.lock_mode.LockMode.{LockMode}
-use Rattle.suite_prefix.specs.LockModes.{is_exclusive}
-use Rattle.rep_core.specs.declared.request.Request.{Request}
+use Rattle.law_server_moves.proofs.Vocabulary.{◌≡◌, ℕ, false, cond, Some, refl, ap, ◌∙◌, Content, Prefix, Replica, LockMode, is_exclusive, Request, Reply, Stamped, State, record_of, reply_of, after, is_full, served, step, decide_ruled}
+use Rattle.law_server_moves.proofs.Vocabulary.{resolve_ruled, lock_there, LockTold, poll_told, upgrade_told, ContentTold, fetch_told, World, set1, hold_of, verdict_of, ended_as, Shows, TellsCopy, TellsContent, Tells, RepliesTell}
 use Rattle.rep_core.specs.declared.request.Request.TheVariants as request
-use Rattle.rep_core.specs.declared.reply.Reply.{Reply}
 use Rattle.rep_core.specs.declared.reply.Reply.TheVariants as reply
 use Rattle.rep_core.specs.declared.reply.Verdict as replied
-use Rattle.rep_core.specs.declared.stamped.Stamped.{Stamped}
-use Rattle.rep_core.specs.State.{State, record_of}
-use Rattle.rep_core.specs.Service.{reply_of, after}
-use Rattle.rep_core.specs.Serving.{is_full, served, step}
-use Rattle.rep_core.proofs.Records.{decide_ruled, resolve_ruled}
-use Rattle.rep_core.proofs.LockLookups.{lock_there}
-use Rattle.rep_core.proofs.RepliesTell.{LockTold, poll_told, upgrade_told, ContentTold, fetch_told}
-use Rattle.law_suite_machine.specs.Machine.{World, set1}
-use Rattle.law_server_moves.specs.Views.{hold_of, verdict_of, ended_as, Shows}
-use Rattle.law_server_moves.specs.Laws.{TellsCopy, TellsContent, Tells, RepliesTell}
 use Rattle.law_server_moves.proofs.Placing.{here1}
 
 module _ (z : ℕ) (home : ℕ → ℕ) (servers : ℕ → State) (i : ℕ) (w : World) (shows : Shows z home servers w) where

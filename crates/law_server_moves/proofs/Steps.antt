@@ -1,22 +1,7 @@
 -- A step of a server, whatever it is asked.
-use Rattle.std.proofs.Common.{◌≡◌, ℕ, true, false, cond, List, [], None, refl, sym, subst}
-use Rattle.rep_core.specs.declared.request.Request.{Request}
+use Rattle.law_server_moves.proofs.Vocabulary.{◌≡◌, ℕ, true, false, cond, List, [], None, refl, sym, subst, Request, Reply, Stamped, in_the_way, has_lock, IsConsistent, State, stands_prepared, can_prepare, reply_up, after_up}
+use Rattle.law_server_moves.proofs.Vocabulary.{reply_down, after_down, reply_of, after, asks_too_much, next_stamp, is_full, served, step, room, Beginning, World, set1, Event, run, Shows, AgentSide, moves, Follows, EachStepMoves}
 use Rattle.rep_core.specs.declared.request.Request.TheVariants as request
-use Rattle.rep_core.specs.declared.reply.Reply.{Reply}
-use Rattle.rep_core.specs.declared.stamped.Stamped.{Stamped}
-use Rattle.rep_core.specs.Locks.{in_the_way, has_lock}
-use Rattle.rep_core.specs.Consistency.{IsConsistent}
-use Rattle.rep_core.specs.State.{State}
-use Rattle.rep_core.specs.Service.{stands_prepared, can_prepare, reply_up, after_up, reply_down, after_down, reply_of, after}
-use Rattle.rep_core.specs.Serving.{asks_too_much, next_stamp, is_full, served, step}
-use Rattle.rep_core.proofs.Ways.{room}
-use Rattle.law_suite_machine.specs.Registers.{Beginning}
-use Rattle.law_suite_machine.specs.Machine.{World, set1}
-use Rattle.law_suite_machine.specs.Events.{Event, run}
-use Rattle.law_server_moves.specs.Views.{Shows}
-use Rattle.law_server_moves.specs.Agents.{AgentSide}
-use Rattle.law_server_moves.specs.Moves.{moves}
-use Rattle.law_server_moves.specs.Laws.{Follows, EachStepMoves}
 use Rattle.law_server_moves.proofs.Keeping.{stays, nothing, shows_stamped}
 use Rattle.law_server_moves.proofs.Asking.{poll_moves, upgrade_moves, break_moves, crash_moves}
 use Rattle.law_server_moves.proofs.Ending.{finish_moves, decide_moves, resolve_moves}

@@ -1,32 +1,10 @@
 -- A step that moves the machine: at a server of one, a transaction with an exclusive lock prepares a new prefix of the root.
-use Rattle.std.proofs.Common.{◌≡◌, ℕ, ◌<◌, true, [], ◌∷◌, None, refl, subst, lit<, arith}
-use Rattle.std.specs.FinSet.{empty}
+use Rattle.law_server_moves.proofs.Vocabulary.{◌≡◌, ℕ, ◌<◌, true, [], ◌∷◌, None, refl, subst, lit<, arith, empty, same_Some, All-nil, All-cons, Representative, Configuration, MAX_SERVERS, IsValid, closed_lists, Prefix, Folder, Opening}
+use Rattle.law_server_moves.proofs.Vocabulary.{Exclusive, Part, Request, Stamped, left_by, root_copy, State, opening, step, consistent_opening, consistent_step, World, set1, begun, Overrule, held, aimed, Beginning, Change, Shows}
+use Rattle.law_server_moves.proofs.Vocabulary.{SendsFixed, beginning, SomeStepMoves}
 use Rattle.std.specs.List.{IsDistinct}
-use Rattle.std.proofs.lemmas.Option.{same_Some}
-use Rattle.std.proofs.lemmas.List.Elements.{All-nil, All-cons}
-use Rattle.vote_core.specs.Quorums.{Representative, Configuration}
-use Rattle.vote_core.specs.declared.TheConstants.{MAX_SERVERS}
-use Rattle.vote_core.specs.Validity.{IsValid}
-use Rattle.suite_prefix.specs.TwoLists.{closed_lists}
-use Rattle.suite_prefix.specs.declared.copies.Prefix.{Prefix}
-use Rattle.suite_prefix.specs.declared.copies.PrefixKind.TheVariants.{Folder}
-use Rattle.suite_prefix.specs.SettingsRules.{Opening}
-use Rattle.suite_prefix.specs.declared.lock_mode.LockMode.TheVariants.{Exclusive}
-use Rattle.rep_core.specs.declared.request.Part.{Part}
 use Rattle.rep_core.specs.declared.request.Take.TheVariants as take
-use Rattle.rep_core.specs.declared.request.Request.{Request}
 use Rattle.rep_core.specs.declared.request.Request.TheVariants as request
-use Rattle.rep_core.specs.declared.stamped.Stamped.{Stamped}
-use Rattle.rep_core.specs.Store.{left_by, root_copy}
-use Rattle.rep_core.specs.State.{State, opening}
-use Rattle.rep_core.specs.Serving.{step}
-use Rattle.rep_core.proofs.Consistent.{consistent_opening, consistent_step}
-use Rattle.law_suite_machine.specs.Machine.{World, set1, begun}
-use Rattle.law_suite_machine.specs.Events.{Overrule, held, aimed}
-use Rattle.law_suite_machine.specs.Registers.{Beginning, Change}
-use Rattle.law_server_moves.specs.Views.{Shows}
-use Rattle.law_server_moves.specs.Preparing.{SendsFixed}
-use Rattle.law_server_moves.specs.Laws.{beginning, SomeStepMoves}
 use Rattle.law_server_moves.proofs.Opening.{opening_shows, aimed_shows}
 use Rattle.law_server_moves.proofs.Steps.{each_step_moves}
 

@@ -1,31 +1,7 @@
 -- The laws, from what every event keeps.
-use Rattle.std.proofs.Common.{◌≡◌, ◌≤◌, inl, inr, List, sym, ap, subst, ◌∙◌, arith}
-use Rattle.suite_content.specs.Contents.{empty_content}
-use Rattle.suite_prefix.specs.declared.copies.Prefix.{Prefix}
-use Rattle.suite_prefix.specs.declared.copies.PrefixKind.{PrefixKind}
-use Rattle.suite_prefix.specs.declared.copies.Replica.{Replica}
-use Rattle.suite_prefix.specs.Copies.{held_by}
-use Rattle.law_suite_machine.specs.Registers.{Beginning, Entry, row, prefix_at, content_at, WasCopy}
-use Rattle.law_suite_machine.specs.Machine.{World, IsQuorum, effect, begun}
-use Rattle.law_suite_machine.specs.Laws.{
-  Always,
-  after,
-  IsOneRegister,
-  CopiesWere,
-  ReplacedIsSuperseded,
-  QuorumsShowRow,
-  DecidedOnce,
-  LocksHoldCopies,
-  LocksStand,
-  OneRegister,
-  EveryCopyWas,
-  AlwaysSuperseded,
-  AlwaysCurrent,
-  AlwaysOnce,
-  LocksAlwaysHold,
-  LocksAlwaysStand,
-  WhatWasStays,
-}
+use Rattle.law_suite_machine.proofs.Vocabulary.{◌≡◌, ◌≤◌, inl, inr, List, sym, ap, subst, ◌∙◌, arith, empty_content, Prefix, PrefixKind, Replica, held_by, Beginning, Entry, row, prefix_at, content_at, WasCopy, World, IsQuorum, effect}
+use Rattle.law_suite_machine.proofs.Vocabulary.{begun, Always, after, IsOneRegister, CopiesWere, ReplacedIsSuperseded, QuorumsShowRow, DecidedOnce, LocksHoldCopies, LocksStand, OneRegister, EveryCopyWas, AlwaysSuperseded, AlwaysCurrent}
+use Rattle.law_suite_machine.proofs.Vocabulary.{AlwaysOnce, LocksAlwaysHold, LocksAlwaysStand, WhatWasStays}
 use Rattle.law_suite_machine.proofs.Rows.{Logged}
 use Rattle.law_suite_machine.proofs.Sound.{effect_held}
 use Rattle.law_suite_machine.proofs.Invariant.{Inv}

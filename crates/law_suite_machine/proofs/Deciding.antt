@@ -1,12 +1,6 @@
 -- Verdicts that are recorded, and transactions that give up.
-use Rattle.std.proofs.Common.{◌≡◌, ℕ, true, false, ◌⊎◌, inl, inr, List, [], ◌∷◌, map, Option, Some, None, cond, refl, sym, ap, subst, ◌∙◌}
-use Rattle.std.specs.Prelude.{nat_eq}
-use Rattle.std.specs.List.{AllByRecursion}
-use Rattle.std.proofs.lemmas.Bool.{ne_eqb}
-use Rattle.law_suite_machine.specs.Registers.{Change, Entry, transaction}
-use Rattle.law_suite_machine.specs.Machine.{World, Intention, Verdict, Answered, Refused, Aborted, set1, is_answered, in_effect, effect}
-use Rattle.law_suite_machine.specs.Events.{decided, given_up, aimed}
-use Rattle.law_suite_machine.specs.Conditions.{MayAim, MayGiveUp}
+use Rattle.law_suite_machine.proofs.Vocabulary.{◌≡◌, ℕ, true, false, ◌⊎◌, inl, inr, List, [], ◌∷◌, map, Option, Some, None, cond, refl, sym, ap, subst, ◌∙◌, nat_eq, AllByRecursion, ne_eqb, Change, Entry, transaction, World, Intention}
+use Rattle.law_suite_machine.proofs.Vocabulary.{Verdict, Answered, Refused, Aborted, set1, is_answered, in_effect, effect, decided, given_up, aimed, MayAim, MayGiveUp}
 use Rattle.law_suite_machine.proofs.Places.{at1}
 use Rattle.law_suite_machine.proofs.Sound.{Sound}
 use Rattle.law_suite_machine.proofs.Invariant.{IsRecorded}

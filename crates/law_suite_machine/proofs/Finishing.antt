@@ -1,11 +1,6 @@
 -- Finish.
-use Rattle.std.proofs.Common.{◌≡◌, ℕ, true, false, ◌⊎◌, inl, inr, Option, Some, None, cond, refl, sym, ap, subst, ◌∙◌}
-use Rattle.std.specs.Prelude.{◌==◌}
-use Rattle.suite_prefix.specs.declared.copies.Replica.{Replica}
-use Rattle.law_suite_machine.specs.Registers.{Change}
-use Rattle.law_suite_machine.specs.Machine.{World, Hold, Intention, Verdict, Answered, Refused, Aborted, set1, set2, is_answered, in_effect, effect}
-use Rattle.law_suite_machine.specs.Events.{finished, copy_after, plan_after}
-use Rattle.law_suite_machine.specs.Conditions.{IsTake, MayFinish}
+use Rattle.law_suite_machine.proofs.Vocabulary.{◌≡◌, ℕ, true, false, ◌⊎◌, inl, inr, Option, Some, None, cond, refl, sym, ap, subst, ◌∙◌, ◌==◌, Replica, Change, World, Hold, Intention, Verdict, Answered, Refused, Aborted, set1, set2}
+use Rattle.law_suite_machine.proofs.Vocabulary.{is_answered, in_effect, effect, finished, copy_after, plan_after, IsTake, MayFinish}
 use Rattle.law_suite_machine.proofs.Places.{IsAt, at1, at1_both, at2, one_is, one_not, another}
 use Rattle.law_suite_machine.proofs.Sound.{Sound, IsOpen, some_plan, planned_alone}
 

@@ -1,8 +1,6 @@
 -- Locks that are set, upgraded and lost.
-use Rattle.std.proofs.Common.{◌≡◌, ℕ, Bool, true, false, inl, inr, Option, Some, None, refl, sym, ap, ◌∙◌}
-use Rattle.law_suite_machine.specs.Machine.{World, Hold, Told, set2}
-use Rattle.law_suite_machine.specs.Events.{held, upgraded, upgraded_hold, upgraded_told, lost, kept}
-use Rattle.law_suite_machine.specs.Conditions.{IsFree, MayHold, MayUpgrade, MayLose}
+use Rattle.law_suite_machine.proofs.Vocabulary.{◌≡◌, ℕ, Bool, true, false, inl, inr, Option, Some, None, refl, sym, ap, ◌∙◌, World, Hold, Told, set2, held, upgraded, upgraded_hold, upgraded_told, lost, kept, IsFree, MayHold, MayUpgrade}
+use Rattle.law_suite_machine.proofs.Vocabulary.{MayLose}
 use Rattle.law_suite_machine.proofs.Places.{at2, at2_both}
 use Rattle.law_suite_machine.proofs.Sound.{Sound, some_hold, some_told, NoNewLock, alone_no_new}
 

@@ -1,10 +1,7 @@
 -- What every event keeps.
-use Rattle.std.proofs.Common.{◌≡◌, ℕ, ◌<◌, ◌≤◌, Bool, IsTrue, false, ◌⊎◌, List, map, Option, Some, sym, subst}
-use Rattle.std.specs.Prelude.{nat_eq}
-use Rattle.std.specs.List.{AllByRecursion, IsDistinct}
-use Rattle.suite_prefix.specs.declared.copies.Replica.{Replica}
-use Rattle.law_suite_machine.specs.Registers.{Beginning, Entry, transaction, row, prefix_at, WasCopy}
-use Rattle.law_suite_machine.specs.Machine.{World, Told, Verdict, Answered, Refused, IsQuorum, effect}
+use Rattle.law_suite_machine.proofs.Vocabulary.{◌≡◌, ℕ, ◌<◌, ◌≤◌, Bool, IsTrue, false, ◌⊎◌, List, map, Option, Some, sym, subst, nat_eq, AllByRecursion, Replica, Beginning, Entry, transaction, row, prefix_at, WasCopy, World, Told}
+use Rattle.law_suite_machine.proofs.Vocabulary.{Verdict, Answered, Refused, IsQuorum, effect}
+use Rattle.std.specs.List.{IsDistinct}
 use Rattle.law_suite_machine.proofs.Rows.{Logged}
 use Rattle.law_suite_machine.proofs.Sound.{Sound}
 

@@ -1,11 +1,6 @@
 -- What a transaction knows when it is decided is what the register holds.
-use Rattle.std.proofs.Common.{◌≡◌, ℕ, ◌≤◌, Bool, inl, inr, List, Some, sym, ap, subst, ◌∙◌, arith}
-use Rattle.suite_content.specs.declared.content.Content.{Content}
-use Rattle.suite_prefix.specs.declared.copies.Prefix.{Prefix}
-use Rattle.suite_prefix.specs.declared.copies.Replica.{Replica}
-use Rattle.law_suite_machine.specs.Registers.{Beginning, Known, Entry, row, prefix_at, content_at, empty_of, GoesWith, IsKnown}
-use Rattle.law_suite_machine.specs.Machine.{World, Hold, Told, IsQuorum, effect}
-use Rattle.law_suite_machine.specs.Conditions.{IsReady, Knows}
+use Rattle.law_suite_machine.proofs.Vocabulary.{◌≡◌, ℕ, ◌≤◌, Bool, inl, inr, List, Some, sym, ap, subst, ◌∙◌, arith, Content, Prefix, Replica, Beginning, Known, Entry, row, prefix_at, content_at, empty_of, GoesWith, IsKnown, World}
+use Rattle.law_suite_machine.proofs.Vocabulary.{Hold, Told, IsQuorum, effect, IsReady, Knows}
 use Rattle.law_suite_machine.proofs.Rows.{Logged}
 use Rattle.law_suite_machine.proofs.Sound.{Sound, effect_held}
 use Rattle.law_suite_machine.proofs.Invariant.{Inv}

@@ -1,8 +1,5 @@
 -- What a function has after one place is changed.
-use Rattle.std.proofs.Common.{◌≡◌, ℕ, true, false, cond, ◌&&◌, refl, arith}
-use Rattle.std.specs.Prelude.{◌==◌}
-use Rattle.std.proofs.lemmas.Bool.Decides.{nat_tests}
-use Rattle.law_suite_machine.specs.Machine.{set1, set2}
+use Rattle.law_suite_machine.proofs.Vocabulary.{◌≡◌, ℕ, true, false, cond, ◌&&◌, refl, arith, ◌==◌, nat_tests, set1, set2}
 
 -- the place of i and t
 abbrev pub IsAt : ℕ → ℕ → ℕ → ℕ → Type 0

@@ -1,10 +1,6 @@
 -- Prepare.
-use Rattle.std.proofs.Common.{◌≡◌, ℕ, true, ◌⊎◌, inl, inr, Option, Some, None, refl, sym, ap, subst, ◌∙◌}
-use Rattle.suite_prefix.specs.declared.copies.Replica.{Replica}
-use Rattle.law_suite_machine.specs.Registers.{Change}
-use Rattle.law_suite_machine.specs.Machine.{World, Hold, Intention, set2, in_effect, effect}
-use Rattle.law_suite_machine.specs.Events.{prepared, prepared_hold, intended}
-use Rattle.law_suite_machine.specs.Conditions.{IsTake, MayPrepare}
+use Rattle.law_suite_machine.proofs.Vocabulary.{◌≡◌, ℕ, true, ◌⊎◌, inl, inr, Option, Some, None, refl, sym, ap, subst, ◌∙◌, Replica, Change, World, Hold, Intention, set2, in_effect, effect, prepared, prepared_hold, intended, IsTake}
+use Rattle.law_suite_machine.proofs.Vocabulary.{MayPrepare}
 use Rattle.law_suite_machine.proofs.Places.{IsAt, at1, at2, at2_both}
 use Rattle.law_suite_machine.proofs.Sound.{Sound, IsOpen, some_hold, some_plan, some_left, NoNewLock, alone_no_new, planned_alone, effect_held, not_answered}
 

@@ -1,10 +1,6 @@
 -- The register: what it had stays so when it is written.
-use Rattle.std.proofs.Common.{◌≡◌, ℕ, ◌<◌, ◌≤◌, ◌⊎◌, inl, inr, List, ◌∷◌, refl, sym, ap, subst, ◌∙◌, arith}
-use Rattle.vote_core.specs.Validity.{IsValid}
-use Rattle.suite_content.specs.declared.content.Content.{Content}
-use Rattle.suite_prefix.specs.declared.copies.Prefix.{Prefix}
-use Rattle.suite_prefix.specs.declared.copies.Replica.{Replica}
-use Rattle.law_suite_machine.specs.Registers.{Beginning, Known, Entry, Read, Wrote, row, prefix_at, content_at, empty_of, WasPrefix, WasContent, GoesWith, WasCopy, IsKnown, IsNext, IsPlain}
+use Rattle.law_suite_machine.proofs.Vocabulary.{◌≡◌, ℕ, ◌<◌, ◌≤◌, ◌⊎◌, inl, inr, List, ◌∷◌, refl, sym, ap, subst, ◌∙◌, arith, IsValid, Content, Prefix, Replica, Beginning, Known, Entry, Read, Wrote, row, prefix_at, content_at, empty_of}
+use Rattle.law_suite_machine.proofs.Vocabulary.{WasPrefix, WasContent, GoesWith, WasCopy, IsKnown, IsNext, IsPlain}
 use Rattle.law_suite_machine.proofs.Places.{at1}
 
 -- the register's own row is what it had at the row's versions

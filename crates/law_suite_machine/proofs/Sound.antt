@@ -1,10 +1,6 @@
 -- What the locks, the intentions and the replies have to do with one another.
-use Rattle.std.proofs.Common.{◌≡◌, ℕ, true, false, ◌⊎◌, Option, Some, None, refl, ap, ◌∙◌}
-use Rattle.std.specs.Prelude.{◌≢◌}
-use Rattle.suite_prefix.specs.declared.copies.Replica.{Replica}
-use Rattle.law_suite_machine.specs.Registers.{Change}
-use Rattle.law_suite_machine.specs.Machine.{World, Hold, Told, Intention, Verdict, Answered, Refused, Aborted, is_answered, in_effect, effect}
-use Rattle.law_suite_machine.specs.Conditions.{IsTake}
+use Rattle.law_suite_machine.proofs.Vocabulary.{◌≡◌, ℕ, true, false, ◌⊎◌, Option, Some, None, refl, ap, ◌∙◌, ◌≢◌, Replica, Change, World, Hold, Told, Intention, Verdict, Answered, Refused, Aborted, is_answered, in_effect, effect}
+use Rattle.law_suite_machine.proofs.Vocabulary.{IsTake}
 
 -- it may still be decided
 abbrev pub IsOpen : World → ℕ → Type 0

@@ -1,15 +1,7 @@
 -- Before anything happens.
-use Rattle.std.proofs.Common.{◌≡◌, ℕ, ◌<◌, Bool, true, false, cond, inl, inr, [], refl, sym, ap, subst, arith}
-use Rattle.std.specs.Prelude.{◌==◌}
-use Rattle.std.specs.List.{list_any, IsDistinct}
-use Rattle.std.proofs.lemmas.List.Folds.{list_any-from_Any}
-use Rattle.vote_core.specs.Quorums.{Representative, Configuration, votes_at, SharedMember}
-use Rattle.vote_core.specs.Validity.{IsValid}
-use Rattle.vote_core.proofs.QuorumLemmas.{read_quorum_has_member, write_quorum_has_member, voting_listed}
-use Rattle.suite_prefix.specs.declared.copies.Prefix.{Prefix}
-use Rattle.suite_prefix.specs.declared.copies.Replica.{Replica}
-use Rattle.law_suite_machine.specs.Registers.{Beginning, IsBeginning, prefix_at, empty_of, WasPrefix, WasCopy}
-use Rattle.law_suite_machine.specs.Machine.{IsQuorum, begun, first_copy, effect}
+use Rattle.law_suite_machine.proofs.Vocabulary.{◌≡◌, ℕ, ◌<◌, Bool, true, false, cond, inl, inr, [], refl, sym, ap, subst, arith, ◌==◌, list_any, list_any-from_Any, Representative, Configuration, votes_at, SharedMember, IsValid}
+use Rattle.law_suite_machine.proofs.Vocabulary.{read_quorum_has_member, write_quorum_has_member, voting_listed, Prefix, Replica, Beginning, IsBeginning, prefix_at, empty_of, WasPrefix, WasCopy, IsQuorum, begun, first_copy, effect}
+use Rattle.std.specs.List.{IsDistinct}
 use Rattle.law_suite_machine.proofs.Places.{at1, itself}
 use Rattle.law_suite_machine.proofs.Sound.{Sound}
 use Rattle.law_suite_machine.proofs.Rows.{Logged}

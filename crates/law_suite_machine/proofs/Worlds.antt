@@ -1,6 +1,5 @@
 -- Two worlds are the same if they are at each place.
-use Rattle.std.proofs.Common.{◌≡◌, ℕ}
-use Rattle.law_suite_machine.specs.Machine.{World}
+use Rattle.law_suite_machine.proofs.Vocabulary.{◌≡◌, ℕ, World}
 
 -- what crates above use where a server has served a request
 pub record IsSame (a b : World) : Type 0 where

@@ -1,29 +1,13 @@
 -- A request that is served again at once changes nothing more, and is answered the same.
-use Rattle.std.proofs.Common.{◌≡◌, ℕ, Bool, true, false, cond, List, [], ◌∷◌, ◌++◌, Option, Some, None, refl, sym, ap, ◌∙◌, arith}
-use Rattle.std.specs.Prelude.{◌==◌, ◌&&◌, ◌||◌, not, length, filter, find, option_map}
-use Rattle.std.specs.List.{list_any, list_all}
-use Rattle.std.proofs.lemmas.Bool.{and_parts, or_parts, false≢true}
-use Rattle.std.proofs.lemmas.Bool.Decides.{nat_tests}
-use Rattle.vote_core.specs.Quorums.{Configuration}
-use Rattle.suite_prefix.specs.declared.copies.Replica.{Replica}
-use Rattle.suite_prefix.specs.declared.forms.Form.{Form}
-use Rattle.suite_prefix.specs.declared.lock_mode.LockMode.{LockMode}
-use Rattle.suite_prefix.specs.declared.lock_mode.LockMode.TheVariants.{Shared, Exclusive}
-use Rattle.suite_prefix.specs.LockModes.{serves, stronger}
-use Rattle.file_ops.specs.declared.audit.AuditItem.{AuditItem}
-use Rattle.rep_core.specs.Intentions.{Intention}
-use Rattle.rep_core.specs.declared.lock.Lock.{Lock}
-use Rattle.rep_core.specs.declared.request.Part.{Part}
-use Rattle.rep_core.specs.declared.request.Request.{Request}
+use Rattle.rep_core.proofs.Vocabulary.{◌≡◌, ℕ, Bool, true, false, cond, List, [], ◌∷◌, ◌++◌, Option, Some, None, refl, sym, ap, ◌∙◌, arith, ◌==◌, ◌&&◌, ◌||◌, not, length, filter, find, option_map, list_any, list_all, and_parts}
+use Rattle.rep_core.proofs.Vocabulary.{or_parts, false≢true, nat_tests, Configuration, Replica, Form, LockMode, Shared, Exclusive, serves, stronger, AuditItem, Intention, Lock, Part, Request, Verdict, is_own, conflicts, in_the_way}
+use Rattle.rep_core.proofs.Vocabulary.{has_lock, has_prepared, has_lock_for, before, raised_lock, raised, with_lock, locked, prepared_lock, with_prepared, broken, Store, copy_of, is_sound_part, lists_twice, with_taken, with_copies}
+use Rattle.rep_core.proofs.Vocabulary.{with_form, with_forms, without_intentions, State, record_of, reply_up, reply_down, after_up, after_down, locking_reply, after_locking, poll_reply, after_poll, stands_prepared, can_prepare}
+use Rattle.rep_core.proofs.Vocabulary.{recorded, after_record, verdict_of, audit_of, is_answered, after_finish, StaysSo, AgainAtOnce}
 use Rattle.rep_core.specs.declared.request.Request.TheVariants as request
-use Rattle.rep_core.specs.declared.reply.Verdict.{Verdict}
 use Rattle.rep_core.specs.declared.reply.Verdict.TheVariants as verdict
 use Rattle.rep_core.specs.declared.reply.Reply.TheVariants as reply
-use Rattle.rep_core.specs.Locks.{is_own, conflicts, in_the_way, has_lock, has_prepared, has_lock_for, before, raised_lock, raised, with_lock, locked, prepared_lock, with_prepared, broken}
-use Rattle.rep_core.specs.Store.{Store, copy_of, is_sound_part, lists_twice, with_taken, with_copies, with_form, with_forms, without_intentions, finished}
-use Rattle.rep_core.specs.State.{State, record_of}
-use Rattle.rep_core.specs.Service.{reply_up, reply_down, after_up, after_down, locking_reply, after_locking, poll_reply, after_poll, stands_prepared, can_prepare, recorded, after_record, verdict_of, audit_of, is_answered, after_finish}
-use Rattle.rep_core.specs.Again.{StaysSo, AgainAtOnce}
+use Rattle.rep_core.specs.Store.{finished}
 use Rattle.rep_core.proofs.Members.{any_has, has_any, map_has}
 use Rattle.rep_core.proofs.Finding.{find_map, none_filtered}
 use Rattle.rep_core.proofs.Alone.{own_is}

@@ -1,14 +1,6 @@
 -- An exclusive lock stands alone through each change.
-use Rattle.std.proofs.Common.{◌≡◌, ℕ, Bool, true, false, cond, ◌⊎◌, inl, inr, List, None, refl, sym, ap, ◌∙◌, arith}
-use Rattle.std.specs.Prelude.{find, filter, not, ◌==◌, ◌&&◌}
-use Rattle.std.proofs.lemmas.Bool.Decides.{nat_tests}
-use Rattle.suite_prefix.specs.declared.lock_mode.LockMode.{LockMode}
-use Rattle.suite_prefix.specs.declared.lock_mode.LockMode.TheVariants.{Shared, Exclusive}
-use Rattle.rep_core.specs.declared.lock.Lock.{Lock}
-use Rattle.rep_core.specs.declared.request.Part.{Part}
-use Rattle.suite_prefix.specs.LockModes.{is_exclusive, stronger}
-use Rattle.rep_core.specs.Locks.{conflicts, is_own, has_lock, raised_lock, raised, before, with_lock, locked, prepared_lock, with_prepared}
-use Rattle.rep_core.specs.State.{State}
+use Rattle.rep_core.proofs.Vocabulary.{◌≡◌, ℕ, Bool, true, false, cond, ◌⊎◌, inl, inr, List, None, refl, sym, ap, ◌∙◌, arith, find, filter, not, ◌==◌, ◌&&◌, nat_tests, LockMode, Shared, Exclusive, Lock, Part, is_exclusive, stronger}
+use Rattle.rep_core.proofs.Vocabulary.{conflicts, is_own, has_lock, raised_lock, raised, before, with_lock, locked, prepared_lock, with_prepared, State}
 use Rattle.rep_core.proofs.Ways.{Ways}
 use Rattle.rep_core.proofs.Members.{Has, has_filter, has_map, has_between, find_none}
 

@@ -1,20 +1,7 @@
 -- A map that is kept by agent has at a transaction what its agent's map has there, and changes as its agent's map does.
-use Rattle.std.specs.Prelude.{◌≡◌, ◌≢◌, ℕ, zero, suc, cond, List, [], ◌∷◌, Some, None}
-use Rattle.std.proofs.Common.{refl, sym, ◌∙◌, ap, ⊎_elim, arith}
-use Rattle.std.specs.Ordering.{nat_cmp, is_eq}
-use Rattle.std.specs.BTreeMap.{is_at}
+use Rattle.rep_core.proofs.Vocabulary.{◌≡◌, ◌≢◌, ℕ, zero, suc, cond, List, [], ◌∷◌, Some, None, refl, sym, ◌∙◌, ap, ⊎_elim, arith, nat_cmp, is_eq, is_at, cases_Bool, eqb_tells, nat_cmp_total, lookup_head, lookup_tail, none-some}
+use Rattle.rep_core.proofs.Vocabulary.{IsOrdered, get, insert, flipped, get-insert, IsOrdered-insert, same_maps, get_insert_here, get_insert_apart, Roomy, agent_of, pairs_at, with_pairs, merged, IsByAgent}
 use Rattle.std.specs.List.Sorted.{IsStrictlySortedBy}
-use Rattle.std.proofs.lemmas.Bool.{cases_Bool}
-use Rattle.std.proofs.lemmas.Bool.Decides.{eqb_tells}
-use Rattle.std.proofs.lemmas.Cmp.{nat_cmp_total}
-use Rattle.std.proofs.lemmas.Map.Entries.{lookup_head, lookup_tail}
-use Rattle.std.proofs.lemmas.Option.{none-some}
-use Rattle.sorted_map.specs.SortedMap.{IsOrdered, get, insert}
-use Rattle.sorted_map.specs.Comparisons.{flipped}
-use Rattle.sorted_map.specs.Laws.{get-insert, IsOrdered-insert}
-use Rattle.sorted_map.specs.Numbers.{same_maps, get_insert_here, get_insert_apart}
-use Rattle.sorted_map.specs.Roomy.{Roomy}
-use Rattle.rep_core.specs.code.ByAgent.{agent_of, pairs_at, with_pairs, merged, IsByAgent}
 
 module _ {V : Type 0} where
   -- ---- one map put into another

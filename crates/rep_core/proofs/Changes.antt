@@ -1,11 +1,6 @@
 -- Which requests take no memory.
-use Rattle.std.proofs.Common.{◌≡◌, true, false, cond, refl}
-use Rattle.std.specs.Prelude.{IsTrue}
-use Rattle.rep_core.specs.declared.request.Request.{Request}
+use Rattle.rep_core.proofs.Vocabulary.{◌≡◌, true, false, cond, refl, IsTrue, Request, State, reply_up, reply_down, reply_of, takes_no_memory, is_bare}
 use Rattle.rep_core.specs.declared.request.Request.TheVariants as request
-use Rattle.rep_core.specs.State.{State}
-use Rattle.rep_core.specs.Service.{reply_up, reply_down, reply_of}
-use Rattle.rep_core.specs.Serving.{takes_no_memory, is_bare}
 
 -- the requests that take no memory are answered so
 bare_down : (asked : Request) → IsTrue (takes_no_memory asked) → is_bare (reply_down asked) ≡ true

@@ -1,32 +1,10 @@
 -- A server is consistent as it opens, and stays so whatever it is asked.
-use Rattle.std.proofs.Common.{◌≡◌, ℕ, ◌≤◌, Bool, true, false, cond, List, [], ◌∷◌, Option, Some, None, Less, refl, sym, ap, subst, ◌∙◌, arith}
-use Rattle.std.specs.Prelude.{◌==◌, ◌&&◌, ◌||◌, not, filter}
-use Rattle.std.specs.List.{list_any, list_all, AllByRecursion}
+use Rattle.rep_core.proofs.Vocabulary.{◌≡◌, ℕ, ◌≤◌, Bool, true, false, cond, List, [], ◌∷◌, Option, Some, None, Less, refl, sym, ap, subst, ◌∙◌, arith, ◌==◌, ◌&&◌, ◌||◌, not, filter, list_any, list_all, AllByRecursion, keys_of, nat_cmp}
+use Rattle.rep_core.proofs.Vocabulary.{and_parts, nat_tests, nat_cmp_total, same_Some, none-some, IsOrdered, get, insert, IsOrdered-insert, Opening, LockMode, Shared, Exclusive, is_exclusive, serves, Intention, Lock, Part, Request}
+use Rattle.rep_core.proofs.Vocabulary.{Stamped, rise, is_own, has_lock_for, locked, prepared_lock, with_prepared, released, Store, IsSound, copy_of, is_keep, goes_with, is_sound_part, lists_twice, with_intention, with_intentions}
+use Rattle.rep_core.proofs.Vocabulary.{suites_with, max_suites, State, opening, prepares, stands_prepared, is_answered, step, IsAlone, HasPreparedLock, IntentionsLocked, IsConsistent, ConsistencyIsKept}
 use Rattle.std.specs.List.Sorted.{IsStrictlySortedBy}
-use Rattle.std.specs.Map.{keys_of}
-use Rattle.std.specs.Ordering.{nat_cmp}
-use Rattle.std.proofs.lemmas.Bool.{and_parts}
-use Rattle.std.proofs.lemmas.Bool.Decides.{nat_tests}
-use Rattle.std.proofs.lemmas.Cmp.{nat_cmp_total}
-use Rattle.std.proofs.lemmas.Option.{same_Some, none-some}
-use Rattle.sorted_map.specs.SortedMap.{IsOrdered, get, insert}
-use Rattle.sorted_map.specs.Laws.{IsOrdered-insert}
-use Rattle.suite_prefix.specs.SettingsRules.{Opening}
-use Rattle.suite_prefix.specs.declared.lock_mode.LockMode.{LockMode}
-use Rattle.suite_prefix.specs.declared.lock_mode.LockMode.TheVariants.{Shared, Exclusive}
-use Rattle.suite_prefix.specs.LockModes.{is_exclusive, serves}
-use Rattle.rep_core.specs.Intentions.{Intention}
-use Rattle.rep_core.specs.declared.lock.Lock.{Lock}
-use Rattle.rep_core.specs.declared.request.Part.{Part}
-use Rattle.rep_core.specs.declared.request.Request.{Request}
-use Rattle.rep_core.specs.declared.stamped.Stamped.{Stamped}
-use Rattle.rep_core.specs.Locks.{rise, is_own, has_lock_for, locked, prepared_lock, with_prepared, released}
-use Rattle.rep_core.specs.Store.{Store, IsSound, copy_of, is_keep, goes_with, is_sound_part, lists_twice, with_intention, with_intentions, finished, suites_with, max_suites}
-use Rattle.rep_core.specs.State.{State, opening}
-use Rattle.rep_core.specs.Service.{prepares, stands_prepared, is_answered}
-use Rattle.rep_core.specs.Serving.{step}
-use Rattle.rep_core.specs.Consistency.{IsAlone, HasPreparedLock, IntentionsLocked, IsConsistent}
-use Rattle.rep_core.specs.Laws.{ConsistencyIsKept}
+use Rattle.rep_core.specs.Store.{finished}
 use Rattle.rep_core.proofs.Members.{Has, has_from, contains_from, map_has, has_any, any_has, all_at}
 use Rattle.rep_core.proofs.Finding.{find_some}
 use Rattle.rep_core.proofs.Rising.{rise_filter, rise_locked, rise_prepared}

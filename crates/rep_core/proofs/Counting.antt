@@ -1,24 +1,8 @@
 -- How many suites have a copy or an intention, after a Prepare.
-use Rattle.std.proofs.Common.{◌≡◌, ℕ, ◌+◌, Bool, true, false, cond, ◌&&◌, List, [], ◌∷◌, length, Less, Equal, Greater, refl, sym, ap, ◌∙◌, arith}
-use Rattle.std.specs.Prelude.{not, ◌==◌, nat_lt, min, is_some, count_by}
-use Rattle.std.specs.List.{list_any}
-use Rattle.std.specs.Map.{keys_of}
-use Rattle.std.specs.Ordering.{nat_cmp, is_eq}
-use Rattle.std.specs.BTreeMap.{is_at}
-use Rattle.std.proofs.lemmas.Bool.{or_parts}
-use Rattle.std.proofs.lemmas.Bool.Decides.{nat_tests}
-use Rattle.std.proofs.lemmas.Cmp.{nat_cmp_total}
-use Rattle.std.proofs.lemmas.Map.Entries.{lookup_head, lookup_tail}
-use Rattle.std.proofs.lemmas.List.Sums.{count_by-le-length}
-use Rattle.std.proofs.lemmas.Map.Keys.{sorted_tail}
-use Rattle.sorted_map.specs.SortedMap.{IsOrdered, get, insert}
-use Rattle.sorted_map.specs.Comparisons.{by_answer}
-use Rattle.sorted_map.specs.Laws.{insert_step, get_below, IsOrdered-insert}
-use Rattle.sorted_map.specs.Numbers.{get_insert_apart}
-use Rattle.rep_core.specs.Intentions.{Intention}
-use Rattle.rep_core.specs.declared.request.Part.{Part}
+use Rattle.rep_core.proofs.Vocabulary.{◌≡◌, ℕ, ◌+◌, Bool, true, false, cond, ◌&&◌, List, [], ◌∷◌, length, Less, Equal, Greater, refl, sym, ap, ◌∙◌, arith, not, ◌==◌, nat_lt, min, is_some, count_by, list_any, keys_of, nat_cmp, is_eq}
+use Rattle.rep_core.proofs.Vocabulary.{is_at, or_parts, nat_tests, nat_cmp_total, lookup_head, lookup_tail, count_by-le-length, sorted_tail, IsOrdered, get, insert, by_answer, insert_step, get_below, IsOrdered-insert, get_insert_apart}
+use Rattle.rep_core.proofs.Vocabulary.{Intention, Part, Store, max_suites, is_keep, lists_twice, has_copy, suites_with, with_intention, with_intentions, intended}
 use Rattle.rep_core.proofs.Rising.{count_cons}
-use Rattle.rep_core.specs.Store.{Store, max_suites, is_keep, lists_twice, has_copy, suites_with, with_intention, with_intentions, intended}
 
 one_if : (there : Bool) → there ≡ false → (b : Bool) → ◌≡◌ {A = ℕ} (cond (not there && b) 1 0) (cond b 1 0)
 one_if there absent b = ap (λ h. cond (not h && b) 1 0) absent

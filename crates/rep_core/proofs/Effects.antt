@@ -1,11 +1,5 @@
 -- A Finish stores what is in effect.
-use Rattle.std.proofs.Common.{◌≡◌, ℕ, ◌==◌, Bool, true, false, cond, Option, Some, None, refl, sym, ap, ◌∙◌, ⊎_elim}
-use Rattle.std.specs.Ordering.{nat_cmp}
-use Rattle.std.proofs.lemmas.Bool.{cases_Bool, eqb-true}
-use Rattle.sorted_map.specs.SortedMap.{get}
-use Rattle.suite_prefix.specs.declared.copies.Replica.{Replica}
-use Rattle.rep_core.specs.Intentions.{Intention}
-use Rattle.rep_core.specs.Store.{copy_of, left_by, in_effect, FinishKeepsEffect}
+use Rattle.rep_core.proofs.Vocabulary.{◌≡◌, ℕ, ◌==◌, Bool, true, false, cond, Option, Some, None, refl, sym, ap, ◌∙◌, ⊎_elim, nat_cmp, cases_Bool, eqb-true, get, Replica, Intention, copy_of, left_by, in_effect, FinishKeepsEffect}
 use Rattle.rep_core.proofs.IntentionLookups.{others, stored, get-without_intentions, copy_finished}
 
 same_effect : (t : ℕ) (answered : Bool) (decided : ℕ → Bool) (o : Option Intention) (copy : Replica) → decided t ≡ answered → in_effect (others t o) decided (stored answered t o copy) ≡ in_effect o decided copy

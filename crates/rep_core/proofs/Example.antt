@@ -1,30 +1,11 @@
 -- A run after which a server has a copy that a transaction changed, and one after which a server that is down has an exclusive lock
 -- that is prepared.
-use Rattle.std.proofs.Common.{true, ◌<◌, List, [], ◌∷◌, ◌++◌, refl, sym, ◌∙◌, inl, lit<, arith}
+use Rattle.rep_core.proofs.Vocabulary.{true, ◌<◌, List, [], ◌∷◌, ◌++◌, refl, sym, ◌∙◌, inl, lit<, arith, nat_cmp, empty, contains-empty, false≢true, All-nil, All-cons, Representative, Configuration, MAX_SERVERS, IsValid, Prefix, Folder}
+use Rattle.rep_core.proofs.Vocabulary.{PrefixFits, closed_lists, Opening, Exclusive, Intention, Lock, Part, Request, Stamped, reached, SomeServerStands, TakeFits, RequestFits, OpeningFits, SomeCopyIsChanged}
 use Rattle.std.specs.List.{IsDistinct}
-use Rattle.std.specs.Ordering.{nat_cmp}
-use Rattle.std.specs.FinSet.{empty, contains-empty}
-use Rattle.std.proofs.lemmas.Bool.{false≢true}
-use Rattle.std.proofs.lemmas.List.Elements.{All-nil, All-cons}
-use Rattle.vote_core.specs.Quorums.{Representative, Configuration}
-use Rattle.vote_core.specs.declared.TheConstants.{MAX_SERVERS}
-use Rattle.vote_core.specs.Validity.{IsValid}
-use Rattle.suite_prefix.specs.declared.copies.Prefix.{Prefix}
-use Rattle.suite_prefix.specs.declared.copies.PrefixKind.TheVariants.{Folder}
-use Rattle.suite_prefix.specs.Copies.{PrefixFits}
-use Rattle.suite_prefix.specs.TwoLists.{closed_lists}
-use Rattle.suite_prefix.specs.SettingsRules.{Opening}
-use Rattle.suite_prefix.specs.declared.lock_mode.LockMode.TheVariants.{Exclusive}
-use Rattle.rep_core.specs.Intentions.{Intention}
-use Rattle.rep_core.specs.declared.lock.Lock.{Lock}
-use Rattle.rep_core.specs.declared.request.Part.{Part}
 use Rattle.rep_core.specs.declared.request.Take.TheVariants as take
-use Rattle.rep_core.specs.declared.request.Request.{Request}
 use Rattle.rep_core.specs.declared.request.Request.TheVariants as request
 use Rattle.rep_core.specs.declared.reply.Verdict.TheVariants as verdict
-use Rattle.rep_core.specs.declared.stamped.Stamped.{Stamped}
-use Rattle.rep_core.specs.Laws.{reached, SomeServerStands}
-use Rattle.rep_core.specs.ValidCopies.{TakeFits, RequestFits, OpeningFits, SomeCopyIsChanged}
 use Rattle.rep_core.proofs.Members.{contains_from}
 use Rattle.rep_core.proofs.Validity.{closed_acls, nobody}
 

@@ -1,24 +1,10 @@
 -- No request makes the suites with a copy or an intention too many.
-use Rattle.std.proofs.Common.{◌≡◌, ℕ, ◌+◌, ◌≤◌, Bool, true, false, cond, List, [], ◌∷◌, length, refl, sym, ap, subst, ◌∙◌, ⊎_elim, arith}
-use Rattle.std.specs.Prelude.{◌==◌, ◌&&◌, not, nat_lt, filter, is_some, count_by}
-use Rattle.std.specs.List.{list_any}
+use Rattle.rep_core.proofs.Vocabulary.{◌≡◌, ℕ, ◌+◌, ◌≤◌, Bool, true, false, cond, List, [], ◌∷◌, length, refl, sym, ap, subst, ◌∙◌, ⊎_elim, arith, ◌==◌, ◌&&◌, not, nat_lt, filter, is_some, count_by, list_any, nat_cmp, cases_Bool}
+use Rattle.rep_core.proofs.Vocabulary.{or_parts, nat_tests, nat_cmp_total, IsOrdered, get, insert, length-insert, IsOrdered-insert, get_insert_here, get_insert_apart, Configuration, Replica, Opening, Intention, Part, Take, Store}
+use Rattle.rep_core.proofs.Vocabulary.{root_copy, opening_store, holds_last, max_suites, has_copy, suites_with, intended, overfills, with_taken, with_copies, left_by, copy_in}
 use Rattle.std.specs.List.Sorted.{IsStrictlySortedBy}
-use Rattle.std.specs.Ordering.{nat_cmp}
-use Rattle.std.proofs.lemmas.Bool.{cases_Bool, or_parts}
-use Rattle.std.proofs.lemmas.Bool.Decides.{nat_tests}
-use Rattle.std.proofs.lemmas.Cmp.{nat_cmp_total}
-use Rattle.sorted_map.specs.SortedMap.{IsOrdered, get, insert}
-use Rattle.sorted_map.specs.Edits.{length-insert}
-use Rattle.sorted_map.specs.Laws.{IsOrdered-insert}
-use Rattle.sorted_map.specs.Numbers.{get_insert_here, get_insert_apart}
-use Rattle.vote_core.specs.Quorums.{Configuration}
-use Rattle.suite_prefix.specs.declared.copies.Replica.{Replica}
-use Rattle.suite_prefix.specs.SettingsRules.{Opening}
-use Rattle.rep_core.specs.Intentions.{Intention}
-use Rattle.rep_core.specs.declared.request.Part.{Part}
-use Rattle.rep_core.specs.declared.request.Take.{Take}
 use Rattle.rep_core.specs.declared.request.Take.TheVariants as take
-use Rattle.rep_core.specs.Store.{Store, root_copy, opening_store, holds_last, max_suites, has_copy, suites_with, intended, overfills, with_taken, with_copies, finished, left_by, copy_in}
+use Rattle.rep_core.specs.Store.{finished}
 use Rattle.rep_core.proofs.Rising.{count_cons}
 use Rattle.rep_core.proofs.Intentions.{is_of}
 

@@ -1,8 +1,7 @@
 -- What a search finds in a list after the usual changes.
-use Rattle.std.proofs.Common.{◌≡◌, ℕ, zero, suc, Bool, true, false, cond, ◌||◌, ◌&&◌, List, [], ◌∷◌, Option, Some, None, is_some, refl, sym, ap, ◌∙◌, inl, inr}
-use Rattle.std.specs.Prelude.{find, filter, map, insert, option_map}
-use Rattle.std.specs.List.{list_any, list_all}
-use Rattle.std.proofs.lemmas.Bool.{false≢true, and_parts, or_parts}
+use Rattle.rep_core.proofs.Vocabulary.{◌≡◌, ℕ, zero, suc, Bool, true, false, cond, ◌||◌, ◌&&◌, List, [], ◌∷◌, Option, Some, None, is_some, refl, sym, ap, ◌∙◌, inl, inr, find, filter, map, option_map, list_any, list_all, false≢true}
+use Rattle.rep_core.proofs.Vocabulary.{and_parts, or_parts}
+use Rattle.std.specs.Prelude.{insert}
 use Rattle.rep_core.proofs.Members.{Has}
 
 -- the test holds of one of the list at most

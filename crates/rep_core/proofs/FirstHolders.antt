@@ -1,16 +1,7 @@
 -- Who holds a suite first beside a transaction.
-use Rattle.std.proofs.Common.{◌≡◌, ℕ, ◌+◌, ◌≤◌, ◌<◌, Bool, true, false, cond, List, [], ◌∷◌, Option, Some, None, refl, sym, ap, ◌∙◌, arith, Less, Equal, Greater}
-use Rattle.std.specs.Prelude.{◌==◌, ◌&&◌, find, nat_lt, option_map}
-use Rattle.std.specs.List.{AllByRecursion}
+use Rattle.rep_core.proofs.Vocabulary.{◌≡◌, ℕ, ◌+◌, ◌≤◌, ◌<◌, Bool, true, false, cond, List, [], ◌∷◌, Option, Some, None, refl, sym, ap, ◌∙◌, arith, Less, Equal, Greater, ◌==◌, ◌&&◌, find, nat_lt, option_map, AllByRecursion, nat_cmp}
+use Rattle.rep_core.proofs.Vocabulary.{ordering_then, is_lt, keys_of, false≢true, nat_tests, IsOrdered, by_answer, first_from, Holder, holder_cmp, is_other, told_other, other_in, of_first}
 use Rattle.std.specs.List.Sorted.{IsStrictlySortedBy}
-use Rattle.std.specs.Ordering.{nat_cmp, ordering_then, is_lt}
-use Rattle.std.specs.Map.{keys_of}
-use Rattle.std.proofs.lemmas.Bool.{false≢true}
-use Rattle.std.proofs.lemmas.Bool.Decides.{nat_tests}
-use Rattle.sorted_map.specs.SortedMap.{IsOrdered}
-use Rattle.sorted_map.specs.Comparisons.{by_answer}
-use Rattle.sorted_map.specs.Blocks.{first_from}
-use Rattle.rep_core.specs.code.Holders.{Holder, holder_cmp, is_other, told_other, other_in, of_first}
 
 no_more : (a b : ℕ) → nat_cmp a b ≡ Less → a ≤ b
 no_more a b is = grind (arith, nat_tests)

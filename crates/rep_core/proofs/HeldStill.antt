@@ -1,27 +1,11 @@
 -- A Poll or an Upgrade that was told Held, and is served again later: the lock stands in its mode, and the copy is the same.
-use Rattle.std.proofs.Common.{◌≡◌, inl, inr, ℕ, Bool, true, false, cond, List, [], ◌∷◌, ◌++◌, Some, None, refl, sym, ap, subst, ◌∙◌, arith}
-use Rattle.std.specs.Prelude.{◌==◌, ◌&&◌, ◌||◌, not, filter, find}
-use Rattle.std.proofs.lemmas.Bool.{false≢true}
-use Rattle.std.proofs.lemmas.Bool.Decides.{nat_tests}
-use Rattle.suite_prefix.specs.declared.copies.Prefix.{Prefix}
-use Rattle.suite_prefix.specs.declared.lock_mode.LockMode.{LockMode}
-use Rattle.suite_prefix.specs.declared.lock_mode.LockMode.TheVariants.{Shared, Exclusive}
-use Rattle.suite_prefix.specs.LockModes.{is_exclusive, serves, stronger}
-use Rattle.rep_core.specs.declared.lock.Lock.{Lock}
-use Rattle.rep_core.specs.declared.request.Request.{Request}
+use Rattle.rep_core.proofs.Vocabulary.{◌≡◌, inl, inr, ℕ, Bool, true, false, cond, List, [], ◌∷◌, ◌++◌, Some, None, refl, sym, ap, subst, ◌∙◌, arith, ◌==◌, ◌&&◌, ◌||◌, not, filter, find, false≢true, nat_tests, Prefix, LockMode, Shared}
+use Rattle.rep_core.proofs.Vocabulary.{Exclusive, is_exclusive, serves, stronger, Lock, Request, Stamped, is_own, conflicts, in_the_way, has_lock, before, raised_lock, raised, with_lock, locked, prepared_lock, copy_of, State, reply_of}
+use Rattle.rep_core.proofs.Vocabulary.{after, locking_reply, after_locking, poll_reply, after_poll, is_full, served, step, IsConsistent, after_all, sent, later_on, StaysLater, is_taking, served_by, AgainLater, or_parts}
 use Rattle.rep_core.specs.declared.request.Request.TheVariants as request
 use Rattle.rep_core.specs.declared.reply.Reply.TheVariants as reply
-use Rattle.rep_core.specs.declared.stamped.Stamped.{Stamped}
-use Rattle.rep_core.specs.Locks.{is_own, conflicts, in_the_way, has_lock, before, raised_lock, raised, with_lock, locked, prepared_lock}
-use Rattle.rep_core.specs.Store.{copy_of}
-use Rattle.rep_core.specs.State.{State}
-use Rattle.rep_core.specs.Service.{reply_of, after, locking_reply, after_locking, held, poll_reply, after_poll}
-use Rattle.rep_core.specs.Serving.{is_full, served, step}
-use Rattle.rep_core.specs.Consistency.{IsConsistent}
-use Rattle.rep_core.specs.Laws.{after_all}
-use Rattle.rep_core.specs.Again.{sent, later_on, StaysLater, is_taking, served_by, AgainLater}
+use Rattle.rep_core.specs.Service.{held}
 use Rattle.rep_core.proofs.Members.{Has, contains_from, any_has, has_any, map_has, filter_has, between_has}
-use Rattle.std.proofs.lemmas.Bool.{or_parts}
 use Rattle.rep_core.proofs.Alone.{own_is}
 use Rattle.rep_core.proofs.Stays.{serves_itself, serves_on, raised_serves}
 use Rattle.rep_core.proofs.Least.{same_lock}

@@ -1,20 +1,8 @@
 -- The intentions of a transaction become copies, place by place: what is taken at a place is gone.
-use Rattle.std.proofs.Common.{◌≡◌, ℕ, ◌+◌, ◌<◌, ◌≤◌, zero, suc, add-one, take, drop, get_or, filter, Less, Bool, true, false, cond, not, List, [], ◌∷◌, length, Some, refl, sym, ap, subst, ◌∙◌, arith}
-use Rattle.std.specs.Prelude.{IfSome, remove as without}
-use Rattle.std.specs.List.{list_all}
-use Rattle.std.specs.Ordering.{nat_cmp, is_eq}
-use Rattle.std.specs.BTreeMap.{is_at}
-use Rattle.std.specs.Map.{keys_of}
-use Rattle.std.proofs.lemmas.Bool.{and_parts, and_from}
-use Rattle.std.proofs.lemmas.List.{drop_more, take_all}
-use Rattle.std.proofs.lemmas.Map.Entries.{lookup_head, lookup_tail}
-use Rattle.std.proofs.lemmas.Map.Keys.{sorted_head, sorted_tail}
-use Rattle.sorted_map.specs.SortedMap.{IsOrdered, get, remove}
-use Rattle.vote_core.specs.Quorums.{Configuration}
-use Rattle.suite_prefix.specs.declared.copies.Replica.{Replica}
-use Rattle.suite_prefix.specs.declared.forms.Form.{Form}
-use Rattle.rep_core.specs.Intentions.{Intention}
-use Rattle.rep_core.specs.Store.{with_taken, with_copies, with_form, with_forms, without_intentions}
+use Rattle.rep_core.proofs.Vocabulary.{◌≡◌, ℕ, ◌+◌, ◌<◌, ◌≤◌, zero, suc, add-one, take, drop, get_or, filter, Less, Bool, true, false, cond, not, List, [], ◌∷◌, length, Some, refl, sym, ap, subst, ◌∙◌, arith, IfSome, list_all, nat_cmp}
+use Rattle.rep_core.proofs.Vocabulary.{is_eq, is_at, keys_of, and_parts, and_from, drop_more, take_all, lookup_head, lookup_tail, sorted_head, sorted_tail, IsOrdered, get, remove, Configuration, Replica, Form, Intention, with_taken}
+use Rattle.rep_core.proofs.Vocabulary.{with_copies, with_form, with_forms, without_intentions}
+use Rattle.std.specs.Prelude.{remove as without}
 use Rattle.rep_core.proofs.Intentions.{is_of, at_index, at_itself, swapped}
 
 -- ---- a list without the element at a place

@@ -1,20 +1,8 @@
 -- Which intention and which copy a suite has after a Prepare and after a Finish.
-use Rattle.std.proofs.Common.{◌≡◌, ℕ, ◌==◌, Bool, true, false, cond, not, inl, inr, List, [], ◌∷◌, Option, Some, None, is_some, refl, sym, ap, subst, ◌∙◌, ⊎_elim, arith}
-use Rattle.std.specs.Prelude.{if◌then◌else◌, find}
-use Rattle.std.specs.List.{list_any}
-use Rattle.std.specs.Ordering.{nat_cmp}
-use Rattle.std.specs.BTreeMap.{is_at}
-use Rattle.std.specs.Map.{keys_of}
-use Rattle.std.proofs.lemmas.Bool.{cases_Bool, or_parts}
-use Rattle.std.proofs.lemmas.Bool.Decides.{nat_tests}
-use Rattle.std.proofs.lemmas.Map.Entries.{lookup_head, lookup_tail}
-use Rattle.std.proofs.lemmas.Map.Keys.{sorted_tail}
-use Rattle.sorted_map.specs.SortedMap.{IsOrdered, get, insert}
-use Rattle.sorted_map.specs.Numbers.{get_insert_here, get_insert_apart}
-use Rattle.suite_prefix.specs.declared.copies.Replica.{Replica}
-use Rattle.rep_core.specs.Intentions.{Intention}
-use Rattle.rep_core.specs.declared.request.Part.{Part}
-use Rattle.rep_core.specs.Store.{Store, IsSound, copy_of, is_keep, lists_twice, with_intention, with_intentions, without_intentions, finished, in_effect}
+use Rattle.rep_core.proofs.Vocabulary.{◌≡◌, ℕ, ◌==◌, Bool, true, false, cond, not, inl, inr, List, [], ◌∷◌, Option, Some, None, is_some, refl, sym, ap, subst, ◌∙◌, ⊎_elim, arith, if◌then◌else◌, find, list_any, nat_cmp, is_at, keys_of}
+use Rattle.rep_core.proofs.Vocabulary.{cases_Bool, or_parts, nat_tests, lookup_head, lookup_tail, sorted_tail, IsOrdered, get, insert, get_insert_here, get_insert_apart, Replica, Intention, Part, Store, IsSound, copy_of, is_keep}
+use Rattle.rep_core.proofs.Vocabulary.{lists_twice, with_intention, with_intentions, without_intentions, in_effect}
+use Rattle.rep_core.specs.Store.{finished}
 use Rattle.rep_core.proofs.Members.{Has}
 use Rattle.rep_core.proofs.Intentions.{is_of, at_itself, absent_behind, apart_behind, copy_in-with_copies}
 

@@ -1,31 +1,10 @@
 -- What the intentions of a transaction become, one after the other.
-use Rattle.std.proofs.Common.{◌≡◌, ℕ, ◌==◌, ◌+◌, ◌≤◌, ◌<◌, zero, suc, add-one, take as first_items, get_or, Less, Greater, subst, Bool, true, false, cond, not, List, [], ◌∷◌, length, Some, None, IsSome, refl, sym, ap, ◌∙◌, ⊎_elim, arith}
-use Rattle.std.specs.Prelude.{unwrap_or, is_some}
-use Rattle.std.specs.Ordering.{nat_cmp, is_eq}
-use Rattle.std.specs.Cmp.{eq_by_cmp_equiv}
-use Rattle.std.specs.BTreeMap.{is_at}
-use Rattle.std.specs.List.{AllByRecursion, list_all}
-use Rattle.std.specs.Map.{keys_of}
-use Rattle.std.proofs.lemmas.Bool.{cases_Bool, false≢true, and_parts}
-use Rattle.std.proofs.lemmas.Bool.Decides.{nat_tests}
-use Rattle.std.proofs.lemmas.Cmp.{nat_cmp_total}
-use Rattle.std.proofs.lemmas.Option.{none-some, same_Some}
-use Rattle.std.proofs.lemmas.Map.{lookup-none}
-use Rattle.std.proofs.lemmas.Map.Entries.{none_past_head, lookup_head, lookup_tail}
-use Rattle.std.proofs.lemmas.Map.Keys.{sorted_head, sorted_tail, IsDistinct-from_sorted}
-use Rattle.sorted_map.specs.SortedMap.{IsOrdered, get, insert, replace}
-use Rattle.sorted_map.specs.Laws.{insert_step}
-use Rattle.sorted_map.specs.Edits.{length-insert, insert_present}
-use Rattle.sorted_map.specs.Numbers.{get_insert_here, get_insert_apart}
-use Rattle.vote_core.specs.Quorums.{Configuration}
-use Rattle.suite_prefix.specs.declared.copies.Prefix.{Prefix}
-use Rattle.suite_prefix.specs.declared.copies.Replica.{Replica}
-use Rattle.rep_core.specs.Intentions.{Intention}
-use Rattle.rep_core.specs.declared.request.Part.{Part}
-use Rattle.rep_core.specs.declared.request.Take.{Take}
+use Rattle.rep_core.proofs.Vocabulary.{◌≡◌, ℕ, ◌==◌, ◌+◌, ◌≤◌, ◌<◌, zero, suc, add-one, get_or, Less, Greater, subst, Bool, true, false, cond, not, List, [], ◌∷◌, length, Some, None, IsSome, refl, sym, ap, ◌∙◌, ⊎_elim, arith, unwrap_or}
+use Rattle.rep_core.proofs.Vocabulary.{is_some, nat_cmp, is_eq, eq_by_cmp_equiv, is_at, AllByRecursion, list_all, keys_of, cases_Bool, false≢true, and_parts, nat_tests, nat_cmp_total, none-some, same_Some, lookup-none, none_past_head}
+use Rattle.rep_core.proofs.Vocabulary.{lookup_head, lookup_tail, sorted_head, sorted_tail, IsDistinct-from_sorted, IsOrdered, get, insert, replace, insert_step, length-insert, insert_present, get_insert_here, get_insert_apart}
+use Rattle.rep_core.proofs.Vocabulary.{Configuration, Prefix, Replica, Intention, Part, Take, absent_copy, is_keep, with_intentions, copy_in, left_by, with_prefix, with_taken, with_copies, without_intentions, in_effect}
+use Rattle.std.proofs.Common.{take as first_items}
 use Rattle.rep_core.specs.declared.request.Take.TheVariants as take
-use Rattle.suite_prefix.specs.Absent.{absent_copy}
-use Rattle.rep_core.specs.Store.{is_keep, with_intentions, copy_in, left_by, with_prefix, with_taken, with_copies, without_intentions, in_effect}
 
 same_key : (key other : ℕ) → is_eq (nat_cmp key other) ≡ true → key ≡ other
 same_key key other here = grind (arith, nat_tests)

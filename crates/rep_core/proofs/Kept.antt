@@ -1,18 +1,7 @@
 -- Maps whose values are seen by a part of theirs: stored copies, seen as copies and as forms.
-use Rattle.std.proofs.Common.{◌≡◌, ℕ, cond, List, [], ◌∷◌, length, map, Option, Some, None, refl, sym, ap, ◌∙◌, arith}
-use Rattle.std.specs.Prelude.{is_some, option_map}
-use Rattle.std.specs.Ordering.{nat_cmp, match_ordering}
+use Rattle.rep_core.proofs.Vocabulary.{◌≡◌, ℕ, cond, List, [], ◌∷◌, length, map, Option, Some, None, refl, sym, ap, ◌∙◌, arith, is_some, option_map, nat_cmp, match_ordering, is_at, lookup-map_values, get, insert, Replica, Form, Two}
+use Rattle.rep_core.proofs.Vocabulary.{Kept, with_form, Planned, copies_in, forms_in, intention_in, in_form_2}
 use Rattle.std.specs.declared.cmp.Ordering.TheVariants as ord
-use Rattle.std.specs.BTreeMap.{is_at}
-use Rattle.std.proofs.lemmas.Map.Made.{lookup-map_values}
-use Rattle.sorted_map.specs.SortedMap.{get, insert}
-use Rattle.suite_prefix.specs.declared.copies.Replica.{Replica}
-use Rattle.suite_prefix.specs.declared.forms.Form.{Form}
-use Rattle.suite_prefix.specs.declared.forms.Form.TheVariants.{Two}
-use Rattle.suite_prefix.specs.Stored.{Kept}
-use Rattle.rep_core.specs.Store.{with_form}
-use Rattle.rep_core.specs.declared.intention.Planned.{Planned}
-use Rattle.rep_core.specs.code.Planning.{copies_in, forms_in, intention_in, in_form_2}
 use Rattle.rep_core.proofs.Planned.{keeps_nothing}
 
 module _ {V W : Type 0} (f : V → W) where

@@ -1,55 +1,14 @@
 -- A request that is served again later changes nothing more, and is answered the same.
-use Rattle.std.proofs.Common.{◌≡◌, inl, inr, ℕ, Bool, true, false, cond, List, [], ◌∷◌, Option, Some, None, Less, Equal, Greater, refl, sym, ap, subst, ◌∙◌, arith}
-use Rattle.std.specs.Prelude.{◌==◌, ◌&&◌, ◌||◌, not, ◌++◌, length, filter, map}
-use Rattle.std.specs.List.{list_any, list_all}
-use Rattle.std.specs.Ordering.{nat_cmp, match_ordering}
-use Rattle.std.proofs.lemmas.Bool.{and_parts, or_parts, false≢true}
-use Rattle.std.proofs.lemmas.Bool.Decides.{nat_tests}
-use Rattle.sorted_map.specs.SortedMap.{get, insert}
-use Rattle.vote_core.specs.Quorums.{Configuration}
-use Rattle.suite_content.specs.declared.content.Content.{Content}
-use Rattle.suite_prefix.specs.declared.copies.Replica.{Replica}
-use Rattle.suite_prefix.specs.declared.forms.Form.{Form}
-use Rattle.suite_prefix.specs.declared.lock_mode.LockMode.{LockMode}
-use Rattle.suite_prefix.specs.declared.lock_mode.LockMode.TheVariants.{Exclusive}
-use Rattle.suite_prefix.specs.LockModes.{serves}
-use Rattle.rep_core.specs.Intentions.{Intention}
-use Rattle.rep_core.specs.declared.lock.Lock.{Lock}
-use Rattle.rep_core.specs.declared.request.Part.{Part}
-use Rattle.rep_core.specs.declared.request.Request.{Request}
+use Rattle.rep_core.proofs.Vocabulary.{◌≡◌, inl, inr, ℕ, Bool, true, false, cond, List, [], ◌∷◌, Option, Some, None, Less, Equal, Greater, refl, sym, ap, subst, ◌∙◌, arith, ◌==◌, ◌&&◌, ◌||◌, not, ◌++◌, length, filter, map, list_any}
+use Rattle.rep_core.proofs.Vocabulary.{list_all, nat_cmp, match_ordering, and_parts, or_parts, false≢true, nat_tests, get, insert, Configuration, Content, Replica, Form, LockMode, Exclusive, serves, Intention, Lock, Part, Request}
+use Rattle.rep_core.proofs.Vocabulary.{Verdict, Stamped, is_own, has_lock, has_prepared, has_lock_for, before, raised_lock, raised, with_lock, locked, prepared_lock, Store, copy_of, is_keep, is_sound_part, lists_twice, with_intention}
+use Rattle.rep_core.proofs.Vocabulary.{with_intentions, with_taken, with_copies, with_form, with_forms, left_by, State, record_of, reply_of, after, reply_up, reply_down, after_up, after_down, given, fetch_reply, stands_prepared}
+use Rattle.rep_core.proofs.Vocabulary.{can_prepare, prepares, prepare_reply, after_prepare, recorded, after_record, verdict_of, audit_of, is_answered, after_finish, is_full, served, step, IsConsistent, after_all, finished_by}
+use Rattle.rep_core.proofs.Vocabulary.{asks_record, sent, later_on, StaysLater, is_poll, is_taking, served_by}
 use Rattle.rep_core.specs.declared.request.Request.TheVariants as request
-use Rattle.rep_core.specs.declared.reply.Verdict.{Verdict}
 use Rattle.rep_core.specs.declared.reply.Verdict.TheVariants as verdict
 use Rattle.rep_core.specs.declared.reply.Reply.TheVariants as reply
-use Rattle.rep_core.specs.declared.stamped.Stamped.{Stamped}
-use Rattle.rep_core.specs.Locks.{is_own, has_lock, has_prepared, has_lock_for, before, raised_lock, raised, with_lock, locked, prepared_lock}
-use Rattle.rep_core.specs.Store.{Store, copy_of, is_keep, is_sound_part, lists_twice, with_intention, with_intentions, with_taken, with_copies, with_form, with_forms, finished, left_by}
-use Rattle.rep_core.specs.State.{State, record_of}
-use Rattle.rep_core.specs.Service.{
-  reply_of,
-  after,
-  reply_up,
-  reply_down,
-  after_up,
-  after_down,
-  given,
-  fetch_reply,
-  stands_prepared,
-  can_prepare,
-  prepares,
-  prepare_reply,
-  after_prepare,
-  recorded,
-  after_record,
-  verdict_of,
-  audit_of,
-  is_answered,
-  after_finish,
-}
-use Rattle.rep_core.specs.Serving.{is_full, served, step}
-use Rattle.rep_core.specs.Consistency.{IsConsistent}
-use Rattle.rep_core.specs.Laws.{after_all, finished_by, asks_record}
-use Rattle.rep_core.specs.Again.{sent, later_on, StaysLater, is_poll, is_taking, served_by}
+use Rattle.rep_core.specs.Store.{finished}
 use Rattle.rep_core.proofs.Members.{Has, contains_from, any_has, has_any, map_has, filter_has, between_has}
 use Rattle.rep_core.proofs.Alone.{own_is}
 use Rattle.rep_core.proofs.LockLookups.{new_lock}

@@ -1,21 +1,9 @@
 -- Of rising locks the first that passes a test is that of the least transaction; and a transaction has one lock on a suite at most.
-use Rattle.std.proofs.Common.{◌≡◌, ℕ, ◌≤◌, Bool, true, false, cond, inl, inr, List, [], ◌∷◌, Option, Some, None, refl, sym, ap, subst, ◌∙◌, arith}
-use Rattle.std.specs.Prelude.{find, ◌||◌}
-use Rattle.std.specs.List.{list_all}
-use Rattle.std.proofs.lemmas.Bool.{and_parts, false≢true}
-use Rattle.std.proofs.lemmas.Bool.Decides.{nat_tests}
-use Rattle.std.proofs.lemmas.Option.{same_Some}
-use Rattle.suite_prefix.specs.declared.lock_mode.LockMode.{LockMode}
-use Rattle.suite_prefix.specs.declared.lock_mode.LockMode.TheVariants.{Exclusive}
-use Rattle.rep_core.specs.declared.lock.Lock.{Lock}
-use Rattle.rep_core.specs.declared.request.Request.{Request}
+use Rattle.rep_core.proofs.Vocabulary.{◌≡◌, ℕ, ◌≤◌, Bool, true, false, cond, inl, inr, List, [], ◌∷◌, Option, Some, None, refl, sym, ap, subst, ◌∙◌, arith, find, ◌||◌, list_all, and_parts, false≢true, nat_tests, same_Some, LockMode}
+use Rattle.rep_core.proofs.Vocabulary.{Exclusive, Lock, Request, before, rise, conflicts, in_the_way, has_lock, copy_of, State, locking_reply, poll_reply, reply_up, reply_down, reply_of, stands_prepared, can_prepare, stands_against}
+use Rattle.rep_core.proofs.Vocabulary.{IsLeastHolder}
 use Rattle.rep_core.specs.declared.request.Request.TheVariants as request
 use Rattle.rep_core.specs.declared.reply.Reply.TheVariants as reply
-use Rattle.rep_core.specs.Locks.{before, rise, conflicts, in_the_way, has_lock}
-use Rattle.rep_core.specs.Store.{copy_of}
-use Rattle.rep_core.specs.State.{State}
-use Rattle.rep_core.specs.Service.{locking_reply, poll_reply, reply_up, reply_down, reply_of, stands_prepared, can_prepare}
-use Rattle.rep_core.specs.Laws.{stands_against, IsLeastHolder}
 use Rattle.rep_core.proofs.Members.{Has, has_from, contains_from, all_at}
 use Rattle.rep_core.proofs.Finding.{find_some}
 

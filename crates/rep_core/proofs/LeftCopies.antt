@@ -1,18 +1,6 @@
 -- What a sound part leaves is a valid copy; and what is planned of parts, one after the other.
-use Rattle.std.proofs.Common.{◌≡◌, ℕ, zero, suc, ◌<◌, Bool, true, false, cond, get_or, List, [], ◌∷◌, ◌++◌, length, refl, ap, ◌∙◌, arith}
-use Rattle.std.specs.Prelude.{◌||◌}
-use Rattle.std.specs.List.{list_all, list_any}
-use Rattle.std.proofs.lemmas.Bool.{and_parts, or_parts}
-use Rattle.vote_core.specs.Quorums.{Configuration}
-use Rattle.suite_prefix.specs.declared.copies.Replica.{Replica}
-use Rattle.suite_prefix.specs.Copies.{IsCopy}
-use Rattle.suite_prefix.specs.TestsExact.{CopyFits}
-use Rattle.suite_prefix.specs.LockModes.{is_exclusive}
-use Rattle.rep_core.specs.declared.intention.Planned.{Planned}
-use Rattle.rep_core.specs.declared.request.Part.{Part}
-use Rattle.rep_core.specs.Store.{Store, IsSound, copy_of, copy_in, left_by, is_keep, goes_with, holds_last, is_sound_part}
-use Rattle.rep_core.specs.ValidCopies.{TakeFits}
-use Rattle.rep_core.specs.code.Planning.{planned_of, is_whole, in_form_2}
+use Rattle.rep_core.proofs.Vocabulary.{◌≡◌, ℕ, zero, suc, ◌<◌, Bool, true, false, cond, get_or, List, [], ◌∷◌, ◌++◌, length, refl, ap, ◌∙◌, arith, ◌||◌, list_all, list_any, and_parts, or_parts, Configuration, Replica, IsCopy, CopyFits}
+use Rattle.rep_core.proofs.Vocabulary.{is_exclusive, Planned, Part, Store, IsSound, copy_of, copy_in, left_by, is_keep, goes_with, holds_last, is_sound_part, TakeFits, planned_of, is_whole, in_form_2}
 use Rattle.rep_core.proofs.Soundness.{left_sound}
 use Rattle.rep_core.proofs.Validity.{left_fits, sound_valid}
 

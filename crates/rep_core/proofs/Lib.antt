@@ -1,3 +1,4 @@
+mod Vocabulary
 pub mod Members
 pub mod Finding
 pub mod Rising

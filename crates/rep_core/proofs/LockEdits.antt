@@ -1,23 +1,10 @@
 -- Locks that are put and let go one by one, and what that comes to.
-use Rattle.std.proofs.Common.{◌≡◌, ℕ, ◌+◌, ◌<◌, ◌≤◌, ◌^◌, length, Bool, true, false, cond, inl, inr, List, [], ◌∷◌, ◌++◌, Option, Some, None, refl, sym, ap, ◌∙◌, arith, Less, Equal, Greater}
-use Rattle.std.specs.Prelude.{◌==◌, ◌&&◌, ◌||◌, not, nat_lt, filter, find, option_map}
-use Rattle.std.specs.List.{list_any, list_all, AllByRecursion}
+use Rattle.rep_core.proofs.Vocabulary.{◌≡◌, ℕ, ◌+◌, ◌<◌, ◌≤◌, ◌^◌, length, Bool, true, false, cond, inl, inr, List, [], ◌∷◌, ◌++◌, Option, Some, None, refl, sym, ap, ◌∙◌, arith, Less, Equal, Greater, ◌==◌, ◌&&◌, ◌||◌, not, nat_lt}
+use Rattle.rep_core.proofs.Vocabulary.{filter, find, option_map, list_any, list_all, AllByRecursion, nat_cmp, ordering_then, is_lt, keys_of, and_parts, false≢true, true≢false, nat_tests, same_Some, IsOrdered, first_from, by_answer}
+use Rattle.rep_core.proofs.Vocabulary.{LockMode, serves, stronger, Lock, Part, before, rise, is_own, lock_at, has_prepared, has_lock_for, locked, prepared_lock, with_prepared, released, broken, prepared_locks, holder_cmp, lock_of}
+use Rattle.rep_core.proofs.Vocabulary.{locks_of, own_of, next_of, lock_with, is_loose, AreNumbered, stronger_than, IsPut, without, one_prepared, with_one_prepared}
 use Rattle.std.specs.List.Sorted.{IsStrictlySortedBy}
-use Rattle.std.specs.Ordering.{nat_cmp, ordering_then, is_lt}
-use Rattle.std.specs.Map.{keys_of}
-use Rattle.std.proofs.lemmas.Bool.{and_parts, false≢true, true≢false}
-use Rattle.std.proofs.lemmas.Bool.Decides.{nat_tests}
-use Rattle.std.proofs.lemmas.Option.{same_Some}
-use Rattle.sorted_map.specs.SortedMap.{IsOrdered}
-use Rattle.sorted_map.specs.Blocks.{first_from}
-use Rattle.sorted_map.specs.Comparisons.{by_answer}
-use Rattle.suite_prefix.specs.declared.lock_mode.LockMode.{LockMode}
-use Rattle.suite_prefix.specs.LockModes.{serves, stronger}
-use Rattle.rep_core.specs.declared.lock.Lock.{Lock}
-use Rattle.rep_core.specs.declared.request.Part.{Part}
-use Rattle.rep_core.specs.Locks.{before, rise, is_own, lock_at, has_prepared, has_lock_for, locked, prepared_lock, with_prepared, released, broken, prepared_locks}
-use Rattle.rep_core.specs.code.Holders.{holder_cmp}
-use Rattle.rep_core.specs.code.Keyed.{Kept, lock_of, locks_of, own_of, next_of, lock_with, is_loose, AreNumbered, stronger_than, IsPut, without, one_prepared, with_one_prepared}
+use Rattle.rep_core.specs.code.Keyed.{Kept}
 use Rattle.rep_core.proofs.Members.{Has}
 use Rattle.rep_core.proofs.Finding.{find_some, find_map, none_ahead, find_filter_same, find_filter_none, once_both}
 use Rattle.rep_core.proofs.LockLookups.{lock_own, taken, ready, if_prepared, one_each, lock_at-locked, lock_at-crashed, lock_at-broken}

@@ -1,14 +1,8 @@
 -- Which lock a transaction has on a suite after each change of the locks.
-use Rattle.std.proofs.Common.{◌≡◌, ℕ, Bool, true, false, cond, ◌⊎◌, List, [], ◌∷◌, Option, Some, None, is_some, refl, sym, ap, ◌∙◌, arith}
-use Rattle.std.specs.Prelude.{◌==◌, ◌&&◌, ◌||◌, not, filter, find, insert, count_by, option_map}
-use Rattle.std.specs.List.{list_any, list_all}
-use Rattle.std.proofs.lemmas.Bool.{and_parts, false≢true}
-use Rattle.std.proofs.lemmas.Bool.Decides.{nat_tests}
-use Rattle.suite_prefix.specs.declared.lock_mode.LockMode.{LockMode}
-use Rattle.suite_prefix.specs.LockModes.{is_exclusive, stronger}
-use Rattle.rep_core.specs.declared.lock.Lock.{Lock}
-use Rattle.rep_core.specs.declared.request.Part.{Part}
-use Rattle.rep_core.specs.Locks.{before, rise, is_own, lock_at, conflicts, in_the_way, has_lock, raised_lock, raised, with_lock, locked, prepared_lock, with_prepared, released, broken, prepared_locks}
+use Rattle.rep_core.proofs.Vocabulary.{◌≡◌, ℕ, Bool, true, false, cond, ◌⊎◌, List, [], ◌∷◌, Option, Some, None, is_some, refl, sym, ap, ◌∙◌, arith, ◌==◌, ◌&&◌, ◌||◌, not, filter, find, count_by, option_map, list_any, list_all}
+use Rattle.rep_core.proofs.Vocabulary.{and_parts, false≢true, nat_tests, LockMode, is_exclusive, stronger, Lock, Part, before, rise, is_own, lock_at, conflicts, in_the_way, has_lock, raised_lock, raised, with_lock, locked}
+use Rattle.rep_core.proofs.Vocabulary.{prepared_lock, with_prepared, released, broken, prepared_locks}
+use Rattle.std.specs.Prelude.{insert}
 use Rattle.rep_core.proofs.Members.{find_none}
 use Rattle.rep_core.proofs.Alone.{own_is, no_conflict}
 use Rattle.rep_core.proofs.Rising.{insert_at_place}

@@ -1,19 +1,8 @@
 -- Names that are packed into one text with commas come out again, and no others do.
-use Rattle.std.proofs.Common.{◌≡◌, ℕ, Bool, ◌+◌, ◌≤◌, ◌<◌, true, false, cond, eqb, List, [], ◌∷◌, ◌++◌, length, map, refl, sym, ap, subst, ◌∙◌, arith, append-nil, Bor, get_or, inl, inr}
-use Rattle.std.specs.Prelude.{All, IsTrue}
-use Rattle.std.specs.List.{slice_split, count_by}
-use Rattle.std.specs.Ordering.{is_lt}
-use Rattle.std.proofs.lemmas.Bool.{cases_Bool, ne_eqb, false≢true, and_parts, and_from}
-use Rattle.std.proofs.lemmas.List.{map-append}
-use Rattle.std.proofs.lemmas.List.Elements.{All-nil, All-cons, All-head, All-tail}
-use Rattle.std.proofs.lemmas.List.Splits.{slice_split_none, slice_split_at, length-slice_split}
-use Rattle.std.proofs.lemmas.List.Sums.{sum_by-cons, sum_by-append}
-use Rattle.suite_content.specs.Folders.{IsFolder, name_cmp, names_in}
-use Rattle.suite_content.specs.Names.{IsName, is_name_byte}
-use Rattle.suite_content.specs.Written.{with_commas}
-use Rattle.suite_prefix.specs.Faults.{rise_above}
-use Rattle.suite_prefix.proofs.Orders.{folder_if_rise}
-use Rattle.rep_core.specs.code.PackedNames.{parts, unnumbered, AreInOrder}
+use Rattle.rep_core.proofs.Vocabulary.{◌≡◌, ℕ, Bool, ◌+◌, ◌≤◌, ◌<◌, true, false, cond, eqb, List, [], ◌∷◌, ◌++◌, length, map, refl, sym, ap, subst, ◌∙◌, arith, append-nil, Bor, get_or, inl, inr, All, IsTrue, slice_split, is_lt}
+use Rattle.rep_core.proofs.Vocabulary.{cases_Bool, ne_eqb, false≢true, and_parts, and_from, map-append, All-nil, All-cons, All-head, All-tail, slice_split_none, slice_split_at, length-slice_split, sum_by-cons, sum_by-append, IsFolder}
+use Rattle.rep_core.proofs.Vocabulary.{name_cmp, names_in, IsName, is_name_byte, with_commas, rise_above, folder_if_rise, parts, unnumbered, AreInOrder}
+use Rattle.std.specs.List.{count_by}
 
 -- ---- a name has no comma
 

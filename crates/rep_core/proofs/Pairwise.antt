@@ -1,6 +1,5 @@
 -- Two lists that are the same place by place.
-use Rattle.std.specs.Prelude.{◌≡◌, ℕ, zero, suc, ◌<◌, List, [], ◌∷◌, length, take, get_or}
-use Rattle.std.proofs.Common.{ap, arith}
+use Rattle.rep_core.proofs.Vocabulary.{◌≡◌, ℕ, zero, suc, ◌<◌, List, [], ◌∷◌, length, take, get_or, ap, arith}
 
 module _ {A : Type 0} where
   pub same_more : (xs ys : List A) (i : ℕ) (d : A) → i < length xs → i < length ys → take i xs ≡ take i ys → get_or xs i d ≡ get_or ys i d → take (suc i) xs ≡ take (suc i) ys

@@ -1,32 +1,12 @@
 -- Intentions that are kept as what they leave, seen as intentions.
-use Rattle.std.proofs.Common.{◌≡◌, ℕ, ◌==◌, ◌+◌, ◌≤◌, ◌<◌, Bool, true, false, cond, not, get_or, filter, List, [], ◌∷◌, length, Option, Some, None, refl, sym, ap, subst, ◌∙◌, ⊎_elim, ◌⊎◌, inl, inr, arith}
-use Rattle.std.specs.Prelude.{is_some, option_map, count_by, unwrap_or}
-use Rattle.std.specs.List.{fold}
+use Rattle.rep_core.proofs.Vocabulary.{◌≡◌, ℕ, ◌==◌, ◌+◌, ◌≤◌, ◌<◌, Bool, true, false, cond, not, get_or, filter, List, [], ◌∷◌, length, Option, Some, None, refl, sym, ap, subst, ◌∙◌, ⊎_elim, ◌⊎◌, inl, inr, arith, is_some, option_map}
+use Rattle.rep_core.proofs.Vocabulary.{count_by, unwrap_or, fold, nat_cmp, match_ordering, is_at, keys_of, cases_Bool, false≢true, eqb-true, eq-eqb, lookup_head, lookup_tail, sorted_tail, get_or-map, lookup-map_values}
+use Rattle.rep_core.proofs.Vocabulary.{keys_of-map_values, none-some, same_Some, IsOrdered, get, insert, remove, replace, get_insert_here, get_insert_apart, get_remove_here, get_remove_apart, Configuration, Replica, absent_copy, Kept}
+use Rattle.rep_core.proofs.Vocabulary.{Planned, Part, Take, Intention, copy_in, left_by, is_keep, with_taken, with_intentions, intention_in, intentions_in, in_form_2, take_in, is_whole, planned_of, with_all, Leaves}
 use Rattle.std.specs.List.Sorted.{IsStrictlySortedBy}
-use Rattle.std.specs.Ordering.{nat_cmp, match_ordering}
 use Rattle.std.specs.declared.cmp.Ordering.TheVariants as ord
-use Rattle.std.specs.BTreeMap.{is_at}
-use Rattle.std.specs.Map.{keys_of}
-use Rattle.std.proofs.lemmas.Bool.{cases_Bool, false≢true, eqb-true, eq-eqb}
-use Rattle.std.proofs.lemmas.Map.Entries.{lookup_head, lookup_tail}
-use Rattle.std.proofs.lemmas.Map.Keys.{sorted_tail}
 use Rattle.rep_core.proofs.Intentions.{apart_behind}
-use Rattle.std.proofs.lemmas.List.{get_or-map}
-use Rattle.std.proofs.lemmas.Map.Made.{lookup-map_values, keys_of-map_values}
-use Rattle.std.proofs.lemmas.Option.{none-some, same_Some}
-use Rattle.sorted_map.specs.SortedMap.{IsOrdered, get, insert, remove, replace}
-use Rattle.sorted_map.specs.Numbers.{get_insert_here, get_insert_apart, get_remove_here, get_remove_apart}
-use Rattle.vote_core.specs.Quorums.{Configuration}
-use Rattle.suite_prefix.specs.declared.copies.Replica.{Replica}
-use Rattle.suite_prefix.specs.Absent.{absent_copy}
-use Rattle.suite_prefix.specs.Stored.{Kept}
-use Rattle.rep_core.specs.declared.intention.Planned.{Planned}
-use Rattle.rep_core.specs.declared.request.Part.{Part}
-use Rattle.rep_core.specs.declared.request.Take.{Take}
 use Rattle.rep_core.specs.declared.request.Take.TheVariants as take
-use Rattle.rep_core.specs.Intentions.{Intention}
-use Rattle.rep_core.specs.Store.{copy_in, left_by, is_keep, with_taken, with_intentions}
-use Rattle.rep_core.specs.code.Planning.{intention_in, intentions_in, in_form_2, take_in, is_whole, planned_of, with_all, Leaves}
 
 -- ---- look-ups and edits
 

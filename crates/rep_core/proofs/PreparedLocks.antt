@@ -1,18 +1,7 @@
 -- A lock becomes prepared by a Prepare of its transaction only.
-use Rattle.std.proofs.Common.{◌≡◌, ℕ, Bool, true, false, cond, ◌⊎◌, inl, inr, List, refl, sym, ap, ◌∙◌, arith}
-use Rattle.std.specs.Prelude.{◌==◌, ◌&&◌, ◌||◌, not, filter}
-use Rattle.std.specs.List.{list_any}
-use Rattle.std.proofs.lemmas.Bool.{false≢true}
-use Rattle.std.proofs.lemmas.Bool.Decides.{nat_tests}
-use Rattle.suite_prefix.specs.declared.lock_mode.LockMode.{LockMode}
-use Rattle.suite_prefix.specs.declared.lock_mode.LockMode.TheVariants.{Exclusive}
-use Rattle.rep_core.specs.declared.lock.Lock.{Lock}
-use Rattle.rep_core.specs.declared.request.Part.{Part}
-use Rattle.rep_core.specs.declared.request.Request.{Request}
+use Rattle.rep_core.proofs.Vocabulary.{◌≡◌, ℕ, Bool, true, false, cond, ◌⊎◌, inl, inr, List, refl, sym, ap, ◌∙◌, arith, ◌==◌, ◌&&◌, ◌||◌, not, filter, list_any, false≢true, nat_tests, LockMode, Exclusive, Lock, Part, Request, before}
+use Rattle.rep_core.proofs.Vocabulary.{is_own, has_lock, raised_lock, raised, with_lock, locked, prepared_lock, with_prepared, State, is_prepare, WasPrepared, PreparedByPrepare}
 use Rattle.rep_core.specs.declared.request.Request.TheVariants as request
-use Rattle.rep_core.specs.Locks.{before, is_own, has_lock, raised_lock, raised, with_lock, locked, prepared_lock, with_prepared}
-use Rattle.rep_core.specs.State.{State}
-use Rattle.rep_core.specs.Steps.{is_prepare, WasPrepared, PreparedByPrepare}
 use Rattle.rep_core.proofs.Members.{Has, has_filter, has_map, has_between, has_from, contains_from}
 use Rattle.rep_core.proofs.Ways.{Ways, by_step}
 use Rattle.rep_core.proofs.LockLookups.{new_lock}

@@ -1,19 +1,9 @@
 -- A reply of which nothing is to be remembered comes from a server that stays as it was.
-use Rattle.std.proofs.Common.{◌≡◌, ℕ, Bool, true, false, cond, List, Option, Some, None, refl}
-use Rattle.std.specs.Prelude.{◌&&◌, ◌||◌, not}
-use Rattle.std.proofs.lemmas.Bool.{false≢true}
-use Rattle.suite_prefix.specs.declared.lock_mode.LockMode.{LockMode}
-use Rattle.suite_prefix.specs.declared.lock_mode.LockMode.TheVariants.{Exclusive}
-use Rattle.rep_core.specs.declared.lock.Lock.{Lock}
-use Rattle.rep_core.specs.declared.request.Part.{Part}
-use Rattle.rep_core.specs.declared.request.Request.{Request}
+use Rattle.rep_core.proofs.Vocabulary.{◌≡◌, ℕ, Bool, true, false, cond, List, Option, Some, None, refl, ◌&&◌, ◌||◌, not, false≢true, LockMode, Exclusive, Lock, Part, Request, in_the_way, has_lock, copy_of, State, reply_up, reply_down}
+use Rattle.rep_core.proofs.Vocabulary.{after_up, after_down, locking_reply, after_locking, poll_reply, after_poll, upgrade_reply, after_upgrade, stands_prepared, can_prepare, prepare_reply, after_prepare, is_quiet}
+use Rattle.rep_core.proofs.Vocabulary.{QuietRepliesChangeNothing}
 use Rattle.rep_core.specs.declared.request.Request.TheVariants as request
 use Rattle.rep_core.specs.declared.reply.Reply.TheVariants as reply
-use Rattle.rep_core.specs.Locks.{in_the_way, has_lock}
-use Rattle.rep_core.specs.Store.{copy_of}
-use Rattle.rep_core.specs.State.{State}
-use Rattle.rep_core.specs.Service.{reply_up, reply_down, after_up, after_down, locking_reply, after_locking, poll_reply, after_poll, upgrade_reply, after_upgrade, stands_prepared, can_prepare, prepare_reply, after_prepare}
-use Rattle.rep_core.specs.Steps.{is_quiet, QuietRepliesChangeNothing}
 use Rattle.rep_core.proofs.Ways.{laid}
 
 quiet_locking : (st : State) (t s : ℕ) (m : LockMode) (o : Option Lock) → is_quiet (locking_reply o (copy_of st.store s)) ≡ true → after_locking o t s m st ≡ st

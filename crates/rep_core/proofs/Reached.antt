@@ -1,17 +1,6 @@
 -- The laws of whole runs.
-use Rattle.std.proofs.Common.{◌≡◌, ℕ, Bool, true, false, cond, List, [], ◌∷◌, ◌++◌, refl, sym, ap, ◌∙◌, arith}
-use Rattle.std.specs.Prelude.{◌&&◌, not}
-use Rattle.std.proofs.lemmas.Bool.{or_parts}
-use Rattle.std.proofs.lemmas.Bool.Decides.{nat_tests}
-use Rattle.std.proofs.lemmas.Option.{same_Some}
-use Rattle.suite_prefix.specs.SettingsRules.{Opening}
-use Rattle.rep_core.specs.declared.lock.Lock.{Lock}
-use Rattle.rep_core.specs.declared.request.Request.{Request}
-use Rattle.rep_core.specs.declared.stamped.Stamped.{Stamped}
-use Rattle.rep_core.specs.State.{State, opening}
-use Rattle.rep_core.specs.Serving.{is_full, served, step}
-use Rattle.rep_core.specs.Consistency.{IsConsistent}
-use Rattle.rep_core.specs.Laws.{after_all, reached, ExclusiveStandsAlone, LocksRise, BusyNamesTheLeast, PreparedStands, IntentionsHaveLocks, StoresAreSound, SuitesAreFew, is_finish, finished_by}
+use Rattle.rep_core.proofs.Vocabulary.{◌≡◌, ℕ, Bool, true, false, cond, List, [], ◌∷◌, ◌++◌, refl, sym, ap, ◌∙◌, arith, ◌&&◌, not, or_parts, nat_tests, same_Some, Opening, Lock, Request, Stamped, State, opening, is_full, served, step}
+use Rattle.rep_core.proofs.Vocabulary.{IsConsistent, after_all, reached, ExclusiveStandsAlone, LocksRise, BusyNamesTheLeast, PreparedStands, IntentionsHaveLocks, StoresAreSound, SuitesAreFew, is_finish, finished_by}
 use Rattle.rep_core.proofs.Members.{Has, has_from, contains_from}
 use Rattle.rep_core.proofs.Ways.{by_request, room}
 use Rattle.rep_core.proofs.Stays.{Stands, itself, stays_ways, stands_on}

@@ -1,22 +1,9 @@
 -- A verdict is written once.
-use Rattle.std.proofs.Common.{◌≡◌, ℕ, true, false, cond, List, [], ◌∷◌, Option, Some, None, refl, sym, ap, ◌∙◌, ⊎_elim, arith}
-use Rattle.std.specs.Prelude.{◌==◌}
-use Rattle.std.proofs.lemmas.Bool.{cases_Bool, false≢true}
-use Rattle.std.proofs.lemmas.Bool.Decides.{nat_tests}
-use Rattle.std.proofs.lemmas.Option.{none-some}
-use Rattle.sorted_map.specs.Numbers.{get_insert_here, get_insert_apart}
-use Rattle.file_ops.specs.declared.audit.AuditItem.{AuditItem}
-use Rattle.rep_core.specs.declared.request.Decision.{Decision}
-use Rattle.rep_core.specs.declared.request.Request.{Request}
+use Rattle.rep_core.proofs.Vocabulary.{◌≡◌, ℕ, true, false, cond, List, [], ◌∷◌, Option, Some, None, refl, sym, ap, ◌∙◌, ⊎_elim, arith, ◌==◌, cases_Bool, false≢true, nat_tests, none-some, get_insert_here, get_insert_apart, AuditItem}
+use Rattle.rep_core.proofs.Vocabulary.{Decision, Request, Verdict, Stamped, State, record_of, reply_of, after, recorded, after_record, verdict_of, audit_of, is_full, served, step, after_all, asks_record, VerdictsAreWrittenOnce}
 use Rattle.rep_core.specs.declared.request.Request.TheVariants as request
 use Rattle.rep_core.specs.declared.reply.Reply.TheVariants as reply
-use Rattle.rep_core.specs.declared.reply.Verdict.{Verdict}
 use Rattle.rep_core.specs.declared.reply.Verdict.TheVariants as verdict
-use Rattle.rep_core.specs.declared.stamped.Stamped.{Stamped}
-use Rattle.rep_core.specs.State.{State, record_of}
-use Rattle.rep_core.specs.Service.{reply_of, after, recorded, after_record, verdict_of, audit_of}
-use Rattle.rep_core.specs.Serving.{is_full, served, step}
-use Rattle.rep_core.specs.Laws.{after_all, asks_record, VerdictsAreWrittenOnce}
 use Rattle.rep_core.proofs.Ways.{Ways, recording, by_step}
 
 other_than : (t u : ℕ) → (t == u) ≡ false → u ≡ t → ⊥

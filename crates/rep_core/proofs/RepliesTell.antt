@@ -1,18 +1,8 @@
 -- What a reply tells of the server that gave it, and of the server after it.
-use Rattle.std.proofs.Common.{◌≡◌, ℕ, Bool, true, false, cond, List, Option, Some, None, length, refl, ap}
-use Rattle.std.specs.Prelude.{◌==◌, ◌&&◌, ◌||◌, not}
-use Rattle.suite_content.specs.declared.content.Content.{Content}
-use Rattle.suite_prefix.specs.declared.copies.Prefix.{Prefix}
-use Rattle.suite_prefix.specs.declared.lock_mode.LockMode.{LockMode}
-use Rattle.suite_prefix.specs.declared.lock_mode.LockMode.TheVariants.{Exclusive}
-use Rattle.rep_core.specs.declared.lock.Lock.{Lock}
-use Rattle.rep_core.specs.declared.request.Part.{Part}
+use Rattle.rep_core.proofs.Vocabulary.{◌≡◌, ℕ, Bool, true, false, cond, List, Option, Some, None, length, refl, ap, ◌==◌, ◌&&◌, ◌||◌, not, Content, Prefix, LockMode, Exclusive, Lock, Part, in_the_way, has_lock, has_prepared, copy_of}
+use Rattle.rep_core.proofs.Vocabulary.{State, reply_of, after, given, locking_reply, after_locking, poll_reply, after_poll, upgrade_reply, after_upgrade, fetch_reply, can_prepare, prepare_reply, prepares, after_prepare}
 use Rattle.rep_core.specs.declared.request.Request.TheVariants as request
 use Rattle.rep_core.specs.declared.reply.Reply.TheVariants as reply
-use Rattle.rep_core.specs.Locks.{in_the_way, has_lock, has_prepared}
-use Rattle.rep_core.specs.Store.{copy_of}
-use Rattle.rep_core.specs.State.{State}
-use Rattle.rep_core.specs.Service.{reply_of, after, given, locking_reply, after_locking, poll_reply, after_poll, upgrade_reply, after_upgrade, fetch_reply, can_prepare, prepare_reply, prepares, after_prepare}
 use Rattle.rep_core.proofs.Ways.{with_locked, laid}
 
 -- ---- Held

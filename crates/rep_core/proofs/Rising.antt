@@ -1,14 +1,7 @@
 -- Locks in their order.
-use Rattle.std.proofs.Common.{◌≡◌, ℕ, ◌+◌, suc, Bool, true, false, cond, List, [], ◌∷◌, ◌++◌, refl, sym, ap, ◌∙◌, arith}
-use Rattle.std.specs.Prelude.{◌&&◌, not, filter, map, insert, count_by}
-use Rattle.std.specs.List.{list_all}
-use Rattle.std.proofs.lemmas.Bool.{and_parts, and_from, or_parts}
-use Rattle.std.proofs.lemmas.Bool.Decides.{nat_tests}
-use Rattle.std.proofs.lemmas.List.Sums.{sum_by-cons}
-use Rattle.suite_prefix.specs.declared.lock_mode.LockMode.{LockMode}
-use Rattle.rep_core.specs.declared.lock.Lock.{Lock}
-use Rattle.rep_core.specs.declared.request.Part.{Part}
-use Rattle.rep_core.specs.Locks.{before, rise, is_own, has_lock, with_lock, raised_lock, raised, locked, prepared_lock, with_prepared}
+use Rattle.rep_core.proofs.Vocabulary.{◌≡◌, ℕ, ◌+◌, suc, Bool, true, false, cond, List, [], ◌∷◌, ◌++◌, refl, sym, ap, ◌∙◌, arith, ◌&&◌, not, filter, map, count_by, list_all, and_parts, and_from, or_parts, nat_tests, sum_by-cons}
+use Rattle.rep_core.proofs.Vocabulary.{LockMode, Lock, Part, before, rise, is_own, has_lock, with_lock, raised_lock, raised, locked, prepared_lock, with_prepared}
+use Rattle.std.specs.Prelude.{insert}
 
 -- ---- the order
 

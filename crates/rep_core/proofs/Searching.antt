@@ -1,14 +1,6 @@
 -- Searches in rising locks: those that pass a test that goes with their order come first.
-use Rattle.std.proofs.Common.{◌≡◌, ℕ, zero, suc, ◌+◌, ◌<◌, ◌≤◌, Bool, true, false, cond, ◌&&◌, List, [], ◌∷◌, length, get_or, set, refl, sym, ap, ◌∙◌, arith}
-use Rattle.std.specs.Prelude.{◌||◌, ◌==◌, nat_lt, count_by}
-use Rattle.std.specs.List.{list_all, list_any}
-use Rattle.std.specs.List.Sorted.{IsPartitionedBy, IsPartitionPoint}
-use Rattle.std.proofs.lemmas.Bool.{and_parts, or_parts}
-use Rattle.std.proofs.lemmas.Bool.Decides.{nat_tests}
-use Rattle.suite_prefix.specs.declared.lock_mode.LockMode.{LockMode}
-use Rattle.suite_prefix.specs.LockModes.{stronger}
-use Rattle.rep_core.specs.declared.lock.Lock.{Lock}
-use Rattle.rep_core.specs.Locks.{before, rise, is_own, has_lock, raised_lock, raised}
+use Rattle.rep_core.proofs.Vocabulary.{◌≡◌, ℕ, zero, suc, ◌+◌, ◌<◌, ◌≤◌, Bool, true, false, cond, ◌&&◌, List, [], ◌∷◌, length, get_or, set, refl, sym, ap, ◌∙◌, arith, ◌||◌, ◌==◌, nat_lt, count_by, list_all, list_any, IsPartitionedBy}
+use Rattle.rep_core.proofs.Vocabulary.{IsPartitionPoint, and_parts, or_parts, nat_tests, LockMode, stronger, Lock, before, rise, is_own, has_lock, raised_lock, raised}
 use Rattle.rep_core.proofs.Rising.{count_cons}
 
 -- ---- a place found by halving

@@ -1,56 +1,12 @@
 -- Each change keeps a store sound.
-use Rattle.std.proofs.Common.{◌≡◌, ℕ, ◌==◌, Bool, true, false, cond, ◌&&◌, not, List, [], ◌∷◌, Option, Some, None, refl, sym, ap, subst, ◌∙◌, ◌⊎◌, inl, inr, ⊎_elim, arith}
-use Rattle.std.specs.Prelude.{nat_lt, IsTrue, if◌then◌else◌, ◌||◌, unwrap_or}
-use Rattle.std.specs.List.{list_all, list_any}
+use Rattle.rep_core.proofs.Vocabulary.{◌≡◌, ℕ, ◌==◌, Bool, true, false, cond, ◌&&◌, not, List, [], ◌∷◌, Option, Some, None, refl, sym, ap, subst, ◌∙◌, ◌⊎◌, inl, inr, ⊎_elim, arith, nat_lt, IsTrue, if◌then◌else◌, ◌||◌, unwrap_or}
+use Rattle.rep_core.proofs.Vocabulary.{list_all, list_any, nat_cmp, is_at, cases_Bool, and_parts, and_from, false≢true, or_parts, eqb-true, eq-eqb, nat_tests, none-some, same_Some, IsOrdered, get, insert, get_insert_here}
+use Rattle.rep_core.proofs.Vocabulary.{get_insert_apart, Configuration, Content, empty_content, PrefixKind, Absent, File, Folder, Replica, held_by, is_absent, holds, is_empty, is_within_limits, is_valid_prefix, is_valid_copy, Opening}
+use Rattle.rep_core.proofs.Vocabulary.{Intention, Part, Take, is_exclusive, absent_copy, Store, IsSound, is_sound, is_used_up, copy_of, copy_in, left_by, with_prefix, is_keep, may_become, goes_with, holds_last, is_sound_part}
+use Rattle.rep_core.proofs.Vocabulary.{with_intention, with_intentions, intended, overfills, suites_with, max_suites, root_copy, opening_store, without_intentions, in_effect}
 use Rattle.std.specs.List.Sorted.{IsStrictlySortedBy}
-use Rattle.std.specs.Ordering.{nat_cmp}
-use Rattle.std.specs.BTreeMap.{is_at}
-use Rattle.std.proofs.lemmas.Bool.{cases_Bool, and_parts, and_from, false≢true, or_parts, eqb-true, eq-eqb}
-use Rattle.std.proofs.lemmas.Bool.Decides.{nat_tests}
-use Rattle.std.proofs.lemmas.Option.{none-some, same_Some}
-use Rattle.sorted_map.specs.SortedMap.{IsOrdered, get, insert}
-use Rattle.sorted_map.specs.Numbers.{get_insert_here, get_insert_apart}
-use Rattle.vote_core.specs.Quorums.{Configuration}
-use Rattle.suite_content.specs.declared.content.Content.{Content}
-use Rattle.suite_content.specs.Contents.{empty_content}
-use Rattle.suite_prefix.specs.declared.copies.PrefixKind.{PrefixKind}
-use Rattle.suite_prefix.specs.declared.copies.PrefixKind.TheVariants.{Absent, File, Folder}
-use Rattle.suite_prefix.specs.declared.copies.Replica.{Replica}
-use Rattle.suite_prefix.specs.Copies.{held_by}
-use Rattle.suite_prefix.specs.Tests.{is_absent, holds, is_empty, is_within_limits, is_valid_prefix, is_valid_copy}
-use Rattle.suite_prefix.specs.SettingsRules.{Opening}
-use Rattle.rep_core.specs.Intentions.{Intention}
-use Rattle.rep_core.specs.declared.request.Part.{Part}
-use Rattle.rep_core.specs.declared.request.Take.{Take}
 use Rattle.rep_core.specs.declared.request.Take.TheVariants as take
-use Rattle.suite_prefix.specs.LockModes.{is_exclusive}
-use Rattle.suite_prefix.specs.Absent.{absent_copy}
-use Rattle.rep_core.specs.Store.{
-  Store,
-  IsSound,
-  is_sound,
-  is_used_up,
-  copy_of,
-  copy_in,
-  left_by,
-  with_prefix,
-  is_keep,
-  may_become,
-  goes_with,
-  holds_last,
-  is_sound_part,
-  with_intention,
-  with_intentions,
-  intended,
-  overfills,
-  suites_with,
-  max_suites,
-  root_copy,
-  opening_store,
-  finished,
-  without_intentions,
-  in_effect,
-}
+use Rattle.rep_core.specs.Store.{finished}
 use Rattle.rep_core.proofs.Intentions.{copy_in-with_copies, get-without}
 
 -- ---- what a take leaves

@@ -1,17 +1,7 @@
 -- A prepared lock stays through each change but a Finish of its transaction.
-use Rattle.std.proofs.Common.{◌≡◌, ℕ, Bool, true, false, cond, List, refl, ap, ◌∙◌, arith}
-use Rattle.std.specs.Prelude.{filter, not, ◌==◌, ◌&&◌, ◌||◌}
-use Rattle.std.specs.List.{list_any}
-use Rattle.std.proofs.lemmas.Bool.Decides.{nat_tests}
-use Rattle.suite_prefix.specs.declared.lock_mode.LockMode.{LockMode}
-use Rattle.suite_prefix.specs.declared.lock_mode.LockMode.TheVariants.{Shared, Exclusive}
-use Rattle.rep_core.specs.declared.lock.Lock.{Lock}
-use Rattle.rep_core.specs.declared.request.Part.{Part}
-use Rattle.suite_prefix.specs.LockModes.{serves, stronger}
-use Rattle.rep_core.specs.Locks.{is_own, has_lock, raised_lock, raised, before, with_lock, locked, prepared_lock, with_prepared}
-use Rattle.rep_core.specs.State.{State}
+use Rattle.rep_core.proofs.Vocabulary.{◌≡◌, ℕ, Bool, true, false, cond, List, refl, ap, ◌∙◌, arith, filter, not, ◌==◌, ◌&&◌, ◌||◌, list_any, nat_tests, LockMode, Shared, Exclusive, Lock, Part, serves, stronger, is_own, has_lock}
+use Rattle.rep_core.proofs.Vocabulary.{raised_lock, raised, before, with_lock, locked, prepared_lock, with_prepared, State, StillPrepared, is_finish}
 use Rattle.rep_core.proofs.Ways.{Ways}
-use Rattle.rep_core.specs.Laws.{StillPrepared, is_finish}
 use Rattle.rep_core.proofs.Members.{Has, filter_has, map_has, between_has}
 
 -- the lock stands there still, prepared

@@ -1,27 +1,10 @@
 -- Who holds locks on a suite, whom a search finds first, and what that tells of a lock in the way.
-use Rattle.std.proofs.Common.{◌≡◌, ℕ, ◌+◌, ◌^◌, ◌≤◌, ◌<◌, Bool, true, false, cond, inl, inr, List, [], ◌∷◌, Option, Some, None, is_some, refl, sym, ap, subst, ◌∙◌, arith, Less, Equal, Greater}
-use Rattle.std.specs.Prelude.{◌==◌, ◌&&◌, ◌||◌, filter, find, option_map}
-use Rattle.std.specs.List.{AllByRecursion}
+use Rattle.rep_core.proofs.Vocabulary.{◌≡◌, ℕ, ◌+◌, ◌^◌, ◌≤◌, ◌<◌, Bool, true, false, cond, inl, inr, List, [], ◌∷◌, Option, Some, None, is_some, refl, sym, ap, subst, ◌∙◌, arith, Less, Equal, Greater, ◌==◌, ◌&&◌, ◌||◌, filter, find}
+use Rattle.rep_core.proofs.Vocabulary.{option_map, AllByRecursion, IsTotalOrder, then_total, on_total, nat_cmp, ordering_then, is_eq, is_lt, is_at, keys_of, and_parts, false≢true, nat_tests, nat_cmp_total, same_Some, IsOrdered, get}
+use Rattle.rep_core.proofs.Vocabulary.{first_from, by_answer, LockMode, is_exclusive, Lock, Part, IsAlone, is_own, lock_at, conflicts, in_the_way, has_lock, locked, with_prepared, Holder, holder_cmp, AreHeld, is_other, other_in}
+use Rattle.rep_core.proofs.Vocabulary.{if_conflict}
 use Rattle.std.specs.List.Sorted.{IsStrictlySortedBy}
-use Rattle.std.specs.Cmp.{IsTotalOrder, then_total, on_total}
-use Rattle.std.specs.Ordering.{nat_cmp, ordering_then, is_eq, is_lt}
-use Rattle.std.specs.BTreeMap.{is_at}
-use Rattle.std.specs.Map.{keys_of}
-use Rattle.std.proofs.lemmas.Bool.{and_parts, false≢true}
-use Rattle.std.proofs.lemmas.Bool.Decides.{nat_tests}
-use Rattle.std.proofs.lemmas.Cmp.{nat_cmp_total}
-use Rattle.std.proofs.lemmas.Option.{same_Some}
-use Rattle.sorted_map.specs.SortedMap.{IsOrdered, get}
-use Rattle.sorted_map.specs.Blocks.{first_from}
-use Rattle.sorted_map.specs.Comparisons.{by_answer}
-use Rattle.suite_prefix.specs.declared.lock_mode.LockMode.{LockMode}
-use Rattle.suite_prefix.specs.LockModes.{is_exclusive}
-use Rattle.rep_core.specs.declared.lock.Lock.{Lock}
-use Rattle.rep_core.specs.declared.request.Part.{Part}
-use Rattle.rep_core.specs.Consistency.{IsAlone}
-use Rattle.rep_core.specs.Locks.{is_own, lock_at, conflicts, in_the_way, has_lock, locked, with_prepared}
-use Rattle.rep_core.specs.code.Holders.{Holder, holder_cmp, AreHeld, AreNumbered, is_other, other_in}
-use Rattle.rep_core.specs.code.Keyed.{if_conflict}
+use Rattle.rep_core.specs.code.Holders.{AreNumbered}
 use Rattle.rep_core.proofs.Members.{Has, has_from, contains_from, has_filter, find_none}
 use Rattle.rep_core.proofs.Alone.{Alone, alone_locked, alone_prepared, own_is}
 use Rattle.rep_core.proofs.Finding.{any_find, find_some, none_ahead}

@@ -1,10 +1,5 @@
 -- Locks that stand in a vector or in blocks: what a change of the one or the other makes of all.
-use Rattle.std.proofs.Common.{◌≡◌, true, false, List, [], ◌∷◌, ◌++◌, refl, sym, ap, subst, ◌∙◌}
-use Rattle.std.proofs.lemmas.Bool.{false≢true}
-use Rattle.rep_core.specs.declared.lock.Lock.{Lock}
-use Rattle.rep_core.specs.Consistency.{IsAlone}
-use Rattle.rep_core.specs.Locks.{rise}
-use Rattle.rep_core.specs.code.Keyed.{are_none, AreTabled}
+use Rattle.rep_core.proofs.Vocabulary.{◌≡◌, true, false, List, [], ◌∷◌, ◌++◌, refl, sym, ap, subst, ◌∙◌, false≢true, Lock, IsAlone, rise, are_none, AreTabled}
 
 append_none : (xs : List Lock) → xs ++ [] ≡ xs
 append_none [] = refl

@@ -1,55 +1,15 @@
 -- Copies that fit their types stay so; and sound copies that fit are valid.
-use Rattle.std.proofs.Common.{◌≡◌, ℕ, ◌<◌, ◌^◌, lit<, inl, inr, Bool, true, false, cond, List, [], ◌∷◌, Option, Some, None, refl, sym, ap, subst, ◌∙◌, arith}
-use Rattle.std.specs.Prelude.{◌==◌, ◌&&◌, ◌||◌, not, All, IsTrue, unwrap_or}
-use Rattle.std.specs.List.{list_any}
-use Rattle.std.specs.BTreeMap.{is_at}
-use Rattle.std.proofs.lemmas.Bool.Decides.{nat_tests}
+use Rattle.rep_core.proofs.Vocabulary.{◌≡◌, ℕ, ◌<◌, ◌^◌, lit<, inl, inr, Bool, true, false, cond, List, [], ◌∷◌, Option, Some, None, refl, sym, ap, subst, ◌∙◌, arith, ◌==◌, ◌&&◌, ◌||◌, not, All, IsTrue, unwrap_or, list_any, is_at}
+use Rattle.rep_core.proofs.Vocabulary.{nat_tests, nat_cmp, and_parts, All-nil, All-cons, All-contains, AllPairs-cons, same_Some, none-some, get, Entry, UserObj, GroupObj, Other, entry_of, IsAcl, IsCanonical, minimal_list, precedes}
+use Rattle.rep_core.proofs.Vocabulary.{qualifier, Configuration, IsValid, Content, IsName, empty_content, PrefixKind, Absent, File, Folder, Replica, absent_copy, AreAcls, NumbersFit, closed_lists, IsCopy, held_by, Opening, is_absent}
+use Rattle.rep_core.proofs.Vocabulary.{is_valid_copy, ContentFits, CopyFits, valid_copy_if_passes, Intention, Part, Take, Request, Lock, Stamped, Store, IsSound, is_sound, is_used_up, copy_of, copy_in, left_by, is_keep, lists_twice}
+use Rattle.rep_core.proofs.Vocabulary.{intended, in_effect, root_copy, opening_store, State, opening, step, after_all, reached, TakeFits, RequestFits, OpeningFits, HasValidCopies, TellsOfValid, CopiesAreValid, IsConsistent, Exclusive}
+use Rattle.rep_core.proofs.Vocabulary.{in_the_way, has_lock, is_answered, given, locking_reply, poll_reply, stands_prepared, can_prepare, reply_up, reply_down, reply_of}
 use Rattle.std.specs.List.Sorted.{IsStrictlySortedBy}
-use Rattle.std.specs.Ordering.{nat_cmp}
-use Rattle.std.proofs.lemmas.Bool.{and_parts}
-use Rattle.std.proofs.lemmas.List.Elements.{All-nil, All-cons, All-contains}
-use Rattle.std.proofs.lemmas.List.Kept.{AllPairs-cons}
-use Rattle.std.proofs.lemmas.Option.{same_Some, none-some}
-use Rattle.sorted_map.specs.SortedMap.{get}
-use Rattle.acl_core.specs.declared.entry.Entry.{Entry}
-use Rattle.acl_core.specs.declared.entry.Tag.TheVariants.{UserObj, GroupObj, Other}
-use Rattle.acl_core.specs.Entries.{entry_of}
-use Rattle.acl_core.specs.AccessLists.{IsAcl, IsCanonical}
-use Rattle.acl_core.specs.Modes.{minimal_list}
-use Rattle.acl_core.specs.Tags.{precedes, qualifier}
-use Rattle.vote_core.specs.Quorums.{Configuration}
-use Rattle.vote_core.specs.Validity.{IsValid}
-use Rattle.suite_content.specs.declared.content.Content.{Content}
-use Rattle.suite_content.specs.Names.{IsName}
-use Rattle.suite_content.specs.Contents.{empty_content}
-use Rattle.suite_prefix.specs.declared.copies.PrefixKind.{PrefixKind}
-use Rattle.suite_prefix.specs.declared.copies.PrefixKind.TheVariants.{Absent, File, Folder}
-use Rattle.suite_prefix.specs.declared.copies.Replica.{Replica}
-use Rattle.suite_prefix.specs.Absent.{absent_copy}
-use Rattle.suite_prefix.specs.TwoLists.{AreAcls, NumbersFit, closed_lists}
-use Rattle.suite_prefix.specs.Copies.{IsCopy, held_by}
-use Rattle.suite_prefix.specs.SettingsRules.{Opening}
-use Rattle.suite_prefix.specs.Tests.{is_absent, is_valid_copy}
-use Rattle.suite_prefix.specs.TestsExact.{ContentFits, CopyFits}
-use Rattle.suite_prefix.proofs.TestsExact.{valid_copy_if_passes}
-use Rattle.rep_core.specs.Intentions.{Intention}
-use Rattle.rep_core.specs.declared.request.Part.{Part}
-use Rattle.rep_core.specs.declared.request.Take.{Take}
 use Rattle.rep_core.specs.declared.request.Take.TheVariants as take
-use Rattle.rep_core.specs.declared.request.Request.{Request}
 use Rattle.rep_core.specs.declared.request.Request.TheVariants as request
 use Rattle.rep_core.specs.declared.reply.Reply.TheVariants as reply
-use Rattle.rep_core.specs.declared.lock.Lock.{Lock}
-use Rattle.rep_core.specs.declared.stamped.Stamped.{Stamped}
-use Rattle.rep_core.specs.Store.{Store, IsSound, is_sound, is_used_up, copy_of, copy_in, left_by, is_keep, lists_twice, intended, finished, in_effect, root_copy, opening_store}
-use Rattle.rep_core.specs.State.{State, opening}
-use Rattle.rep_core.specs.Serving.{step}
-use Rattle.rep_core.specs.Laws.{after_all, reached}
-use Rattle.rep_core.specs.ValidCopies.{TakeFits, RequestFits, OpeningFits, HasValidCopies, TellsOfValid, CopiesAreValid}
-use Rattle.rep_core.specs.Consistency.{IsConsistent}
-use Rattle.suite_prefix.specs.declared.lock_mode.LockMode.TheVariants.{Exclusive}
-use Rattle.rep_core.specs.Locks.{in_the_way, has_lock}
-use Rattle.rep_core.specs.Service.{is_answered, given, locking_reply, poll_reply, stands_prepared, can_prepare, reply_up, reply_down, reply_of}
+use Rattle.rep_core.specs.Store.{finished}
 use Rattle.rep_core.proofs.Reached.{always_consistent}
 use Rattle.rep_core.proofs.Finding.{find_some}
 use Rattle.rep_core.proofs.Members.{Has, contains_from}

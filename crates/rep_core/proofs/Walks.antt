@@ -1,17 +1,6 @@
 -- What a walk from one pair to the next sees of a map.
-use Rattle.std.specs.Prelude.{◌≡◌, ℕ, zero, suc, ◌+◌, ◌<◌, ◌≤◌, List, [], ◌∷◌, Some, None, true, false}
-use Rattle.std.proofs.Common.{refl, sym, ◌∙◌, ap, ⊎_elim, arith, Less}
-use Rattle.std.specs.Ordering.{nat_cmp, is_eq, is_lt}
-use Rattle.std.specs.BTreeMap.{is_at}
-use Rattle.std.proofs.lemmas.Bool.{cases_Bool, cond-true, cond-false}
-use Rattle.std.proofs.lemmas.Bool.Decides.{nat_tests}
-use Rattle.std.proofs.lemmas.Map.Entries.{lookup_head, lookup_tail}
-use Rattle.std.proofs.lemmas.Map.Keys.{sorted_head, sorted_tail}
-use Rattle.std.proofs.lemmas.Option.{none-some, same_Some}
-use Rattle.sorted_map.specs.SortedMap.{IsOrdered, get}
-use Rattle.std.specs.Map.{keys_of}
-use Rattle.sorted_map.specs.Numbers.{same_maps}
-use Rattle.sorted_map.specs.Blocks.{first_from}
+use Rattle.rep_core.proofs.Vocabulary.{◌≡◌, ℕ, zero, suc, ◌+◌, ◌<◌, ◌≤◌, List, [], ◌∷◌, Some, None, true, false, refl, sym, ◌∙◌, ap, ⊎_elim, arith, Less, nat_cmp, is_eq, is_lt, is_at, cases_Bool, cond-true, cond-false, nat_tests}
+use Rattle.rep_core.proofs.Vocabulary.{lookup_head, lookup_tail, sorted_head, sorted_tail, none-some, same_Some, IsOrdered, get, keys_of, same_maps, first_from}
 
 is_below : (a b : ℕ) → is_lt (nat_cmp a b) ≡ true → a < b
 is_below a b is = grind (arith, nat_tests, is)

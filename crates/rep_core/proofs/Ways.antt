@@ -1,25 +1,9 @@
 -- The ways in which a request may change a server. What holds however it changes holds after any request.
-use Rattle.std.proofs.Common.{◌≡◌, ℕ, Bool, true, false, cond, List, Option, Some, None, refl, arith}
-use Rattle.std.specs.Prelude.{◌&&◌, ◌||◌}
-use Rattle.std.proofs.lemmas.Bool.Decides.{nat_tests}
-use Rattle.std.specs.Ordering.{nat_cmp}
-use Rattle.sorted_map.specs.SortedMap.{insert}
-use Rattle.file_ops.specs.declared.audit.AuditItem.{AuditItem}
-use Rattle.suite_prefix.specs.declared.lock_mode.LockMode.{LockMode}
-use Rattle.suite_prefix.specs.declared.lock_mode.LockMode.TheVariants.{Exclusive}
-use Rattle.rep_core.specs.declared.lock.Lock.{Lock}
-use Rattle.rep_core.specs.declared.request.Decision.{Decision}
-use Rattle.rep_core.specs.declared.request.Part.{Part}
-use Rattle.rep_core.specs.declared.request.Request.{Request}
+use Rattle.rep_core.proofs.Vocabulary.{◌≡◌, ℕ, Bool, true, false, cond, List, Option, Some, None, refl, arith, ◌&&◌, ◌||◌, nat_tests, nat_cmp, insert, AuditItem, LockMode, Exclusive, Lock, Decision, Part, Request, Verdict, Stamped}
+use Rattle.rep_core.proofs.Vocabulary.{in_the_way, has_lock, locked, with_prepared, broken, is_used_up, intended, overfills, State, record_of, after, after_up, after_down, after_locking, after_poll, prepares, after_record, after_finish}
+use Rattle.rep_core.proofs.Vocabulary.{after_crash, with_item, verdict_of, audit_of, asks_too_much, is_full, served, step}
 use Rattle.rep_core.specs.declared.request.Request.TheVariants as request
-use Rattle.rep_core.specs.declared.reply.Verdict.{Verdict}
 use Rattle.rep_core.specs.declared.reply.Verdict.TheVariants as verdict
-use Rattle.rep_core.specs.declared.stamped.Stamped.{Stamped}
-use Rattle.rep_core.specs.Locks.{in_the_way, has_lock, locked, with_prepared, broken}
-use Rattle.rep_core.specs.Store.{is_used_up, intended, overfills}
-use Rattle.rep_core.specs.State.{State, record_of}
-use Rattle.rep_core.specs.Service.{after, after_up, after_down, after_locking, after_poll, prepares, after_record, after_finish, after_crash, with_item, verdict_of, audit_of}
-use Rattle.rep_core.specs.Serving.{asks_too_much, is_full, served, step}
 
 -- ---- what changes make of a server
 

@@ -1,25 +1,7 @@
 -- A step of an agent is played, of which it put down what it was told.
-use Rattle.std.proofs.Common.{◌≡◌, ℕ, true, List, [], ◌∷◌, ◌++◌, slice_set, subst, refl, ap, ◌∙◌, sym}
-use Rattle.std.specs.Prelude.{Option, Some, None}
-use Rattle.std.specs.List.{cons_option}
-use Rattle.std.proofs.lemmas.Option.{none-some, same_Some}
-use Rattle.txn_core.specs.Doing.{Fixed}
-use Rattle.txn_core.specs.Agents.{fixed_of}
-use Rattle.run_core.specs.Asking.{asked_by}
-use Rattle.run_core.specs.declared.done.Done.{Done}
-use Rattle.run_core.specs.declared.done.EndedJob.{EndedJob}
-use Rattle.run_core.specs.declared.done.Served.{Served}
-use Rattle.run_core.specs.declared.event.Event.TheVariants.{Step}
-use Rattle.run_core.specs.Decisions.{decided}
-use Rattle.run_core.specs.Senses.{has_sense}
-use Rattle.run_core.specs.Worlds.{Stepped, World, actor_at, step}
-use Rattle.run_certify.specs.declared.entry.Entry.{Entry}
-use Rattle.run_certify.specs.declared.entry.Entry.TheVariants.{Asked}
-use Rattle.run_certify.specs.Deciding.{decision_by, job_at}
-use Rattle.run_certify.specs.Merges.{ItemAt}
-use Rattle.run_certify.specs.Shown.{asked, ended, entries_by, item_by, served_as}
-use Rattle.run_certify.specs.code.Uses.{EndsOtherwise, HasEnded}
-use Rattle.run_certify.specs.code.Walks.{AskedFails, AskedGoes, Fails, IsEnd, IsEvent, IsSound, IsUse, Walked}
+use Rattle.run_certify.proofs.Vocabulary.{◌≡◌, ℕ, true, List, [], ◌∷◌, ◌++◌, slice_set, subst, refl, ap, ◌∙◌, sym, Option, Some, None, cons_option, none-some, same_Some, Fixed, fixed_of, asked_by, Done, EndedJob, Served, Step, decided}
+use Rattle.run_certify.proofs.Vocabulary.{has_sense, Stepped, World, actor_at, step, Entry, Asked, decision_by, job_at, ItemAt, asked, ended, entries_by, item_by, served_as, EndsOtherwise, HasEnded, AskedFails, AskedGoes, Fails, IsEnd}
+use Rattle.run_certify.proofs.Vocabulary.{IsEvent, IsSound, IsUse, Walked}
 use Rattle.run_certify.proofs.Deciding.{decided_is}
 use Rattle.run_certify.proofs.Events.{end_after, ended_by, otherwise_by}
 use Rattle.run_certify.proofs.Facts.{served_sense, unserved}

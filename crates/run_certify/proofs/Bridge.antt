@@ -1,17 +1,7 @@
 -- The run of a world, as the walk speaks of it.
-use Rattle.std.proofs.Common.{◌≡◌, ℕ, Bool, List, [], ◌∷◌, ◌++◌, refl, ap, ◌∙◌, sym}
-use Rattle.std.specs.Prelude.{Option}
-use Rattle.std.specs.List.{cons_option}
-use Rattle.txn_core.specs.Doing.{Fixed}
-use Rattle.run_core.specs.declared.event.Event.{Event}
-use Rattle.run_core.specs.Worlds.{World, step}
+use Rattle.run_certify.proofs.Vocabulary.{◌≡◌, ℕ, Bool, List, [], ◌∷◌, ◌++◌, refl, ap, ◌∙◌, sym, Option, cons_option, Fixed, Event, World, step, Decided, decisions_from, Entry, ItemAt, has_sense, HaveSense, agent_of, asker, entries_by}
+use Rattle.run_certify.proofs.Vocabulary.{if_of, items_from, served_as, transcript_from, AreOfRun}
 use Rattle.run_core.specs.Decisions as decisions
-use Rattle.run_core.specs.Decisions.{Decided, decisions_from}
-use Rattle.run_certify.specs.declared.entry.Entry.{Entry}
-use Rattle.run_certify.specs.Merges.{ItemAt}
-use Rattle.run_core.specs.Senses.{has_sense, HaveSense}
-use Rattle.run_certify.specs.Shown.{agent_of, asker, entries_by, if_of, items_from, served_as, transcript_from}
-use Rattle.run_certify.specs.Certified.{AreOfRun}
 use Rattle.run_certify.proofs.Steps.{AreOf, decided_in, have_sense, items_in, told_in}
 
 module _ (fixed : Fixed) where

@@ -1,29 +1,15 @@
 -- How many jobs agents have begun, and which they may begin.
-use Rattle.std.proofs.Common.{◌≡◌, ◌≢◌, ⊎_elim, ℕ, zero, suc, ◌+◌, ◌<◌, ◌≤◌, Bool, true, false, cond, List, [], ◌∷◌, length, slice_set, Option, Some, None, refl, sym, ap, ◌∙◌, arith}
-use Rattle.std.specs.Prelude.{◌&&◌, nat_lt, slice_get}
-use Rattle.std.proofs.lemmas.Bool.{false≢true}
-use Rattle.std.proofs.lemmas.Bool.Decides.{nat_tests}
-use Rattle.std.proofs.lemmas.Option.{none-some, same_Some}
-use Rattle.suite_prefix.specs.SettingsRules.{Opening}
-use Rattle.rep_core.specs.declared.request.Request.{Request}
+use Rattle.run_certify.proofs.Vocabulary.{◌≡◌, ◌≢◌, ⊎_elim, ℕ, zero, suc, ◌+◌, ◌<◌, ◌≤◌, Bool, true, false, cond, List, [], ◌∷◌, length, slice_set, Option, Some, None, refl, sym, ap, ◌∙◌, arith, ◌&&◌, nat_lt, slice_get, false≢true}
+use Rattle.run_certify.proofs.Vocabulary.{nat_tests, none-some, same_Some, Opening, Request, State, Job, Response, Replied, Fixed, Agent, begin, begins, forget, is_idle, max_jobs, next_of, started, Event, Begin, Step, Crash, Return}
+use Rattle.run_certify.proofs.Vocabulary.{Forget, Lack, Served, can_begin, has_sense, Actor, World, actor_at, answered, asks, asks_at, becomes, has_no_job, lacks, lacks_for, moved, opening, operates, serve, server_at, step, steps_once}
+use Rattle.run_certify.proofs.Vocabulary.{take_keeps, actor_opens, AreCounted, IsCounted, count_at, counts_after}
 use Rattle.rep_core.specs.declared.request.Request.TheVariants as request
 use Rattle.rep_core.specs.declared.stamped.Lack.TheVariants as lack
-use Rattle.rep_core.specs.State.{State}
-use Rattle.txn_core.specs.declared.job.Job.{Job}
-use Rattle.txn_core.specs.declared.response.Response.{Response}
-use Rattle.txn_core.specs.declared.response.Response.TheVariants.{Lacked, Replied}
-use Rattle.txn_core.specs.Doing.{Fixed}
+use Rattle.txn_core.specs.declared.response.Response.TheVariants.{Lacked}
 use Rattle.txn_core.specs.Agents as agents
-use Rattle.txn_core.specs.Agents.{Agent, begin, begins, forget, is_idle, max_jobs, next_of, started, take}
-use Rattle.run_core.specs.declared.event.Event.{Event}
-use Rattle.run_core.specs.declared.event.Event.TheVariants.{Begin, Step, Crash, Return, Forget, Lack}
-use Rattle.run_core.specs.declared.done.Served.{Served}
-use Rattle.run_core.specs.Senses.{can_begin, has_sense}
-use Rattle.run_core.specs.Worlds.{Actor, World, actor_at, answered, asks, asks_at, becomes, has_no_job, lacks, lacks_for, moved, opening, operated, operates, serve, server_at, step, steps_once}
-use Rattle.law_runs.proofs.Agents.{take_keeps}
-use Rattle.law_run_machine.proofs.Kept.{actor_opens}
+use Rattle.txn_core.specs.Agents.{take}
+use Rattle.run_core.specs.Worlds.{operated}
 use Rattle.law_run_machine.proofs.Turned as turned
-use Rattle.run_certify.specs.Deciding.{AreCounted, IsCounted, count_at, counts_after}
 use Rattle.run_certify.proofs.Lists.{same_or, set_apart, set_here}
 
 -- ---- the opening

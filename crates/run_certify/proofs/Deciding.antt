@@ -1,47 +1,15 @@
 -- What an event decides: of a step, what is shown by what was served and the job that its agent began last; of any other event, nothing.
-use Rattle.std.proofs.Common.{◌≡◌, ◌≢◌, ⊎_elim, ℕ, zero, suc, ◌+◌, ◌<◌, Bool, true, false, cond, [], ◌∷◌, ◌++◌, List, length, slice_set, Option, Some, None, refl, sym, ap, subst, ◌∙◌, arith}
-use Rattle.std.specs.Prelude.{◌*◌, ◌%◌, ◌&&◌, is_some, nat_lt, Result, slice_index_or}
-use Rattle.std.proofs.lemmas.Bool.{and_parts}
-use Rattle.std.proofs.lemmas.Option.{none-some, same_Some}
-use Rattle.suite_prefix.specs.SettingsRules.{Opening, IsAccepted}
-use Rattle.file_ops.specs.declared.answer.Answer.{Answer}
-use Rattle.file_ops.specs.declared.refusal.Refusal.{Refusal}
-use Rattle.rep_core.specs.declared.request.Request.{Request}
-use Rattle.rep_core.specs.declared.reply.Reply.{Reply}
+use Rattle.run_certify.proofs.Vocabulary.{◌≡◌, ◌≢◌, ⊎_elim, ℕ, zero, suc, ◌+◌, ◌<◌, Bool, true, false, cond, [], ◌∷◌, ◌++◌, List, length, slice_set, Option, Some, None, refl, sym, ap, subst, ◌∙◌, arith, ◌*◌, ◌%◌, ◌&&◌, is_some, nat_lt}
+use Rattle.run_certify.proofs.Vocabulary.{Result, slice_index_or, and_parts, none-some, same_Some, Opening, IsAccepted, Answer, Refusal, Request, Reply, Verdict, State, record_of, recorded, reply_of, verdict_of, answer_of, is_full, Job}
+use Rattle.run_certify.proofs.Vocabulary.{Transaction, Sweep, Fixed, Task, TransactionRun, Doing, Running, RunningSweep, decision_of, execute, is_decide, Agent, begin, begins, fixed_of, is_idle, max_jobs, next_in, next_of, started}
+use Rattle.run_certify.proofs.Vocabulary.{asks_same, Event, Begin, Step, Crash, Return, Forget, Lack, Served, Decided, answer_in, decided, decided_as, decided_at, decided_by, decisions, task_at, task_of, to_decide, run, can_begin}
+use Rattle.run_certify.proofs.Vocabulary.{has_sense, Actor, World, actor_at, answered, asks, asks_at, opening, server_at, step, steps_once, after-append, IsAt, decides, sweep_decides_none, holds_of, rest_of, same_or, NotIn, Recorded}
+use Rattle.run_certify.proofs.Vocabulary.{Stands, no_decide, Tells, Holds, actor_opens, AllHave, Has, becomes_all, event_all, on_course, stays_begin, HasPlace, IsOfJob, IsPlayed, decision_as, decision_by, job_at, job_of, jobs_after}
 use Rattle.rep_core.specs.declared.reply.Reply.TheVariants as reply
-use Rattle.rep_core.specs.declared.reply.Verdict.{Verdict}
 use Rattle.rep_core.specs.declared.reply.Verdict.TheVariants as verdict
-use Rattle.rep_core.specs.State.{State, record_of}
-use Rattle.rep_core.specs.Service.{recorded, reply_of, verdict_of}
-use Rattle.rep_core.specs.Serving.{answer_of, is_full}
-use Rattle.txn_core.specs.declared.job.Job.{Job}
-use Rattle.txn_core.specs.declared.job.Job.TheVariants.{Transaction, Sweep}
-use Rattle.txn_core.specs.Doing.{Fixed, Task, TransactionRun, Doing, Running, RunningSweep}
-use Rattle.txn_core.specs.Transactions.{decision_of, execute}
-use Rattle.txn_core.specs.Laws.{is_decide}
-use Rattle.txn_core.specs.Agents.{Agent, begin, begins, fixed_of, is_idle, max_jobs, next_in, next_of, started}
 use Rattle.txn_core.specs.Agents as agents
-use Rattle.txn_core.proofs.Asks.{asks_same}
-use Rattle.run_core.specs.declared.event.Event.{Event}
-use Rattle.run_core.specs.declared.event.Event.TheVariants.{Begin, Step, Crash, Return, Forget, Lack}
-use Rattle.run_core.specs.declared.done.Served.{Served}
-use Rattle.run_core.specs.Decisions.{Decided, answer_in, decided, decided_as, decided_at, decided_by, decisions, task_at, task_of, to_decide}
-use Rattle.run_core.specs.Runs.{run}
-use Rattle.run_core.specs.Senses.{can_begin, has_sense}
-use Rattle.run_core.specs.Worlds.{Actor, World, actor_at, answered, asks, asks_at, opening, server_at, step, steps_once}
-use Rattle.run_core.proofs.Appending.{after-append}
 use Rattle.law_runs.specs.Claims.{ended}
-use Rattle.law_runs.proofs.Agents.{IsAt}
-use Rattle.law_runs.proofs.Asking.{decides, sweep_decides_none}
-use Rattle.law_runs.proofs.Conclusions.{holds_of, rest_of}
-use Rattle.law_runs.proofs.Places.{same_or}
-use Rattle.law_runs.proofs.Standing.{NotIn, Recorded, Stands}
-use Rattle.law_runs.proofs.Turns.{no_decide}
-use Rattle.law_runs.proofs.Words.{Tells}
-use Rattle.law_runs.proofs.Worlds.{Holds, agent_of}
-use Rattle.law_run_machine.proofs.Kept.{actor_opens}
-use Rattle.law_headline.proofs.Asked.{AllHave, Has, becomes_all, event_all, on_course, stays_begin}
-use Rattle.run_certify.specs.Deciding.{HasPlace, IsOfJob, IsPlayed, decision_as, decision_by, job_at, job_of, jobs_after}
+use Rattle.law_runs.proofs.Worlds.{agent_of}
 
 -- ---- the job that an agent began last
 

@@ -1,13 +1,6 @@
 -- Ends of jobs are no events; and what is left at the end.
-use Rattle.std.proofs.Common.{◌≡◌, ◌≢◌, ⊎_elim, ℕ, zero, suc, ◌+◌, ◌<◌, List, [], ◌∷◌, ◌++◌, length, slice_set, subst, refl, ap, ◌∙◌, sym, arith}
-use Rattle.std.specs.Prelude.{slice_index_or, Option, Some, None}
-use Rattle.std.specs.List.{cons_option}
-use Rattle.run_certify.specs.declared.entry.Entry.{Entry}
-use Rattle.run_certify.specs.declared.entry.Entry.TheVariants.{Ended}
-use Rattle.run_core.specs.declared.done.EndedJob.{EndedJob}
-use Rattle.server_lock.specs.declared.item.Item.{Item}
-use Rattle.run_certify.specs.Merges.{ItemAt, IsMerge, history_of}
-use Rattle.run_certify.specs.Weaves.{event_of, events_of, events_at, operated, past_stamp, rest_from, transcript_of, unused_at, up_to_stamp, weave}
+use Rattle.run_certify.proofs.Vocabulary.{◌≡◌, ◌≢◌, ⊎_elim, ℕ, zero, suc, ◌+◌, ◌<◌, List, [], ◌∷◌, ◌++◌, length, slice_set, subst, refl, ap, ◌∙◌, sym, arith, slice_index_or, Option, Some, None, cons_option, Entry, Ended, EndedJob, Item}
+use Rattle.run_certify.proofs.Vocabulary.{ItemAt, IsMerge, history_of, event_of, events_of, events_at, operated, past_stamp, rest_from, transcript_of, unused_at, up_to_stamp, weave}
 use Rattle.run_certify.proofs.Lists.{cons_append, long_set, no_cons, same_or, set_again, set_apart, set_commute, set_here}
 use Rattle.run_certify.proofs.Picking.{here_of}
 

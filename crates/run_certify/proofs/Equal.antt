@@ -1,18 +1,6 @@
 -- When what was served is an item, and when an entry is the end of a job: where all their parts are the same.
-use Rattle.std.proofs.Common.{◌≡◌, ℕ, Bool, ap}
-use Rattle.std.specs.Prelude.{◌==◌, ◌&&◌}
-use Rattle.std.specs.Bool.{Decides}
-use Rattle.std.proofs.lemmas.Bool.Decides.{Decides-and, Decides-eqb, Decides-like}
-use Rattle.rep_core.specs.code.Equality.{same_reply, same_reply_decides, same_request, same_request_decides, same_stamped, same_stamped_decides}
-use Rattle.run_core.specs.code.Equality.{same_outcome, same_outcome_decides}
-use Rattle.run_core.specs.declared.done.EndedJob.{EndedJob}
-use Rattle.run_core.specs.declared.done.Served.{Served}
-use Rattle.server_lock.specs.declared.item.Item.{Item}
-use Rattle.run_certify.specs.declared.entry.Entry.{Entry}
-use Rattle.run_certify.specs.declared.entry.Entry.TheVariants.{Ended}
-use Rattle.run_certify.specs.Merges.{ItemAt}
-use Rattle.run_certify.specs.Shown.{item_by}
-use Rattle.run_certify.specs.code.Firsts.{at_server}
+use Rattle.run_certify.proofs.Vocabulary.{◌≡◌, ℕ, Bool, ap, ◌==◌, ◌&&◌, Decides, Decides-and, Decides-eqb, Decides-like, same_reply, same_reply_decides, same_request, same_request_decides, same_stamped, same_stamped_decides}
+use Rattle.run_certify.proofs.Vocabulary.{same_outcome, same_outcome_decides, EndedJob, Served, Item, Entry, Ended, ItemAt, item_by, at_server}
 
 abbrev pub same_item : Served → ℕ → Item → Bool
 same_item served server item =

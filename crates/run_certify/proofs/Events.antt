@@ -1,22 +1,6 @@
 -- An event that the walk played, and what else it changed.
-use Rattle.std.proofs.Common.{◌≡◌, ℕ, ◌+◌, Bool, true, false, List, [], ◌++◌, slice_set, subst, refl, ap, ◌∙◌, sym, append-nil}
-use Rattle.std.specs.Prelude.{Option, Some, None}
-use Rattle.txn_core.specs.declared.job.Job.{Job}
-use Rattle.txn_core.specs.Agents.{fixed_of}
-use Rattle.run_core.specs.declared.done.Done.{Done}
-use Rattle.run_core.specs.declared.done.EndedJob.{EndedJob}
-use Rattle.run_core.specs.declared.done.Served.{Served}
-use Rattle.run_core.specs.declared.event.Event.{Event}
-use Rattle.run_core.specs.declared.event.Event.TheVariants.{Begin}
-use Rattle.run_core.specs.Decisions.{Decided}
-use Rattle.run_core.specs.Telling.{ComesTo, served_if}
-use Rattle.run_core.specs.Worlds.{Stepped, step}
-use Rattle.run_core.proofs.Moving.{step_told}
-use Rattle.run_certify.specs.Deciding.{count_at, counts_after, jobs_after}
-use Rattle.run_certify.specs.Merges.{ItemAt}
-use Rattle.run_certify.specs.Shown.{served_as}
-use Rattle.run_certify.specs.code.Uses.{EndsOtherwise, HasEnded}
-use Rattle.run_certify.specs.code.Walks.{IsBegin, IsEnd, IsEvent, Walked, what_was_done}
+use Rattle.run_certify.proofs.Vocabulary.{◌≡◌, ℕ, ◌+◌, Bool, true, false, List, [], ◌++◌, slice_set, subst, refl, ap, ◌∙◌, sym, append-nil, Option, Some, None, Job, fixed_of, Done, EndedJob, Served, Event, Begin, Decided, ComesTo}
+use Rattle.run_certify.proofs.Vocabulary.{served_if, Stepped, step, step_told, count_at, counts_after, jobs_after, ItemAt, served_as, EndsOtherwise, HasEnded, IsBegin, IsEnd, IsEvent, Walked, what_was_done}
 use Rattle.run_certify.proofs.Walking.{IsAfter}
 
 -- what two places tell, of which the second was empty

@@ -1,35 +1,12 @@
 -- Single events: whether they have sense, what they serve, and what an agent puts down of them.
-use Rattle.std.proofs.Common.{◌≡◌, ◌≢◌, ℕ, zero, suc, ◌<◌, ◌≤◌, Bool, true, false, cond, List, [], ◌∷◌, ◌++◌, length, Option, Some, None, refl, sym, ap, ◌∙◌, arith}
-use Rattle.std.specs.Prelude.{nat_lt, is_some, option_map, slice_get}
-use Rattle.std.proofs.lemmas.Bool.{false≢true}
-use Rattle.std.proofs.lemmas.Bool.Decides.{nat_tests}
-use Rattle.std.proofs.lemmas.Option.{none-some, same_Some}
-use Rattle.rep_core.specs.declared.request.Request.{Request}
+use Rattle.run_certify.proofs.Vocabulary.{◌≡◌, ◌≢◌, ℕ, zero, suc, ◌<◌, ◌≤◌, Bool, true, false, cond, List, [], ◌∷◌, ◌++◌, length, Option, Some, None, refl, sym, ap, ◌∙◌, arith, nat_lt, is_some, option_map, slice_get, false≢true}
+use Rattle.run_certify.proofs.Vocabulary.{nat_tests, none-some, same_Some, Request, Full, Stamped, State, answer_of, is_full, Job, Response, Fixed, Agent, begin, forget, next_of, asked_at, asked_by, Done, EndedJob, Served, Event, Begin}
+use Rattle.run_certify.proofs.Vocabulary.{Step, Crash, Return, Forget, Lack, asks_one, can_begin, can_forget, has_sense, Actor, World, actor_at, asks, asks_at, becomes, lacks, lacks_for, operates, serve, server_at, step, steps_once}
+use Rattle.run_certify.proofs.Vocabulary.{Entry, Asked, Begun, Ended, Forgot, Lacked, ItemAt, asked, asker, ended, entries_by, item_by, lacked, served_as, event_of, operated}
 use Rattle.rep_core.specs.declared.request.Request.TheVariants as request
 use Rattle.rep_core.specs.declared.stamped.Lack.{Lack as Why}
-use Rattle.rep_core.specs.declared.stamped.Lack.TheVariants.{Full}
-use Rattle.rep_core.specs.declared.stamped.Stamped.{Stamped}
-use Rattle.rep_core.specs.State.{State}
-use Rattle.rep_core.specs.Serving.{answer_of, is_full}
-use Rattle.txn_core.specs.declared.job.Job.{Job}
-use Rattle.txn_core.specs.declared.response.Response.{Response}
 use Rattle.txn_core.specs.declared.response.Response.TheVariants.{Lacked as LackedResponse}
-use Rattle.txn_core.specs.Doing.{Fixed}
-use Rattle.txn_core.specs.Agents.{Agent, begin, forget, next_of}
-use Rattle.run_core.specs.Asking.{asked_at, asked_by}
-use Rattle.run_core.specs.declared.done.Done.{Done}
-use Rattle.run_core.specs.declared.done.EndedJob.{EndedJob}
-use Rattle.run_core.specs.declared.done.Served.{Served}
-use Rattle.run_core.specs.declared.event.Event.{Event}
-use Rattle.run_core.specs.declared.event.Event.TheVariants.{Begin, Step, Crash, Return, Forget, Lack}
-use Rattle.run_core.specs.Senses.{asks_one, can_begin, can_forget, has_sense}
-use Rattle.run_core.specs.Worlds.{Actor, World, actor_at, asks, asks_at, becomes, lacks, lacks_for, operates, serve, server_at, step, steps_once}
 use Rattle.run_core.specs.Worlds as worlds
-use Rattle.run_certify.specs.declared.entry.Entry.{Entry}
-use Rattle.run_certify.specs.declared.entry.Entry.TheVariants.{Asked, Begun, Ended, Forgot, Lacked}
-use Rattle.run_certify.specs.Merges.{ItemAt}
-use Rattle.run_certify.specs.Shown.{asked, asker, ended, entries_by, item_by, lacked, served_as}
-use Rattle.run_certify.specs.Weaves.{event_of, operated}
 
 -- ---- numbers that there are, and others
 

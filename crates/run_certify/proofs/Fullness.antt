@@ -1,17 +1,6 @@
 -- What can be told of servers, by what is known of each; and how many suites a history asks for.
-use Rattle.std.proofs.Common.{◌≡◌, ◌∙◌, ℕ, zero, suc, ◌+◌, ◌<◌, ◌≤◌, nat_le, Bool, true, false, List, [], ◌∷◌, length, map, take, refl, ap, arith, slice_index_or}
-use Rattle.std.specs.List.{list_all}
-use Rattle.std.specs.Prelude.{◌||◌}
-use Rattle.std.proofs.lemmas.Bool.Decides.{nat_tests}
-use Rattle.std.proofs.lemmas.List.Sums.{sum_by_more_le}
-use Rattle.rep_core.specs.declared.stamped.Lack.TheVariants.{Full, Memory}
-use Rattle.rep_core.specs.Store.{max_suites}
-use Rattle.server_lock.specs.declared.item.Item.{Item}
-use Rattle.server_lock.specs.Histories.{max_items}
-use Rattle.run_certify.specs.declared.entry.Entry.{Entry}
-use Rattle.run_certify.specs.declared.entry.Entry.TheVariants.{Asked, Begun, Ended, Forgot, Lacked}
-use Rattle.run_certify.specs.Fulls.{can_all_be_told, can_be_full, can_be_told, parts_in, parts_of}
-use Rattle.run_certify.specs.code.Lacking.{can_be_told_by}
+use Rattle.run_certify.proofs.Vocabulary.{◌≡◌, ◌∙◌, ℕ, zero, suc, ◌+◌, ◌<◌, ◌≤◌, nat_le, Bool, true, false, List, [], ◌∷◌, length, map, take, refl, ap, arith, slice_index_or, list_all, ◌||◌, nat_tests, sum_by_more_le, Full, Memory}
+use Rattle.run_certify.proofs.Vocabulary.{max_suites, Item, max_items, Entry, Asked, Begun, Ended, Forgot, Lacked, can_all_be_told, can_be_full, can_be_told, parts_in, parts_of, can_be_told_by}
 
 -- ---- what is told
 

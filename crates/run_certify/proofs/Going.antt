@@ -1,27 +1,8 @@
 -- One item after another, one entry after another, to the end.
-use Rattle.std.proofs.Common.{◌≡◌, ◌≢◌, ◌⊎◌, ⊎_elim, inl, inr, ℕ, zero, suc, ◌+◌, ◌<◌, ◌≤◌, true, false, true≢false, List, [], ◌∷◌, ◌++◌, length, slice_set, subst, refl, ap, ◌∙◌, sym, arith}
-use Rattle.std.specs.Prelude.{slice_index_or, Option, Some, None, Result, Err}
-use Rattle.suite_prefix.specs.SettingsRules.{Opening, IsAccepted}
-use Rattle.txn_core.specs.Doing.{Fixed}
-use Rattle.txn_core.specs.Agents.{fixed_of}
-use Rattle.run_core.specs.declared.done.EndedJob.{EndedJob}
-use Rattle.run_core.specs.declared.done.Served.{Served}
-use Rattle.run_core.specs.declared.event.Event.TheVariants.{Begin, Step, Forget, Lack}
-use Rattle.run_core.specs.Decisions.{Decided, decisions}
-use Rattle.run_core.specs.Worlds.{World, opening, step}
-use Rattle.server_lock.specs.declared.item.Item.{Item}
-use Rattle.run_certify.specs.declared.fault.CertifyFault.{CertifyFault}
-use Rattle.run_certify.specs.declared.entry.Entry.{Entry}
-use Rattle.run_certify.specs.declared.entry.Entry.TheVariants.{Asked, Begun, Ended, Forgot, Lacked}
-use Rattle.run_certify.specs.Certified.{IsCertified, IsCertifiedAs}
-use Rattle.run_certify.specs.Deciding.{AreCounted, IsPlayed}
-use Rattle.run_certify.specs.Fulls.{can_all_be_told}
-use Rattle.run_certify.specs.Merges.{ItemAt, IsMerge}
-use Rattle.run_certify.specs.Shown.{item_by, served_as}
-use Rattle.run_certify.specs.Weaves.{transcript_of, weave}
-use Rattle.run_certify.specs.code.Firsts.{AreAllPlayed, IsTaken, at_server}
-use Rattle.run_certify.specs.code.Turns.{IsTurn, is_asked}
-use Rattle.run_certify.specs.code.Walks.{AskedFails, AskedGoes, EntryFails, EntryGoes, Fails, Goes, IsItemTaken, IsLeft, IsOfRun, IsShorter, IsSound, IsStart, IsUse, Walked}
+use Rattle.run_certify.proofs.Vocabulary.{◌≡◌, ◌≢◌, ◌⊎◌, ⊎_elim, inl, inr, ℕ, zero, suc, ◌+◌, ◌<◌, ◌≤◌, true, false, true≢false, List, [], ◌∷◌, ◌++◌, length, slice_set, subst, refl, ap, ◌∙◌, sym, arith, slice_index_or, Option, Some}
+use Rattle.run_certify.proofs.Vocabulary.{None, Result, Err, Opening, IsAccepted, Fixed, fixed_of, EndedJob, Served, Begin, Step, Forget, Lack, Decided, decisions, World, opening, step, Item, CertifyFault, Entry, Asked, Begun, Ended}
+use Rattle.run_certify.proofs.Vocabulary.{Forgot, Lacked, IsCertified, IsCertifiedAs, AreCounted, IsPlayed, can_all_be_told, ItemAt, IsMerge, item_by, served_as, transcript_of, weave, AreAllPlayed, IsTaken, at_server, IsTurn, is_asked}
+use Rattle.run_certify.proofs.Vocabulary.{AskedFails, AskedGoes, EntryFails, EntryGoes, Fails, Goes, IsItemTaken, IsLeft, IsOfRun, IsShorter, IsSound, IsStart, IsUse, Walked}
 use Rattle.run_certify.proofs.Counted.{count_opens}
 use Rattle.run_certify.proofs.Deciding.{opens}
 use Rattle.run_certify.proofs.Facts.{no_agent, unserved}

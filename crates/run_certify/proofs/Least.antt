@@ -1,8 +1,6 @@
 -- The least of the first items of histories.
-use Rattle.std.proofs.Common.{◌≡◌, ◌≢◌, ◌⊎◌, ⊎_elim, inl, inr, ℕ, zero, suc, ◌+◌, ◌<◌, ◌≤◌, List, [], ◌∷◌, length, slice_set, refl, ap, ◌∙◌, sym, arith}
-use Rattle.server_lock.specs.declared.item.Item.{Item}
-use Rattle.run_certify.specs.Merges.{history_of}
-use Rattle.run_certify.specs.code.Firsts.{AreAllPlayed, IsFirst, IsFirstBelow, IsLeast, IsNext, IsTaken, NoneBelow}
+use Rattle.run_certify.proofs.Vocabulary.{◌≡◌, ◌≢◌, ◌⊎◌, ⊎_elim, inl, inr, ℕ, zero, suc, ◌+◌, ◌<◌, ◌≤◌, List, [], ◌∷◌, length, slice_set, refl, ap, ◌∙◌, sym, arith, Item, history_of, AreAllPlayed, IsFirst, IsFirstBelow, IsLeast, IsNext}
+use Rattle.run_certify.proofs.Vocabulary.{IsTaken, NoneBelow}
 use Rattle.run_certify.proofs.Lists.{le_or, no_cons, same_head, same_or, set_apart, set_here}
 
 split : (other bound : ℕ) → other < bound + 1 → (other < bound) ⊎ (other ≡ bound)

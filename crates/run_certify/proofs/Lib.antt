@@ -1,3 +1,4 @@
+mod Vocabulary
 pub mod Lists
 pub mod Picking
 pub mod Least

@@ -1,9 +1,6 @@
 -- Lists of which an element is set, and first elements.
-use Rattle.std.proofs.Common.{◌≡◌, ◌≢◌, ◌⊎◌, ⊎_elim, inl, inr, ℕ, zero, suc, ◌<◌, ◌≤◌, true, false, List, [], ◌∷◌, ◌++◌, length, map, slice_set, refl, ap, sym, arith}
-use Rattle.std.proofs.lemmas.Bool.Decides.{nat_tests}
-use Rattle.std.proofs.lemmas.List.{append_cancel_left}
-use Rattle.std.specs.Prelude.{nat_eq, slice_index_or, Option, Some, None}
-use Rattle.std.specs.List.{cons_option}
+use Rattle.run_certify.proofs.Vocabulary.{◌≡◌, ◌≢◌, ◌⊎◌, ⊎_elim, inl, inr, ℕ, zero, suc, ◌<◌, ◌≤◌, true, false, List, [], ◌∷◌, ◌++◌, length, map, slice_set, refl, ap, sym, arith, nat_tests, append_cancel_left, nat_eq, slice_index_or}
+use Rattle.run_certify.proofs.Vocabulary.{Option, Some, None, cons_option}
 
 pub set_here : {A : Type 0} (xs : List A) (i : ℕ) (x d : A) → i < length xs → slice_index_or (slice_set xs i x) i d ≡ x
 set_here [] i x d low = absurd (omega arith)

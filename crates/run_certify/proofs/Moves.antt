@@ -1,23 +1,11 @@
 -- What is left before an event is played, and after it: of any machine.
-use Rattle.std.proofs.Common.{◌≡◌, ◌≢◌, ◌⊎◌, ⊎_elim, ℕ, ◌<◌, Bool, true, false, List, [], ◌∷◌, ◌++◌, length, slice_set, subst, refl, ap, ◌∙◌, sym, arith}
-use Rattle.std.specs.Prelude.{Option, Some, None}
-use Rattle.std.specs.List.{cons_option}
-use Rattle.run_core.specs.declared.done.EndedJob.{EndedJob}
-use Rattle.run_core.specs.declared.event.Event.{Event}
-use Rattle.run_core.specs.declared.event.Event.TheVariants.{Step}
-use Rattle.server_lock.specs.declared.item.Item.{Item}
-use Rattle.run_certify.specs.declared.entry.Entry.{Entry}
-use Rattle.run_certify.specs.declared.entry.Entry.TheVariants.{Asked, Ended}
-use Rattle.run_certify.specs.Merges.{ItemAt, IsMerge, history_of}
-use Rattle.run_certify.specs.Weaves.{event_of, operated, transcript_of, weave}
-use Rattle.run_certify.specs.Shown.{agent_of, asker}
-use Rattle.run_certify.specs.code.Firsts.{AreAllPlayed, IsLeast, at_server}
+use Rattle.run_certify.proofs.Vocabulary.{◌≡◌, ◌≢◌, ◌⊎◌, ⊎_elim, ℕ, ◌<◌, Bool, true, false, List, [], ◌∷◌, ◌++◌, length, slice_set, subst, refl, ap, ◌∙◌, sym, arith, Option, Some, None, cons_option, EndedJob, Event, Step, Item, Entry}
+use Rattle.run_certify.proofs.Vocabulary.{Asked, Ended, ItemAt, IsMerge, history_of, event_of, operated, transcript_of, weave, agent_of, asker, AreAllPlayed, IsLeast, at_server, IsTurn, is_asked}
 use Rattle.run_certify.proofs.Ends.{merge_none, none_merge, weave_empty, weave_ended, weave_rest}
 use Rattle.run_certify.proofs.Lists.{long_set, no_cons, same_head, set_again, set_here}
 use Rattle.run_certify.proofs.Picking.{picked, picks}
 use Rattle.run_certify.proofs.Refuting as refuting
 use Rattle.run_certify.proofs.Steps.{AreOf, Fits, decided_in, goes_back, goes_on, no_sense, operator_back, operator_on, puts_first, serves_first}
-use Rattle.run_certify.specs.code.Turns.{IsTurn, is_asked}
 use Rattle.run_certify.proofs.Weaving.{weave_asked, weave_operator, weave_other}
 
 pub turn_of_item : (one : ItemAt) (histories : List (List Item)) (unused : List (List Entry)) (agent : ℕ) → one.item.agent ≡ Some agent → agent < length unused → IsTurn (one ∷ []) histories unused agent

@@ -1,24 +1,7 @@
 -- An item of the operator's is played.
-use Rattle.std.proofs.Common.{◌≡◌, ◌⊎◌, ⊎_elim, inl, inr, ℕ, ◌≤◌, true, false, true≢false, [], ◌∷◌, length, subst, refl, ap, ◌∙◌, sym, arith}
-use Rattle.std.specs.Prelude.{is_some, Option, Some, None}
-use Rattle.rep_core.specs.declared.request.Request.{Request}
+use Rattle.run_certify.proofs.Vocabulary.{◌≡◌, ◌⊎◌, ⊎_elim, inl, inr, ℕ, ◌≤◌, true, false, true≢false, [], ◌∷◌, length, subst, refl, ap, ◌∙◌, sym, arith, is_some, Option, Some, None, Request, Fixed, fixed_of, Done, Served, Event, Crash}
+use Rattle.run_certify.proofs.Vocabulary.{Return, decided, has_sense, Stepped, World, step, Item, counts_after, jobs_after, ItemAt, agent_of, asker, served_as, operated, at_server, Fails, Goes, IsEvent, IsSound, Walked}
 use Rattle.rep_core.specs.declared.request.Request.TheVariants as request
-use Rattle.txn_core.specs.Doing.{Fixed}
-use Rattle.txn_core.specs.Agents.{fixed_of}
-use Rattle.run_core.specs.declared.done.Done.{Done}
-use Rattle.run_core.specs.declared.done.Served.{Served}
-use Rattle.run_core.specs.declared.event.Event.{Event}
-use Rattle.run_core.specs.declared.event.Event.TheVariants.{Crash, Return}
-use Rattle.run_core.specs.Decisions.{decided}
-use Rattle.run_core.specs.Senses.{has_sense}
-use Rattle.run_core.specs.Worlds.{Stepped, World, step}
-use Rattle.server_lock.specs.declared.item.Item.{Item}
-use Rattle.run_certify.specs.Deciding.{counts_after, jobs_after}
-use Rattle.run_certify.specs.Merges.{ItemAt}
-use Rattle.run_certify.specs.Shown.{agent_of, asker, served_as}
-use Rattle.run_certify.specs.Weaves.{operated}
-use Rattle.run_certify.specs.code.Firsts.{at_server}
-use Rattle.run_certify.specs.code.Walks.{Fails, Goes, IsEvent, IsSound, Walked}
 use Rattle.run_certify.proofs.Deciding.{decides_nothing}
 use Rattle.run_certify.proofs.Facts.{no_crash, no_return}
 use Rattle.run_certify.proofs.Events.{event_after}

@@ -1,10 +1,6 @@
 -- The next item of all histories.
-use Rattle.std.proofs.Common.{◌≡◌, ◌≢◌, ⊎_elim, inl, inr, ℕ, ◌<◌, ◌≤◌, List, [], ◌∷◌, length, slice_set, subst, ap, ◌∙◌, sym, arith}
-use Rattle.std.specs.Prelude.{if◌then◌else◌, Some, None}
-use Rattle.std.specs.List.{cons_option}
-use Rattle.server_lock.specs.declared.item.Item.{Item}
-use Rattle.run_certify.specs.Merges.{ItemAt, MayPrecede, IsMerge, IsOrdered, history_of, items_of}
-use Rattle.run_certify.specs.code.Firsts.{IsLeast, at_server}
+use Rattle.run_certify.proofs.Vocabulary.{◌≡◌, ◌≢◌, ⊎_elim, inl, inr, ℕ, ◌<◌, ◌≤◌, List, [], ◌∷◌, length, slice_set, subst, ap, ◌∙◌, sym, arith, if◌then◌else◌, Some, None, cons_option, Item, ItemAt, MayPrecede, IsMerge, IsOrdered}
+use Rattle.run_certify.proofs.Vocabulary.{history_of, items_of, IsLeast, at_server}
 use Rattle.run_certify.proofs.Lists.{set_here, set_apart, same_or, eq_same, eq_apart, same_head, same_tail, no_cons}
 
 -- ---- items of servers

@@ -1,27 +1,10 @@
 -- An entry that was used is played.
-use Rattle.std.proofs.Common.{◌≡◌, ◌≢◌, ◌⊎◌, ⊎_elim, inl, inr, ℕ, zero, suc, ◌<◌, ◌≤◌, Bool, true, false, List, [], ◌∷◌, ◌++◌, length, slice_set, subst, refl, ap, ◌∙◌, sym, arith, append_assoc}
-use Rattle.std.specs.Prelude.{◌&&◌, nat_lt, slice_index_or, Option, Some, None}
+use Rattle.run_certify.proofs.Vocabulary.{◌≡◌, ◌≢◌, ◌⊎◌, ⊎_elim, inl, inr, ℕ, zero, suc, ◌<◌, ◌≤◌, Bool, true, false, List, [], ◌∷◌, ◌++◌, length, slice_set, subst, refl, ap, ◌∙◌, sym, arith, append_assoc, ◌&&◌, nat_lt, slice_index_or}
+use Rattle.run_certify.proofs.Vocabulary.{Option, Some, None, Opening, Job, fixed_of, max_jobs, asked_at, asked_by, Done, EndedJob, Event, Begin, Lack, Forget, Decided, has_sense, actor_at, has_no_job, step, Entry, Begun, Ended, Forgot}
+use Rattle.run_certify.proofs.Vocabulary.{Lacked, count_at, ended, lacked, served_as, transcript_of, EndsOtherwise, HasEnded, EntryFails, EntryGoes, IsBegin, IsEnd, IsEvent, IsShorter, IsSound, IsUse, Walked}
 use Rattle.std.proofs.lemmas.List.{append-nil}
 use Rattle.rep_core.specs.declared.stamped.Lack.{Lack as Why}
-use Rattle.suite_prefix.specs.SettingsRules.{Opening}
-use Rattle.txn_core.specs.declared.job.Job.{Job}
 use Rattle.txn_core.specs.Agents as agents
-use Rattle.txn_core.specs.Agents.{fixed_of, max_jobs}
-use Rattle.run_core.specs.Asking.{asked_at, asked_by}
-use Rattle.run_core.specs.declared.done.Done.{Done}
-use Rattle.run_core.specs.declared.done.EndedJob.{EndedJob}
-use Rattle.run_core.specs.declared.event.Event.{Event}
-use Rattle.run_core.specs.declared.event.Event.TheVariants.{Begin, Lack, Forget}
-use Rattle.run_core.specs.Decisions.{Decided}
-use Rattle.run_core.specs.Senses.{has_sense}
-use Rattle.run_core.specs.Worlds.{actor_at, has_no_job, step}
-use Rattle.run_certify.specs.declared.entry.Entry.{Entry}
-use Rattle.run_certify.specs.declared.entry.Entry.TheVariants.{Begun, Ended, Forgot, Lacked}
-use Rattle.run_certify.specs.Deciding.{count_at}
-use Rattle.run_certify.specs.Shown.{ended, lacked, served_as}
-use Rattle.run_certify.specs.Weaves.{transcript_of}
-use Rattle.run_certify.specs.code.Uses.{EndsOtherwise, HasEnded}
-use Rattle.run_certify.specs.code.Walks.{EntryFails, EntryGoes, IsBegin, IsEnd, IsEvent, IsShorter, IsSound, IsUse, Walked}
 use Rattle.run_certify.proofs.Counted.{begin_sense_is}
 use Rattle.run_certify.proofs.Deciding.{decides_nothing}
 use Rattle.run_certify.proofs.Events.{begin_after, end_after, ended_by, event_after, otherwise_by}

@@ -1,18 +1,7 @@
 -- The jobs that a woven run begins are those that agents put down; so it can be, and is promised.
-use Rattle.std.proofs.Common.{ℕ, zero, suc, ◌+◌, List, [], ◌∷◌, slice_set, Option, Some, None, subst}
-use Rattle.vote_core.specs.Validity.{IsValid}
-use Rattle.suite_prefix.specs.SettingsRules.{IsAccepted, Opening}
-use Rattle.rep_core.specs.declared.request.Request.{Request}
+use Rattle.run_certify.proofs.Vocabulary.{ℕ, zero, suc, ◌+◌, List, [], ◌∷◌, slice_set, Option, Some, None, subst, IsValid, IsAccepted, Opening, Request, Item, CanBe, VotesAreValid, both, front, promised, Entry, Asked, Begun, Ended}
+use Rattle.run_certify.proofs.Vocabulary.{Forgot, Lacked, ItemAt, CertifiedIsPromised, events_at, events_of, operated, past_stamp, rest_from, transcript_of, unused_at, up_to_stamp, weave, AllBegunAreValid, EntriesGiveValidVotes}
 use Rattle.rep_core.specs.declared.request.Request.TheVariants as request
-use Rattle.server_lock.specs.declared.item.Item.{Item}
-use Rattle.law_headline.specs.Premises.{CanBe, VotesAreValid}
-use Rattle.law_headline.proofs.Promised.{both, front, promised}
-use Rattle.run_certify.specs.declared.entry.Entry.{Entry}
-use Rattle.run_certify.specs.declared.entry.Entry.TheVariants.{Asked, Begun, Ended, Forgot, Lacked}
-use Rattle.run_certify.specs.Merges.{ItemAt}
-use Rattle.run_certify.specs.Promised.{CertifiedIsPromised}
-use Rattle.run_certify.specs.Weaves.{events_at, events_of, operated, past_stamp, rest_from, transcript_of, unused_at, up_to_stamp, weave}
-use Rattle.run_certify.specs.code.ValidVotes.{AllBegunAreValid, EntriesGiveValidVotes}
 
 -- ---- a transcript
 

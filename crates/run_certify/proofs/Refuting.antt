@@ -1,14 +1,6 @@
 -- What refutes that events are of a run.
-use Rattle.std.proofs.Common.{◌≡◌, ◌≢◌, ℕ, Bool, true, false, List, [], ◌∷◌, ◌++◌, length, subst, refl, ap, ◌∙◌, sym, arith}
-use Rattle.std.specs.Prelude.{nat_eq, if◌then◌else◌, Option, Some, None}
-use Rattle.std.specs.List.{cons_option}
-use Rattle.run_core.specs.declared.event.Event.{Event}
-use Rattle.run_certify.specs.declared.entry.Entry.{Entry}
-use Rattle.run_certify.specs.declared.entry.Entry.TheVariants.{Ended}
-use Rattle.run_core.specs.declared.done.EndedJob.{EndedJob}
-use Rattle.run_certify.specs.Merges.{ItemAt}
-use Rattle.run_certify.specs.Weaves.{transcript_of, weave}
-use Rattle.run_certify.specs.Shown.{agent_of, asker, if_of}
+use Rattle.run_certify.proofs.Vocabulary.{◌≡◌, ◌≢◌, ℕ, Bool, true, false, List, [], ◌∷◌, ◌++◌, length, subst, refl, ap, ◌∙◌, sym, arith, nat_eq, if◌then◌else◌, Option, Some, None, cons_option, Event, Entry, Ended, EndedJob, ItemAt}
+use Rattle.run_certify.proofs.Vocabulary.{transcript_of, weave, agent_of, asker, if_of}
 use Rattle.run_certify.proofs.Lists.{head_or}
 use Rattle.run_certify.proofs.Steps.{AreOf, items_in, told_in}
 use Rattle.run_certify.proofs.Weaving.{NoSteps, no_steps}

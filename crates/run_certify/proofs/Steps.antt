@@ -1,14 +1,7 @@
 -- One event of a run, and what is left after it: of any machine.
-use Rattle.std.proofs.Common.{◌≡◌, ◌≢◌, ⊎_elim, ℕ, ◌<◌, Bool, true, false, true≢false, List, [], ◌∷◌, ◌++◌, length, slice_set, subst, ap, ◌∙◌, sym}
-use Rattle.std.specs.Prelude.{if◌then◌else◌, Option, Some, None}
-use Rattle.std.specs.List.{cons_option}
-use Rattle.std.proofs.lemmas.List.{append_cancel_left}
-use Rattle.run_core.specs.declared.event.Event.{Event}
-use Rattle.run_certify.specs.declared.entry.Entry.{Entry}
+use Rattle.run_certify.proofs.Vocabulary.{◌≡◌, ◌≢◌, ⊎_elim, ℕ, ◌<◌, Bool, true, false, true≢false, List, [], ◌∷◌, ◌++◌, length, slice_set, subst, ap, ◌∙◌, sym, if◌then◌else◌, Option, Some, None, cons_option, append_cancel_left, Event}
+use Rattle.run_certify.proofs.Vocabulary.{Entry, ItemAt, transcript_of, agent_of, if_of}
 use Rattle.run_certify.proofs.Lists.{cons_cancel, eq_apart, eq_same, same_or, set_apart, set_here}
-use Rattle.run_certify.specs.Merges.{ItemAt}
-use Rattle.run_certify.specs.Weaves.{transcript_of}
-use Rattle.run_certify.specs.Shown.{agent_of, if_of}
 
 module _ {W D : Type 0} (next : W → Event → W) (sense : W → Event → Bool) (serves : W → Event → Option ItemAt) (puts : W → Event → List Entry) (decides : W → Event → Option D) where
   abbrev pub have_sense : W → List Event → Type 0

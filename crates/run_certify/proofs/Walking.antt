@@ -1,28 +1,8 @@
 -- One step of the walk after another.
-use Rattle.std.proofs.Common.{◌≡◌, ◌⊎◌, ℕ, ◌<◌, true, false, List, [], ◌∷◌, ◌++◌, length, slice_set, subst, refl, ap, ◌∙◌, sym, arith, append_assoc, append-nil}
-use Rattle.std.specs.Prelude.{Option, Some, None}
-use Rattle.std.specs.List.{cons_option}
-use Rattle.std.proofs.lemmas.Option.{same_Some}
-use Rattle.suite_prefix.specs.SettingsRules.{IsAccepted}
-use Rattle.txn_core.specs.Doing.{Fixed}
-use Rattle.txn_core.specs.Agents.{fixed_of}
-use Rattle.txn_core.specs.declared.job.Job.{Job}
-use Rattle.run_core.specs.declared.done.EndedJob.{EndedJob}
-use Rattle.run_core.specs.declared.event.Event.{Event}
-use Rattle.run_core.specs.declared.event.Event.TheVariants.{Begin, Step, Crash, Return, Forget, Lack}
-use Rattle.run_core.specs.Decisions.{Decided, decided}
-use Rattle.run_core.specs.Senses.{has_sense}
-use Rattle.run_core.specs.Worlds.{World, step}
-use Rattle.server_lock.specs.declared.item.Item.{Item}
-use Rattle.run_certify.specs.declared.entry.Entry.{Entry}
-use Rattle.run_certify.specs.declared.entry.Entry.TheVariants.{Asked, Ended}
-use Rattle.run_certify.specs.Deciding.{AreCounted, HasPlace, IsCounted, IsPlayed, counts_after, jobs_after}
-use Rattle.run_certify.specs.Merges.{ItemAt}
-use Rattle.run_certify.specs.Shown.{agent_of, asker, entries_by, served_as}
-use Rattle.run_certify.specs.Weaves.{event_of, operated, transcript_of}
-use Rattle.run_certify.specs.code.Firsts.{AreAllPlayed, IsLeast, IsTaken, at_server}
-use Rattle.run_certify.specs.code.Turns.{IsTurn, is_asked}
-use Rattle.run_certify.specs.code.Walks.{Fails, Goes, IsLeft, IsOfRun, IsSound, IsUse, Walked}
+use Rattle.run_certify.proofs.Vocabulary.{◌≡◌, ◌⊎◌, ℕ, ◌<◌, true, false, List, [], ◌∷◌, ◌++◌, length, slice_set, subst, refl, ap, ◌∙◌, sym, arith, append_assoc, append-nil, Option, Some, None, cons_option, same_Some, IsAccepted, Fixed}
+use Rattle.run_certify.proofs.Vocabulary.{fixed_of, Job, EndedJob, Event, Begin, Step, Crash, Return, Forget, Lack, Decided, decided, has_sense, World, step, Item, Entry, Asked, Ended, AreCounted, HasPlace, IsCounted, IsPlayed}
+use Rattle.run_certify.proofs.Vocabulary.{counts_after, jobs_after, ItemAt, agent_of, asker, entries_by, served_as, event_of, operated, transcript_of, AreAllPlayed, IsLeast, IsTaken, at_server, IsTurn, is_asked, Fails, Goes, IsLeft}
+use Rattle.run_certify.proofs.Vocabulary.{IsOfRun, IsSound, IsUse, Walked}
 use Rattle.run_certify.proofs.Bridge.{decided_same, decides, from_run, next, puts, sense, serves, to_run}
 use Rattle.run_certify.proofs.Counted.{count_on}
 use Rattle.run_certify.proofs.Deciding.{goes_on}

@@ -1,18 +1,7 @@
 -- One event after another of those that items and transcripts spell.
-use Rattle.std.proofs.Common.{◌≡◌, ◌≢◌, ⊎_elim, ℕ, zero, suc, ◌+◌, ◌<◌, false, List, [], ◌∷◌, ◌++◌, length, slice_set, subst, refl, ap, ◌∙◌, sym, arith}
-use Rattle.std.specs.Prelude.{slice_index_or, Option, Some, None}
-use Rattle.std.specs.List.{cons_option}
-use Rattle.run_core.specs.declared.event.Event.{Event}
-use Rattle.run_core.specs.declared.event.Event.TheVariants.{Step}
-use Rattle.run_certify.specs.declared.entry.Entry.{Entry}
-use Rattle.run_certify.specs.declared.entry.Entry.TheVariants.{Begun, Asked, Lacked, Forgot, Ended}
-use Rattle.std.proofs.lemmas.Option.{same_Some}
-use Rattle.rep_core.specs.declared.request.Request.{Request}
+use Rattle.run_certify.proofs.Vocabulary.{◌≡◌, ◌≢◌, ⊎_elim, ℕ, zero, suc, ◌+◌, ◌<◌, false, List, [], ◌∷◌, ◌++◌, length, slice_set, subst, refl, ap, ◌∙◌, sym, arith, slice_index_or, Option, Some, None, cons_option, Event, Step, Entry}
+use Rattle.run_certify.proofs.Vocabulary.{Begun, Asked, Lacked, Forgot, Ended, same_Some, Request, ItemAt, event_of, events_of, events_at, operated, past_stamp, rest_from, transcript_of, unused_at, up_to_stamp, weave, asker, is_asked}
 use Rattle.rep_core.specs.declared.request.Request.TheVariants as request
-use Rattle.run_certify.specs.Merges.{ItemAt}
-use Rattle.run_certify.specs.Weaves.{event_of, events_of, events_at, operated, past_stamp, rest_from, transcript_of, unused_at, up_to_stamp, weave}
-use Rattle.run_certify.specs.Shown.{asker}
-use Rattle.run_certify.specs.code.Turns.{is_asked}
 use Rattle.run_certify.proofs.Lists.{cons_append, same_or, set_again, set_here}
 
 -- ---- an agent's next entry

@@ -1,12 +1,5 @@
 -- A run goes on from where it was.
-use Rattle.std.proofs.Common.{◌≡◌, List, [], ◌∷◌, ◌++◌, Option, Some, None, refl, ap, ◌∙◌, sym}
-use Rattle.std.specs.List.{cons_option}
-use Rattle.txn_core.specs.Doing.{Fixed}
-use Rattle.run_core.specs.declared.event.Event.{Event}
-use Rattle.run_core.specs.declared.done.Done.{Done}
-use Rattle.run_core.specs.Worlds.{World, step}
-use Rattle.run_core.specs.Runs.{after, dones, outcomes}
-use Rattle.run_core.specs.Decisions.{decided, decisions_from}
+use Rattle.run_core.proofs.Vocabulary.{◌≡◌, List, [], ◌∷◌, ◌++◌, Option, Some, None, refl, ap, ◌∙◌, sym, cons_option, Fixed, Event, Done, World, step, after, dones, outcomes, decided, decisions_from}
 
 pub after-append : (fixed : Fixed) (world : World) (events later : List Event) → after fixed world (events ++ later) ≡ after fixed (after fixed world events) later
 after-append fixed world [] later = refl

@@ -1,21 +1,11 @@
 -- What holds of each agent of a world holds of each after an event, where it stays so as an agent forgets or takes a response, and where it is so
 -- of an agent that begins.
-use Rattle.std.proofs.Common.{◌≡◌, ℕ, zero, suc, List, [], ◌∷◌, Option, Some, None, refl, subst}
-use Rattle.std.specs.Prelude.{slice_get, slice_set}
-use Rattle.std.proofs.lemmas.Option.{none-some, same_Some}
-use Rattle.rep_core.specs.declared.request.Request.{Request}
+use Rattle.run_core.proofs.Vocabulary.{◌≡◌, ℕ, zero, suc, List, [], ◌∷◌, Option, Some, None, refl, subst, slice_get, slice_set, none-some, same_Some, Request, State, Job, Response, Replied, Lacked, Fixed, Agent, next_of, begin, forget}
+use Rattle.run_core.proofs.Vocabulary.{Event, Begin, Step, Crash, Return, Forget, Served, World, Actor, server_at, actor_at, serve, moved, answered, asks_at, asks, steps_once, lacks_for, lacks, operated, operates, becomes, step}
 use Rattle.rep_core.specs.declared.request.Request.TheVariants as request
 use Rattle.rep_core.specs.declared.stamped.Lack.TheVariants as lack
-use Rattle.rep_core.specs.State.{State}
-use Rattle.txn_core.specs.declared.job.Job.{Job}
-use Rattle.txn_core.specs.declared.response.Response.{Response}
-use Rattle.txn_core.specs.declared.response.Response.TheVariants.{Replied, Lacked}
-use Rattle.txn_core.specs.Doing.{Fixed}
-use Rattle.txn_core.specs.Agents.{Agent, next_of, take, begin, forget}
-use Rattle.run_core.specs.declared.event.Event.{Event}
-use Rattle.run_core.specs.declared.event.Event.TheVariants.{Begin, Step, Crash, Return, Forget, Lack}
-use Rattle.run_core.specs.declared.done.Served.{Served}
-use Rattle.run_core.specs.Worlds.{World, Actor, server_at, actor_at, serve, moved, answered, asks_at, asks, steps_once, lacks_for, lacks, operated, operates, becomes, step}
+use Rattle.txn_core.specs.Agents.{take}
+use Rattle.run_core.specs.declared.event.Event.TheVariants.{Lack}
 
 abbrev pub OfEach : (Agent → Type 0) → World → Type 0
 OfEach P world = (number : ℕ) (actor : Actor) → actor_at world number ≡ Some actor → P actor.agent

@@ -1,20 +1,7 @@
 -- What one request of an agent to a server leaves of the two.
-use Rattle.std.proofs.Common.{◌≡◌, ℕ, zero, suc, Bool, true, false, cond, List, [], ◌∷◌, Option, Some, None, refl, ap, ◌∙◌, sym}
-use Rattle.std.specs.Prelude.{slice_get, slice_set}
-use Rattle.std.specs.Option.{option_or}
-use Rattle.rep_core.specs.declared.request.Request.{Request}
-use Rattle.rep_core.specs.declared.stamped.Stamped.{Stamped}
-use Rattle.rep_core.specs.declared.stamped.Lack.TheVariants.{Full}
-use Rattle.rep_core.specs.State.{State}
-use Rattle.rep_core.specs.Service.{reply_of}
-use Rattle.rep_core.specs.Serving.{answer_of, served, is_full}
-use Rattle.txn_core.specs.declared.response.Response.TheVariants.{Replied, Lacked}
+use Rattle.run_core.proofs.Vocabulary.{◌≡◌, ℕ, zero, suc, Bool, true, false, cond, List, [], ◌∷◌, Option, Some, None, refl, ap, ◌∙◌, sym, slice_get, slice_set, option_or, Request, Stamped, Full, State, reply_of, answer_of, served}
+use Rattle.run_core.proofs.Vocabulary.{is_full, Replied, Lacked, EndedJob, Served, with_actor, answered, outcome_of, Seated, after_response, ending_by, IsExchange, IsExchangeOf}
 use Rattle.txn_core.specs.Agents.{take}
-use Rattle.run_core.specs.declared.done.EndedJob.{EndedJob}
-use Rattle.run_core.specs.declared.done.Served.{Served}
-use Rattle.run_core.specs.Worlds.{with_actor, answered, outcome_of}
-use Rattle.run_core.specs.code.Seats.{Seated, after_response, ending_by}
-use Rattle.run_core.specs.code.Exchanges.{IsExchange, IsExchangeOf}
 
 pub not_true : (b : Bool) → (b ≡ true → ⊥) → b ≡ false
 not_true true never = absurd (never refl)

@@ -1,3 +1,4 @@
+mod Vocabulary
 pub mod Appending
 pub mod Exchanging
 pub mod EachAgent

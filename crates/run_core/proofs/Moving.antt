@@ -1,23 +1,9 @@
 -- What the code keeps of agents, against the definitions.
-use Rattle.std.proofs.Common.{◌≡◌, ℕ, Bool, true, false, List, Option, Some, None, Result, Ok, Err, refl, ap, subst, ◌∙◌, sym}
-use Rattle.std.specs.Prelude.{slice_get, slice_set, option_map, IfOk, IfSome, OnErr}
-use Rattle.std.specs.Option.{option_or}
-use Rattle.std.specs.declared.alloc.AllocError.{AllocError}
-use Rattle.std.proofs.lemmas.List.{map-set}
-use Rattle.std.proofs.lemmas.List.Elements.{All-set, All-same}
-use Rattle.std.proofs.lemmas.Option.{slice_get-map, slice_get_within, get_or_from_slice_get}
-use Rattle.rep_core.specs.declared.request.Request.{Request}
-use Rattle.rep_core.specs.State.{State}
-use Rattle.txn_core.specs.declared.response.Response.{Response}
-use Rattle.txn_core.specs.Doing.{Fixed}
-use Rattle.txn_core.specs.Agents.{Agent, next_of, take}
-use Rattle.run_core.specs.declared.done.Done.{Done}
-use Rattle.run_core.specs.declared.done.EndedJob.{EndedJob}
-use Rattle.run_core.specs.declared.done.Served.{Served}
-use Rattle.run_core.specs.Telling.{ComesTo, IsFitting, IsFittingIf, IsTold, served_if}
-use Rattle.run_core.specs.Worlds.{Actor, World, Stepped, becomes, quiet, steps_once, asks, asks_at, answered, serve, lacks, lacks_for, lacked, outcome_of}
-use Rattle.run_core.specs.code.Seats.{Seated, changed, actors_in, world_of, AreOf, Becomes, after_response}
-use Rattle.run_core.specs.code.Exchanges.{IsExchange, IsExchangeOf}
+use Rattle.run_core.proofs.Vocabulary.{◌≡◌, ℕ, Bool, true, false, List, Option, Some, None, Result, Ok, Err, refl, ap, subst, ◌∙◌, sym, slice_get, slice_set, option_map, IfOk, IfSome, OnErr, option_or, AllocError, map-set, All-set}
+use Rattle.run_core.proofs.Vocabulary.{All-same, slice_get-map, slice_get_within, get_or_from_slice_get, Request, State, Response, Fixed, Agent, next_of, Done, EndedJob, Served, ComesTo, IsFitting, IsFittingIf, IsTold, served_if, Actor}
+use Rattle.run_core.proofs.Vocabulary.{World, Stepped, becomes, quiet, steps_once, asks, asks_at, answered, serve, lacks, lacks_for, lacked, outcome_of, Seated, changed, actors_in, world_of, AreOf, Becomes, after_response, IsExchange}
+use Rattle.run_core.proofs.Vocabulary.{IsExchangeOf}
+use Rattle.txn_core.specs.Agents.{take}
 use Rattle.run_core.proofs.Exchanging.{or_nothing, set_there}
 
 -- ---- places

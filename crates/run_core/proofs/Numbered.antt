@@ -1,12 +1,7 @@
 -- The servers and the agents of a service, as it opens.
-use Rattle.std.proofs.Common.{◌≡◌, ℕ, zero, suc, ◌+◌, List, [], ◌∷◌, ◌++◌, refl, ap, ◌∙◌, arith}
-use Rattle.std.proofs.lemmas.List.Elements.{All-nil, All-cons}
-use Rattle.suite_prefix.specs.SettingsRules.{Opening}
+use Rattle.run_core.proofs.Vocabulary.{◌≡◌, ℕ, zero, suc, ◌+◌, List, [], ◌∷◌, ◌++◌, refl, ap, ◌∙◌, arith, All-nil, All-cons, Opening, State, fixed_of, Actor, servers_from, actors_from, Seated, seats_from, actors_in, AreOf}
 use Rattle.rep_core.specs.State as state
-use Rattle.rep_core.specs.State.{State}
-use Rattle.txn_core.specs.Agents.{fixed_of}
-use Rattle.run_core.specs.Worlds.{Actor, servers_from, actors_from}
-use Rattle.run_core.specs.code.Seats.{Seated, opening, seats_from, actors_in, AreOf}
+use Rattle.run_core.specs.code.Seats.{opening}
 
 servers_from-more : (given : Opening) (start count : ℕ) → servers_from given start (suc count) ≡ servers_from given start count ++ state.opening (start + count) given ∷ []
 servers_from-more given start zero = let same : start ≡ start + 0 = omega arith in ap (λ n. state.opening n given ∷ []) same

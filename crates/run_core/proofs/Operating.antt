@@ -1,18 +1,7 @@
 -- What the operator asks of servers, and what stands at places.
-use Rattle.std.proofs.Common.{◌≡◌, ℕ, ◌<◌, length, Bool, true, false, cond, List, Some, None, refl, ap, ◌∙◌, sym, ⊎_elim}
-use Rattle.std.specs.Prelude.{slice_get, slice_set}
-use Rattle.std.proofs.lemmas.Option.{slice_get_cases}
-use Rattle.rep_core.specs.declared.reply.Reply.{Reply}
-use Rattle.rep_core.specs.declared.request.Request.{Request}
-use Rattle.rep_core.specs.declared.stamped.Lack.{Lack}
-use Rattle.rep_core.specs.declared.stamped.Lack.TheVariants.{Full, Memory}
-use Rattle.rep_core.specs.declared.stamped.Stamped.{Stamped}
-use Rattle.rep_core.specs.State.{State}
-use Rattle.rep_core.specs.Serving.{answer_of, served, is_full, takes_no_memory}
-use Rattle.run_core.specs.declared.operator.Order.{Order}
+use Rattle.run_core.proofs.Vocabulary.{◌≡◌, ℕ, ◌<◌, length, Bool, true, false, cond, List, Some, None, refl, ap, ◌∙◌, sym, ⊎_elim, slice_get, slice_set, slice_get_cases, Reply, Request, Lack, Full, Memory, Stamped, State, answer_of}
+use Rattle.run_core.proofs.Vocabulary.{served, is_full, takes_no_memory, Order, request_of, Actor, World, operates, operated, quiet}
 use Rattle.run_core.specs.declared.operator.Order.TheVariants as order
-use Rattle.run_core.specs.code.Orders.{request_of}
-use Rattle.run_core.specs.Worlds.{Actor, World, operates, operated, quiet}
 use Rattle.run_core.proofs.Exchanging.{set_there, not_true}
 
 -- nothing stands there

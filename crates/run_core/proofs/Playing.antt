@@ -1,14 +1,5 @@
 -- One event more of those that are played.
-use Rattle.std.proofs.Common.{◌≡◌, ℕ, ◌+◌, ◌<◌, length, take, get_or, List, [], ◌∷◌, ◌++◌, Option, ap, ◌∙◌, sym}
-use Rattle.std.specs.List.{cons_option}
-use Rattle.std.proofs.lemmas.List.{take_more}
-use Rattle.suite_prefix.specs.SettingsRules.{Opening}
-use Rattle.txn_core.specs.Doing.{Fixed}
-use Rattle.txn_core.specs.Agents.{fixed_of}
-use Rattle.run_core.specs.declared.event.Event.{Event}
-use Rattle.run_core.specs.declared.done.EndedJob.{EndedJob}
-use Rattle.run_core.specs.Worlds.{World, step}
-use Rattle.run_core.specs.Runs.{after, dones, outcomes}
+use Rattle.run_core.proofs.Vocabulary.{◌≡◌, ℕ, ◌+◌, ◌<◌, length, take, get_or, List, [], ◌∷◌, ◌++◌, Option, ap, ◌∙◌, sym, cons_option, take_more, Opening, Fixed, fixed_of, Event, EndedJob, World, step, after, dones, outcomes}
 use Rattle.run_core.proofs.Appending.{after-append, dones-append, outcomes-append}
 
 pub after_more : (fixed : Fixed) (world : World) (events : List Event) (i : ℕ) (d : Event) → i < length events

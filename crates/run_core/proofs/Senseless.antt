@@ -1,23 +1,9 @@
 -- An event without sense changes nothing.
-use Rattle.std.proofs.Common.{◌≡◌, ℕ, ◌+◌, ◌<◌, false, cond, [], ◌∷◌, Option, Some, None, inl, inr, refl, ap, sym, ◌∙◌, arith}
-use Rattle.std.specs.Prelude.{◌==◌, nat_lt, not, is_some, Contains}
-use Rattle.std.proofs.lemmas.Bool.{false≢true}
-use Rattle.std.proofs.lemmas.Bool.Decides.{nat_tests}
-use Rattle.rep_core.specs.declared.request.Request.{Request}
+use Rattle.run_core.proofs.Vocabulary.{◌≡◌, ℕ, ◌+◌, ◌<◌, false, cond, [], ◌∷◌, Option, Some, None, inl, inr, refl, ap, sym, ◌∙◌, arith, ◌==◌, nat_lt, not, is_some, Contains, false≢true, nat_tests, Request, State, Has, contains_from}
+use Rattle.run_core.proofs.Vocabulary.{Entry, Cache, forgotten, Job, Response, Lacked, Fixed, Agent, begin, begins, started, forget, max_sites, next_of, Served, asked_by, can_begin, asks_one, can_forget, NothingComes, Actor, World}
+use Rattle.run_core.proofs.Vocabulary.{actor_at, server_at, becomes, quiet, steps_once, asks, asks_at, lacks, lacks_for, operates, operated, serve}
 use Rattle.rep_core.specs.declared.request.Request.TheVariants as request
-use Rattle.rep_core.specs.State.{State}
-use Rattle.rep_core.proofs.Members.{Has, contains_from}
-use Rattle.weak_cache.specs.Entries.{Entry, Cache, forgotten}
-use Rattle.txn_core.specs.declared.job.Job.{Job}
-use Rattle.txn_core.specs.declared.response.Response.{Response}
-use Rattle.txn_core.specs.declared.response.Response.TheVariants.{Lacked}
-use Rattle.txn_core.specs.Doing.{Fixed}
-use Rattle.txn_core.specs.Agents.{Agent, begin, begins, started, forget, max_sites, next_of}
-use Rattle.run_core.specs.declared.done.Served.{Served}
 use Rattle.run_core.specs.declared.event.Event.TheVariants as event
-use Rattle.run_core.specs.Asking.{asked_by}
-use Rattle.run_core.specs.Senses.{can_begin, asks_one, can_forget, NothingComes}
-use Rattle.run_core.specs.Worlds.{Actor, World, actor_at, server_at, becomes, quiet, steps_once, asks, asks_at, lacks, lacks_for, operates, operated, serve}
 use Rattle.run_core.proofs.Exchanging.{set_there}
 
 -- an agent that stays as it was, put back where it stood

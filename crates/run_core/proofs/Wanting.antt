@@ -1,24 +1,8 @@
 -- Which events may need memory.
-use Rattle.std.proofs.Common.{◌≡◌, ℕ, ◌<◌, ◌+◌, length, take, get_or, Bool, true, false, List, [], ◌∷◌, ◌++◌, Option, Some, None, IsSome, Result, Ok, Err, refl, ap, ◌∙◌, sym}
-use Rattle.std.specs.Prelude.{is_some, option_map, slice_get, ◌||◌, IfErr}
-use Rattle.std.specs.List.{last_or}
-use Rattle.std.proofs.lemmas.List.{take_more}
-use Rattle.std.proofs.lemmas.Option.{slice_get-get_or}
-use Rattle.suite_prefix.specs.SettingsRules.{Opening}
-use Rattle.rep_core.specs.declared.request.Request.{Request}
-use Rattle.rep_core.specs.State.{State}
-use Rattle.rep_core.specs.Wanting.{by_request}
-use Rattle.txn_core.specs.declared.job.Job.{Job}
-use Rattle.txn_core.specs.Doing.{Fixed}
-use Rattle.txn_core.specs.Agents.{fixed_of, next_of}
+use Rattle.run_core.proofs.Vocabulary.{◌≡◌, ℕ, ◌<◌, ◌+◌, length, take, get_or, Bool, true, false, List, [], ◌∷◌, ◌++◌, Option, Some, None, IsSome, Result, Ok, Err, refl, ap, ◌∙◌, sym, is_some, option_map, slice_get, ◌||◌, IfErr}
+use Rattle.run_core.proofs.Vocabulary.{last_or, take_more, slice_get-get_or, Opening, Request, State, by_request, Job, Fixed, fixed_of, next_of, by_job, EndedJob, Event, after, dones, Actor, World, step, Seated, actors_in, world_of}
+use Rattle.run_core.proofs.Vocabulary.{AreOf, by_begin, by_exchange, by_asking, by_step, by_event, by_next, by_outcome, by_stop}
 use Rattle.txn_core.specs.Wanting as agent
-use Rattle.txn_core.specs.Wanting.{by_job}
-use Rattle.run_core.specs.declared.done.EndedJob.{EndedJob}
-use Rattle.run_core.specs.declared.event.Event.{Event}
-use Rattle.run_core.specs.Runs.{after, dones}
-use Rattle.run_core.specs.Worlds.{Actor, World, step}
-use Rattle.run_core.specs.code.Seats.{Seated, actors_in, world_of, AreOf}
-use Rattle.run_core.specs.Wanting.{by_begin, by_exchange, by_asking, by_step, by_event, by_next, by_outcome, by_stop}
 use Rattle.run_core.proofs.Appending.{dones-append}
 use Rattle.run_core.proofs.Moving.{actor_there, fixed_there}
 

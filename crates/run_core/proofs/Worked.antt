@@ -1,6 +1,5 @@
 -- They hold by computation.
-use Rattle.std.proofs.Common.{refl}
-use Rattle.run_core.specs.WorkedRuns.{WorkedRuns}
+use Rattle.run_core.proofs.Vocabulary.{refl, WorkedRuns}
 
 pub worked_runs : WorkedRuns
 worked_runs = record {

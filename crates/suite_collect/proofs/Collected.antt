@@ -1,46 +1,9 @@
 -- What the collector's answers mean.
-use Rattle.std.proofs.Common.{◌≡◌, ℕ, ◌+◌, ◌<◌, ◌≤◌, Bool, true, false, cond, ◌⊎◌, inl, inr, List, [], ◌∷◌, Option, Some, None, refl, sym, ap, subst, ◌∙◌, arith}
-use Rattle.std.specs.Prelude.{nat_lt, nat_le, not, ◌&&◌, ◌||◌, ◌==◌, find, filter, map, option_map, ◌++◌}
-use Rattle.std.proofs.lemmas.Bool.Decides.{nat_tests}
-use Rattle.std.proofs.lemmas.Bool.{false≢true, eqb-true}
-use Rattle.vote_core.specs.Quorums.{Representative, Configuration, votes_in, votes_at}
-use Rattle.suite_prefix.specs.declared.copies.Prefix.{Prefix}
-use Rattle.suite_prefix.specs.declared.lock_mode.LockMode.{LockMode}
-use Rattle.suite_prefix.specs.declared.lock_mode.LockMode.TheVariants.{Shared, Exclusive}
-use Rattle.suite_prefix.specs.LockModes.{is_exclusive, serves}
-use Rattle.suite_collect.specs.declared.told.Said.{Said}
-use Rattle.suite_collect.specs.declared.told.Said.TheVariants.{Held, Busy, Down}
-use Rattle.suite_collect.specs.declared.told.Told.{Told}
-use Rattle.rep_core.proofs.Members.{Has, has_from, contains_from}
-use Rattle.rep_core.proofs.Finding.{find_some}
-use Rattle.suite_collect.specs.Telling.{is_held, newer, newest, has_told, holds, has_refused, greatest}
-use Rattle.suite_collect.specs.Collecting.{
-  Widening,
-  Collector,
-  told_since,
-  all_told,
-  votes_or,
-  counted,
-  wanted,
-  mode_or,
-  needed,
-  needed_of,
-  got,
-  is_member,
-  is_left,
-  members_of,
-  version,
-  asked_of,
-  mode_asked,
-  ask_or_short,
-  Asked,
-  Poll,
-  Upgrade,
-  Current,
-  Ask,
-  next,
-}
-use Rattle.suite_collect.specs.Laws.{among, WasShown, EachHasAVote, IsCurrent, CurrentIsAQuorum, WidenedIsAWriteQuorum, NobodyIsAskedTwice}
+use Rattle.suite_collect.proofs.Vocabulary.{◌≡◌, ℕ, ◌+◌, ◌<◌, ◌≤◌, Bool, true, false, cond, ◌⊎◌, inl, inr, List, [], ◌∷◌, Option, Some, None, refl, sym, ap, subst, ◌∙◌, arith, nat_lt, nat_le, not, ◌&&◌, ◌||◌, ◌==◌, find, filter, map}
+use Rattle.suite_collect.proofs.Vocabulary.{option_map, ◌++◌, nat_tests, false≢true, eqb-true, Representative, Configuration, votes_in, votes_at, Prefix, LockMode, Shared, Exclusive, is_exclusive, serves, Said, Held, Busy, Down, Told}
+use Rattle.suite_collect.proofs.Vocabulary.{Has, has_from, contains_from, find_some, is_held, newer, newest, has_told, holds, has_refused, greatest, Widening, Collector, told_since, all_told, votes_or, counted, wanted, mode_or, needed}
+use Rattle.suite_collect.proofs.Vocabulary.{needed_of, got, is_member, is_left, members_of, version, asked_of, mode_asked, ask_or_short, Asked, Poll, Upgrade, Current, Ask, next, among, WasShown, EachHasAVote, IsCurrent}
+use Rattle.suite_collect.proofs.Vocabulary.{CurrentIsAQuorum, WidenedIsAWriteQuorum, NobodyIsAskedTwice}
 
 -- ---- the newest prefix
 

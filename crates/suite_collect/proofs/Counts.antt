@@ -1,14 +1,6 @@
 -- The votes that are had once something is told.
-use Rattle.std.proofs.Common.{◌≡◌, ℕ, ◌+◌, ◌*◌, ◌<◌, ◌≤◌, suc, Bool, true, false, cond, List, [], ◌∷◌, length, refl, sym, ap, subst, ◌∙◌, arith}
-use Rattle.std.specs.Prelude.{◌==◌, ◌&&◌, ◌||◌, All}
-use Rattle.std.proofs.lemmas.Bool.Decides.{nat_tests}
-use Rattle.std.proofs.lemmas.Bool.{eq-eqb, eqb-true}
-use Rattle.vote_core.specs.Quorums.{Representative, Configuration, votes_in, votes_at}
-use Rattle.suite_prefix.specs.declared.lock_mode.LockMode.{LockMode}
-use Rattle.suite_prefix.specs.LockModes.{serves}
-use Rattle.suite_collect.specs.declared.told.Told.{Told}
-use Rattle.suite_collect.specs.Telling.{is_held, holds}
-use Rattle.suite_collect.specs.Collecting.{Collector, all_told, counted, wanted, got, tell}
+use Rattle.suite_collect.proofs.Vocabulary.{◌≡◌, ℕ, ◌+◌, ◌*◌, ◌<◌, ◌≤◌, suc, Bool, true, false, cond, List, [], ◌∷◌, length, refl, sym, ap, subst, ◌∙◌, arith, ◌==◌, ◌&&◌, ◌||◌, All, nat_tests, eq-eqb, eqb-true, Representative}
+use Rattle.suite_collect.proofs.Vocabulary.{Configuration, votes_in, votes_at, LockMode, serves, Told, is_held, holds, Collector, all_told, counted, wanted, got, tell}
 use Rattle.suite_collect.proofs.Dues.{wanted_still, all_told_then}
 
 -- what a server adds to the votes of a set that it is not in

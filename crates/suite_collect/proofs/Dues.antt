@@ -1,24 +1,11 @@
 -- What is due of a collector is what comes next, and what a reply leaves due.
-use Rattle.std.proofs.Common.{◌≡◌, ℕ, Bool, true, false, cond, ◌∷◌, ◌++◌, List, Option, Some, None, refl, sym, ap, subst, ◌∙◌}
-use Rattle.std.specs.Prelude.{nat_le, ◌==◌, find, option_map, is_some, unwrap_or, IfSome}
-use Rattle.vote_core.specs.Quorums.{Representative, Configuration}
-use Rattle.suite_prefix.specs.declared.copies.Prefix.{Prefix}
-use Rattle.suite_prefix.specs.declared.lock_mode.LockMode.{LockMode}
-use Rattle.suite_prefix.specs.declared.lock_mode.LockMode.TheVariants.{Exclusive}
-use Rattle.rep_core.specs.declared.reply.Reply.{Reply}
-use Rattle.suite_collect.specs.declared.told.Said.{Said}
-use Rattle.suite_collect.specs.declared.told.Told.{Told}
-use Rattle.suite_collect.specs.declared.collect.Collect.TheInside.{Inside}
+use Rattle.suite_collect.proofs.Vocabulary.{◌≡◌, ℕ, Bool, true, false, cond, ◌∷◌, ◌++◌, List, Option, Some, None, refl, sym, ap, subst, ◌∙◌, nat_le, ◌==◌, find, option_map, is_some, unwrap_or, IfSome, Representative, Configuration}
+use Rattle.suite_collect.proofs.Vocabulary.{Prefix, LockMode, Exclusive, Reply, Said, Told, Inside, ReadPoint, IsAdded, Due, Standing, due_left, tally_among, tally_by, tally_in, IsKnown, newer, newest, holds, has_refused, first_busy}
+use Rattle.suite_collect.proofs.Vocabulary.{shown, Widening, Collector, all_told, counted, wanted, needed, got, is_member, is_left, members_of, version, source, asked_of, ask_or_short, said_to, tell, told_by, Current, Ask, Short, next}
+use Rattle.suite_collect.proofs.Vocabulary.{widening_of, collecting_of, tally_of, due_of, IsSummed, has_quorum, read_point}
 use Rattle.suite_collect.specs.declared.widening.Widening.{Widening as Wide}
 use Rattle.suite_collect.specs.declared.due.Standing.{Standing as Coded}
-use Rattle.suite_collect.specs.declared.read_point.ReadPoint.{ReadPoint}
-use Rattle.suite_collect.specs.code.Adding.{IsAdded}
 use Rattle.suite_collect.specs.code.Dues as due
-use Rattle.suite_collect.specs.code.Dues.{Due, Standing, due_left, tally_among, tally_by, tally_in, IsKnown}
-use Rattle.suite_collect.specs.Telling.{newer, newest, holds, has_refused, first_busy, shown}
-use Rattle.suite_collect.specs.Collecting.{Widening, Collector, all_told, counted, wanted, needed, got, is_member, is_left, members_of, version, source, asked_of, ask_or_short, said_to, tell, told_by, Current, Ask, Short, next}
-use Rattle.suite_collect.specs.code.CollectFields.{widening_of, collecting_of, tally_of, due_of, IsSummed}
-use Rattle.suite_collect.specs.Answering.{has_quorum, read_point}
 use Rattle.suite_collect.proofs.Collected.{asked_as_wanted}
 
 module _ (c : Collector) where

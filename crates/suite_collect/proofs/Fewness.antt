@@ -1,17 +1,7 @@
 -- How often a collector asks.
-use Rattle.std.proofs.Common.{◌≡◌, ℕ, ◌+◌, ◌*◌, ◌≤◌, Bool, true, false, cond, List, [], ◌∷◌, ◌++◌, length, Option, Some, None, refl, sym, ap, subst, ◌∙◌, arith}
-use Rattle.std.specs.Prelude.{◌&&◌, ◌||◌, ◌==◌, option_map}
-use Rattle.std.specs.List.{list_all}
-use Rattle.std.proofs.lemmas.Bool.Decides.{nat_tests}
-use Rattle.std.proofs.lemmas.Bool.{false≢true, eqb-true, and_parts}
-use Rattle.suite_prefix.specs.LockModes.{is_exclusive}
-use Rattle.rep_core.specs.declared.reply.Reply.{Reply}
-use Rattle.suite_collect.specs.declared.told.Said.{Said}
-use Rattle.suite_collect.specs.declared.told.Said.TheVariants.{Down}
-use Rattle.suite_collect.specs.declared.told.Told.{Told}
-use Rattle.suite_collect.specs.Telling.{has_told}
-use Rattle.suite_collect.specs.Collecting.{Widening, Collector, told_since, all_told, Asked, Poll, Upgrade, Next, Current, Ask, Short, next, collect, tell, tell_at, mode_asked, said_to, told_by}
-use Rattle.suite_collect.specs.Laws.{among, Step, Raise, Widen, Take, told_or, after_step, after_all, AsksAreFew}
+use Rattle.suite_collect.proofs.Vocabulary.{◌≡◌, ℕ, ◌+◌, ◌*◌, ◌≤◌, Bool, true, false, cond, List, [], ◌∷◌, ◌++◌, length, Option, Some, None, refl, sym, ap, subst, ◌∙◌, arith, ◌&&◌, ◌||◌, ◌==◌, option_map, list_all, nat_tests}
+use Rattle.suite_collect.proofs.Vocabulary.{false≢true, eqb-true, and_parts, is_exclusive, Reply, Said, Down, Told, has_told, Widening, Collector, told_since, all_told, Asked, Poll, Upgrade, Next, Current, Ask, Short, next, collect}
+use Rattle.suite_collect.proofs.Vocabulary.{tell, tell_at, mode_asked, said_to, told_by, among, Step, Raise, Widen, Take, told_or, after_step, after_all, AsksAreFew}
 use Rattle.suite_collect.proofs.Collected.{nobody_is_asked_twice}
 
 -- how often a server was asked

@@ -1,3 +1,4 @@
+mod Vocabulary
 mod Walks
 mod Unseen
 pub mod Collected

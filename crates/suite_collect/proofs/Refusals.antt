@@ -1,20 +1,8 @@
 -- Who is down or busy gives no quorum.
-use Rattle.std.proofs.Common.{◌≡◌, Bool, true, false, cond, ◌∷◌, ◌++◌, List, Option, Some, None, refl, sym, ap, ◌∙◌}
-use Rattle.std.specs.Prelude.{nat_le, ◌&&◌, ◌||◌, ◌==◌, find}
-use Rattle.std.proofs.lemmas.Option.{same_Some}
-use Rattle.vote_core.specs.Quorums.{votes_in}
-use Rattle.suite_prefix.specs.declared.copies.Prefix.{Prefix}
-use Rattle.suite_prefix.specs.declared.lock_mode.LockMode.{LockMode}
-use Rattle.suite_prefix.specs.declared.lock_mode.LockMode.TheVariants.{Exclusive}
-use Rattle.suite_prefix.specs.LockModes.{serves}
-use Rattle.rep_core.specs.declared.reply.Reply.{Reply}
+use Rattle.suite_collect.proofs.Vocabulary.{◌≡◌, Bool, true, false, cond, ◌∷◌, ◌++◌, List, Option, Some, None, refl, sym, ap, ◌∙◌, nat_le, ◌&&◌, ◌||◌, ◌==◌, find, same_Some, votes_in, Prefix, LockMode, Exclusive, serves, Reply, Said}
+use Rattle.suite_collect.proofs.Vocabulary.{Held, Busy, Down, Told, is_held, newer, newest, holds, Widening, Collector, Poll, Upgrade, mode_asked, counted, needed, needed_of, got, is_member, is_left, members_of, version, ask_or_short}
+use Rattle.suite_collect.proofs.Vocabulary.{tell, told_by, Next, Current, Ask, Short, next, has_quorum, shows_lock}
 use Rattle.rep_core.specs.declared.reply.Reply.TheVariants as reply
-use Rattle.suite_collect.specs.declared.told.Said.{Said}
-use Rattle.suite_collect.specs.declared.told.Said.TheVariants.{Held, Busy, Down}
-use Rattle.suite_collect.specs.declared.told.Told.{Told}
-use Rattle.suite_collect.specs.Telling.{is_held, newer, newest, holds}
-use Rattle.suite_collect.specs.Collecting.{Widening, Collector, Poll, Upgrade, mode_asked, counted, needed, needed_of, got, is_member, is_left, members_of, version, ask_or_short, tell, told_by, Next, Current, Ask, Short, next}
-use Rattle.suite_collect.specs.Answering.{has_quorum, shows_lock}
 use Rattle.suite_collect.proofs.Dues.{quorum_reached}
 
 -- it is told something only where it has too few votes

@@ -1,16 +1,8 @@
 -- What a Short means.
-use Rattle.std.proofs.Common.{◌≡◌, ℕ, ◌<◌, Bool, true, false, cond, ◌⊎◌, inl, inr, List, [], ◌∷◌, Option, Some, None, refl, sym, ap, ◌∙◌, arith}
-use Rattle.std.specs.Prelude.{nat_lt, nat_le, not, ◌&&◌, ◌||◌, ◌==◌, find}
-use Rattle.std.proofs.lemmas.Bool.Decides.{nat_tests}
-use Rattle.vote_core.specs.Quorums.{Representative}
-use Rattle.suite_collect.specs.declared.told.Said.{Said}
-use Rattle.suite_collect.specs.declared.told.Said.TheVariants.{Held, Busy, Down}
-use Rattle.suite_collect.specs.declared.told.Told.{Told}
-use Rattle.suite_collect.specs.Telling.{is_held, is_down, is_busy_with, has_told, has_refused, busy_in, first_busy}
-use Rattle.suite_collect.specs.Collecting.{Collector, all_told, counted, needed, got, is_member, is_left, version, members_of, ask_or_short, Current, Short}
+use Rattle.suite_collect.proofs.Vocabulary.{◌≡◌, ℕ, ◌<◌, Bool, true, false, cond, ◌⊎◌, inl, inr, List, [], ◌∷◌, Option, Some, None, refl, sym, ap, ◌∙◌, arith, nat_lt, nat_le, not, ◌&&◌, ◌||◌, ◌==◌, find, nat_tests, Representative, Said}
+use Rattle.suite_collect.proofs.Vocabulary.{Held, Busy, Down, Told, is_held, is_down, is_busy_with, has_told, has_refused, busy_in, first_busy, Collector, all_told, counted, needed, got, is_member, is_left, version, members_of}
+use Rattle.suite_collect.proofs.Vocabulary.{ask_or_short, Current, Short, ShortHasNoneLeft, has_from, find_none}
 use Rattle.suite_collect.specs.Telling as telling
-use Rattle.suite_collect.specs.Laws.{ShortHasNoneLeft}
-use Rattle.rep_core.proofs.Members.{has_from, find_none}
 
 -- ---- who was found busy
 

@@ -1,17 +1,7 @@
 -- Where a Current is had, some member showed the version of the content.
-use Rattle.std.proofs.Common.{◌≡◌, ℕ, ◌+◌, ◌<◌, ◌≤◌, Bool, true, false, cond, inl, inr, List, [], ◌∷◌, ◌++◌, Some, IsSome, refl, sym, ap, subst, ◌∙◌, rules, arith}
-use Rattle.std.specs.Prelude.{nat_lt, ◌&&◌, ◌||◌, ◌==◌, find, filter, map}
-use Rattle.std.specs.List.{list_any}
-use Rattle.std.proofs.lemmas.Bool.Decides.{nat_tests}
-use Rattle.std.proofs.lemmas.Bool.{cases_lt, eq-eqb}
-use Rattle.vote_core.specs.Quorums.{Representative, Configuration, votes_in}
-use Rattle.vote_core.specs.Validity.{IsValid}
-use Rattle.suite_prefix.specs.declared.lock_mode.LockMode.{LockMode}
-use Rattle.suite_prefix.specs.declared.lock_mode.LockMode.TheVariants.{Shared, Exclusive}
-use Rattle.suite_collect.specs.declared.told.Told.{Told}
-use Rattle.suite_collect.specs.Telling.{newest, holds, shown, greatest}
-use Rattle.suite_collect.specs.Collecting.{Collector, told_since, all_told, votes_or, counted, mode_or, wanted, needed_of, needed, is_member, first_members, source, next}
-use Rattle.suite_collect.specs.Laws.{HasSource}
+use Rattle.suite_collect.proofs.Vocabulary.{◌≡◌, ℕ, ◌+◌, ◌<◌, ◌≤◌, Bool, true, false, cond, inl, inr, List, [], ◌∷◌, ◌++◌, Some, IsSome, refl, sym, ap, subst, ◌∙◌, rules, arith, nat_lt, ◌&&◌, ◌||◌, ◌==◌, find, filter, map, list_any}
+use Rattle.suite_collect.proofs.Vocabulary.{nat_tests, cases_lt, eq-eqb, Representative, Configuration, votes_in, IsValid, LockMode, Shared, Exclusive, Told, newest, holds, shown, greatest, Collector, told_since, all_told, votes_or}
+use Rattle.suite_collect.proofs.Vocabulary.{counted, mode_or, wanted, needed_of, needed, is_member, first_members, source, next, HasSource}
 use Rattle.suite_collect.proofs.Collected.{gives_of}
 
 -- what is found by its test

@@ -1,5 +1,5 @@
 -- A struct of one field without bytes, made. Assumes `Logic`.
-use Rattle.std.proofs.Common.{List, [], ◌∷◌, refl}
+use Rattle.suite_collect.proofs.Vocabulary.{List, [], ◌∷◌, refl}
 use seplogic.Ra.Ura.{Ura}
 use mir.Val.{Val, vstruct, vcons, vnil}
 use types.Logic.{Logic}

@@ -2,7 +2,8 @@
 //!
 //! Words stand between spaces and tabs, and operations between words that are a semicolon. An empty line, and one
 //! that begins with `#`, says nothing. A command says with which words its own lines begin, and what they say
-//! (`Language`).
+//! (`Language`). What reads a script line by line by itself has `misplaced` and `root_of` for a header, and
+//! `read_name` and `judge_name` for the lines below it.
 //!
 //! **Promises.** `ScriptReader` gives the lines one by one, each with the names that are known there, or the first
 //! fault (`specs/Scripts.antt`). `play_lines` plays them as they are read, on what the command plays them on
@@ -16,11 +17,11 @@
 //! fault is the one of the reader is a law of operations (`misfits_have_the_fault_of_operations`), and tried of the
 //! other words.
 //!
-//! Votes and lists are explained in the `--help` of each command and in README.md, "Scripts"; `docs/FAULTS.md` has the
-//! faults. A line of no such form, or with an agent, server or site that is not there, is
-//! S1. A line of a header that is out of its place is S2. A server has 0 to 255 votes, and a read or a write
-//! collects 0 to 65535, else it is S1. Votes that are not valid are V1 to V7, in `vote_core`'s order. `step A N`
-//! goes up to 1,000,000. `setacl` sets both lists.
+//! Votes and lists are explained in the `--help` of each command and in docs/SCRIPTS.md, "Scripts"; `docs/FAULTS.md`
+//! has the faults. A line of no such form, or with an agent, server or site that is not there, is S1. A line of a
+//! header that is out of its place is S2. A server has 0 to 255 votes, and a read or a write collects 0 to 65535, else
+//! it is S1. Votes that are not valid are V1 to V7, in `vote_core`'s order. `step A N` goes up to 1,000,000. `setacl`
+//! sets both lists.
 //!
 //! **The caller owes** a text below 2^62 bytes to `ScriptReader::new`, to `look_ahead` that the header was read, and
 //! to `play_lines` fewer than 2^60 lines.
@@ -59,12 +60,13 @@ pub use code::{fault_text, push_line_code};
 pub use fault::{LineError, LineFault, ScriptError, ScriptFault};
 pub use form::{Ending, Form, Forms, Place};
 pub use gathered::{write_gathered, write_if_full};
-pub use header::read_root;
+pub use header::{read_root, root_of};
 pub use language::Language;
 pub use laws::misfits_have_the_fault_of_operations;
 pub use line::Line;
 pub use lines::{PLAY_LINES, SERVE_LINES, TABLE_LINES};
 pub use misfit::{Expected, Misfit};
+pub use names::{judge_name, misplaced, read_name};
 pub use operation::read_operations;
 pub use outcome::{push_answered, push_denial, push_refused};
 pub use play_error::PlayError;

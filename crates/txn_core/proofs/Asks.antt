@@ -1,13 +1,7 @@
 -- What a transaction asks while it gathers.
-use Rattle.std.proofs.Common.{◌≡◌, ℕ, Bool, Option, Some, None, sym, ap, ◌∙◌}
-use Rattle.std.proofs.lemmas.Option.{same_Some}
-use Rattle.suite_prefix.specs.declared.lock_mode.LockMode.{LockMode}
-use Rattle.rep_core.specs.declared.request.Request.{Request}
+use Rattle.txn_core.proofs.Vocabulary.{◌≡◌, ℕ, Bool, Option, Some, None, sym, ap, ◌∙◌, same_Some, LockMode, Request, Poll, Upgrade, Next, Ask, Current, Short, next, ReadPoint, GatheredSuite, Task, asked_by, asked_for, fetched_at}
+use Rattle.txn_core.proofs.Vocabulary.{fetched_for}
 use Rattle.rep_core.specs.declared.request.Request.TheVariants as request
-use Rattle.suite_collect.specs.Collecting.{Poll, Upgrade, Next, Ask, Current, Short, next}
-use Rattle.txn_core.specs.Suites.{ReadPoint, GatheredSuite}
-use Rattle.txn_core.specs.Doing.{Task}
-use Rattle.txn_core.specs.Transactions.{asked_by, asked_for, fetched_at, fetched_for}
 
 pub asks_same : (a b : ℕ) (x y : Request) → ◌≡◌ {A = Option (ℕ × Request)} (Some (a, x)) (Some (b, y)) → x ≡ y
 asks_same a b x y is = ap (λ (pair : ℕ × Request). pair.1) (same_Some (a, x) (b, y) is)

@@ -1,22 +1,9 @@
 -- How many steps a transaction takes.
-use Rattle.std.proofs.Common.{◌≡◌, ℕ, ◌+◌, ◌≤◌, Bool, true, false, cond, List, [], ◌∷◌, ◌++◌, Option, Some, None, refl, sym, ap, subst, ◌∙◌, arith}
-use Rattle.std.specs.Prelude.{◌==◌, ◌&&◌, ◌||◌, ◌*◌, length}
-use Rattle.std.specs.List.{list_all}
-use Rattle.std.proofs.Math.Nat.{suc-mul}
-use Rattle.std.proofs.lemmas.Bool.{eqb-true, and_parts}
-use Rattle.std.proofs.lemmas.Bool.Decides.{nat_tests}
-use Rattle.acl_core.specs.Identity.{Identity}
-use Rattle.file_ops.specs.declared.operation.Op.{Op}
-use Rattle.rep_core.specs.declared.request.Request.{Request}
+use Rattle.txn_core.proofs.Vocabulary.{◌≡◌, ℕ, ◌+◌, ◌≤◌, Bool, true, false, cond, List, [], ◌∷◌, ◌++◌, Option, Some, None, refl, sym, ap, subst, ◌∙◌, arith, ◌==◌, ◌&&◌, ◌||◌, ◌*◌, length, list_all, suc-mul, eqb-true, and_parts}
+use Rattle.txn_core.proofs.Vocabulary.{nat_tests, Identity, Op, Request, Suites, suite_of, parts_at, Response, Transaction, Fixed, Task, home_of, Phase, Gathering, Fetching, Widening, Preparing, Deciding, Finishing, Doing, Running}
+use Rattle.txn_core.proofs.Vocabulary.{RunningSweep, request_in, changes_of, decision_of, Agent, Event, Take, Forget, next_in, next_of, take, begin, forget, is_idle, Exchange, exchange_of, exchanges, of_job, locks, is_decide, count_of}
+use Rattle.txn_core.proofs.Vocabulary.{among, asks_only, is_late, LateStepsAreFew, names_of, names_only, EndsInTime}
 use Rattle.rep_core.specs.declared.request.Request.TheVariants as request
-use Rattle.txn_core.specs.Suites.{Suites, suite_of}
-use Rattle.txn_core.specs.Writing.{parts_at}
-use Rattle.txn_core.specs.declared.response.Response.{Response}
-use Rattle.txn_core.specs.declared.job.Job.TheVariants.{Transaction}
-use Rattle.txn_core.specs.Doing.{Fixed, Task, home_of, Phase, Gathering, Fetching, Widening, Preparing, Deciding, Finishing, Doing, Running, RunningSweep}
-use Rattle.txn_core.specs.Transactions.{request_in, changes_of, decision_of}
-use Rattle.txn_core.specs.Agents.{Agent, Event, Take, Forget, next_in, next_of, take, begin, forget, is_idle}
-use Rattle.txn_core.specs.Laws.{Exchange, exchange_of, exchanges, of_job, locks, is_decide, count_of, among, asks_only, is_late, LateStepsAreFew, names_of, names_only, EndsInTime}
 use Rattle.txn_core.proofs.Asks.{asks_same, asked_as, fetched_as}
 use Rattle.txn_core.proofs.Once.{decide_is_sent_once}
 use Rattle.txn_core.proofs.Polls.{asked_for_locks, locks_are_few}

@@ -1,21 +1,10 @@
 -- What a step leaves in the cache.
-use Rattle.std.proofs.Common.{◌≡◌, ℕ, Bool, true, false, cond, ◌⊎◌, inl, inr, Some, refl, ap, subst}
-use Rattle.std.specs.Prelude.{◌==◌}
-use Rattle.std.proofs.lemmas.Option.{same_Some}
-use Rattle.suite_content.specs.declared.content.Content.{Content}
-use Rattle.rep_core.specs.declared.request.Request.{Request}
-use Rattle.rep_core.specs.declared.reply.Reply.{Reply}
+use Rattle.txn_core.proofs.Vocabulary.{◌≡◌, ℕ, Bool, true, false, cond, ◌⊎◌, inl, inr, Some, refl, ap, subst, ◌==◌, same_Some, Content, Request, Reply, Entry, Cache, searched, put_has, searched_has, ReadPoint, GatheredSuite, Suites}
+use Rattle.txn_core.proofs.Vocabulary.{suite_of, Response, Replied, Fixed, Task, Phase, Fetching, Executes, Point, point, EndsIn, Move, opens, MovesTo, entry_of, Hears, gets, Step, after_search, Gathered, execute, after_response}
+use Rattle.txn_core.proofs.Vocabulary.{given_in}
 use Rattle.rep_core.specs.declared.reply.Reply.TheVariants as reply
-use Rattle.weak_cache.specs.Entries.{Entry, Cache}
-use Rattle.weak_cache.specs.Cache.{searched}
-use Rattle.weak_cache.proofs.Origins.{Has, put_has, searched_has}
-use Rattle.txn_core.specs.Suites.{ReadPoint, GatheredSuite, Suites, suite_of}
-use Rattle.txn_core.specs.declared.response.Response.{Response}
-use Rattle.txn_core.specs.declared.response.Response.TheVariants.{Replied}
-use Rattle.txn_core.specs.Doing.{Fixed, Task, Phase, Fetching}
-use Rattle.txn_core.specs.Moves.{Executes, Point, point, EndsIn, Move, opens, MovesTo, entry_of, Hears, gets}
+use Rattle.weak_cache.proofs.Origins.{Has}
 use Rattle.txn_core.proofs.Moving.{kept, left_by, execute_moves, response_moves}
-use Rattle.txn_core.specs.Transactions.{Step, after_search, Gathered, execute, after_response, given_in}
 
 -- ---- what follows a word
 

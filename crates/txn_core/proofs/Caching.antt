@@ -1,19 +1,8 @@
 -- What an agent's cache keeps, and from where.
-use Rattle.std.proofs.Common.{◌≡◌, ℕ, true, false, Bool, cond, ◌⊎◌, inl, inr, List, [], Option, Some, None, refl, sym, ap, subst, ◌∙◌}
-use Rattle.std.specs.Prelude.{◌+◌, ◌&&◌, nat_lt}
-use Rattle.std.proofs.lemmas.Option.{same_Some}
-use Rattle.rep_core.specs.declared.request.Request.{Request}
-use Rattle.weak_cache.specs.Entries.{Entry}
-use Rattle.weak_cache.proofs.Origins.{Has, has_from, has_to, entries_come_from_puts}
-use Rattle.txn_core.specs.Suites.{ReadPoint}
-use Rattle.txn_core.specs.declared.response.Response.{Response}
-use Rattle.txn_core.specs.declared.job.Job.{Job}
-use Rattle.txn_core.specs.declared.job.Job.TheVariants.{Transaction, Sweep}
-use Rattle.txn_core.specs.Doing.{Fixed, Task, Fetching, TransactionRun, Doing, Running, RunningSweep}
-use Rattle.txn_core.specs.Transactions.{request_in, fetched_for, fetched_at}
-use Rattle.txn_core.specs.Agents.{Agent, Event, Take, next_in, next_of, take_in, take, begin, started, is_idle, has_sense, max_jobs, after_all}
-use Rattle.txn_core.specs.Laws.{of_job, task_of}
-use Rattle.txn_core.specs.Caching.{FirstGave, IsFetched, CachesWhatWasFetched}
+use Rattle.txn_core.proofs.Vocabulary.{◌≡◌, ℕ, true, false, Bool, cond, ◌⊎◌, inl, inr, List, [], Option, Some, None, refl, sym, ap, subst, ◌∙◌, ◌+◌, ◌&&◌, nat_lt, same_Some, Request, Entry, has_to, entries_come_from_puts, ReadPoint}
+use Rattle.txn_core.proofs.Vocabulary.{Response, Job, Transaction, Sweep, Fixed, Task, Fetching, TransactionRun, Doing, Running, RunningSweep, request_in, fetched_for, fetched_at, Agent, Event, Take, next_in, next_of, take_in, take}
+use Rattle.txn_core.proofs.Vocabulary.{begin, started, is_idle, has_sense, max_jobs, after_all, of_job, task_of, FirstGave, IsFetched, CachesWhatWasFetched}
+use Rattle.weak_cache.proofs.Origins.{Has, has_from}
 use Rattle.txn_core.proofs.Gathers.{Kept}
 use Rattle.txn_core.proofs.Causes.{started_from, Stands}
 use Rattle.txn_core.proofs.Cached.{PutBy, execute_has, response_has}

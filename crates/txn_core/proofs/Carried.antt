@@ -1,17 +1,6 @@
 -- How suites stand once a plan was carried out.
-use Rattle.std.proofs.Common.{◌≡◌, ℕ, Some, None, sym, ap, ◌∙◌}
-use Rattle.std.specs.Prelude.{is_some}
-use Rattle.std.specs.Ordering.{nat_cmp}
-use Rattle.std.proofs.lemmas.Cmp.{nat_cmp_total}
-use Rattle.sorted_map.specs.SortedMap.{IsOrdered, replace}
-use Rattle.sorted_map.specs.Edits.{insert_present, replace_same}
-use Rattle.suite_content.specs.declared.content.Content.{Content}
-use Rattle.suite_collect.specs.Collecting.{raise}
-use Rattle.txn_core.specs.Suites.{ReadPoint, GatheredSuite, Suites, suite_of, with_suite}
-use Rattle.txn_core.specs.Doing.{Task}
-use Rattle.txn_core.specs.Transactions.{Gathered}
-use Rattle.txn_core.specs.code.Plans.{opened_by, raised_at}
-use Rattle.txn_core.specs.code.Seeing.{changed_at}
+use Rattle.txn_core.proofs.Vocabulary.{◌≡◌, ℕ, Some, None, sym, ap, ◌∙◌, is_some, nat_cmp, nat_cmp_total, IsOrdered, replace, insert_present, replace_same, Content, raise, ReadPoint, GatheredSuite, Suites, suite_of, with_suite, Task}
+use Rattle.txn_core.proofs.Vocabulary.{Gathered, opened_by, raised_at, changed_at}
 use Rattle.txn_core.proofs.Rounds.{opens}
 
 -- another value of a suite that is there

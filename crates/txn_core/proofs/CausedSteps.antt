@@ -1,45 +1,19 @@
 -- Each step leaves what is caused: a phase that stands on what was told, or an end with its cause.
-use Rattle.std.proofs.Common.{◌≡◌, ℕ, true, false, cond, List, [], ◌∷◌, ◌++◌, Option, Some, None, Ok, Err, refl, sym, inl, inr, ap, subst, ◌∙◌}
-use Rattle.std.specs.Prelude.{◌==◌, ◌&&◌, not, length}
-use Rattle.std.proofs.lemmas.Option.{same_Some}
-use Rattle.suite_content.specs.declared.content.Content.{Content}
-use Rattle.rep_core.specs.declared.request.Decision.{Decision}
-use Rattle.rep_core.specs.declared.request.Request.{Request}
+use Rattle.txn_core.proofs.Vocabulary.{◌≡◌, ℕ, true, false, cond, List, [], ◌∷◌, ◌++◌, Option, Some, None, Ok, Err, refl, sym, inl, inr, ap, subst, ◌∙◌, ◌==◌, ◌&&◌, not, length, same_Some, Content, Decision, Request, Reply, Verdict}
+use Rattle.txn_core.proofs.Vocabulary.{Lack, is_prepared, fits, Hold, Know, Told, Said, Prefix, LockMode, Shared, Exclusive, Has, Collector, all_told, raise, tell, mode_of, Asked, Next, Ask, Current, Short, next, Cache, put, ReadPoint}
+use Rattle.txn_core.proofs.Vocabulary.{GatheredSuite, Suites, suite_of, with_suite, settled, told_in, parts_at, Response, Cause, Ending, Replied, Lacked, Unavailable, Busy, Lost, Overruled, HomeDown, Full, Memory, Answered, Refused}
+use Rattle.txn_core.proofs.Vocabulary.{Swept, Undecided, Granted, home_of, Fixed, Task, Proposal, Phase, Gathering, Fetching, Widening, Preparing, Deciding, Finishing, Step, Gathered, tell_end, give_up, prepare, locked_at, short_cause}
+use Rattle.txn_core.proofs.Vocabulary.{gather_by, widen_by, widen_one, widened, widen_all, to_widen, opened, start_from, heard_on, raised_or_new, keep_content, heard_of, said_to, proceed, execute, collected, hear, fetched, prepared}
+use Rattle.txn_core.proofs.Vocabulary.{after_lack, after_response, asked_by, asked_for, fetched_at, fetched_for, request_in, changes_of, decision_of, given_in, verdict_in, ending_by, cause_of_abort, lack_cause, Exchange, locks}
+use Rattle.txn_core.proofs.Vocabulary.{is_decide, told_of, all_fit, says_aborted, says_down, is_finish, stops}
 use Rattle.rep_core.specs.declared.request.Request.TheVariants as request
-use Rattle.rep_core.specs.declared.reply.Reply.{Reply}
 use Rattle.rep_core.specs.declared.reply.Reply.TheVariants as reply
-use Rattle.rep_core.specs.declared.reply.Verdict.{Verdict}
 use Rattle.rep_core.specs.declared.reply.Verdict.TheVariants as verdict
-use Rattle.rep_core.specs.declared.stamped.Lack.{Lack}
 use Rattle.rep_core.specs.declared.stamped.Lack.TheVariants as lack
-use Rattle.rep_core.specs.Fits.{is_prepared, fits}
-use Rattle.file_exec.specs.declared.need.Need.TheVariants.{Hold, Know}
 use Rattle.file_exec.specs.declared.executor.Outcome.{Outcome as Executed}
 use Rattle.file_exec.specs.declared.executor.Outcome.TheVariants as exec
-use Rattle.suite_collect.specs.declared.told.Told.{Told}
-use Rattle.suite_collect.specs.declared.told.Said.{Said}
-use Rattle.suite_prefix.specs.declared.copies.Prefix.{Prefix}
-use Rattle.suite_prefix.specs.declared.lock_mode.LockMode.{LockMode}
-use Rattle.suite_prefix.specs.declared.lock_mode.LockMode.TheVariants.{Shared, Exclusive}
-use Rattle.rep_core.proofs.Members.{Has}
 use Rattle.suite_collect.specs.Collecting as collecting
-use Rattle.suite_collect.specs.Collecting.{Collector, all_told, raise, tell, mode_of, Asked, Next, Ask, Current, Short, next}
-use Rattle.weak_cache.specs.Entries.{Cache}
-use Rattle.weak_cache.specs.Cache.{put}
-use Rattle.txn_core.specs.Suites.{ReadPoint, GatheredSuite, Suites, suite_of, with_suite, settled, told_in}
-use Rattle.txn_core.specs.Writing.{parts_at}
-use Rattle.txn_core.specs.declared.response.Response.{Response}
-use Rattle.txn_core.specs.declared.ending.Cause.{Cause}
-use Rattle.txn_core.specs.declared.ending.Ending.{Ending}
-use Rattle.txn_core.specs.declared.response.Response.TheVariants.{Replied, Lacked}
-use Rattle.txn_core.specs.declared.ending.Cause.TheVariants.{Unavailable, Busy, Lost, Overruled, HomeDown, Full, Memory}
-use Rattle.txn_core.specs.declared.ending.Ending.TheVariants.{Answered, Refused, Swept, Undecided}
-use Rattle.txn_core.specs.Doing.{Granted, home_of, Fixed, Task, Proposal, Phase, Gathering, Fetching, Widening, Preparing, Deciding, Finishing}
-use Rattle.txn_core.specs.Transactions.{Step, Gathered, tell_end, give_up, prepare, locked_at, short_cause, gather_by, widen_by, widen_one, widened, widen_all, to_widen, opened, start_from}
-use Rattle.txn_core.specs.Transactions.{heard_on, raised_or_new, keep_content, heard_of, said_to, proceed, execute, collected, hear, fetched, prepared, after_lack, after_response, asked_by}
-use Rattle.txn_core.specs.Transactions.{asked_for, fetched_at, fetched_for, request_in, changes_of, decision_of, given_in, verdict_in, ending_by, cause_of_abort, lack_cause}
-use Rattle.txn_core.specs.Laws.{Exchange, locks, is_decide, told_of, all_fit}
-use Rattle.txn_core.specs.Undecided.{loses, says_aborted, says_down, is_finish, stops}
+use Rattle.txn_core.specs.Undecided.{loses}
 use Rattle.txn_core.proofs.Asks.{asks_same, asked_as, fetched_as}
 use Rattle.txn_core.proofs.Fetches.{exclusive_needed}
 use Rattle.txn_core.proofs.Gathers.{self, at_with, Each, EachBut, each_but, each_with, but_with, tell_start, Base, Knows, AllGathered, Wants, Sets, Grants, wants_more, sets_more, grants_more}

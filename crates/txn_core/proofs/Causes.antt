@@ -1,34 +1,14 @@
 -- What causes an undecided end, and what a phase stands on.
-use Rattle.std.proofs.Common.{◌≡◌, ℕ, Bool, true, false, cond, List, [], ◌∷◌, ◌++◌, Option, Some, None, refl, sym, ◌⊎◌, ap, subst, ◌∙◌}
-use Rattle.std.specs.Prelude.{◌==◌, ◌&&◌}
-use Rattle.std.proofs.lemmas.Bool.{eqb-true}
-use Rattle.std.proofs.lemmas.List.Elements.{Contains-append_left, Contains-push}
-use Rattle.std.proofs.lemmas.List.Folds.{list_all-append}
-use Rattle.rep_core.specs.declared.request.Part.{Part}
-use Rattle.rep_core.specs.declared.request.Request.{Request}
+use Rattle.txn_core.proofs.Vocabulary.{◌≡◌, ℕ, Bool, true, false, cond, List, [], ◌∷◌, ◌++◌, Option, Some, None, refl, sym, ◌⊎◌, ap, subst, ◌∙◌, ◌==◌, ◌&&◌, eqb-true, Contains-append_left, Contains-push, list_all-append, Part, Request}
+use Rattle.txn_core.proofs.Vocabulary.{Reply, is_prepared, fits, Told, Said, Prefix, Has, Collector, all_told, mode_of, request_for, Asked, Poll, Upgrade, Next, Ask, Current, Short, next, Cache, GatheredSuite, Suites, suite_of}
+use Rattle.txn_core.proofs.Vocabulary.{with_suite, told_in, Response, Cause, Ending, Replied, Unavailable, Busy, Lost, Overruled, HomeDown, Full, Memory, Answered, Refused, Swept, Undecided, Fixed, Task, Phase, Gathering, Fetching}
+use Rattle.txn_core.proofs.Vocabulary.{Widening, Preparing, Deciding, Finishing, TransactionRun, After, GoesOn, Ends, Step, to_widen, start_from, said_to, prepared, asked_by, given_in, Exchange, locks, is_decide, told_of, told_by}
+use Rattle.txn_core.proofs.Vocabulary.{more_told, fits_response, all_fit, Was, says_aborted, says_down, stops}
 use Rattle.rep_core.specs.declared.request.Request.TheVariants as request
-use Rattle.rep_core.specs.declared.reply.Reply.{Reply}
 use Rattle.rep_core.specs.declared.reply.Reply.TheVariants as reply
 use Rattle.rep_core.specs.declared.stamped.Lack.TheVariants as lack
-use Rattle.rep_core.specs.Fits.{is_prepared, fits}
-use Rattle.suite_collect.specs.declared.told.Told.{Told}
-use Rattle.suite_collect.specs.declared.told.Said.{Said}
-use Rattle.suite_prefix.specs.declared.copies.Prefix.{Prefix}
-use Rattle.rep_core.proofs.Members.{Has}
 use Rattle.suite_collect.specs.Collecting as collecting
-use Rattle.suite_collect.specs.Collecting.{Collector, all_told, mode_of, request_for, Asked, Poll, Upgrade, Next, Ask, Current, Short, next}
-use Rattle.weak_cache.specs.Entries.{Cache}
-use Rattle.txn_core.specs.Suites.{GatheredSuite, Suites, suite_of, with_suite, told_in}
-use Rattle.txn_core.specs.declared.response.Response.{Response}
-use Rattle.txn_core.specs.declared.ending.Cause.{Cause}
-use Rattle.txn_core.specs.declared.ending.Ending.{Ending}
-use Rattle.txn_core.specs.declared.response.Response.TheVariants.{Replied}
-use Rattle.txn_core.specs.declared.ending.Cause.TheVariants.{Unavailable, Busy, Lost, Overruled, HomeDown, Full, Memory}
-use Rattle.txn_core.specs.declared.ending.Ending.TheVariants.{Answered, Refused, Swept, Undecided}
-use Rattle.txn_core.specs.Doing.{Fixed, Task, Phase, Gathering, Fetching, Widening, Preparing, Deciding, Finishing, TransactionRun, After, GoesOn, Ends}
-use Rattle.txn_core.specs.Transactions.{Step, to_widen, start_from, said_to, prepared, asked_by, given_in}
-use Rattle.txn_core.specs.Laws.{Exchange, locks, is_decide, told_of, told_by, more_told, fits_response, all_fit}
-use Rattle.txn_core.specs.Undecided.{Was, loses, says_aborted, says_down, stops}
+use Rattle.txn_core.specs.Undecided.{loses}
 use Rattle.txn_core.proofs.Asks.{asks_same}
 use Rattle.txn_core.proofs.Gathers.{self, with_at, Each, EachBut, Base, Wants, Sets, Grants, Kept, Asking}
 use Rattle.txn_core.proofs.ToldLists.{Are, are_with}

@@ -1,34 +1,13 @@
 -- Which contents are to be had: without asking, or as a server gave them.
-use Rattle.std.proofs.Common.{◌≡◌, ℕ, zero, suc, Bool, true, false, cond, ◌⊎◌, inl, inr, List, [], ◌∷◌, ◌++◌, Option, Some, None, refl, sym, ap, subst, ◌∙◌}
-use Rattle.std.specs.Prelude.{◌==◌, Contains}
-use Rattle.std.proofs.lemmas.Bool.{eqb-true}
-use Rattle.std.proofs.lemmas.Option.{same_Some}
-use Rattle.std.proofs.lemmas.List.{append-nil, append_assoc}
-use Rattle.std.proofs.lemmas.List.Elements.{Contains-append_left, Contains-push}
-use Rattle.suite_content.specs.declared.content.Content.{Content}
-use Rattle.suite_content.specs.Contents.{empty_content}
-use Rattle.suite_prefix.specs.Copies.{held_by}
-use Rattle.rep_core.specs.declared.request.Request.{Request}
+use Rattle.txn_core.proofs.Vocabulary.{◌≡◌, ℕ, zero, suc, Bool, true, false, cond, ◌⊎◌, inl, inr, List, [], ◌∷◌, ◌++◌, Option, Some, None, refl, sym, ap, subst, ◌∙◌, ◌==◌, Contains, eqb-true, same_Some, append-nil, append_assoc}
+use Rattle.txn_core.proofs.Vocabulary.{Contains-append_left, Contains-push, Content, empty_content, held_by, Request, Reply, Hold, Know, Cache, content_at, searched, search_keeps_all, ReadPoint, GatheredSuite, suite_of, Response}
+use Rattle.txn_core.proofs.Vocabulary.{Replied, Lacked, Job, Fixed, Task, Executes, Point, point, Move, opens, MovesTo, Step, Gathered, opened, or_all, open_needed, open_suite, open_first, opened_with, free_content, after_search}
+use Rattle.txn_core.proofs.Vocabulary.{heard_on, execute, Agent, Event, begin, after_all, Exchange, of_job, IsContentOf}
 use Rattle.rep_core.specs.declared.request.Request.TheVariants as request
-use Rattle.rep_core.specs.declared.reply.Reply.{Reply}
 use Rattle.rep_core.specs.declared.reply.Reply.TheVariants as reply
-use Rattle.file_exec.specs.declared.need.Need.TheVariants.{Hold, Know}
 use Rattle.file_exec.specs.declared.executor.Outcome.{Outcome as Executed}
 use Rattle.file_exec.specs.declared.executor.Outcome.TheVariants as exec
-use Rattle.weak_cache.specs.Entries.{Cache}
-use Rattle.weak_cache.specs.Cache.{content_at, searched}
-use Rattle.weak_cache.proofs.Origins.{search_keeps_all}
-use Rattle.txn_core.specs.Suites.{ReadPoint, GatheredSuite, suite_of}
-use Rattle.txn_core.specs.declared.response.Response.{Response}
-use Rattle.txn_core.specs.declared.response.Response.TheVariants.{Replied, Lacked}
-use Rattle.txn_core.specs.declared.job.Job.{Job}
-use Rattle.txn_core.specs.Doing.{Fixed, Task}
-use Rattle.txn_core.specs.Moves.{Executes, Point, point, Move, opens, MovesTo}
 use Rattle.txn_core.proofs.Moving.{kept, execute_moves}
-use Rattle.txn_core.specs.Transactions.{Step, Gathered, opened, or_all, open_needed, open_suite, open_first, opened_with, free_content, after_search, heard_on, execute}
-use Rattle.txn_core.specs.Agents.{Agent, Event, begin, after_all}
-use Rattle.txn_core.specs.Laws.{Exchange, of_job}
-use Rattle.txn_core.specs.Caching.{IsContentOf}
 use Rattle.txn_core.proofs.Gathers.{Each, each_but, each_with}
 use Rattle.txn_core.proofs.Cached.{ends_same}
 

@@ -1,26 +1,12 @@
 -- Which contents a transaction knows.
-use Rattle.std.proofs.Common.{◌≡◌, ℕ, ◌+◌, Bool, true, false, cond, List, [], ◌∷◌, ◌++◌, Option, Some, None, refl, sym, ap, subst, ◌∙◌}
-use Rattle.std.specs.Prelude.{◌&&◌, nat_lt}
-use Rattle.std.proofs.lemmas.Option.{same_Some}
-use Rattle.std.proofs.lemmas.List.{append-nil, append_assoc}
-use Rattle.suite_content.specs.declared.content.Content.{Content}
-use Rattle.suite_prefix.specs.declared.lock_mode.LockMode.{LockMode}
-use Rattle.rep_core.specs.declared.request.Request.{Request}
+use Rattle.txn_core.proofs.Vocabulary.{◌≡◌, ℕ, ◌+◌, Bool, true, false, cond, List, [], ◌∷◌, ◌++◌, Option, Some, None, refl, sym, ap, subst, ◌∙◌, ◌&&◌, nat_lt, same_Some, append-nil, append_assoc, Content, LockMode, Request, next, Cache}
+use Rattle.txn_core.proofs.Vocabulary.{ReadPoint, GatheredSuite, Suites, suite_of, with_suite, Response, Job, Transaction, Sweep, Fixed, Task, Phase, TransactionRun, SweepRun, Doing, Running, RunningSweep, After, GoesOn, Ends, Executes}
+use Rattle.txn_core.proofs.Vocabulary.{Point, point, Move, opens, gathers, lacks_lock, widens, widens_by, lacks_wide, MovesTo, now_told, Hears, asks_on, falls_short, settles, gets, Step, Gathered, raised_or_new, execute, fetched_at}
+use Rattle.txn_core.proofs.Vocabulary.{fetched_for, after_response, request_in, Agent, Event, Take, Forget, next_in, next_of, left, take_in, begin, started, is_idle, has_sense, max_jobs, after_all, exchange_of, of_job, task_of}
+use Rattle.txn_core.proofs.Vocabulary.{KnowsContents}
 use Rattle.rep_core.specs.declared.request.Request.TheVariants as request
-use Rattle.suite_collect.specs.Collecting.{next}
-use Rattle.weak_cache.specs.Entries.{Cache}
-use Rattle.txn_core.specs.Suites.{ReadPoint, GatheredSuite, Suites, suite_of, with_suite}
-use Rattle.txn_core.specs.declared.response.Response.{Response}
-use Rattle.txn_core.specs.declared.job.Job.{Job}
-use Rattle.txn_core.specs.declared.job.Job.TheVariants.{Transaction, Sweep}
-use Rattle.txn_core.specs.Doing.{Fixed, Task, Phase, TransactionRun, SweepRun, Doing, Running, RunningSweep, After, GoesOn, Ends}
-use Rattle.txn_core.specs.Moves.{Executes, Point, point, Move, opens, gathers, lacks_lock, widens, widens_by, lacks_wide, MovesTo, now_told, Hears, asks_on, falls_short, settles, gets}
 use Rattle.txn_core.proofs.Moving.{kept, left_by, execute_moves, response_moves}
-use Rattle.txn_core.specs.Transactions.{Step, Gathered, raised_or_new, execute, fetched_at, fetched_for, after_response, request_in}
 use Rattle.txn_core.specs.Sweeps as sweep
-use Rattle.txn_core.specs.Agents.{Agent, Event, Take, Forget, next_in, next_of, left, take_in, begin, started, is_idle, has_sense, max_jobs, after_all}
-use Rattle.txn_core.specs.Laws.{exchange_of, of_job, task_of}
-use Rattle.txn_core.specs.Caching.{KnowsContents}
 use Rattle.txn_core.proofs.Asks.{asks_same}
 use Rattle.txn_core.proofs.Gathers.{Each, each_but, each_with, Knows, knows_settled}
 use Rattle.txn_core.proofs.Cached.{given_is}

@@ -1,16 +1,8 @@
 -- The end of a transaction, as its code goes about it.
-use Rattle.std.proofs.Common.{◌≡◌, ℕ, List, [], ◌∷◌, Option, refl, sym, ap, ◌∙◌, subst}
-use Rattle.rep_core.specs.declared.reply.Verdict.{Verdict}
-use Rattle.rep_core.specs.declared.stamped.Lack.{Lack}
-use Rattle.weak_cache.specs.Entries.{Cache}
-use Rattle.txn_core.specs.declared.ending.Ending.{Ending}
+use Rattle.txn_core.proofs.Vocabulary.{◌≡◌, ℕ, List, [], ◌∷◌, Option, refl, sym, ap, ◌∙◌, subst, Verdict, Lack, Cache, Ending, Task, Proposal, Phase, Finishing, TransactionRun, Steps, phase_of, Suites, locked_at, tell_end, give_up}
+use Rattle.txn_core.proofs.Vocabulary.{finish, prepare, after_lack, lack_cause}
 use Rattle.txn_core.specs.declared.phase.Phase.{Phase as Coded}
 use Rattle.txn_core.specs.declared.phase.Phase.TheVariants as coded
-use Rattle.txn_core.specs.Doing.{Task, Proposal, Phase, Finishing, TransactionRun}
-use Rattle.txn_core.specs.code.Steps.{Steps}
-use Rattle.txn_core.specs.code.TransactionRunFields.{phase_of}
-use Rattle.txn_core.specs.Suites.{Suites}
-use Rattle.txn_core.specs.Transactions.{locked_at, tell_end, give_up, finish, prepare, after_lack, lack_cause}
 
 -- the servers that hold a lock, as the code finds them
 module _ (task : Task) (cache : Cache) (suites given : Suites) (servers : List ℕ) (after : TransactionRun) (found : servers ≡ locked_at given) (same : given ≡ suites) where

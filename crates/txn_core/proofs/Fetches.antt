@@ -1,80 +1,19 @@
 -- A transaction fetches no content twice.
-use Rattle.std.proofs.Common.{◌≡◌, ℕ, ◌+◌, ◌≤◌, Bool, true, false, cond, List, [], ◌∷◌, ◌++◌, Option, Some, None, Ok, Err, refl, sym, ap, subst, ◌∙◌, arith}
-use Rattle.std.specs.Prelude.{◌==◌, ◌&&◌, ◌*◌, nat_lt, is_some}
-use Rattle.std.specs.Cmp.{unsigned_tied}
-use Rattle.std.proofs.lemmas.Bool.{eqb-true}
-use Rattle.std.proofs.lemmas.Cmp.{nat_cmp_total}
-use Rattle.std.proofs.lemmas.Option.{same_Some}
-use Rattle.sorted_map.specs.Laws.{get-insert}
-use Rattle.suite_content.specs.declared.content.Content.{Content}
-use Rattle.file_ops.specs.declared.answer.Answer.{Answer}
-use Rattle.file_ops.specs.declared.refusal.Refusal.{Refusal}
-use Rattle.acl_core.specs.Identity.{Identity}
-use Rattle.file_ops.specs.declared.operation.Op.{Op}
-use Rattle.suite_prefix.specs.declared.lock_mode.LockMode.{LockMode}
-use Rattle.suite_prefix.specs.declared.lock_mode.LockMode.TheVariants.{Shared, Exclusive}
-use Rattle.suite_prefix.specs.LockModes.{serves}
-use Rattle.rep_core.specs.declared.request.Request.{Request}
+use Rattle.txn_core.proofs.Vocabulary.{◌≡◌, ℕ, ◌+◌, ◌≤◌, Bool, true, false, cond, List, [], ◌∷◌, ◌++◌, Option, Some, None, Ok, Err, refl, sym, ap, subst, ◌∙◌, arith, ◌==◌, ◌&&◌, ◌*◌, nat_lt, is_some, unsigned_tied, eqb-true}
+use Rattle.txn_core.proofs.Vocabulary.{nat_cmp_total, same_Some, get-insert, Content, Answer, Refusal, Identity, Op, LockMode, Shared, Exclusive, serves, Request, Verdict, Need, Hold, Know, Known, Heard, Needs, Done, answered}
+use Rattle.txn_core.proofs.Vocabulary.{needs_what_is_unmet, next, Cache, ReadPoint, GatheredSuite, Suites, suite_of, with_suite, known_of, Response, Cause, Ending, Undecided, Transaction, home_of, Fixed, Task, Proposal, Phase}
+use Rattle.txn_core.proofs.Vocabulary.{Gathering, Fetching, Widening, Preparing, Deciding, Finishing, TransactionRun, Doing, Running, RunningSweep, After, GoesOn, Ends, parts_at, Stage, Executes, Widens, Asks, Prepares, PreparesAt}
+use Rattle.txn_core.proofs.Vocabulary.{GivesUp, Tells, TellsAt, Point, point, EndsIn, Move, opens, gathers, lacks_lock, refuses, grants, passes, widens, widens_by, lacks_wide, prepares, MovesTo, Collects, gathering, widening, Hears}
+use Rattle.txn_core.proofs.Vocabulary.{asks_on, settles, gets, Step, Gathered, tell_end, give_up, prepare, locked_at, heard_on, raised_or_new, execute, after_response, asked_for, fetched_at, fetched_for, request_in, changes_of}
+use Rattle.txn_core.proofs.Vocabulary.{decision_of, Agent, Event, Take, Forget, next_in, next_of, take_in, take, begin, started, forget, is_idle, has_sense, max_jobs, Exchange, exchange_of, exchanges, of_job, count_of}
 use Rattle.rep_core.specs.declared.request.Request.TheVariants as request
-use Rattle.rep_core.specs.declared.reply.Verdict.{Verdict}
 use Rattle.rep_core.specs.declared.reply.Verdict.TheVariants as verdict
 use Rattle.file_exec.specs.declared.executor.Outcome.{Outcome as Executed}
 use Rattle.file_exec.specs.declared.executor.Outcome.TheVariants as exec
-use Rattle.file_exec.specs.declared.need.Need.{Need}
-use Rattle.file_exec.specs.declared.need.Need.TheVariants.{Hold, Know}
 use Rattle.file_exec.specs.Known as known
-use Rattle.file_exec.specs.Known.{Known, Heard, Needs, Done}
-use Rattle.file_exec.specs.Changes.{answered}
-use Rattle.file_exec.proofs.Unmet.{needs_what_is_unmet}
-use Rattle.suite_collect.specs.Collecting.{next}
-use Rattle.weak_cache.specs.Entries.{Cache}
-use Rattle.txn_core.specs.Suites.{ReadPoint, GatheredSuite, Suites, suite_of, with_suite, known_of}
-use Rattle.txn_core.specs.declared.response.Response.{Response}
-use Rattle.txn_core.specs.declared.ending.Cause.{Cause}
-use Rattle.txn_core.specs.declared.ending.Ending.{Ending}
-use Rattle.txn_core.specs.declared.ending.Ending.TheVariants.{Undecided}
-use Rattle.txn_core.specs.declared.job.Job.TheVariants.{Transaction}
-use Rattle.txn_core.specs.Doing.{home_of, Fixed, Task, Proposal, Phase, Gathering, Fetching, Widening, Preparing, Deciding, Finishing, TransactionRun, Doing, Running, RunningSweep, After, GoesOn, Ends}
-use Rattle.txn_core.specs.Writing.{parts_at}
-use Rattle.txn_core.specs.Moves.{
-  Stage,
-  Executes,
-  Widens,
-  Asks,
-  Prepares,
-  PreparesAt,
-  GivesUp,
-  Tells,
-  TellsAt,
-  Point,
-  point,
-  EndsIn,
-  Move,
-  opens,
-  fetches as fetches',
-  gathers,
-  lacks_lock,
-  refuses,
-  grants,
-  passes,
-  widens,
-  widens_by,
-  lacks_wide,
-  prepares,
-  MovesTo,
-  Collects,
-  gathering,
-  widening,
-  Hears,
-  asks_on,
-  settles,
-  gets,
-}
+use Rattle.txn_core.specs.Moves.{fetches as fetches'}
 use Rattle.txn_core.proofs.Moving.{kept, collects_asks, execute_moves, response_moves}
-use Rattle.txn_core.specs.Transactions.{Step, Gathered, tell_end, give_up, prepare, locked_at, heard_on, raised_or_new, execute, after_response, asked_for, fetched_at, fetched_for, request_in, changes_of, decision_of}
 use Rattle.txn_core.specs.Agents as agents
-use Rattle.txn_core.specs.Agents.{Agent, Event, Take, Forget, next_in, next_of, take_in, take, begin, started, forget, is_idle, has_sense, max_jobs}
-use Rattle.txn_core.specs.Laws.{Exchange, exchange_of, exchanges, of_job, count_of}
 use Rattle.txn_core.proofs.Asks.{asks_same, asked_as}
 use Rattle.txn_core.proofs.Setting.{known_at}
 

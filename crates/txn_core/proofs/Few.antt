@@ -1,30 +1,11 @@
 -- A transaction is prepared, decided and told in few steps.
-use Rattle.std.proofs.Common.{◌≡◌, ℕ, zero, suc, ◌+◌, ◌≤◌, ◌<◌, Bool, true, false, cond, List, [], ◌∷◌, ◌++◌, Option, Some, None, refl, sym, ap, subst, arith}
-use Rattle.std.specs.Prelude.{◌&&◌, ◌==◌, ◌*◌, filter, nat_lt}
-use Rattle.std.proofs.lemmas.Bool.{eqb-true}
-use Rattle.std.proofs.lemmas.Bool.Decides.{nat_tests}
-use Rattle.std.proofs.lemmas.Option.{same_Some}
-use Rattle.acl_core.specs.Identity.{Identity}
-use Rattle.vote_core.specs.Validity.{max_servers}
-use Rattle.file_ops.specs.declared.operation.Op.{Op}
-use Rattle.rep_core.specs.Fits.{is_prepared}
-use Rattle.rep_core.specs.declared.request.Request.{Request}
+use Rattle.txn_core.proofs.Vocabulary.{◌≡◌, ℕ, zero, suc, ◌+◌, ◌≤◌, ◌<◌, Bool, true, false, cond, List, [], ◌∷◌, ◌++◌, Option, Some, None, refl, sym, ap, subst, arith, ◌&&◌, ◌==◌, ◌*◌, filter, nat_lt, eqb-true, nat_tests, same_Some}
+use Rattle.txn_core.proofs.Vocabulary.{Identity, max_servers, Op, is_prepared, Request, Verdict, Cache, Suites, suite_of, has_locks, Response, Cause, Ending, Replied, Lacked, Lost, Undecided, Transaction, Fixed, Task, Proposal, Phase}
+use Rattle.txn_core.proofs.Vocabulary.{Gathering, Fetching, Widening, Preparing, Deciding, Finishing, TransactionRun, Doing, Running, RunningSweep, After, GoesOn, Ends, numbers_from, tell_end, give_up, prepare, locked_at}
+use Rattle.txn_core.proofs.Vocabulary.{after_response, request_in, decision_of, verdict_in, ending_by, cause_of_abort, lack_cause, Agent, Event, Take, Forget, next_in, next_of, left, take_in, take, begin, started, forget, is_idle}
+use Rattle.txn_core.proofs.Vocabulary.{has_sense, max_jobs, Exchange, exchange_of, exchanges, of_job, count_of}
 use Rattle.rep_core.specs.declared.request.Request.TheVariants as request
-use Rattle.rep_core.specs.declared.reply.Verdict.{Verdict}
 use Rattle.rep_core.specs.declared.reply.Verdict.TheVariants as verdict
-use Rattle.weak_cache.specs.Entries.{Cache}
-use Rattle.txn_core.specs.Suites.{Suites, suite_of, has_locks}
-use Rattle.txn_core.specs.declared.response.Response.{Response}
-use Rattle.txn_core.specs.declared.ending.Cause.{Cause}
-use Rattle.txn_core.specs.declared.ending.Ending.{Ending}
-use Rattle.txn_core.specs.declared.response.Response.TheVariants.{Replied, Lacked}
-use Rattle.txn_core.specs.declared.ending.Cause.TheVariants.{Lost}
-use Rattle.txn_core.specs.declared.ending.Ending.TheVariants.{Undecided}
-use Rattle.txn_core.specs.declared.job.Job.TheVariants.{Transaction}
-use Rattle.txn_core.specs.Doing.{Fixed, Task, Proposal, Phase, Gathering, Fetching, Widening, Preparing, Deciding, Finishing, TransactionRun, Doing, Running, RunningSweep, After, GoesOn, Ends}
-use Rattle.txn_core.specs.Transactions.{numbers_from, tell_end, give_up, prepare, locked_at, after_response, request_in, decision_of, verdict_in, ending_by, cause_of_abort, lack_cause}
-use Rattle.txn_core.specs.Agents.{Agent, Event, Take, Forget, next_in, next_of, left, take_in, take, begin, started, forget, is_idle, has_sense, max_jobs}
-use Rattle.txn_core.specs.Laws.{Exchange, exchange_of, exchanges, of_job, count_of}
 use Rattle.txn_core.proofs.Asks.{asks_same, asked_as, fetched_as}
 use Rattle.txn_core.proofs.Walk.{IsEarly, goes_response, goes_execute}
 

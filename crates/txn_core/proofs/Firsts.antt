@@ -1,17 +1,8 @@
 -- What a sweep asks of the first of the locks that are left, which are in their order.
-use Rattle.std.proofs.Common.{◌≡◌, ◌≤◌, ◌+◌, ◌==◌, ℕ, zero, suc, Bool, true, false, cond, List, [], ◌∷◌, length, take, drop, refl, sym, ap, ◌∙◌, arith}
-use Rattle.std.specs.Prelude.{Some, not, nat_le, ◌&&◌, ◌||◌}
-use Rattle.std.specs.List.{list_any}
-use Rattle.std.specs.List.Sorted.{IsPartitionedBy, IsPartitionPoint}
-use Rattle.std.proofs.lemmas.Bool.{and_parts}
-use Rattle.std.proofs.lemmas.List.{length-drop}
-use Rattle.std.proofs.lemmas.Bool.Decides.{nat_tests}
-use Rattle.rep_core.specs.declared.lock.Lock.{Lock}
-use Rattle.rep_core.specs.Locks.{before, has_prepared}
-use Rattle.txn_core.specs.Doing.{Resolving, Breaking}
+use Rattle.txn_core.proofs.Vocabulary.{◌≡◌, ◌≤◌, ◌+◌, ◌==◌, ℕ, zero, suc, Bool, true, false, cond, List, [], ◌∷◌, length, drop, refl, sym, ap, ◌∙◌, arith, Some, not, nat_le, ◌&&◌, ◌||◌, list_any, IsPartitionedBy, IsPartitionPoint}
+use Rattle.txn_core.proofs.Vocabulary.{and_parts, length-drop, nat_tests, Lock, before, has_prepared, Resolving, Breaking, above, in_order, others}
+use Rattle.std.proofs.Common.{take}
 use Rattle.txn_core.specs.code.SweepRunFields.{first_of}
-use Rattle.txn_core.specs.code.Sorting.{above, in_order}
-use Rattle.txn_core.specs.Sweeps.{others}
 use Rattle.txn_core.proofs.Places.{first_pass}
 
 -- ---- behind the first lock those of its transaction come first

@@ -1,34 +1,10 @@
 -- What is kept of the suites that a transaction gathers: from where each was gathered, what its first Current gave, and to which votes it was widened.
-use Rattle.std.proofs.Common.{◌≡◌, ℕ, Bool, true, false, cond, ◌⊎◌, inl, inr, List, [], ◌∷◌, ◌++◌, Option, Some, None, refl, sym, ap, subst, ◌∙◌}
-use Rattle.std.specs.Prelude.{◌==◌, map, filter, option_map}
-use Rattle.std.specs.Ordering.{nat_cmp}
-use Rattle.std.specs.BTreeMap.{is_at}
-use Rattle.std.specs.Cmp.{unsigned_tied}
-use Rattle.std.proofs.lemmas.Bool.{eqb-true, eq-eqb, false≢true}
-use Rattle.std.proofs.lemmas.Option.{same_Some}
-use Rattle.std.proofs.lemmas.List.{append-nil, append_assoc}
-use Rattle.std.proofs.lemmas.Cmp.{nat_cmp_total}
-use Rattle.sorted_map.specs.Laws.{get-insert}
-use Rattle.vote_core.specs.Quorums.{Configuration}
-use Rattle.suite_content.specs.declared.content.Content.{Content}
-use Rattle.suite_prefix.specs.declared.copies.Prefix.{Prefix}
-use Rattle.suite_prefix.specs.declared.lock_mode.LockMode.{LockMode}
-use Rattle.file_ops.specs.declared.answer.Answer.{Answer}
-use Rattle.file_exec.specs.declared.changes.Change.{Change}
+use Rattle.txn_core.proofs.Vocabulary.{◌≡◌, ℕ, Bool, true, false, cond, ◌⊎◌, inl, inr, List, [], ◌∷◌, ◌++◌, Option, Some, None, refl, sym, ap, subst, ◌∙◌, ◌==◌, map, filter, option_map, nat_cmp, is_at, unsigned_tied, eqb-true, eq-eqb}
+use Rattle.txn_core.proofs.Vocabulary.{false≢true, same_Some, append-nil, append_assoc, nat_cmp_total, get-insert, Configuration, Content, Prefix, LockMode, Answer, Change, Hold, Told, Said, Collector, told_since, all_told, tell_at}
+use Rattle.txn_core.proofs.Vocabulary.{tell, collect, Asked, Next, Current, Ask, next, Has, ReadPoint, GatheredSuite, Suites, suite_of, with_suite, source_of, first_or, settled, change_of, Response, Replied, Lacked, Changes, Fixed}
+use Rattle.txn_core.proofs.Vocabulary.{Task, heard_on, votes_then, votes_after, to_widen, widened, said_to, Exchange, locks, told_of, told_by, more_told, gathered_from, IsCurrent, FirstGave}
 use Rattle.file_exec.specs.declared.executor.Outcome.TheVariants as exec
-use Rattle.file_exec.specs.declared.need.Need.TheVariants.{Hold}
-use Rattle.suite_collect.specs.declared.told.Told.{Told}
-use Rattle.suite_collect.specs.declared.told.Said.{Said}
-use Rattle.suite_collect.specs.Collecting.{Widening, Collector, told_since, all_told, tell_at, tell, collect, Asked, Next, Current, Ask, next}
-use Rattle.rep_core.proofs.Members.{Has}
-use Rattle.txn_core.specs.Suites.{ReadPoint, GatheredSuite, Suites, suite_of, with_suite, source_of, first_or, settled}
-use Rattle.txn_core.specs.Writing.{change_of}
-use Rattle.txn_core.specs.declared.response.Response.{Response}
-use Rattle.txn_core.specs.declared.response.Response.TheVariants.{Replied, Lacked}
-use Rattle.txn_core.specs.Doing.{Changes, Fixed, Task}
-use Rattle.txn_core.specs.Transactions.{heard_on, votes_then, votes_after, to_widen, widened, said_to}
-use Rattle.txn_core.specs.Laws.{Exchange, locks, told_of, told_by, more_told}
-use Rattle.txn_core.specs.Caching.{gathered_from, IsCurrent, FirstGave}
+use Rattle.suite_collect.specs.Collecting.{Widening}
 
 -- ---- lists
 

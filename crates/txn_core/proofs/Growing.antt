@@ -1,27 +1,8 @@
 -- What is known of the suites that were gathered grows with them.
-use Rattle.std.proofs.Common.{◌≡◌, ℕ, Bool, true, false, cond, [], ◌∷◌, Option, Some, None, Less, refl, sym, ap, subst, ◌∙◌}
-use Rattle.std.specs.Ordering.{nat_cmp, is_eq}
-use Rattle.std.specs.Prelude.{is_some, not, ◌||◌}
-use Rattle.std.specs.Option.{option_or}
-use Rattle.std.specs.List.{AllByRecursion}
-use Rattle.std.specs.Map.{keys_of}
-use Rattle.std.proofs.lemmas.Cmp.{nat_cmp_total}
-use Rattle.std.proofs.lemmas.Map.Lookups.{exact_unsigned}
-use Rattle.std.proofs.lemmas.Map.Keys.{sorted_head, sorted_tail}
-use Rattle.std.proofs.lemmas.Option.{none-some, same_Some}
-use Rattle.sorted_map.specs.Comparisons.{equal_if}
-use Rattle.sorted_map.specs.Laws.{get-insert}
-use Rattle.sorted_map.specs.SortedMap.{IsOrdered}
-use Rattle.suite_prefix.specs.declared.lock_mode.LockMode.{LockMode}
-use Rattle.suite_prefix.specs.declared.lock_mode.LockMode.TheVariants.{Shared, Exclusive}
-use Rattle.suite_prefix.specs.LockModes.{serves}
-use Rattle.file_exec.specs.KnownSuites.{KnownSuite}
+use Rattle.txn_core.proofs.Vocabulary.{◌≡◌, ℕ, Bool, true, false, cond, [], ◌∷◌, Option, Some, None, Less, refl, sym, ap, subst, ◌∙◌, nat_cmp, is_eq, is_some, not, ◌||◌, option_or, AllByRecursion, keys_of, nat_cmp_total, exact_unsigned}
+use Rattle.txn_core.proofs.Vocabulary.{sorted_head, sorted_tail, none-some, same_Some, equal_if, get-insert, IsOrdered, LockMode, Shared, Exclusive, serves, KnownSuite, Known, IsMore, IsMoreAt, MoreKnown, ReadPoint, GatheredSuite}
+use Rattle.txn_core.proofs.Vocabulary.{Suites, suite_of, with_suite, known_row, known_if, known_of, PendingQuorum, settled_with}
 use Rattle.file_exec.specs.Known as known
-use Rattle.file_exec.specs.Known.{Known}
-use Rattle.file_exec.specs.Laws.{IsMore, IsMoreAt, MoreKnown}
-use Rattle.txn_core.specs.Suites.{ReadPoint, GatheredSuite, Suites, suite_of, with_suite, known_row, known_if, known_of}
-use Rattle.txn_core.specs.declared.pending_quorum.PendingQuorum.{PendingQuorum}
-use Rattle.txn_core.specs.code.Seeing.{settled_with}
 use Rattle.txn_core.proofs.Setting.{known_at}
 
 -- ---- what is known is of a suite

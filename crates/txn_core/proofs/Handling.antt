@@ -1,46 +1,15 @@
 -- What a suite heard, and how its transaction goes on by it.
-use Rattle.std.proofs.Common.{◌≡◌, ℕ, true, List, Option, Some, None, Result, Ok, Err, refl, sym, ap, subst, ◌∙◌}
-use Rattle.std.specs.Ordering.{nat_cmp}
-use Rattle.sorted_map.specs.SortedMap.{IsOrdered}
-use Rattle.sorted_map.specs.Numbers.{get_insert_here}
-use Rattle.rep_core.specs.declared.reply.Reply.{Reply}
-use Rattle.rep_core.specs.declared.request.Request.{Request}
-use Rattle.rep_core.specs.declared.stamped.Lack.{Lack}
-use Rattle.rep_core.specs.Fits.{is_held}
-use Rattle.file_ops.specs.declared.service.Service.{Service}
-use Rattle.file_exec.specs.Reaching.{Reached}
-use Rattle.weak_cache.specs.Entries.{Cache}
-use Rattle.weak_cache.specs.Cache.{Limited}
-use Rattle.std.specs.Prelude.{option_map, IfErr, OnErr}
-use Rattle.std.specs.declared.alloc.AllocError.{AllocError}
-use Rattle.std.proofs.lemmas.Option.{none-some, same_Some}
-use Rattle.suite_collect.specs.declared.told.Told.{Told}
+use Rattle.txn_core.proofs.Vocabulary.{◌≡◌, ℕ, true, List, Option, Some, None, Result, Ok, Err, refl, sym, ap, subst, ◌∙◌, nat_cmp, IsOrdered, get_insert_here, Reply, Request, Lack, is_held, Service, Reached, Cache, Limited, option_map}
+use Rattle.txn_core.proofs.Vocabulary.{IfErr, OnErr, AllocError, none-some, same_Some, Told, Content, Cause, Ending, Flow, On, Ended, Resources, Learned, Quorum, PendingQuorum, Fetched, Lacked, Replied, Fixed, TransactionRun, Granted}
+use Rattle.txn_core.proofs.Vocabulary.{Phase, Running, After, GoesOn, Ends, ReadPoint, GatheredSuite, Suites, suite_of, with_suite, Step, after_lack, execute, fetched, gather_by, give_up, given_in, keep_content, request_of, widen_all}
+use Rattle.txn_core.proofs.Vocabulary.{GoesBy, IsStep, IsUntouched, IsWidenedBy, IsWidenedFrom, Keeps, fixed_by, given, held, held_from, held_where_asked, replied, CompletesAt, HearsAt, IsSettled, IsSound, SettlesAt, asks_in, heard_at}
+use Rattle.txn_core.proofs.Vocabulary.{on_hearing, content_kept, learned, kept_of, shelved, IsReachedBy, IsReachedIn, changed_at, first_at, settled_with, with_content, gather_again, Becomes, taken, HasUnused}
 use Rattle.suite_collect.specs.declared.hearing.Hearing.TheVariants.{Lost, Asks, Short, Quorum as Complete}
-use Rattle.suite_content.specs.declared.content.Content.{Content}
-use Rattle.txn_core.specs.declared.ending.Cause.{Cause}
 use Rattle.txn_core.specs.declared.ending.Cause.TheVariants as cause
-use Rattle.txn_core.specs.declared.ending.Ending.{Ending}
-use Rattle.txn_core.specs.declared.ending.Flow.{Flow}
-use Rattle.txn_core.specs.declared.ending.Flow.TheVariants.{On, Ended}
-use Rattle.txn_core.specs.declared.resources.Resources.{Resources}
-use Rattle.txn_core.specs.declared.learned.Learned.{Learned}
-use Rattle.txn_core.specs.declared.learned.Learned.TheVariants.{Quorum, Content as Given}
-use Rattle.txn_core.specs.declared.pending_quorum.PendingQuorum.{PendingQuorum}
-use Rattle.txn_core.specs.declared.cache_after.Fetched.{Fetched}
-use Rattle.txn_core.specs.declared.response.Response.TheVariants.{Lacked, Replied}
+use Rattle.txn_core.specs.declared.learned.Learned.TheVariants.{Content as Given}
 use Rattle.txn_core.specs.Agents.{left as begun}
-use Rattle.txn_core.specs.Doing.{Fixed, TransactionRun, Granted, Phase, Running, After, GoesOn, Ends}
-use Rattle.txn_core.specs.Suites.{ReadPoint, GatheredSuite, Suites, suite_of, with_suite}
-use Rattle.txn_core.specs.Transactions.{Step, after_lack, execute, fetched, gather_by, give_up, given_in, keep_content, request_of, widen_all}
-use Rattle.txn_core.specs.code.Goings.{GoesBy, IsStep, IsUntouched, IsWidenedBy, IsWidenedFrom, Keeps, fixed_by, given, held, held_from, held_where_asked, replied, widened}
-use Rattle.txn_core.specs.code.Hearing.{CompletesAt, Hearing, HearsAt, IsSettled, IsSound, SettlesAt, asks_in, heard_at, on_hearing}
-use Rattle.txn_core.specs.code.Learning.{content_kept, learned}
-use Rattle.txn_core.specs.code.Plans.{kept_of, shelved}
-use Rattle.txn_core.specs.code.Reaching.{IsReachedBy, IsReachedIn}
-use Rattle.txn_core.specs.code.Seeing.{changed_at, first_at, settled_with, with_content}
-use Rattle.txn_core.specs.code.NextPhases.{gather_again}
-use Rattle.txn_core.specs.code.Steps.{Becomes, taken}
-use Rattle.txn_core.specs.code.Unused.{HasUnused}
+use Rattle.txn_core.specs.code.Goings.{widened}
+use Rattle.txn_core.specs.code.Hearing.{Hearing}
 use Rattle.txn_core.proofs.InPlace.{at_lost, at_asks, at_short, at_quorum, held_at, settled_at, sound_at, settles_there, settles_lost}
 use Rattle.txn_core.proofs.Replies.{server_of}
 use Rattle.txn_core.proofs.Reaching.{IsLate, gives_up, goes_gather, goes_unless, late, reached_asks, reached_at, reached_short}

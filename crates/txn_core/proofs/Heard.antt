@@ -1,26 +1,12 @@
 -- What comes of a reply to what a suite asks, as a transaction goes on by it.
-use Rattle.std.proofs.Common.{◌≡◌, ℕ, List, [], ◌∷◌, Option, Some, None, cond, true, false, refl, sym, ap, ◌∙◌}
-use Rattle.std.proofs.lemmas.Option.{none-some}
-use Rattle.std.specs.Prelude.{◌==◌, find, is_some, unwrap_or, option_map}
-use Rattle.std.specs.Option.{option_or}
-use Rattle.suite_prefix.specs.declared.copies.Prefix.{Prefix}
-use Rattle.rep_core.specs.declared.reply.Reply.{Reply}
+use Rattle.txn_core.proofs.Vocabulary.{◌≡◌, ℕ, List, [], ◌∷◌, Option, Some, None, cond, true, false, refl, sym, ap, ◌∙◌, none-some, ◌==◌, find, is_some, unwrap_or, option_map, option_or, Prefix, Reply, Said, Told, newest, shown, IsAsk}
+use Rattle.txn_core.proofs.Vocabulary.{IsShort, has_quorum, read_point, Collector, Asked, Poll, Upgrade, Next, Current, Ask, Short, counted, is_member, members_of, version, tell, request_for, mode_of, mode_asked, next, gives_of, Cache}
+use Rattle.txn_core.proofs.Vocabulary.{ReadPoint, GatheredSuite, Suites, first_or, settled, source_of, Task, Phase, Step, said_to, collected, hear, PendingQuorum, heard_next, heard_one, heard, on_hearing, FallsShort, IsFirstAfter}
+use Rattle.txn_core.proofs.Vocabulary.{IsSettled, settled_with}
 use Rattle.rep_core.specs.declared.reply.Reply.TheVariants as reply
-use Rattle.suite_collect.specs.declared.told.Said.{Said}
-use Rattle.suite_collect.specs.declared.told.Told.{Told}
-use Rattle.suite_collect.specs.Telling.{newest, shown}
-use Rattle.suite_collect.specs.Answering.{IsAsk, IsShort, has_quorum, read_point}
-use Rattle.suite_collect.specs.Collecting.{Widening, Collector, Asked, Poll, Upgrade, Next, Current, Ask, Short, counted, is_member, members_of, version, tell, request_for, mode_of, mode_asked, told_by, next}
+use Rattle.suite_collect.specs.Collecting.{Widening, told_by}
 use Rattle.suite_collect.specs.Collecting as collecting
-use Rattle.suite_collect.proofs.Collected.{gives_of}
-use Rattle.weak_cache.specs.Entries.{Cache}
-use Rattle.txn_core.specs.Suites.{ReadPoint, GatheredSuite, Suites, first_or, settled, source_of}
-use Rattle.txn_core.specs.Doing.{Task, Phase}
-use Rattle.txn_core.specs.Transactions.{Step, said_to, collected, hear}
-use Rattle.txn_core.specs.declared.pending_quorum.PendingQuorum.{PendingQuorum}
 use Rattle.txn_core.specs.code.Hearing as hearing
-use Rattle.txn_core.specs.code.Hearing.{heard_next, heard_one, heard, on_hearing, FallsShort, IsFirstAfter, IsSettled}
-use Rattle.txn_core.specs.code.Seeing.{settled_with}
 
 -- a reply says to a transaction what it says to a collector
 pub same_said : (t number : ℕ) (asked : Asked) (answer : Reply) → said_to (request_for t number asked) answer ≡ collecting.said_to asked answer

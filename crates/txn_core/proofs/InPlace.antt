@@ -1,32 +1,16 @@
 -- A suite hears a reply in its place, among the others of its transaction.
-use Rattle.std.proofs.Common.{◌≡◌, ℕ, true, Option, Some, None, Result, Ok, Err, refl, sym, ap, subst, ◌∙◌}
-use Rattle.std.specs.Prelude.{option_map, IfOk, OnErr}
-use Rattle.std.specs.Ordering.{nat_cmp}
-use Rattle.std.specs.declared.alloc.AllocError.{AllocError}
-use Rattle.std.proofs.lemmas.Cmp.{nat_cmp_total}
-use Rattle.rep_core.specs.declared.reply.Reply.{Reply}
+use Rattle.txn_core.proofs.Vocabulary.{◌≡◌, ℕ, true, Option, Some, None, Result, Ok, Err, refl, sym, ap, subst, ◌∙◌, option_map, IfOk, OnErr, nat_cmp, AllocError, nat_cmp_total, Reply, is_held, Request, IsOrdered, replace, replace_same}
+use Rattle.txn_core.proofs.Vocabulary.{Comes, IsTold, asked_in, shows_lock, Collector, Collecting, Next, Current, Ask, next, Coming, Told, PendingQuorum, TransactionRun, asks_in, heard, heard_at, CompletesAt, HearsIn, HearsAt}
+use Rattle.txn_core.proofs.Vocabulary.{FallsShort, IsSettled, IsSound, SettlesAt, settled_with, GatheredSuite, Suites, suite_of, with_suite, asked_by, asked_for, SawUnused, shows_unused}
 use Rattle.rep_core.specs.declared.reply.Reply.TheVariants as reply
-use Rattle.rep_core.specs.Fits.{is_held}
-use Rattle.rep_core.specs.declared.request.Request.{Request}
-use Rattle.sorted_map.specs.SortedMap.{IsOrdered, replace}
-use Rattle.sorted_map.specs.Edits.{replace_same}
 use Rattle.suite_collect.specs.Answering as collector
-use Rattle.suite_collect.specs.Answering.{Comes, IsTold, asked_in, shows_lock}
-use Rattle.suite_collect.specs.Collecting.{Collector, Collecting, Next, Current, Ask, Short as Falls, next}
+use Rattle.suite_collect.specs.Collecting.{Short as Falls}
 use Rattle.suite_collect.specs.declared.coming.Asked.{Asked}
-use Rattle.suite_collect.specs.declared.coming.Coming.{Coming}
 use Rattle.suite_collect.specs.declared.coming.Coming.TheVariants as coming
-use Rattle.suite_collect.specs.declared.told.Told.{Told}
 use Rattle.suite_collect.specs.declared.hearing.Hearing.{Hearing as Heard}
 use Rattle.suite_collect.specs.declared.hearing.Hearing.TheVariants.{Lost, Asks, Short, Quorum}
-use Rattle.txn_core.specs.declared.pending_quorum.PendingQuorum.{PendingQuorum}
-use Rattle.txn_core.specs.Doing.{TransactionRun}
 use Rattle.txn_core.specs.code.Hearing as hearing
-use Rattle.txn_core.specs.code.Hearing.{asks_in, heard, heard_at, CompletesAt, Hears, HearsIn, HearsAt, FallsShort, IsSettled, IsSound, SettlesAt}
-use Rattle.txn_core.specs.code.Seeing.{settled_with}
-use Rattle.txn_core.specs.Suites.{GatheredSuite, Suites, suite_of, with_suite}
-use Rattle.txn_core.specs.Transactions.{asked_by, asked_for}
-use Rattle.txn_core.specs.code.Unused.{SawUnused, shows_unused}
+use Rattle.txn_core.specs.code.Hearing.{Hears}
 use Rattle.txn_core.proofs.Carried.{set_there}
 use Rattle.txn_core.proofs.Heard.{hears_lost, hears_asks, hears_short, hears_quorum}
 use Rattle.txn_core.proofs.Unused.{saw_more, told_says}

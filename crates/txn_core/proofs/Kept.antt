@@ -1,24 +1,8 @@
 -- What stays as it was where suites get contents that are to be had without asking.
-use Rattle.std.proofs.Common.{◌≡◌, ℕ, Bool, true, false, cond, List, [], ◌∷◌, Option, Some, None, refl, sym, ap, ◌∙◌}
-use Rattle.std.specs.Prelude.{is_some, if◌then◌else◌, ◌==◌}
-use Rattle.std.specs.Ordering.{nat_cmp, is_eq}
-use Rattle.std.proofs.lemmas.Cmp.{nat_cmp_total}
-use Rattle.std.proofs.lemmas.Map.Lookups.{exact_unsigned}
-use Rattle.sorted_map.specs.Comparisons.{equal_if}
-use Rattle.sorted_map.specs.SortedMap.{IsOrdered}
-use Rattle.sorted_map.specs.Laws.{get-insert, IsOrdered-insert}
-use Rattle.suite_content.specs.declared.content.Content.{Content}
-use Rattle.suite_content.specs.Contents.{empty_content}
-use Rattle.suite_prefix.specs.Copies.{held_by}
-use Rattle.weak_cache.specs.Entries.{Cache}
-use Rattle.weak_cache.specs.Cache.{content_at, hint, searched}
-use Rattle.weak_cache.proofs.Origins.{search_keeps_all}
-use Rattle.txn_core.specs.Suites.{ReadPoint, GatheredSuite, Suites, suite_of, with_suite}
-use Rattle.txn_core.specs.Doing.{Task}
-use Rattle.txn_core.specs.Transactions.{Gathered, after_search, free_content}
-use Rattle.txn_core.specs.code.Unused.{HasUnused}
+use Rattle.txn_core.proofs.Vocabulary.{◌≡◌, ℕ, Bool, true, false, cond, List, [], ◌∷◌, Option, Some, None, refl, sym, ap, ◌∙◌, is_some, if◌then◌else◌, ◌==◌, nat_cmp, is_eq, nat_cmp_total, exact_unsigned, equal_if, IsOrdered, get-insert}
+use Rattle.txn_core.proofs.Vocabulary.{IsOrdered-insert, Content, empty_content, held_by, Cache, content_at, hint, searched, search_keeps_all, ReadPoint, GatheredSuite, Suites, suite_of, with_suite, Task, Gathered, after_search}
+use Rattle.txn_core.proofs.Vocabulary.{free_content, HasUnused, opened_first, opened_at, opened_by, opened_all, free_first, free_of}
 use Rattle.txn_core.proofs.Unused.{unused_searched}
-use Rattle.txn_core.specs.code.Plans.{opened_first, opened_at, opened_by, opened_all, free_first, free_of}
 
 -- what the first quorum of a suite gave
 abbrev pub first_in : Option GatheredSuite → Option ReadPoint

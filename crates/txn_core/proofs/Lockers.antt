@@ -1,12 +1,6 @@
 -- The servers that hold locks, suite by suite.
-use Rattle.std.proofs.Common.{◌≡◌, ◌<◌, ◌≤◌, ◌+◌, ℕ, suc, Bool, true, false, length, drop, get_or, ◌∷◌, refl, sym, ap, ◌∙◌, arith}
-use Rattle.std.specs.Prelude.{◌||◌}
-use Rattle.std.specs.Ordering.{nat_cmp}
-use Rattle.std.specs.FinSet.{FinSet, contains}
-use Rattle.std.proofs.lemmas.List.{at_drop_all}
-use Rattle.std.proofs.Math.Bool.{or_assoc}
-use Rattle.std.proofs.Math.Seq.{drop-cons}
-use Rattle.txn_core.specs.Suites.{GatheredSuite, Suites, holds_lock, has_locks}
+use Rattle.txn_core.proofs.Vocabulary.{◌≡◌, ◌<◌, ◌≤◌, ◌+◌, ℕ, suc, Bool, true, false, length, drop, get_or, ◌∷◌, refl, sym, ap, ◌∙◌, arith, ◌||◌, nat_cmp, FinSet, contains, at_drop_all, or_assoc, drop-cons, GatheredSuite, Suites}
+use Rattle.txn_core.proofs.Vocabulary.{holds_lock, has_locks}
 
 or_none : (b : Bool) → b ≡ (b || false)
 or_none true = refl

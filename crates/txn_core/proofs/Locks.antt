@@ -1,33 +1,14 @@
 -- What an agent keeps of locks is what it heard.
-use Rattle.std.proofs.Common.{◌≡◌, ℕ, ◌+◌, Bool, true, false, cond, List, [], ◌∷◌, ◌++◌, Option, Some, None, refl, sym, ap, subst, ◌∙◌}
-use Rattle.std.specs.Prelude.{◌==◌, ◌&&◌, ◌||◌, nat_lt, ◌*◌}
-use Rattle.std.specs.Ordering.{nat_cmp}
-use Rattle.std.proofs.lemmas.Option.{same_Some}
-use Rattle.sorted_map.specs.SortedMap.{IsOrdered}
-use Rattle.suite_prefix.specs.declared.lock_mode.LockMode.{LockMode}
-use Rattle.suite_prefix.specs.declared.lock_mode.LockMode.TheVariants.{Shared, Exclusive}
-use Rattle.rep_core.specs.declared.request.Request.{Request}
-use Rattle.rep_core.specs.declared.reply.Reply.{Reply}
+use Rattle.txn_core.proofs.Vocabulary.{◌≡◌, ℕ, ◌+◌, Bool, true, false, cond, List, [], ◌∷◌, ◌++◌, Option, Some, None, refl, sym, ap, subst, ◌∙◌, ◌==◌, ◌&&◌, ◌||◌, nat_lt, ◌*◌, nat_cmp, same_Some, IsOrdered, LockMode, Shared, Exclusive}
+use Rattle.txn_core.proofs.Vocabulary.{Request, Reply, serves, Exchange, exchange_of, exchanges, locks, told_by, more_told, says_held, was_held, Agent, Event, Take, Forget, next_in, next_of, take_in, take, begin, started, forget}
+use Rattle.txn_core.proofs.Vocabulary.{is_idle, has_sense, max_jobs, after_all, Told, Said, holds, mode_of, Cache, Suites, told_at, Response, Job, Replied, Lacked, Transaction, Sweep, Fixed, Task, Phase, TransactionRun, SweepRun, Doing}
+use Rattle.txn_core.proofs.Vocabulary.{Running, RunningSweep, After, GoesOn, Ends, is_poll, said_to, prepared, after_response, request_in}
 use Rattle.rep_core.specs.declared.reply.Reply.TheVariants as reply
-use Rattle.suite_prefix.specs.LockModes.{serves}
-use Rattle.txn_core.specs.Laws.{Exchange, exchange_of, exchanges, locks, told_by, more_told, says_held, was_held}
 use Rattle.txn_core.proofs.ToldLists.{Are, Leaves, leaves_execute, are_nil, heard_by, hears_response}
 use Rattle.txn_core.specs.Agents as agents
-use Rattle.txn_core.specs.Agents.{Agent, Event, Take, Forget, next_in, next_of, take_in, take, begin, started, forget, is_idle, has_sense, max_jobs, after_all}
 use Rattle.txn_core.specs.Sweeps as sweep
 use Rattle.suite_collect.specs.declared.told.Said.TheVariants as said
-use Rattle.suite_collect.specs.declared.told.Told.{Told}
-use Rattle.suite_collect.specs.declared.told.Said.{Said}
-use Rattle.suite_collect.specs.Telling.{is_held, holds}
-use Rattle.suite_collect.specs.Collecting.{mode_of}
-use Rattle.weak_cache.specs.Entries.{Cache}
-use Rattle.txn_core.specs.Suites.{Suites, told_at}
-use Rattle.txn_core.specs.declared.response.Response.{Response}
-use Rattle.txn_core.specs.declared.job.Job.{Job}
-use Rattle.txn_core.specs.declared.response.Response.TheVariants.{Replied, Lacked}
-use Rattle.txn_core.specs.declared.job.Job.TheVariants.{Transaction, Sweep}
-use Rattle.txn_core.specs.Doing.{Fixed, Task, Phase, TransactionRun, SweepRun, Doing, Running, RunningSweep, After, GoesOn, Ends}
-use Rattle.txn_core.specs.Transactions.{is_poll, said_to, prepared, after_response, request_in}
+use Rattle.suite_collect.specs.Telling.{is_held}
 
 -- which servers hold a lock for it
 abbrev pub Held : (ℕ → ℕ → Bool) → (ℕ → List Told) → Type 0

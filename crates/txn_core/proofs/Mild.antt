@@ -1,29 +1,14 @@
 -- Until its home has answered a transaction ends with Aborted alone.
-use Rattle.std.proofs.Common.{◌≡◌, ℕ, ◌+◌, true, false, cond, List, [], ◌∷◌, ◌++◌, Option, Some, None, refl, sym, ap, subst}
-use Rattle.std.specs.Prelude.{nat_lt, ◌&&◌, ◌*◌}
+use Rattle.txn_core.proofs.Vocabulary.{◌≡◌, ℕ, ◌+◌, true, false, cond, List, [], ◌∷◌, ◌++◌, Option, Some, None, refl, sym, ap, subst, nat_lt, ◌&&◌, ◌*◌, Exchange, exchange_of, exchanges, of_job, is_decide, said_by, told_verdict}
+use Rattle.txn_core.proofs.Vocabulary.{FinishCarriesTheVerdict, Agent, Event, Take, Forget, next_in, next_of, left, take_in, take, begin, started, forget, is_idle, has_sense, max_jobs, after_all, parts_at, Request, Verdict, Reply}
+use Rattle.txn_core.proofs.Vocabulary.{Cache, Suites, suite_of, Response, Cause, Ending, Job, Replied, Lacked, Lost, Transaction, Sweep, Fixed, Task, home_of, Proposal, Phase, Gathering, Fetching, Widening, Preparing, Deciding}
+use Rattle.txn_core.proofs.Vocabulary.{Finishing, TransactionRun, SweepRun, Doing, Running, RunningSweep, After, GoesOn, Ends, lack_cause, Step, tell_end, give_up, prepare, locked_at, prepared, decided, after_response, request_in}
+use Rattle.txn_core.proofs.Vocabulary.{changes_of, decision_of, verdict_in, is_prepared}
 use Rattle.rep_core.specs.declared.request.Request.TheVariants as request
-use Rattle.txn_core.specs.Laws.{Exchange, exchange_of, exchanges, of_job, is_decide, said_by, told_verdict, FinishCarriesTheVerdict}
-use Rattle.txn_core.specs.Agents.{Agent, Event, Take, Forget, next_in, next_of, left, take_in, take, begin, started, forget, is_idle, has_sense, max_jobs, after_all}
 use Rattle.txn_core.specs.Sweeps as sweep
-use Rattle.txn_core.specs.Writing.{parts_at}
-use Rattle.rep_core.specs.declared.request.Request.{Request}
-use Rattle.rep_core.specs.declared.reply.Verdict.{Verdict}
 use Rattle.rep_core.specs.declared.reply.Verdict.TheVariants as verdict
-use Rattle.rep_core.specs.declared.reply.Reply.{Reply}
-use Rattle.weak_cache.specs.Entries.{Cache}
-use Rattle.txn_core.specs.Suites.{Suites, suite_of}
-use Rattle.txn_core.specs.declared.response.Response.{Response}
-use Rattle.txn_core.specs.declared.ending.Cause.{Cause}
-use Rattle.txn_core.specs.declared.ending.Ending.{Ending}
-use Rattle.txn_core.specs.declared.job.Job.{Job}
-use Rattle.txn_core.specs.declared.response.Response.TheVariants.{Replied, Lacked}
-use Rattle.txn_core.specs.declared.ending.Cause.TheVariants.{Lost}
-use Rattle.txn_core.specs.declared.job.Job.TheVariants.{Transaction, Sweep}
-use Rattle.txn_core.specs.Doing.{Fixed, Task, home_of, Proposal, Phase, Gathering, Fetching, Widening, Preparing, Deciding, Finishing, TransactionRun, SweepRun, Doing, Running, RunningSweep, After, GoesOn, Ends}
-use Rattle.txn_core.specs.Transactions.{lack_cause, Step, tell_end, give_up, prepare, locked_at, prepared, decided, after_response, request_in, changes_of, decision_of, verdict_in}
 use Rattle.txn_core.proofs.Asks.{asks_same, asked_as, fetched_as}
 use Rattle.txn_core.proofs.Walk.{IsEarly, goes_response, goes_execute}
-use Rattle.rep_core.specs.Fits.{is_prepared}
 
 -- a phase that tells the end tells this verdict; before, the verdict is Aborted
 abbrev pub TellsOnly : Verdict → Phase → Type 0

@@ -1,9 +1,5 @@
 -- The servers that pass a test, number by number.
-use Rattle.std.proofs.Common.{◌≡◌, ◌+◌, ℕ, zero, suc, Bool, true, false, cond, List, [], ◌∷◌, ◌++◌, sym, ap, ◌∙◌, arith}
-use Rattle.std.specs.Prelude.{filter}
-use Rattle.std.proofs.lemmas.List.Elements.{filter-append}
-use Rattle.std.proofs.lemmas.List.{append-nil}
-use Rattle.txn_core.specs.Transactions.{numbers_from}
+use Rattle.txn_core.proofs.Vocabulary.{◌≡◌, ◌+◌, ℕ, zero, suc, Bool, true, false, cond, List, [], ◌∷◌, ◌++◌, sym, ap, ◌∙◌, arith, filter, filter-append, append-nil, numbers_from}
 
 numbers_last : (start n : ℕ) → numbers_from start (n + 1) ≡ numbers_from start n ++ (start + n) ∷ []
 numbers_last start zero = ap (λ k. k ∷ []) (let e : start ≡ start + 0 = omega arith in e)

@@ -1,45 +1,12 @@
 -- A transaction asks once to be decided.
-use Rattle.std.proofs.Common.{◌≡◌, ℕ, ◌+◌, ◌≤◌, true, false, cond, List, [], ◌∷◌, ◌++◌, Option, Some, None, refl, sym, ap, subst, arith}
-use Rattle.rep_core.specs.declared.request.Request.{Request}
+use Rattle.txn_core.proofs.Vocabulary.{◌≡◌, ℕ, ◌+◌, ◌≤◌, true, false, cond, List, [], ◌∷◌, ◌++◌, Option, Some, None, refl, sym, ap, subst, arith, Request, Verdict, Cache, Suites, suite_of, Response, Ending, Replied, Lacked, Undecided}
+use Rattle.txn_core.proofs.Vocabulary.{Fixed, Task, Phase, Gathering, Fetching, Widening, Preparing, Deciding, Finishing, TransactionRun, Sweeping, Listing, Resolving, Telling, Breaking, SweepRun, Doing, Running, RunningSweep, After}
+use Rattle.txn_core.proofs.Vocabulary.{GoesOn, Ends, tell_end, locked_at, after_response, request_in, changes_of, verdict_in, ending_by, cause_of_abort, lack_cause, parts_at, Agent, Event, Take, Forget, next_in, next_of, left, take_in}
+use Rattle.txn_core.proofs.Vocabulary.{take, begin, started, forget, is_idle, has_sense, max_jobs, Exchange, exchange_of, exchanges, count_of, is_decide, DecideIsSentOnce}
 use Rattle.rep_core.specs.declared.request.Request.TheVariants as request
-use Rattle.rep_core.specs.declared.reply.Verdict.{Verdict}
 use Rattle.rep_core.specs.declared.reply.Verdict.TheVariants as verdict
-use Rattle.weak_cache.specs.Entries.{Cache}
-use Rattle.txn_core.specs.Suites.{Suites, suite_of}
-use Rattle.txn_core.specs.declared.response.Response.{Response}
-use Rattle.txn_core.specs.declared.ending.Ending.{Ending}
-use Rattle.txn_core.specs.declared.response.Response.TheVariants.{Replied, Lacked}
-use Rattle.txn_core.specs.declared.ending.Ending.TheVariants.{Undecided}
-use Rattle.txn_core.specs.Doing.{
-  Fixed,
-  Task,
-  Phase,
-  Gathering,
-  Fetching,
-  Widening,
-  Preparing,
-  Deciding,
-  Finishing,
-  TransactionRun,
-  Sweeping,
-  Listing,
-  Resolving,
-  Telling,
-  Breaking,
-  SweepRun,
-  Doing,
-  Running,
-  RunningSweep,
-  After,
-  GoesOn,
-  Ends,
-}
-use Rattle.txn_core.specs.Transactions.{tell_end, locked_at, after_response, request_in, changes_of, verdict_in, ending_by, cause_of_abort, lack_cause}
-use Rattle.txn_core.specs.Writing.{parts_at}
 use Rattle.txn_core.specs.Sweeps as sweep
 use Rattle.txn_core.specs.Agents as agents
-use Rattle.txn_core.specs.Agents.{Agent, Event, Take, Forget, next_in, next_of, left, take_in, take, begin, started, forget, is_idle, has_sense, max_jobs}
-use Rattle.txn_core.specs.Laws.{Exchange, exchange_of, exchanges, count_of, is_decide, DecideIsSentOnce}
 use Rattle.txn_core.proofs.Asks.{asks_same, asked_as, fetched_as}
 
 abbrev decides : List Exchange → ℕ

@@ -1,22 +1,9 @@
 -- Contents that are to be had without asking: what is known with them, and what they leave as it was.
-use Rattle.std.proofs.Common.{◌≡◌, ℕ, Bool, true, false, cond, [], ◌∷◌, Option, Some, None, refl, sym, ap, ◌∙◌}
-use Rattle.std.specs.Prelude.{option_map, is_some}
-use Rattle.std.specs.Option.{option_map_or}
-use Rattle.std.specs.Ordering.{nat_cmp}
-use Rattle.std.specs.BTreeMap.{is_at}
-use Rattle.std.proofs.lemmas.Cmp.{nat_cmp_total}
-use Rattle.std.proofs.lemmas.Option.{same_Some}
-use Rattle.sorted_map.specs.SortedMap.{IsOrdered, replace}
-use Rattle.sorted_map.specs.Edits.{insert_present}
-use Rattle.suite_content.specs.declared.content.Content.{Content}
-use Rattle.suite_prefix.specs.declared.copies.Prefix.{Prefix}
-use Rattle.suite_prefix.specs.declared.copies.PrefixKind.{PrefixKind}
+use Rattle.txn_core.proofs.Vocabulary.{◌≡◌, ℕ, Bool, true, false, cond, [], ◌∷◌, Option, Some, None, refl, sym, ap, ◌∙◌, option_map, is_some, option_map_or, nat_cmp, is_at, nat_cmp_total, same_Some, IsOrdered, replace, insert_present}
+use Rattle.txn_core.proofs.Vocabulary.{Content, Prefix, PrefixKind, Row, KnownSuite, Known, ReadPoint, GatheredSuite, Suites, suite_of, with_suite, row_with, known_row, known_if, known_of}
 use Rattle.suite_prefix.specs.declared.copies.PrefixKind.TheVariants as kind
-use Rattle.file_ops.specs.Rows.{Row, with_content}
-use Rattle.file_exec.specs.KnownSuites.{KnownSuite}
+use Rattle.file_ops.specs.Rows.{with_content}
 use Rattle.file_exec.specs.Known as known
-use Rattle.file_exec.specs.Known.{Known}
-use Rattle.txn_core.specs.Suites.{ReadPoint, GatheredSuite, Suites, suite_of, with_suite, row_with, known_row, known_if, known_of}
 use Rattle.txn_core.proofs.Setting.{known_at}
 
 -- ---- what is known of a suite that gets its content

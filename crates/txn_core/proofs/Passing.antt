@@ -1,22 +1,6 @@
 -- Servers that are asked one after the other.
-use Rattle.std.proofs.Common.{◌≡◌, ℕ, Bool, true, false, List, [], ◌∷◌, drop, Some, None, refl, sym, ap, ◌∙◌, subst, if◌then◌else◌}
-use Rattle.std.specs.Prelude.{slice_get}
-use Rattle.std.proofs.lemmas.Option.{same_Some}
-use Rattle.rep_core.specs.Fits.{is_prepared}
-use Rattle.rep_core.specs.declared.reply.Reply.{Reply}
-use Rattle.rep_core.specs.declared.reply.Verdict.{Verdict}
-use Rattle.weak_cache.specs.Entries.{Cache}
-use Rattle.txn_core.specs.declared.ending.Cause.TheVariants.{Lost}
-use Rattle.txn_core.specs.declared.ending.Ending.{Ending}
-use Rattle.txn_core.specs.declared.ending.Flow.{Flow}
-use Rattle.txn_core.specs.declared.ending.Flow.TheVariants.{On, Ended}
-use Rattle.txn_core.specs.declared.response.Response.TheVariants.{Replied}
-use Rattle.txn_core.specs.Doing.{Fixed, Task, Proposal, Phase, Preparing, Deciding, Finishing, TransactionRun}
-use Rattle.txn_core.specs.code.Goings.{GoesBy, TellsNext}
-use Rattle.txn_core.specs.code.Steps.{taken}
-use Rattle.txn_core.specs.code.TransactionRunFields.{proposing}
-use Rattle.txn_core.specs.Suites.{Suites}
-use Rattle.txn_core.specs.Transactions.{Step, tell_end, prepare, give_up, request_of}
+use Rattle.txn_core.proofs.Vocabulary.{◌≡◌, ℕ, Bool, true, false, List, [], ◌∷◌, drop, Some, None, refl, sym, ap, ◌∙◌, subst, if◌then◌else◌, slice_get, same_Some, is_prepared, Reply, Verdict, Cache, Lost, Ending, Flow, On, Ended}
+use Rattle.txn_core.proofs.Vocabulary.{Replied, Fixed, Task, Proposal, Phase, Preparing, Deciding, Finishing, TransactionRun, GoesBy, TellsNext, taken, proposing, Suites, Step, tell_end, prepare, give_up, request_of}
 use Rattle.txn_core.proofs.Replies.{replied_prepared}
 
 -- a run whose phase the code looks at in its place

@@ -1,60 +1,17 @@
 -- Whom a transaction polled it does not poll again.
-use Rattle.std.proofs.Common.{◌≡◌, ℕ, ◌+◌, ◌≤◌, Bool, true, false, cond, ◌⊎◌, inl, inr, List, [], ◌∷◌, ◌++◌, Option, Some, None, refl, sym, ap, subst, ◌∙◌, arith}
-use Rattle.std.specs.Prelude.{◌==◌, ◌&&◌, ◌||◌, nat_lt, ◌*◌}
-use Rattle.std.specs.Ordering.{nat_cmp}
-use Rattle.std.proofs.lemmas.Bool.{eqb-true, false≢true}
-use Rattle.std.proofs.lemmas.Option.{same_Some}
-use Rattle.sorted_map.specs.SortedMap.{IsOrdered}
-use Rattle.suite_prefix.specs.declared.lock_mode.LockMode.{LockMode}
-use Rattle.rep_core.specs.declared.request.Request.{Request}
+use Rattle.txn_core.proofs.Vocabulary.{◌≡◌, ℕ, ◌+◌, ◌≤◌, Bool, true, false, cond, ◌⊎◌, inl, inr, List, [], ◌∷◌, ◌++◌, Option, Some, None, refl, sym, ap, subst, ◌∙◌, arith, ◌==◌, ◌&&◌, ◌||◌, nat_lt, ◌*◌, nat_cmp, eqb-true, false≢true}
+use Rattle.txn_core.proofs.Vocabulary.{same_Some, IsOrdered, LockMode, Request, Exchange, exchange_of, exchanges, of_job, locks, was_asked, count_of, NobodyIsPolledTwice, Agent, Event, Take, Forget, next_in, next_of, take_in, take}
+use Rattle.txn_core.proofs.Vocabulary.{begin, started, forget, is_idle, has_sense, max_jobs, after_all, Told, Said, has_told, Collector, all_told, mode_of, request_for, mode_asked, Asked, Poll, Upgrade, Next, Ask, Current, Short, next}
+use Rattle.txn_core.proofs.Vocabulary.{Cache, ReadPoint, GatheredSuite, Suites, suite_of, with_suite, told_at, told_in, Response, Job, Transaction, Sweep, home_of, Fixed, Task, Phase, Gathering, Fetching, Widening, Preparing, Deciding}
+use Rattle.txn_core.proofs.Vocabulary.{Finishing, TransactionRun, Sweeping, Listing, Resolving, Telling, Breaking, SweepRun, Doing, Running, RunningSweep, After, GoesOn, Ends, Step, locked_at, is_poll, after_response, asked_by}
+use Rattle.txn_core.proofs.Vocabulary.{asked_for, fetched_at, fetched_for, request_in, changes_of, decision_of, parts_at, nobody_is_asked_twice, times, Few, few_more, never, Down, Stage, Executes, Widens, Asks, Prepares, PreparesAt}
+use Rattle.txn_core.proofs.Vocabulary.{GivesUp, Tells, TellsAt, Point, point, EndsIn, Move, Collects, now_told, Hears, asks_on, falls_short, settles, gets, prepared_by, prepares}
 use Rattle.rep_core.specs.declared.request.Request.TheVariants as request
-use Rattle.txn_core.specs.Laws.{Exchange, exchange_of, exchanges, of_job, locks, was_asked, count_of, NobodyIsPolledTwice}
 use Rattle.txn_core.specs.Agents as agents
-use Rattle.txn_core.specs.Agents.{Agent, Event, Take, Forget, next_in, next_of, take_in, take, begin, started, forget, is_idle, has_sense, max_jobs, after_all}
 use Rattle.txn_core.specs.Sweeps as sweep
-use Rattle.suite_collect.specs.declared.told.Told.{Told}
-use Rattle.suite_collect.specs.declared.told.Said.{Said}
-use Rattle.suite_collect.specs.Telling.{has_told}
-use Rattle.suite_collect.specs.Collecting.{Collector, all_told, mode_of, request_for, mode_asked, Asked, Poll, Upgrade, Next, Ask, Current, Short, next}
-use Rattle.weak_cache.specs.Entries.{Cache}
-use Rattle.txn_core.specs.Suites.{ReadPoint, GatheredSuite, Suites, suite_of, with_suite, told_at, told_in}
-use Rattle.txn_core.specs.declared.response.Response.{Response}
-use Rattle.txn_core.specs.declared.job.Job.{Job}
-use Rattle.txn_core.specs.declared.job.Job.TheVariants.{Transaction, Sweep}
-use Rattle.txn_core.specs.Doing.{
-  home_of,
-  Fixed,
-  Task,
-  Phase,
-  Gathering,
-  Fetching,
-  Widening,
-  Preparing,
-  Deciding,
-  Finishing,
-  TransactionRun,
-  Sweeping,
-  Listing,
-  Resolving,
-  Telling,
-  Breaking,
-  SweepRun,
-  Doing,
-  Running,
-  RunningSweep,
-  After,
-  GoesOn,
-  Ends,
-}
-use Rattle.txn_core.specs.Transactions.{Step, locked_at, is_poll, after_response, asked_by, asked_for, fetched_at, fetched_for, request_in, changes_of, decision_of}
-use Rattle.txn_core.specs.Writing.{parts_at}
 use Rattle.txn_core.proofs.Asks.{asks_same}
-use Rattle.suite_collect.proofs.Collected.{nobody_is_asked_twice}
-use Rattle.suite_collect.proofs.Fewness.{times, Few, few_more, never}
-use Rattle.suite_collect.specs.declared.told.Said.TheVariants.{Down}
 use Rattle.txn_core.proofs.Over.{IsOver, LeftOver, over_end, over_give_up, stays_over}
 use Rattle.txn_core.proofs.ToldLists.{Are, Leaves, told_with, are_with, are_same, move_are, leaves_execute, IsQuiet, quiet_asks, asks_lock, are_nil, all_told-tell}
-use Rattle.txn_core.specs.Moves.{Stage, Executes, Widens, Asks, Prepares, PreparesAt, GivesUp, Tells, TellsAt, Point, point, EndsIn, Move, Collects, now_told, Hears, asks_on, falls_short, settles, gets, prepared_by, prepares}
 use Rattle.txn_core.proofs.Moving.{kept, left_by, collects_asks, response_moves}
 
 -- ---- who was asked, and how often

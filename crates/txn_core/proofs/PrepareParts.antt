@@ -1,35 +1,13 @@
 -- A Prepare lists the locks that were heard, its suites rising.
-use Rattle.std.proofs.Common.{◌≡◌, ℕ, Bool, true, false, cond, List, [], ◌∷◌, Option, Some, None, refl, sym, ap, subst, ◌∙◌, arith}
-use Rattle.std.specs.Prelude.{◌==◌, ◌&&◌, ◌||◌, map, filter}
-use Rattle.std.specs.List.{list_any, AllByRecursion}
-use Rattle.std.specs.Ordering.{nat_cmp}
+use Rattle.txn_core.proofs.Vocabulary.{◌≡◌, ℕ, Bool, true, false, cond, List, [], ◌∷◌, Option, Some, None, refl, sym, ap, subst, ◌∙◌, arith, ◌==◌, ◌&&◌, ◌||◌, map, filter, list_any, AllByRecursion, nat_cmp, is_at, unsigned_tied}
+use Rattle.txn_core.proofs.Vocabulary.{keys_of, false≢true, same_Some, nat_tests, nat_cmp_total, eq_by_cmp_equiv, lookup-none, none_past_head, IsDistinct-from_sorted, sorted_tail, IsOrdered, Shared, Request, of_job, is_prepare}
+use Rattle.txn_core.proofs.Vocabulary.{PrepareListsTheLocks, APrepareRises, Agent, Event, next_in, next_of, begin, is_idle, after_all, Part, holds, Poll, Upgrade, Next, Ask, Current, Short, next, ReadPoint, GatheredSuite, Suites}
+use Rattle.txn_core.proofs.Vocabulary.{suite_of, told_in, told_at, holds_lock, Job, Changes, home_of, Fixed, Phase, Gathering, Fetching, Widening, Preparing, Deciding, Finishing, Sweeping, Listing, Resolving, Telling, Breaking, Doing}
+use Rattle.txn_core.proofs.Vocabulary.{Running, RunningSweep, asked_by, asked_for, fetched_at, fetched_for, request_in, changes_of, decision_of, parts_at, part_of}
 use Rattle.std.specs.declared.cmp.Ordering.TheVariants.{Less}
-use Rattle.std.specs.BTreeMap.{is_at}
-use Rattle.std.specs.Cmp.{unsigned_tied}
-use Rattle.std.specs.Map.{keys_of}
 use Rattle.std.specs.List.Sorted.{IsStrictlySortedBy}
-use Rattle.std.proofs.lemmas.Bool.{false≢true}
-use Rattle.std.proofs.lemmas.Option.{same_Some}
-use Rattle.std.proofs.lemmas.Bool.Decides.{nat_tests}
-use Rattle.std.proofs.lemmas.Cmp.{nat_cmp_total, eq_by_cmp_equiv}
-use Rattle.std.proofs.lemmas.Map.{lookup-none}
-use Rattle.std.proofs.lemmas.Map.Entries.{none_past_head}
-use Rattle.std.proofs.lemmas.Map.Keys.{IsDistinct-from_sorted, sorted_tail}
-use Rattle.sorted_map.specs.SortedMap.{IsOrdered}
-use Rattle.suite_prefix.specs.declared.lock_mode.LockMode.TheVariants.{Shared}
-use Rattle.rep_core.specs.declared.request.Request.{Request}
 use Rattle.rep_core.specs.declared.request.Request.TheVariants as request
-use Rattle.txn_core.specs.Laws.{of_job, is_prepare, PrepareListsTheLocks, APrepareRises}
-use Rattle.txn_core.specs.Agents.{Agent, Event, next_in, next_of, begin, is_idle, after_all}
 use Rattle.txn_core.specs.Sweeps as sweep
-use Rattle.rep_core.specs.declared.request.Part.{Part}
-use Rattle.suite_collect.specs.Telling.{holds}
-use Rattle.suite_collect.specs.Collecting.{Poll, Upgrade, Next, Ask, Current, Short, next}
-use Rattle.txn_core.specs.Suites.{ReadPoint, GatheredSuite, Suites, suite_of, told_in, told_at, holds_lock}
-use Rattle.txn_core.specs.declared.job.Job.{Job}
-use Rattle.txn_core.specs.Doing.{Changes, home_of, Fixed, Phase, Gathering, Fetching, Widening, Preparing, Deciding, Finishing, Sweeping, Listing, Resolving, Telling, Breaking, Doing, Running, RunningSweep}
-use Rattle.txn_core.specs.Transactions.{asked_by, asked_for, fetched_at, fetched_for, request_in, changes_of, decision_of}
-use Rattle.txn_core.specs.Writing.{parts_at, part_of}
 use Rattle.txn_core.proofs.Asks.{asks_same}
 use Rattle.txn_core.proofs.Locks.{or_false, Keeps, plus_all, all_keep, nothing_held, begin_keeps}
 

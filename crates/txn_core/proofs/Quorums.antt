@@ -1,52 +1,18 @@
 -- What is decided is decided on quorums.
-use Rattle.std.proofs.Common.{◌≡◌, ℕ, zero, suc, ◌+◌, Bool, true, false, cond, inl, inr, List, [], ◌∷◌, Option, Some, None, Ok, Err, refl, sym, ap, subst, ◌∙◌, arith}
-use Rattle.std.specs.Prelude.{◌==◌, ◌&&◌, ◌||◌, length, map, filter, nat_lt, ◌*◌}
-use Rattle.std.specs.Ordering.{nat_cmp}
-use Rattle.std.specs.BTreeMap.{is_at}
-use Rattle.std.specs.Cmp.{unsigned_tied}
-use Rattle.std.proofs.lemmas.Bool.{eqb-true, false≢true}
-use Rattle.std.proofs.lemmas.Bool.Decides.{nat_tests}
-use Rattle.std.proofs.lemmas.Option.{same_Some}
-use Rattle.vote_core.specs.Quorums.{Configuration, is_write_quorum}
-use Rattle.suite_content.specs.declared.content.Content.{Content}
-use Rattle.suite_prefix.specs.declared.copies.Prefix.{Prefix}
-use Rattle.file_ops.specs.declared.answer.Answer.{Answer}
-use Rattle.suite_prefix.specs.declared.lock_mode.LockMode.{LockMode}
-use Rattle.suite_prefix.specs.declared.lock_mode.LockMode.TheVariants.{Exclusive}
-use Rattle.rep_core.specs.declared.request.Request.{Request}
-use Rattle.rep_core.specs.declared.reply.Reply.{Reply}
-use Rattle.rep_core.specs.declared.reply.Verdict.{Verdict}
+use Rattle.txn_core.proofs.Vocabulary.{◌≡◌, ℕ, zero, suc, ◌+◌, Bool, true, false, cond, inl, inr, List, [], ◌∷◌, Option, Some, None, Ok, Err, refl, sym, ap, subst, ◌∙◌, arith, ◌==◌, ◌&&◌, ◌||◌, length, map, filter, nat_lt, ◌*◌, nat_cmp}
+use Rattle.txn_core.proofs.Vocabulary.{is_at, unsigned_tied, eqb-true, false≢true, nat_tests, same_Some, Configuration, is_write_quorum, Content, Prefix, Answer, LockMode, Exclusive, Request, Reply, Verdict, Lack, is_prepared, Change}
+use Rattle.txn_core.proofs.Vocabulary.{Hold, Know, Told, Said, newest, holds, told_since, all_told, tell, tell_at, mode_of, Next, Ask, Current, Short, next, Cache, ReadPoint, GatheredSuite, Suites, suite_of, with_suite, settled}
+use Rattle.txn_core.proofs.Vocabulary.{first_or, source_of, is_changed, gets_votes, sets_votes, change_of, Response, Cause, Ending, Job, Replied, Lacked, Lost, Undecided, Transaction, Sweep, Changes, Granted, Fixed, Task, Proposal}
+use Rattle.txn_core.proofs.Vocabulary.{Phase, Gathering, Fetching, Widening, Preparing, Deciding, Finishing, TransactionRun, SweepRun, Doing, Running, RunningSweep, After, GoesOn, Ends, Step, Gathered, tell_end, give_up, prepare}
+use Rattle.txn_core.proofs.Vocabulary.{locked_at, short_cause, gather_by, widen_by, widen_one, widened, widen_all, to_widen, votes_then, votes_after, opened, or_all, open_needed, open_suite, open_first, opened_with, free_content}
+use Rattle.txn_core.proofs.Vocabulary.{heard_on, raised_or_new, keep_content, heard_of, said_to, proceed, execute, collected, hear, fetched, prepared, after_lack, after_response, changes_of, given_in, verdict_in, ending_by}
+use Rattle.txn_core.proofs.Vocabulary.{cause_of_abort, lack_cause, Agent, Event, Take, Forget, next_of, take_in, take, begin, started, forget, is_idle, has_sense, max_jobs, after_all, newest_of, IsReady, DecidesOnQuorums}
 use Rattle.rep_core.specs.declared.reply.Verdict.TheVariants as verdict
-use Rattle.rep_core.specs.declared.stamped.Lack.{Lack}
-use Rattle.rep_core.specs.Fits.{is_prepared}
-use Rattle.file_exec.specs.declared.changes.Change.{Change}
 use Rattle.file_exec.specs.declared.executor.Outcome.{Outcome as Executed}
 use Rattle.file_exec.specs.declared.executor.Outcome.TheVariants as exec
-use Rattle.file_exec.specs.declared.need.Need.TheVariants.{Hold, Know}
-use Rattle.suite_collect.specs.declared.told.Told.{Told}
-use Rattle.suite_collect.specs.declared.told.Said.{Said}
-use Rattle.suite_collect.specs.Telling.{newest, holds}
-use Rattle.suite_collect.specs.Collecting.{told_since, all_told, tell, tell_at, mode_of, Next, Ask, Current, Short, next}
 use Rattle.suite_collect.specs.Collecting as collecting
-use Rattle.weak_cache.specs.Entries.{Cache}
-use Rattle.txn_core.specs.Suites.{ReadPoint, GatheredSuite, Suites, suite_of, with_suite, settled, first_or, source_of}
-use Rattle.txn_core.specs.Writing.{is_changed, gets_votes, sets_votes, change_of}
-use Rattle.txn_core.specs.declared.response.Response.{Response}
-use Rattle.txn_core.specs.declared.ending.Cause.{Cause}
-use Rattle.txn_core.specs.declared.ending.Ending.{Ending}
-use Rattle.txn_core.specs.declared.job.Job.{Job}
-use Rattle.txn_core.specs.declared.response.Response.TheVariants.{Replied, Lacked}
-use Rattle.txn_core.specs.declared.ending.Cause.TheVariants.{Lost}
-use Rattle.txn_core.specs.declared.ending.Ending.TheVariants.{Undecided}
-use Rattle.txn_core.specs.declared.job.Job.TheVariants.{Transaction, Sweep}
-use Rattle.txn_core.specs.Doing.{Changes, Granted, Fixed, Task, Proposal, Phase, Gathering, Fetching, Widening, Preparing, Deciding, Finishing, TransactionRun, SweepRun, Doing, Running, RunningSweep, After, GoesOn, Ends}
-use Rattle.txn_core.specs.Transactions.{Step, Gathered, tell_end, give_up, prepare, locked_at, short_cause, gather_by, widen_by, widen_one, widened, widen_all, to_widen, votes_then, votes_after, opened}
-use Rattle.txn_core.specs.Transactions.{or_all, open_needed, open_suite, open_first, opened_with, free_content, heard_on, raised_or_new, keep_content, heard_of, said_to, proceed, execute, collected}
-use Rattle.txn_core.specs.Transactions.{hear, fetched, prepared, after_lack, after_response, changes_of, given_in, verdict_in, ending_by, cause_of_abort, lack_cause}
 use Rattle.txn_core.specs.Sweeps as sweep
 use Rattle.txn_core.specs.Agents as agents
-use Rattle.txn_core.specs.Agents.{Agent, Event, Take, Forget, next_of, take_in, take, begin, started, forget, is_idle, has_sense, max_jobs, after_all}
-use Rattle.txn_core.specs.Laws.{newest_of, IsReady, DecidesOnQuorums}
 use Rattle.txn_core.proofs.Setting.{changed_held, changed_keeps}
 use Rattle.txn_core.proofs.ToldLists.{all_told-tell}
 use Rattle.txn_core.proofs.SuiteQuorums.{Enough, or_true, enough_more, since_least, tell_since, tell_narrow, tell_mode, EnoughWith, current_of, Grown, Sound, sound_grown, sound_content}

@@ -1,85 +1,22 @@
 -- How far a transaction came, as its suites and its phase go on.
-use Rattle.std.proofs.Common.{◌≡◌, ℕ, Bool, true, false, cond, List, [], ◌∷◌, Option, Some, None, Ok, Err, refl, sym, ap, subst, ◌∙◌}
-use Rattle.std.specs.Prelude.{is_some, option_map}
-use Rattle.std.specs.Option.{MatchOption, IsSomeAnd}
-use Rattle.std.specs.Ordering.{nat_cmp}
-use Rattle.std.proofs.lemmas.Bool.{false≢true}
-use Rattle.std.proofs.lemmas.Option.{none-some, same_Some}
-use Rattle.sorted_map.specs.SortedMap.{IsOrdered}
-use Rattle.suite_content.specs.declared.content.Content.{Content}
-use Rattle.suite_collect.specs.declared.told.Said.{Said}
-use Rattle.suite_collect.specs.declared.told.Told.{Told}
-use Rattle.suite_collect.specs.Collecting.{mode_of, raise, Next, Current, Ask, Short, next, tell, told_by}
-use Rattle.rep_core.specs.declared.reply.Reply.{Reply}
-use Rattle.rep_core.specs.declared.reply.Verdict.{Verdict}
+use Rattle.txn_core.proofs.Vocabulary.{◌≡◌, ℕ, Bool, true, false, cond, List, [], ◌∷◌, Option, Some, None, Ok, Err, refl, sym, ap, subst, ◌∙◌, is_some, option_map, MatchOption, IsSomeAnd, nat_cmp, false≢true, none-some, same_Some}
+use Rattle.txn_core.proofs.Vocabulary.{IsOrdered, Content, Said, Told, mode_of, raise, Next, Current, Ask, Short, next, tell, Reply, Verdict, Request, is_prepared, Limited, Cache, Service, Hold, Know, MoreKnown, Knowledge, opened_suite}
+use Rattle.txn_core.proofs.Vocabulary.{Reached, IsReached, unbegun, takes, unbegun_is_reached, reached_stays, taking_tells_more, Cause, Ending, Lost, Undecided, Replied, Plan, Fetched, NextPhase, Gather, Fetch, Grant, Refuse, Fixed}
+use Rattle.txn_core.proofs.Vocabulary.{Task, Granted, Proposal, Phase, Gathering, Fetching, Widening, Preparing, Deciding, Finishing, TransactionRun, After, GoesOn, Ends, ReadPoint, GatheredSuite, Suites, suite_of, with_suite}
+use Rattle.txn_core.proofs.Vocabulary.{known_row, known_of, settled, Gathered, Step, decided, short_cause, verdict_in, ending_by, cause_of_abort, raised_or_new, tell_end, give_up, locked_at, prepare, gather_by, to_widen, widened}
+use Rattle.txn_core.proofs.Vocabulary.{widen_by, widen_one, widen_all, collected, hear, heard_of, said_to, after_reply, is_idle, Reaches, doing_of, heard_next, heard_one, heard, FallsShort, GoesBy, changed_at, settled_with}
+use Rattle.txn_core.proofs.Vocabulary.{with_content, learned_suites, adds, goes_on, Learned, Nothing, Quorum, On, Ended, PendingQuorum, IsReachedIn, IsReachedOn, IsReachedAt, IsReachedBy, IsReachedIf, IsReachedUnless, kept_after}
+use Rattle.txn_core.proofs.Vocabulary.{gather_again, follow, Becomes, taken, takes_in, new_unless, new_for, raised_at, with_asked_at, with_asked, opened_all, carried_out, shelved, IsPlanOf}
+use Rattle.suite_collect.specs.Collecting.{told_by}
 use Rattle.rep_core.specs.declared.reply.Verdict.TheVariants as verdict
-use Rattle.rep_core.specs.declared.request.Request.{Request}
-use Rattle.rep_core.specs.Fits.{is_prepared}
-use Rattle.weak_cache.specs.Cache.{Limited}
-use Rattle.weak_cache.specs.Entries.{Cache}
-use Rattle.file_ops.specs.declared.service.Service.{Service}
-use Rattle.file_exec.specs.declared.need.Need.TheVariants.{Hold, Know}
 use Rattle.file_exec.specs.declared.executor.Outcome.{Outcome as Executed}
 use Rattle.file_exec.specs.declared.executor.Outcome.TheVariants as exec
-use Rattle.file_exec.specs.Laws.{MoreKnown}
 use Rattle.file_exec.specs.Known as exec_known
-use Rattle.file_exec.specs.Known.{Knowledge, opened_suite}
-use Rattle.file_exec.specs.Reaching.{Reached, IsReached, unbegun, takes}
-use Rattle.file_exec.proofs.Reaching.{unbegun_is_reached, reached_stays, taking_tells_more}
-use Rattle.txn_core.specs.declared.ending.Cause.{Cause}
-use Rattle.txn_core.specs.declared.ending.Ending.{Ending}
-use Rattle.txn_core.specs.declared.ending.Cause.TheVariants.{Lost}
-use Rattle.txn_core.specs.declared.ending.Ending.TheVariants.{Undecided}
-use Rattle.txn_core.specs.declared.response.Response.TheVariants.{Replied}
 use Rattle.txn_core.specs.code.Hearing as hearing
-use Rattle.txn_core.specs.declared.plan.Plan.{Plan}
-use Rattle.txn_core.specs.declared.cache_after.Fetched.{Fetched}
-use Rattle.txn_core.specs.declared.next_phase.NextPhase.{NextPhase}
-use Rattle.txn_core.specs.declared.next_phase.NextPhase.TheVariants.{Gather, Fetch, Grant, Refuse}
-use Rattle.txn_core.specs.Doing.{Fixed, Task, Granted, Proposal, Phase, Gathering, Fetching, Widening, Preparing, Deciding, Finishing, TransactionRun, After, GoesOn, Ends}
-use Rattle.txn_core.specs.Suites.{ReadPoint, GatheredSuite, Suites, suite_of, with_suite, known_row, known_of, settled}
-use Rattle.txn_core.specs.Transactions.{
-  Gathered,
-  Step,
-  decided,
-  short_cause,
-  verdict_in,
-  ending_by,
-  cause_of_abort,
-  raised_or_new,
-  tell_end,
-  give_up,
-  locked_at,
-  prepare,
-  gather_by,
-  to_widen,
-  widened,
-  widen_by,
-  widen_one,
-  widen_all,
-  collected,
-  hear,
-  heard_of,
-  said_to,
-  after_reply,
-}
-use Rattle.txn_core.specs.Agents.{is_idle}
-use Rattle.txn_core.specs.code.AgentFields.{Reaches, doing_of}
 use Rattle.txn_core.specs.declared.agent.Doing.{Doing as Coded}
 use Rattle.txn_core.specs.declared.agent.Doing.TheVariants as coded
-use Rattle.txn_core.specs.code.Hearing.{heard_next, heard_one, heard, FallsShort}
-use Rattle.txn_core.specs.code.Goings.{GoesBy}
-use Rattle.txn_core.specs.code.Seeing.{changed_at, settled_with, with_content, learned_suites}
-use Rattle.txn_core.specs.code.Learning.{adds, goes_on}
-use Rattle.txn_core.specs.declared.learned.Learned.{Learned}
-use Rattle.txn_core.specs.declared.learned.Learned.TheVariants.{Nothing, Quorum, Content as Given}
+use Rattle.txn_core.specs.declared.learned.Learned.TheVariants.{Content as Given}
 use Rattle.txn_core.specs.declared.ending.Flow.{Flow as Going}
-use Rattle.txn_core.specs.declared.ending.Flow.TheVariants.{On, Ended}
-use Rattle.txn_core.specs.declared.pending_quorum.PendingQuorum.{PendingQuorum}
-use Rattle.txn_core.specs.code.Reaching.{IsReachedIn, IsReachedOn, IsReachedAt, IsReachedBy, IsReachedIf, IsReachedUnless, kept_after}
-use Rattle.txn_core.specs.code.NextPhases.{gather_again, follow}
-use Rattle.txn_core.specs.code.Steps.{Becomes, taken}
-use Rattle.txn_core.specs.code.Plans.{takes_in, new_unless, new_for, raised_at, with_asked_at, with_asked, opened_all, carried_out, shelved, IsPlanOf}
 use Rattle.txn_core.proofs.Kept.{Keeps, keeps_all}
 use Rattle.txn_core.proofs.Growing.{GoesOnFrom, more_known, no_less, collects, settles}
 use Rattle.txn_core.proofs.Openings.{known_opened}

@@ -1,69 +1,17 @@
 -- Each server that holds a lock prepares before a decision is asked for.
-use Rattle.std.proofs.Common.{◌≡◌, ℕ, zero, suc, ◌+◌, Bool, true, false, cond, List, [], ◌∷◌, ◌++◌, Option, Some, None, refl, sym, ap, subst, ◌∙◌, arith}
-use Rattle.std.specs.Prelude.{◌==◌, ◌&&◌, ◌||◌, filter, nat_lt, ◌*◌}
-use Rattle.std.specs.List.{list_any}
-use Rattle.std.specs.Ordering.{nat_cmp}
-use Rattle.std.specs.BTreeMap.{is_at}
-use Rattle.std.proofs.lemmas.Bool.{eqb-true, false≢true}
-use Rattle.std.proofs.lemmas.Option.{same_Some}
-use Rattle.std.proofs.lemmas.Bool.Decides.{nat_tests}
-use Rattle.suite_prefix.specs.declared.lock_mode.LockMode.TheVariants.{Shared}
-use Rattle.rep_core.specs.declared.request.Request.{Request}
+use Rattle.txn_core.proofs.Vocabulary.{◌≡◌, ℕ, zero, suc, ◌+◌, Bool, true, false, cond, List, [], ◌∷◌, ◌++◌, Option, Some, None, refl, sym, ap, subst, ◌∙◌, arith, ◌==◌, ◌&&◌, ◌||◌, filter, nat_lt, ◌*◌, list_any, nat_cmp, is_at}
+use Rattle.txn_core.proofs.Vocabulary.{eqb-true, false≢true, same_Some, nat_tests, Shared, Request, Verdict, Exchange, exchange_of, exchanges, of_job, is_prepare, says_prepared, was_prepared, AllPrepareFirst, Agent, Event, Take, Forget}
+use Rattle.txn_core.proofs.Vocabulary.{next_in, next_of, take_in, take, begin, started, forget, is_idle, has_sense, max_jobs, after_all, is_prepared, holds, Cache, Suites, suite_of, holds_lock, told_at, told_in, Response, Cause, Ending}
+use Rattle.txn_core.proofs.Vocabulary.{Job, Replied, Lacked, Lost, Undecided, Transaction, Sweep, Fixed, Task, Proposal, Phase, Gathering, Fetching, Widening, Preparing, Deciding, Finishing, TransactionRun, Sweeping, Listing, Resolving}
+use Rattle.txn_core.proofs.Vocabulary.{Telling, Breaking, SweepRun, Doing, Running, RunningSweep, After, GoesOn, Ends, tell_end, give_up, prepare, locked_at, after_response, request_in, changes_of, verdict_in, ending_by, cause_of_abort}
+use Rattle.txn_core.proofs.Vocabulary.{lack_cause, parts_at, Decision, is_decide, numbers_from, has_locks, ◌≤◌, ◌<◌, max_servers}
 use Rattle.rep_core.specs.declared.request.Request.TheVariants as request
-use Rattle.rep_core.specs.declared.reply.Verdict.{Verdict}
-use Rattle.txn_core.specs.Laws.{Exchange, exchange_of, exchanges, of_job, is_prepare, says_prepared, was_prepared, AllPrepareFirst}
 use Rattle.txn_core.specs.Agents as agents
-use Rattle.txn_core.specs.Agents.{Agent, Event, Take, Forget, next_in, next_of, take_in, take, begin, started, forget, is_idle, has_sense, max_jobs, after_all}
 use Rattle.txn_core.specs.Sweeps as sweep
-use Rattle.rep_core.specs.Fits.{is_prepared}
-use Rattle.suite_collect.specs.Telling.{holds}
-use Rattle.weak_cache.specs.Entries.{Cache}
-use Rattle.txn_core.specs.Suites.{Suites, suite_of, holds_lock, told_at, told_in}
-use Rattle.txn_core.specs.declared.response.Response.{Response}
-use Rattle.txn_core.specs.declared.ending.Cause.{Cause}
-use Rattle.txn_core.specs.declared.ending.Ending.{Ending}
-use Rattle.txn_core.specs.declared.job.Job.{Job}
-use Rattle.txn_core.specs.declared.response.Response.TheVariants.{Replied, Lacked}
-use Rattle.txn_core.specs.declared.ending.Cause.TheVariants.{Lost}
-use Rattle.txn_core.specs.declared.ending.Ending.TheVariants.{Undecided}
-use Rattle.txn_core.specs.declared.job.Job.TheVariants.{Transaction, Sweep}
-use Rattle.txn_core.specs.Doing.{
-  Fixed,
-  Task,
-  Proposal,
-  Phase,
-  Gathering,
-  Fetching,
-  Widening,
-  Preparing,
-  Deciding,
-  Finishing,
-  TransactionRun,
-  Sweeping,
-  Listing,
-  Resolving,
-  Telling,
-  Breaking,
-  SweepRun,
-  Doing,
-  Running,
-  RunningSweep,
-  After,
-  GoesOn,
-  Ends,
-}
-use Rattle.txn_core.specs.Transactions.{tell_end, give_up, prepare, locked_at, after_response, request_in, changes_of, verdict_in, ending_by, cause_of_abort, lack_cause}
-use Rattle.txn_core.specs.Writing.{parts_at}
 use Rattle.txn_core.proofs.Walk.{IsEarly, goes_response, goes_execute}
 use Rattle.txn_core.proofs.Asks.{asks_same, asked_as, fetched_as}
-use Rattle.rep_core.specs.declared.request.Decision.{Decision}
-use Rattle.txn_core.specs.Laws.{is_decide}
 use Rattle.txn_core.proofs.Locks.{or_false, or_or}
 use Rattle.txn_core.proofs.Locks as locks
-use Rattle.txn_core.specs.Transactions.{numbers_from}
-use Rattle.txn_core.specs.Suites.{has_locks}
-use Rattle.std.proofs.Common.{◌≤◌, ◌<◌}
-use Rattle.vote_core.specs.Validity.{max_servers}
 use Rattle.rep_core.specs.declared.reply.Verdict.TheVariants as verdict
 
 -- ---- the servers that hold locks

@@ -1,26 +1,10 @@
 -- What comes of a reply, phase by phase.
-use Rattle.std.proofs.Common.{◌≡◌, ℕ, true, List, ◌∷◌, Option, Some, None, refl, sym, ap, ◌∙◌, subst}
-use Rattle.std.specs.Prelude.{option_map}
-use Rattle.std.proofs.lemmas.Option.{same_Some}
-use Rattle.rep_core.specs.declared.request.Request.{Request}
+use Rattle.txn_core.proofs.Vocabulary.{◌≡◌, ℕ, true, List, ◌∷◌, Option, Some, None, refl, sym, ap, ◌∙◌, subst, option_map, same_Some, Request, Reply, Verdict, Asked, Next, Current, Ask, Short, next, request_for, Cache, Replied, Fixed}
+use Rattle.txn_core.proofs.Vocabulary.{Task, Granted, Proposal, Phase, Gathering, Fetching, Widening, Preparing, Deciding, Finishing, TransactionRun, GoesOn, home_of, GoesBy, IsWidenedFrom, ending_of, given, held, held_from}
+use Rattle.txn_core.proofs.Vocabulary.{ShowsUnused, asks_in, heard, heard_at, on_hearing, FitsAsked, taken, ReadPoint, GatheredSuite, Suites, suite_of, with_suite, Step, decided, decision_of, fetched_at, fetched_for, execute, widen_all}
+use Rattle.txn_core.proofs.Vocabulary.{asked_by, asked_for, request_in, request_of, heard_of, after_reply, changes_of, prepared, tell_end, shows_unused, parts_at, Ending, Flow}
 use Rattle.rep_core.specs.declared.request.Request.TheVariants as request
-use Rattle.rep_core.specs.declared.reply.Reply.{Reply}
-use Rattle.rep_core.specs.declared.reply.Verdict.{Verdict}
-use Rattle.suite_collect.specs.Collecting.{Asked, Next, Current, Ask, Short, next, request_for}
-use Rattle.weak_cache.specs.Entries.{Cache}
-use Rattle.txn_core.specs.declared.response.Response.TheVariants.{Replied}
-use Rattle.txn_core.specs.Doing.{Fixed, Task, Granted, Proposal, Phase, Gathering, Fetching, Widening, Preparing, Deciding, Finishing, TransactionRun, GoesOn, home_of}
-use Rattle.txn_core.specs.code.Goings.{GoesBy, IsWidenedFrom, ending_of, given, held, held_from}
 use Rattle.txn_core.specs.code.Goings.{widened as widens}
-use Rattle.txn_core.specs.code.Hearing.{ShowsUnused, asks_in, heard, heard_at, on_hearing}
-use Rattle.txn_core.specs.Standing.{FitsAsked}
-use Rattle.txn_core.specs.code.Steps.{taken}
-use Rattle.txn_core.specs.Suites.{ReadPoint, GatheredSuite, Suites, suite_of, with_suite}
-use Rattle.txn_core.specs.Transactions.{Step, decided, decision_of, fetched_at, fetched_for, execute, widen_all, asked_by, asked_for, request_in, request_of, heard_of, after_reply, changes_of, prepared, tell_end}
-use Rattle.txn_core.specs.code.Unused.{shows_unused}
-use Rattle.txn_core.specs.Writing.{parts_at}
-use Rattle.txn_core.specs.declared.ending.Ending.{Ending}
-use Rattle.txn_core.specs.declared.ending.Flow.{Flow}
 use Rattle.txn_core.proofs.Heard.{hears}
 use Rattle.txn_core.proofs.Unused.{fits_shows_unused}
 

@@ -1,18 +1,9 @@
 -- An agent that takes a response, as its code goes about it.
-use Rattle.std.proofs.Common.{◌≡◌, ℕ, Option, Some, None, refl, sym, ap, ◌∙◌}
-use Rattle.std.specs.Option.{option_or}
-use Rattle.rep_core.specs.declared.request.Request.{Request}
-use Rattle.weak_cache.specs.Entries.{Cache}
-use Rattle.txn_core.specs.declared.ending.Ending.{Ending}
-use Rattle.txn_core.specs.declared.response.Response.{Response}
-use Rattle.txn_core.specs.Agents.{Agent, Taken, left, end_of, take_in, take, next_in}
-use Rattle.txn_core.specs.Doing.{Fixed, TransactionRun, SweepRun, Doing, Running, RunningSweep, After, GoesOn, Ends}
+use Rattle.txn_core.proofs.Vocabulary.{◌≡◌, ℕ, Option, Some, None, refl, sym, ap, ◌∙◌, option_or, Request, Cache, Ending, Response, Agent, Taken, left, end_of, take_in, take, next_in, Fixed, TransactionRun, SweepRun, Doing, Running}
+use Rattle.txn_core.proofs.Vocabulary.{RunningSweep, After, GoesOn, Ends, Standing, left_by, Steps, Becomes, taken, Step, request_of}
 use Rattle.txn_core.specs.code.SweepRunFields.{Comes}
-use Rattle.txn_core.specs.Standing.{Standing, left_by}
 use Rattle.txn_core.specs.code.Telling.{Tells}
-use Rattle.txn_core.specs.code.Steps.{Steps, Becomes, taken}
 use Rattle.txn_core.specs.Sweeps as sweep
-use Rattle.txn_core.specs.Transactions.{Step, request_of}
 use Rattle.txn_core.specs.Transactions as txn_run
 
 -- what was taken: the ending, and the agent after it

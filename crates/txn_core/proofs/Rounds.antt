@@ -1,18 +1,9 @@
 -- The executor round by round: each round opens one content more that is to be had without asking.
-use Rattle.std.proofs.Common.{◌≡◌, ◌+◌, ℕ, zero, suc, List, [], ◌∷◌, ◌++◌, length, Option, Some, None, refl, sym, ap, subst, ◌∙◌, arith}
-use Rattle.std.specs.Prelude.{option_map}
-use Rattle.std.specs.Ordering.{nat_cmp}
-use Rattle.sorted_map.specs.SortedMap.{IsOrdered}
-use Rattle.suite_content.specs.declared.content.Content.{Content}
-use Rattle.file_exec.specs.declared.need.Need.TheVariants.{Hold, Know}
+use Rattle.txn_core.proofs.Vocabulary.{◌≡◌, ◌+◌, ℕ, zero, suc, List, [], ◌∷◌, ◌++◌, length, Option, Some, None, refl, sym, ap, subst, ◌∙◌, arith, option_map, nat_cmp, IsOrdered, Content, Hold, Know, Known, Knowledge, opened_suite}
+use Rattle.txn_core.proofs.Vocabulary.{ReadPoint, GatheredSuite, suite_of, known_of, Fixed, Task, Gathered, heard_on, free_content, open_first, open_suite, opened_with, open_needed, or_all, opened, answer_of, opened_first, opened_at}
+use Rattle.txn_core.proofs.Vocabulary.{opened_by, opened_all, free_first, free_of, to_open, IsPlayed}
 use Rattle.file_exec.specs.declared.executor.Outcome.{Outcome as Executed}
 use Rattle.file_exec.specs.declared.executor.Outcome.TheVariants as exec
-use Rattle.file_exec.specs.Known.{Known, Knowledge, opened_suite}
-use Rattle.txn_core.specs.Suites.{ReadPoint, GatheredSuite, suite_of, known_of}
-use Rattle.txn_core.specs.Doing.{Fixed, Task}
-use Rattle.txn_core.specs.Transactions.{Gathered, heard_on, free_content, open_first, open_suite, opened_with, open_needed, or_all, opened}
-use Rattle.txn_core.specs.code.Planning.{answer_of}
-use Rattle.txn_core.specs.code.Plans.{opened_first, opened_at, opened_by, opened_all, free_first, free_of, to_open, IsPlayed}
 use Rattle.txn_core.proofs.Kept.{keeps_all, free_kept, Keeps}
 use Rattle.txn_core.proofs.Openings.{known_opened}
 

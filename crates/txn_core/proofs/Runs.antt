@@ -1,6 +1,5 @@
 -- They hold by computation.
-use Rattle.std.proofs.Common.{refl}
-use Rattle.txn_core.specs.Runs.{WorkedRuns}
+use Rattle.txn_core.proofs.Vocabulary.{refl, WorkedRuns}
 
 pub worked_runs : WorkedRuns
 worked_runs = record {

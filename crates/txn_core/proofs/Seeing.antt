@@ -1,21 +1,10 @@
 -- The suites of a transaction, once something more is known, suite by suite.
-use Rattle.std.proofs.Common.{◌≡◌, ◌≢◌, ◌<◌, ℕ, zero, suc, Bool, true, false, cond, [], ◌∷◌, List, length, get_or, Option, Some, None, refl, sym, ap, subst, ◌∙◌, arith}
-use Rattle.std.specs.Prelude.{◌==◌, is_some, option_map}
-use Rattle.std.specs.Ordering.{nat_cmp, is_eq}
+use Rattle.txn_core.proofs.Vocabulary.{◌≡◌, ◌≢◌, ◌<◌, ℕ, zero, suc, Bool, true, false, cond, [], ◌∷◌, List, length, get_or, Option, Some, None, refl, sym, ap, subst, ◌∙◌, arith, ◌==◌, is_some, option_map, nat_cmp, is_eq, keys_of}
+use Rattle.txn_core.proofs.Vocabulary.{nat_cmp_total, exact_unsigned, eqb-true, eqb-false, equal_if, IsOrdered-insert, get_insert_here, get_insert_apart, same_maps, IsOrdered, Known, Learned, Nothing, Quorum, settled_with, with_content}
+use Rattle.txn_core.proofs.Vocabulary.{changed_at, learned_suites, view_of_suite, with_known, known_by, ReadPoint, GatheredSuite, Suites, suite_of, known_row, known_if}
 use Rattle.std.specs.List.Sorted.{IsStrictlySortedBy}
-use Rattle.std.specs.Map.{keys_of}
-use Rattle.std.proofs.lemmas.Cmp.{nat_cmp_total}
-use Rattle.std.proofs.lemmas.Map.Lookups.{exact_unsigned}
-use Rattle.std.proofs.lemmas.Bool.{eqb-true, eqb-false}
-use Rattle.sorted_map.specs.Comparisons.{equal_if}
-use Rattle.sorted_map.specs.Laws.{IsOrdered-insert}
-use Rattle.sorted_map.specs.Numbers.{get_insert_here, get_insert_apart, same_maps}
-use Rattle.sorted_map.specs.SortedMap.{IsOrdered}
-use Rattle.file_exec.specs.Known.{Known}
-use Rattle.txn_core.specs.declared.learned.Learned.{Learned}
-use Rattle.txn_core.specs.declared.learned.Learned.TheVariants.{Nothing, Quorum, Content as Given}
-use Rattle.txn_core.specs.code.Seeing.{settled_with, with_content, told_of, changed_at, learned_suites, view_of_suite, with_known, known_by}
-use Rattle.txn_core.specs.Suites.{ReadPoint, GatheredSuite, Suites, suite_of, known_row, known_if}
+use Rattle.txn_core.specs.declared.learned.Learned.TheVariants.{Content as Given}
+use Rattle.txn_core.specs.code.Seeing.{told_of}
 
 -- ---- a suite among those that are seen
 

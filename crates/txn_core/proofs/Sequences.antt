@@ -1,26 +1,9 @@
 -- What a plan sets and what follows it is what an execution comes to.
-use Rattle.std.proofs.Common.{◌≡◌, ℕ, Option, Some, None, refl, sym, ap, subst, ◌∙◌}
-use Rattle.std.specs.Prelude.{is_some, unwrap_or}
-use Rattle.std.proofs.lemmas.Bool.{false≢true}
-use Rattle.sorted_map.specs.Numbers.{get_insert_here}
-use Rattle.suite_prefix.specs.Absent.{absent_prefix}
-use Rattle.suite_prefix.specs.declared.lock_mode.LockMode.{LockMode}
-use Rattle.suite_prefix.specs.declared.lock_mode.LockMode.TheVariants.{Shared}
-use Rattle.suite_collect.specs.Collecting.{collect}
-use Rattle.weak_cache.specs.Entries.{Cache}
-use Rattle.weak_cache.specs.Cache.{Limited, hint}
-use Rattle.file_exec.specs.declared.need.Need.TheVariants.{Hold, Know}
+use Rattle.txn_core.proofs.Vocabulary.{◌≡◌, ℕ, Option, Some, None, refl, sym, ap, subst, ◌∙◌, is_some, unwrap_or, false≢true, get_insert_here, absent_prefix, LockMode, Shared, collect, Cache, Limited, hint, Hold, Know, Plan, NextPhase}
+use Rattle.txn_core.proofs.Vocabulary.{Fetched, GatheredSuite, Suites, suite_of, with_suite, Fixed, Task, Gathered, heard_on, gather, raised_or_new, proceed, execute, new_unless, new_for, with_asked_at, raised_at, with_asked}
+use Rattle.txn_core.proofs.Vocabulary.{opened_all, carried_out, IsPlanOf, shelved, HasUnused, next_phase_of, gather_again, follow}
 use Rattle.file_exec.specs.declared.executor.Outcome.{Outcome as Executed}
 use Rattle.file_exec.specs.declared.executor.Outcome.TheVariants as exec
-use Rattle.txn_core.specs.declared.plan.Plan.{Plan}
-use Rattle.txn_core.specs.declared.next_phase.NextPhase.{NextPhase}
-use Rattle.txn_core.specs.declared.cache_after.Fetched.{Fetched}
-use Rattle.txn_core.specs.Suites.{GatheredSuite, Suites, suite_of, with_suite}
-use Rattle.txn_core.specs.Doing.{Fixed, Task}
-use Rattle.txn_core.specs.Transactions.{Gathered, heard_on, gather, raised_or_new, proceed, execute}
-use Rattle.txn_core.specs.code.Plans.{new_unless, new_for, with_asked_at, raised_at, with_asked, opened_all, carried_out, IsPlanOf, shelved}
-use Rattle.txn_core.specs.code.Unused.{HasUnused}
-use Rattle.txn_core.specs.code.NextPhases.{next_phase_of, gather_again, follow}
 use Rattle.txn_core.proofs.Kept.{Keeps, keeps_all}
 
 gathers : (task : Task) (cache : Cache) (suites : Suites) (number : ℕ) (suite : GatheredSuite) →

@@ -1,27 +1,10 @@
 -- What the executor sets of the suites that were gathered.
-use Rattle.std.proofs.Common.{◌≡◌, ℕ, Bool, true, false, cond, List, [], ◌∷◌, Option, Some, None, refl, sym, ap, ◌∙◌}
-use Rattle.std.specs.Prelude.{option_map}
-use Rattle.std.specs.Ordering.{nat_cmp}
-use Rattle.std.specs.BTreeMap.{is_at}
-use Rattle.std.proofs.lemmas.Option.{same_Some}
-use Rattle.vote_core.specs.Quorums.{Configuration}
-use Rattle.suite_content.specs.declared.content.Content.{Content}
-use Rattle.suite_prefix.specs.declared.copies.Prefix.{Prefix}
-use Rattle.suite_prefix.specs.declared.copies.PrefixKind.{PrefixKind}
+use Rattle.txn_core.proofs.Vocabulary.{◌≡◌, ℕ, Bool, true, false, cond, List, [], ◌∷◌, Option, Some, None, refl, sym, ap, ◌∙◌, option_map, nat_cmp, is_at, same_Some, Configuration, Content, Prefix, PrefixKind, LockMode, Shared}
+use Rattle.txn_core.proofs.Vocabulary.{Exclusive, serves, Answer, Row, Change, changes_are_held, unset_votes_stay, ReadPoint, GatheredSuite, Suites, suite_of, row_with, known_row, known_if, known_of, Changes, Fixed, Task, change_of}
+use Rattle.txn_core.proofs.Vocabulary.{is_changed, heard_on}
 use Rattle.suite_prefix.specs.declared.copies.PrefixKind.TheVariants as kind
-use Rattle.suite_prefix.specs.declared.lock_mode.LockMode.{LockMode}
-use Rattle.suite_prefix.specs.declared.lock_mode.LockMode.TheVariants.{Shared, Exclusive}
-use Rattle.suite_prefix.specs.LockModes.{serves}
-use Rattle.file_ops.specs.declared.answer.Answer.{Answer}
-use Rattle.file_ops.specs.Rows.{Row}
-use Rattle.file_exec.specs.declared.changes.Change.{Change}
 use Rattle.file_exec.specs.declared.executor.Outcome.TheVariants as exec
 use Rattle.file_exec.specs.Known as known
-use Rattle.file_exec.proofs.Unset.{changes_are_held, unset_votes_stay}
-use Rattle.txn_core.specs.Suites.{ReadPoint, GatheredSuite, Suites, suite_of, row_with, known_row, known_if, known_of}
-use Rattle.txn_core.specs.Doing.{Changes, Fixed, Task}
-use Rattle.txn_core.specs.Writing.{change_of, is_changed}
-use Rattle.txn_core.specs.Transactions.{heard_on}
 
 -- ---- what is known of a suite
 

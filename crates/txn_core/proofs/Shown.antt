@@ -1,18 +1,9 @@
 -- What a collector that falls short was told, in the words of the exchanges.
-use Rattle.std.proofs.Common.{◌≡◌, ℕ, ◌+◌, Bool, true, false, cond, List, [], ◌∷◌, Option, Some, None, refl, sym, ap, ◌∙◌}
-use Rattle.std.specs.Prelude.{◌==◌, ◌&&◌, ◌||◌, nat_le, find}
-use Rattle.vote_core.specs.Quorums.{Representative, votes_in}
-use Rattle.suite_prefix.specs.declared.lock_mode.LockMode.{LockMode}
-use Rattle.suite_collect.specs.declared.told.Said.{Said}
+use Rattle.txn_core.proofs.Vocabulary.{◌≡◌, ℕ, ◌+◌, Bool, true, false, cond, List, [], ◌∷◌, Option, Some, None, refl, sym, ap, ◌∙◌, ◌==◌, ◌&&◌, ◌||◌, nat_le, find, Representative, votes_in, LockMode, Said, Told, newest, has_told}
+use Rattle.txn_core.proofs.Vocabulary.{first_busy, busy_in, Collector, told_since, votes_or, mode_or, all_told, counted, wanted, is_member, is_left, needed, got, ask_or_short, mode_of, Next, Current, Ask, Short, next, Response, Replied}
+use Rattle.txn_core.proofs.Vocabulary.{Lacked, said_to, Exchange, locks, told_of, told_by, more_told, heard_in, is_said, has_said, busy_at, first_of, first_busy_in}
 use Rattle.suite_collect.specs.declared.told.Said.TheVariants as said
-use Rattle.suite_collect.specs.declared.told.Told.{Told}
-use Rattle.suite_collect.specs.Telling.{newest, has_told, first_busy, busy_in}
-use Rattle.suite_collect.specs.Collecting.{Collector, told_since, votes_or, mode_or, all_told, counted, wanted, is_member, is_left, needed, got, ask_or_short, mode_of, Next, Current, Ask, Short, next}
 use Rattle.suite_collect.specs.Collecting as collecting
-use Rattle.txn_core.specs.declared.response.Response.{Response}
-use Rattle.txn_core.specs.declared.response.Response.TheVariants.{Replied, Lacked}
-use Rattle.txn_core.specs.Transactions.{said_to}
-use Rattle.txn_core.specs.Laws.{Exchange, locks, told_of, told_by, more_told, heard_in, is_said, has_said, busy_at, first_of, first_busy_in}
 
 abbrev pub kind_of : (LockMode → Said → Bool) → Told → Bool
 kind_of kind one = kind one.mode one.said

@@ -1,29 +1,11 @@
 -- A suite that had a Current is held on a quorum, and its prefixes only grow newer.
-use Rattle.std.proofs.Common.{◌≡◌, ℕ, ◌≤◌, ◌<◌, Bool, true, false, cond, ◌⊎◌, inl, inr, List, [], ◌∷◌, Option, Some, None, refl, sym, ap, subst, ◌∙◌, arith}
-use Rattle.std.specs.Prelude.{◌==◌, ◌||◌, find, nat_lt, nat_le}
-use Rattle.std.specs.List.{list_any}
-use Rattle.std.specs.Cmp.{unsigned_tied}
-use Rattle.std.proofs.lemmas.Bool.{eqb-true, false≢true}
-use Rattle.std.proofs.lemmas.Bool.Decides.{nat_tests}
-use Rattle.std.proofs.lemmas.Cmp.{nat_cmp_total}
-use Rattle.std.proofs.lemmas.Option.{same_Some}
-use Rattle.sorted_map.specs.Laws.{get-insert}
-use Rattle.vote_core.specs.Quorums.{Representative, Configuration, votes_in}
-use Rattle.suite_content.specs.declared.content.Content.{Content}
-use Rattle.suite_prefix.specs.declared.copies.Prefix.{Prefix}
-use Rattle.suite_prefix.specs.declared.lock_mode.LockMode.{LockMode}
-use Rattle.suite_prefix.specs.declared.lock_mode.LockMode.TheVariants.{Exclusive}
-use Rattle.suite_collect.specs.declared.told.Told.{Told}
-use Rattle.suite_collect.specs.declared.told.Said.{Said}
-use Rattle.suite_collect.specs.declared.told.Said.TheVariants.{Held, Busy, Down}
-use Rattle.suite_collect.specs.Telling.{newer, newest, holds}
-use Rattle.suite_collect.specs.Collecting.{Collector, all_told, needed_of, needed, got, counted, is_member, is_left, members_of, version, votes_or, mode_or, ask_or_short, tell, tell_at, Current, next}
+use Rattle.txn_core.proofs.Vocabulary.{◌≡◌, ℕ, ◌≤◌, ◌<◌, Bool, true, false, cond, ◌⊎◌, inl, inr, List, [], ◌∷◌, Option, Some, None, refl, sym, ap, subst, ◌∙◌, arith, ◌==◌, ◌||◌, find, nat_lt, nat_le, list_any, unsigned_tied, eqb-true}
+use Rattle.txn_core.proofs.Vocabulary.{false≢true, nat_tests, nat_cmp_total, same_Some, get-insert, Representative, Configuration, votes_in, Content, Prefix, LockMode, Exclusive, Told, Said, Held, Down, newer, newest, holds, Collector}
+use Rattle.txn_core.proofs.Vocabulary.{all_told, needed_of, needed, got, counted, is_member, is_left, members_of, version, votes_or, mode_or, ask_or_short, tell, tell_at, Current, next, ReadPoint, GatheredSuite, Suites, suite_of}
+use Rattle.txn_core.proofs.Vocabulary.{with_suite, settled, first_or, source_of, is_changed, sets_votes, Changes, Phase, Gathering, Fetching, Widening, Preparing, Deciding, Finishing, TransactionRun, After, GoesOn, Ends, votes_after}
+use Rattle.txn_core.proofs.Vocabulary.{changes_of, newest_of}
+use Rattle.suite_collect.specs.declared.told.Said.TheVariants.{Busy}
 use Rattle.suite_collect.specs.Collecting as collecting
-use Rattle.txn_core.specs.Suites.{ReadPoint, GatheredSuite, Suites, suite_of, with_suite, settled, first_or, source_of}
-use Rattle.txn_core.specs.Writing.{is_changed, sets_votes}
-use Rattle.txn_core.specs.Doing.{Changes, Phase, Gathering, Fetching, Widening, Preparing, Deciding, Finishing, TransactionRun, After, GoesOn, Ends}
-use Rattle.txn_core.specs.Transactions.{votes_after, changes_of}
-use Rattle.txn_core.specs.Laws.{newest_of}
 use Rattle.txn_core.proofs.Setting.{Keeps}
 
 -- ---- quorums and newer prefixes

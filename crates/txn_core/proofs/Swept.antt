@@ -1,21 +1,12 @@
 -- How many steps a sweep takes.
-use Rattle.std.proofs.Common.{◌≡◌, ℕ, ◌+◌, ◌≤◌, Bool, true, false, cond, List, [], ◌∷◌, ◌++◌, Option, Some, None, refl, sym, ap, subst, arith}
-use Rattle.std.specs.Prelude.{◌&&◌, ◌==◌, ◌*◌, not, length, filter, nat_lt}
-use Rattle.rep_core.specs.declared.lock.Lock.{Lock}
-use Rattle.rep_core.specs.declared.request.Request.{Request}
+use Rattle.txn_core.proofs.Vocabulary.{◌≡◌, ℕ, ◌+◌, ◌≤◌, Bool, true, false, cond, List, [], ◌∷◌, ◌++◌, Option, Some, None, refl, sym, ap, subst, arith, ◌&&◌, ◌==◌, ◌*◌, not, length, filter, nat_lt, Lock, Request, Reply, before}
+use Rattle.txn_core.proofs.Vocabulary.{has_prepared, Service, Response, Replied, Lacked, Sweep, home_of, Fixed, Sweeping, Listing, Resolving, Telling, Breaking, SweepRun, Doing, Running, RunningSweep, After, GoesOn, Ends, rising}
+use Rattle.txn_core.proofs.Vocabulary.{others, sweep_on, lost, after_answer, asked_now, Agent, Event, Take, Forget, next_in, next_of, take_in, take, begin, started, forget, is_idle, has_sense, max_jobs, Exchange, exchange_of, exchanges}
+use Rattle.txn_core.proofs.Vocabulary.{listed_in, listed, SweepEndsInTime}
 use Rattle.rep_core.specs.declared.request.Request.TheVariants as request
-use Rattle.rep_core.specs.declared.reply.Reply.{Reply}
 use Rattle.rep_core.specs.declared.reply.Reply.TheVariants as reply
-use Rattle.rep_core.specs.Locks.{before, has_prepared}
-use Rattle.file_ops.specs.declared.service.Service.{Service}
-use Rattle.txn_core.specs.declared.response.Response.{Response}
-use Rattle.txn_core.specs.declared.response.Response.TheVariants.{Replied, Lacked}
-use Rattle.txn_core.specs.declared.job.Job.TheVariants.{Sweep}
-use Rattle.txn_core.specs.Doing.{home_of, Fixed, Sweeping, Listing, Resolving, Telling, Breaking, SweepRun, Doing, Running, RunningSweep, After, GoesOn, Ends}
-use Rattle.txn_core.specs.Sweeps.{rising, others, sweep_on, lost, after_answer, after_response, asked_now}
+use Rattle.txn_core.specs.Sweeps.{after_response}
 use Rattle.txn_core.specs.Agents as agents
-use Rattle.txn_core.specs.Agents.{Agent, Event, Take, Forget, next_in, next_of, take_in, take, begin, started, forget, is_idle, has_sense, max_jobs}
-use Rattle.txn_core.specs.Laws.{Exchange, exchange_of, exchanges, listed_in, listed, SweepEndsInTime}
 use Rattle.txn_core.proofs.Asks.{asks_same}
 
 -- how many steps may follow

@@ -1,20 +1,9 @@
 -- What is known, told suite by suite.
-use Rattle.std.proofs.Common.{◌≡◌, ◌<◌, ◌+◌, ℕ, suc, length, drop, get_or, [], ◌∷◌, ◌++◌, Less, refl, sym, ap, ◌∙◌, append_assoc, arith}
-use Rattle.std.specs.Prelude.{Option, Some, None, is_some}
-use Rattle.std.specs.Ordering.{nat_cmp}
-use Rattle.std.specs.List.{AllByRecursion}
+use Rattle.txn_core.proofs.Vocabulary.{◌≡◌, ◌<◌, ◌+◌, ℕ, suc, length, drop, get_or, [], ◌∷◌, ◌++◌, Less, refl, sym, ap, ◌∙◌, arith, Option, Some, None, is_some, nat_cmp, AllByRecursion, keys_of, sorted_head, sorted_tail, drop-cons}
+use Rattle.txn_core.proofs.Vocabulary.{IsOrdered, Content, Prefix, Absent, File, Folder, Row, Known, ReadPoint, GatheredSuite, Suites, row_with, known_row, known_if, known_of}
+use Rattle.std.proofs.Common.{append_assoc}
 use Rattle.std.specs.List.Sorted.{IsStrictlySortedBy}
-use Rattle.std.specs.Map.{keys_of}
-use Rattle.std.proofs.lemmas.Map.Keys.{sorted_head, sorted_tail}
-use Rattle.std.proofs.Math.Seq.{drop-cons}
-use Rattle.sorted_map.specs.SortedMap.{IsOrdered}
-use Rattle.suite_content.specs.declared.content.Content.{Content}
-use Rattle.suite_prefix.specs.declared.copies.Prefix.{Prefix}
-use Rattle.suite_prefix.specs.declared.copies.PrefixKind.TheVariants.{Absent, File, Folder}
-use Rattle.file_ops.specs.Rows.{Row}
-use Rattle.file_exec.specs.Known.{Known}
 use Rattle.file_exec.specs.code.KnownFields as fields
-use Rattle.txn_core.specs.Suites.{ReadPoint, GatheredSuite, Suites, row_with, known_row, known_if, known_of}
 
 -- ---- one suite
 

@@ -1,37 +1,17 @@
 -- What a response makes of the lists of what was told to a transaction's collectors.
-use Rattle.std.proofs.Common.{◌≡◌, ℕ, zero, suc, ◌+◌, Bool, true, false, cond, List, [], ◌∷◌, ◌++◌, Option, Some, None, refl, sym, ap, subst, ◌∙◌}
-use Rattle.std.specs.Prelude.{◌==◌}
-use Rattle.std.specs.Ordering.{nat_cmp}
-use Rattle.std.specs.Cmp.{unsigned_tied}
+use Rattle.txn_core.proofs.Vocabulary.{◌≡◌, ℕ, zero, suc, ◌+◌, Bool, true, false, cond, List, [], ◌∷◌, ◌++◌, Option, Some, None, refl, sym, ap, subst, ◌∙◌, ◌==◌, nat_cmp, unsigned_tied, eqb-true, same_Some, none-some, nat_cmp_total}
+use Rattle.txn_core.proofs.Vocabulary.{IsOrdered, get-insert, IsOrdered-insert, Content, LockMode, Request, Reply, locks, told_by, more_told, Hold, Know, Told, Said, Collector, told_since, all_told, tell, tell_at, mode_of, request_for}
+use Rattle.txn_core.proofs.Vocabulary.{Asked, Poll, Upgrade, Next, Ask, Current, Short, next, Cache, ReadPoint, GatheredSuite, Suites, suite_of, with_suite, told_in, told_at, Response, Replied, home_of, Fixed, Task, Phase, Gathering}
+use Rattle.txn_core.proofs.Vocabulary.{Fetching, Widening, Preparing, Deciding, Finishing, TransactionRun, After, GoesOn, Ends, Stage, Executes, Point, point, Move, opens, gathers, lacks_lock, widens, widens_by, lacks_wide, MovesTo}
+use Rattle.txn_core.proofs.Vocabulary.{Collects, now_told, asks_on, falls_short, settles, loses, is_lacked, strays, gets, Step, Gathered, opened, or_all, open_needed, open_suite, open_first, opened_with, free_content, heard_on}
+use Rattle.txn_core.proofs.Vocabulary.{raised_or_new, said_to, execute, after_response, asked_by, asked_for, request_in, changes_of, decision_of, parts_at}
 use Rattle.std.specs.List.Sorted.{IsStrictlySortedBy}
-use Rattle.std.proofs.lemmas.Bool.{eqb-true}
-use Rattle.std.proofs.lemmas.Option.{same_Some, none-some}
-use Rattle.std.proofs.lemmas.Cmp.{nat_cmp_total}
-use Rattle.sorted_map.specs.SortedMap.{IsOrdered}
-use Rattle.sorted_map.specs.Laws.{get-insert, IsOrdered-insert}
-use Rattle.suite_content.specs.declared.content.Content.{Content}
-use Rattle.suite_prefix.specs.declared.lock_mode.LockMode.{LockMode}
-use Rattle.rep_core.specs.declared.request.Request.{Request}
 use Rattle.rep_core.specs.declared.request.Request.TheVariants as request
-use Rattle.rep_core.specs.declared.reply.Reply.{Reply}
-use Rattle.txn_core.specs.Laws.{locks, told_by, more_told}
-use Rattle.file_exec.specs.declared.need.Need.TheVariants.{Hold, Know}
 use Rattle.file_exec.specs.declared.executor.Outcome.{Outcome as Executed}
 use Rattle.file_exec.specs.declared.executor.Outcome.TheVariants as exec
-use Rattle.suite_collect.specs.declared.told.Told.{Told}
-use Rattle.suite_collect.specs.declared.told.Said.{Said}
-use Rattle.suite_collect.specs.Collecting.{Collector, told_since, all_told, tell, tell_at, mode_of, request_for, Asked, Poll, Upgrade, Next, Ask, Current, Short, next}
 use Rattle.suite_collect.specs.Collecting as collecting
-use Rattle.weak_cache.specs.Entries.{Cache}
-use Rattle.txn_core.specs.Suites.{ReadPoint, GatheredSuite, Suites, suite_of, with_suite, told_in, told_at}
-use Rattle.txn_core.specs.declared.response.Response.{Response}
-use Rattle.txn_core.specs.declared.response.Response.TheVariants.{Replied}
-use Rattle.txn_core.specs.Doing.{home_of, Fixed, Task, Phase, Gathering, Fetching, Widening, Preparing, Deciding, Finishing, TransactionRun, After, GoesOn, Ends}
-use Rattle.txn_core.specs.Moves.{Stage, Executes, Point, point, Move, opens, gathers, lacks_lock, widens, widens_by, lacks_wide, MovesTo, Collects, now_told, Hears as Moved, asks_on, falls_short, settles, loses, is_lacked, strays, gets}
+use Rattle.txn_core.specs.Moves.{Hears as Moved}
 use Rattle.txn_core.proofs.Moving.{kept, left_by, collects_asks, asks_nothing, execute_moves, response_moves}
-use Rattle.txn_core.specs.Transactions.{Step, Gathered, opened, or_all, open_needed, open_suite, open_first, opened_with, free_content}
-use Rattle.txn_core.specs.Transactions.{heard_on, raised_or_new, said_to, execute, after_response, asked_by, asked_for, request_in, changes_of, decision_of}
-use Rattle.txn_core.specs.Writing.{parts_at}
 use Rattle.txn_core.proofs.Asks.{asks_same, fetched_as}
 
 -- ---- what was told of each suite

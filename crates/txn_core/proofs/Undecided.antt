@@ -1,46 +1,16 @@
 -- Undecided ends are caused.
-use Rattle.std.proofs.Common.{◌≡◌, ℕ, ◌+◌, Bool, true, false, cond, ◌⊎◌, inl, inr, List, [], ◌∷◌, ◌++◌, Option, Some, None, refl, sym, ap, subst, ◌∙◌}
-use Rattle.std.specs.Prelude.{◌==◌}
-use Rattle.std.proofs.lemmas.Bool.{eqb-true}
-use Rattle.std.proofs.lemmas.Option.{same_Some}
-use Rattle.acl_core.specs.Identity.{Identity}
-use Rattle.file_ops.specs.declared.operation.Op.{Op}
-use Rattle.weak_cache.specs.Entries.{Cache}
-use Rattle.suite_collect.specs.declared.told.Said.{Said}
-use Rattle.vote_core.specs.Quorums.{Configuration}
-use Rattle.suite_prefix.specs.declared.copies.Prefix.{Prefix}
-use Rattle.suite_prefix.specs.declared.lock_mode.LockMode.{LockMode}
-use Rattle.suite_prefix.specs.declared.lock_mode.LockMode.TheVariants.{Exclusive}
-use Rattle.file_ops.specs.declared.service.Service.{Service}
-use Rattle.rep_core.specs.declared.lock.Lock.{Lock}
-use Rattle.rep_core.specs.declared.request.Request.{Request}
+use Rattle.txn_core.proofs.Vocabulary.{◌≡◌, ℕ, ◌+◌, Bool, true, false, cond, ◌⊎◌, inl, inr, List, [], ◌∷◌, ◌++◌, Option, Some, None, refl, sym, ap, subst, ◌∙◌, ◌==◌, eqb-true, same_Some, Identity, Op, Cache, Said, Configuration, Prefix}
+use Rattle.txn_core.proofs.Vocabulary.{LockMode, Exclusive, Service, Lock, Request, Reply, Lack, fits, newest, has_told, has_refused, first_busy, told_since, votes_or, mode_or, all_told, counted, wanted, is_member, contains_from}
+use Rattle.txn_core.proofs.Vocabulary.{short_has_none_left, Response, Replied, Lacked, Cause, Unavailable, Busy, Lost, Overruled, HomeDown, Full, Memory, Ending, Answered, Refused, Swept, Undecided, Job, Transaction, Sweep, Suites}
+use Rattle.txn_core.proofs.Vocabulary.{home_of, Fixed, Task, TransactionRun, Sweeping, Listing, Resolving, Telling, Breaking, SweepRun, Doing, Running, RunningSweep, After, GoesOn, Ends, heard_on, to_widen, after_response, lack_cause}
+use Rattle.txn_core.proofs.Vocabulary.{Agent, Event, Take, next_in, next_of, end_of, take_in, begin, after_all, Exchange, of_job, exchange_of, told_of, fits_response, all_fit, has_said, holding, refusing, down, task_of, IsStart}
+use Rattle.txn_core.proofs.Vocabulary.{IsContentOf, WereGathered, IsWanted, SetsVotes, Was, WasLost, DidNotServe, says_down, is_lack, IsCaused, EndsAreCaused}
 use Rattle.rep_core.specs.declared.request.Request.TheVariants as request
-use Rattle.rep_core.specs.declared.reply.Reply.{Reply}
 use Rattle.rep_core.specs.declared.reply.Reply.TheVariants as reply
-use Rattle.rep_core.specs.declared.stamped.Lack.{Lack}
 use Rattle.rep_core.specs.declared.stamped.Lack.TheVariants as lack
-use Rattle.rep_core.specs.Fits.{fits}
-use Rattle.suite_collect.specs.Telling.{newest, has_told, has_refused, first_busy}
-use Rattle.suite_collect.specs.Collecting.{told_since, votes_or, mode_or, all_told, counted, wanted, is_member}
 use Rattle.suite_collect.specs.Collecting as collecting
-use Rattle.rep_core.proofs.Members.{contains_from}
-use Rattle.suite_collect.proofs.Shortness.{short_has_none_left}
-use Rattle.txn_core.specs.declared.response.Response.{Response}
-use Rattle.txn_core.specs.declared.response.Response.TheVariants.{Replied, Lacked}
-use Rattle.txn_core.specs.declared.ending.Cause.{Cause}
-use Rattle.txn_core.specs.declared.ending.Cause.TheVariants.{Unavailable, Busy, Lost, Overruled, HomeDown, Full, Memory}
-use Rattle.txn_core.specs.declared.ending.Ending.{Ending}
-use Rattle.txn_core.specs.declared.ending.Ending.TheVariants.{Answered, Refused, Swept, Undecided}
-use Rattle.txn_core.specs.declared.job.Job.{Job}
-use Rattle.txn_core.specs.declared.job.Job.TheVariants.{Transaction, Sweep}
-use Rattle.txn_core.specs.Suites.{Suites}
-use Rattle.txn_core.specs.Doing.{home_of, Fixed, Task, TransactionRun, Sweeping, Listing, Resolving, Telling, Breaking, SweepRun, Doing, Running, RunningSweep, After, GoesOn, Ends}
-use Rattle.txn_core.specs.Transactions.{heard_on, to_widen, after_response, lack_cause}
 use Rattle.txn_core.specs.Sweeps as sweep
-use Rattle.txn_core.specs.Agents.{Agent, Event, Take, next_in, next_of, end_of, take_in, begin, after_all}
-use Rattle.txn_core.specs.Laws.{Exchange, of_job, exchange_of, told_of, fits_response, all_fit, has_said, holding, refusing, down, task_of, IsStart}
-use Rattle.txn_core.specs.Caching.{IsContentOf}
-use Rattle.txn_core.specs.Undecided.{WereGathered, IsWanted, SetsVotes, IsShort, Was, WasLost, DidNotServe, says_down, is_lack, IsCaused, EndsAreCaused}
+use Rattle.txn_core.specs.Undecided.{IsShort}
 use Rattle.txn_core.proofs.Gathers.{Base, AllGathered, Wants, Sets}
 use Rattle.txn_core.proofs.Causes.{push, Begun, ShortBy, CausedBy, EndIs, OrFresh, LeftOf, was_now, last_fits}
 use Rattle.txn_core.proofs.Upheld.{Begins, Started, Base_of, started_is, untold_is, begins_more, started_more, fresh_begins, map_cause, DoingStands, after-append, exchanges-take, response_leaves, stands_after}

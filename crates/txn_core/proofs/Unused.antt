@@ -1,34 +1,12 @@
 -- Versions that are not used up.
-use Rattle.std.proofs.Common.{◌≡◌, ℕ, ◌<◌, max, Bool, true, false, cond, inl, inr, List, [], ◌∷◌, Option, Some, None, refl, sym, ap, ◌∙◌, arith}
-use Rattle.std.specs.Prelude.{◌==◌, ◌&&◌, ◌||◌, nat_lt, not, unwrap_or, IfSome}
-use Rattle.std.specs.Option.{option_or}
-use Rattle.std.proofs.lemmas.Bool.Decides.{nat_tests}
-use Rattle.std.proofs.lemmas.Option.{same_Some}
-use Rattle.suite_prefix.specs.declared.copies.Prefix.{Prefix}
-use Rattle.suite_prefix.specs.declared.lock_mode.LockMode.{LockMode}
-use Rattle.suite_prefix.specs.Absent.{absent_prefix}
-use Rattle.rep_core.specs.Store.{is_used_up}
-use Rattle.rep_core.specs.Fits.{fits}
-use Rattle.rep_core.specs.declared.reply.Reply.{Reply}
+use Rattle.txn_core.proofs.Vocabulary.{◌≡◌, ℕ, ◌<◌, max, Bool, true, false, cond, inl, inr, List, [], ◌∷◌, Option, Some, None, refl, sym, ap, ◌∙◌, arith, ◌==◌, ◌&&◌, ◌||◌, nat_lt, not, unwrap_or, IfSome, option_or, nat_tests, same_Some}
+use Rattle.txn_core.proofs.Vocabulary.{Prefix, LockMode, absent_prefix, is_used_up, fits, Reply, Said, Told, read_point, newer, newest, version_in, shown, greatest, Collector, Asked, Poll, Upgrade, Next, Current, Ask, Short}
+use Rattle.txn_core.proofs.Vocabulary.{first_members, version, collect, tell_at, tell, request_for, mode_asked, next, gives_of, Entry, Cache, forgotten, Limits, Limited, hint, searched, put, entries_come_from_puts, ReadPoint, Fixed}
+use Rattle.txn_core.proofs.Vocabulary.{Task, start_from, Learned, Nothing, Quorum, Fits, kept_by, shelved, HasUnused, SawUnused, GaveUnused, first_unused, shows_unused, says_unused}
 use Rattle.rep_core.specs.declared.reply.Reply.TheVariants as reply
-use Rattle.suite_collect.specs.declared.told.Said.{Said}
 use Rattle.suite_collect.specs.declared.told.Said.TheVariants as said
-use Rattle.suite_collect.specs.declared.told.Told.{Told}
-use Rattle.suite_collect.specs.Answering.{read_point}
-use Rattle.suite_collect.specs.Telling.{newer, newest, version_in, shown, greatest}
-use Rattle.suite_collect.specs.Collecting.{Collector, Widening, Asked, Poll, Upgrade, Next, Current, Ask, Short, first_members, version, collect, tell_at, tell, request_for, mode_asked, told_by, next}
-use Rattle.suite_collect.proofs.Collected.{gives_of}
-use Rattle.weak_cache.specs.Entries.{Entry, Cache, forgotten}
-use Rattle.weak_cache.specs.Cache.{Limits, Limited, hint, searched, put}
-use Rattle.weak_cache.proofs.Origins.{entries_come_from_puts}
-use Rattle.txn_core.specs.Suites.{ReadPoint}
-use Rattle.txn_core.specs.Doing.{Fixed, Task}
-use Rattle.txn_core.specs.Transactions.{start_from}
-use Rattle.txn_core.specs.declared.learned.Learned.{Learned}
-use Rattle.txn_core.specs.declared.learned.Learned.TheVariants.{Nothing, Quorum, Content as Given}
-use Rattle.txn_core.specs.code.Learning.{Fits, kept_by}
-use Rattle.txn_core.specs.code.Plans.{shelved}
-use Rattle.txn_core.specs.code.Unused.{HasUnused, SawUnused, GaveUnused, first_unused, shows_unused, says_unused}
+use Rattle.suite_collect.specs.Collecting.{Widening, told_by}
+use Rattle.txn_core.specs.declared.learned.Learned.TheVariants.{Content as Given}
 
 -- ---- replies
 

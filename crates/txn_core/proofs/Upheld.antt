@@ -1,55 +1,11 @@
 -- What stands after every event of a job.
-use Rattle.std.proofs.Common.{◌≡◌, ℕ, Bool, true, false, cond, inl, inr, List, [], ◌∷◌, ◌++◌, Option, Some, None, refl, sym, ap, subst, ◌∙◌}
-use Rattle.std.specs.Prelude.{◌+◌, ◌==◌, ◌&&◌, nat_lt}
-use Rattle.std.proofs.lemmas.List.{append-nil, append_assoc}
-use Rattle.std.proofs.lemmas.Option.{none-some}
-use Rattle.acl_core.specs.Identity.{Identity}
-use Rattle.file_ops.specs.declared.operation.Op.{Op}
-use Rattle.suite_content.specs.declared.content.Content.{Content}
-use Rattle.suite_prefix.specs.declared.copies.Prefix.{Prefix}
-use Rattle.rep_core.specs.declared.lock.Lock.{Lock}
-use Rattle.rep_core.specs.declared.request.Request.{Request}
-use Rattle.rep_core.specs.declared.reply.Reply.{Reply}
+use Rattle.txn_core.proofs.Vocabulary.{◌≡◌, ℕ, Bool, true, false, cond, inl, inr, List, [], ◌∷◌, ◌++◌, Option, Some, None, refl, sym, ap, subst, ◌∙◌, ◌+◌, ◌==◌, ◌&&◌, nat_lt, append-nil, append_assoc, none-some, Identity, Op, Content}
+use Rattle.txn_core.proofs.Vocabulary.{Prefix, Lock, Request, Reply, Cache, ReadPoint, GatheredSuite, Suites, suite_of, Response, Replied, Lacked, Cause, Ending, Unavailable, Busy, Lost, Overruled, HomeDown, Full, Memory, Answered}
+use Rattle.txn_core.proofs.Vocabulary.{Refused, Swept, Undecided, Job, Transaction, Sweep, home_of, Fixed, Task, Phase, Gathering, Fetching, Widening, Preparing, Deciding, Finishing, TransactionRun, Sweeping, Listing, Resolving}
+use Rattle.txn_core.proofs.Vocabulary.{Telling, Breaking, SweepRun, Doing, Running, RunningSweep, After, GoesOn, Ends, Step, Gathered, start_from, execute, after_response, request_in, request_of, Agent, Event, Take, Forget, next_in}
+use Rattle.txn_core.proofs.Vocabulary.{next_of, left, take_in, take, begin, started, forget, is_idle, has_sense, max_jobs, after_event, after_all, Exchange, exchange_of, exchanges, of_job, told_of, locks, task_of, asks_for, IsStart}
 use Rattle.rep_core.specs.declared.reply.Reply.TheVariants as reply
-use Rattle.weak_cache.specs.Entries.{Cache}
-use Rattle.txn_core.specs.Suites.{ReadPoint, GatheredSuite, Suites, suite_of}
-use Rattle.txn_core.specs.declared.response.Response.{Response}
-use Rattle.txn_core.specs.declared.response.Response.TheVariants.{Replied, Lacked}
-use Rattle.txn_core.specs.declared.ending.Cause.{Cause}
-use Rattle.txn_core.specs.declared.ending.Ending.{Ending}
-use Rattle.txn_core.specs.declared.ending.Cause.TheVariants.{Unavailable, Busy, Lost, Overruled, HomeDown, Full, Memory}
-use Rattle.txn_core.specs.declared.ending.Ending.TheVariants.{Answered, Refused, Swept, Undecided}
-use Rattle.txn_core.specs.declared.job.Job.{Job}
-use Rattle.txn_core.specs.declared.job.Job.TheVariants.{Transaction, Sweep}
-use Rattle.txn_core.specs.Doing.{
-  home_of,
-  Fixed,
-  Task,
-  Phase,
-  Gathering,
-  Fetching,
-  Widening,
-  Preparing,
-  Deciding,
-  Finishing,
-  TransactionRun,
-  Sweeping,
-  Listing,
-  Resolving,
-  Telling,
-  Breaking,
-  SweepRun,
-  Doing,
-  Running,
-  RunningSweep,
-  After,
-  GoesOn,
-  Ends,
-}
-use Rattle.txn_core.specs.Transactions.{Step, Gathered, start_from, execute, after_response, request_in, request_of}
 use Rattle.txn_core.specs.Sweeps as sweep
-use Rattle.txn_core.specs.Agents.{Agent, Event, Take, Forget, next_in, next_of, left, take_in, take, begin, started, forget, is_idle, has_sense, max_jobs, after_event, after_all}
-use Rattle.txn_core.specs.Laws.{Exchange, exchange_of, exchanges, of_job, told_of, locks, task_of, asks_for, IsStart}
 use Rattle.txn_core.proofs.ToldLists.{are_nil, asks_lock}
 use Rattle.txn_core.proofs.Gathers.{self, Base, Follows, knows_map, wants_map, sets_map, grants_map, Kept}
 use Rattle.txn_core.proofs.Contents.{FreeIn, free_before, Content_of, content_more, free_now, given_now}

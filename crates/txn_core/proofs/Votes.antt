@@ -1,29 +1,11 @@
 -- The suites that get votes are widened one after the other.
-use Rattle.std.proofs.Common.{◌≡◌, ℕ, ◌+◌, suc, true, false, cond, List, [], ◌∷◌, drop, map, length, get_or, ◌≤◌, ◌<◌, ◌⊎◌, inl, inr, refl, sym, ap, ◌∙◌, subst, arith}
-use Rattle.std.specs.Prelude.{filter, slice_get, Option, Some, None, Ok, IsSome}
-use Rattle.std.specs.Ordering.{nat_cmp}
-use Rattle.std.proofs.Math.Seq.{drop-cons}
-use Rattle.std.proofs.Math.ListN.{drop_of_length-le}
-use Rattle.std.proofs.lemmas.Cmp.{nat_cmp_total, eq_by_cmp_equiv}
-use Rattle.std.proofs.lemmas.Map.Entries.{lookup_from_place}
-use Rattle.std.proofs.lemmas.Map.Keys.{IsDistinct-from_sorted}
-use Rattle.std.proofs.lemmas.Option.{slice_get_within, get_or_from_slice_get, slice_get_cases, none-some}
-use Rattle.sorted_map.specs.SortedMap.{IsOrdered, replace}
-use Rattle.sorted_map.specs.Edits.{insert_present}
-use Rattle.vote_core.specs.Quorums.{Configuration}
-use Rattle.file_exec.specs.declared.changes.Change.{Change}
-use Rattle.suite_collect.specs.Collecting.{Next, widen, next}
-use Rattle.weak_cache.specs.Entries.{Cache}
-use Rattle.suite_collect.specs.declared.coming.Coming.{Coming}
+use Rattle.txn_core.proofs.Vocabulary.{◌≡◌, ℕ, ◌+◌, suc, true, false, cond, List, [], ◌∷◌, drop, map, length, get_or, ◌≤◌, ◌<◌, ◌⊎◌, inl, inr, refl, sym, ap, ◌∙◌, subst, arith, filter, slice_get, Option, Some, None, Ok, IsSome, nat_cmp}
+use Rattle.txn_core.proofs.Vocabulary.{drop-cons, drop_of_length-le, nat_cmp_total, eq_by_cmp_equiv, lookup_from_place, IsDistinct-from_sorted, slice_get_within, get_or_from_slice_get, slice_get_cases, none-some, IsOrdered, replace}
+use Rattle.txn_core.proofs.Vocabulary.{insert_present, Configuration, Change, Next, widen, next, Cache, Coming, Comes, Changes, Granted, Task, Widening, TransactionRun, Steps, WidensTo, Ending, GatheredSuite, Suites, suite_of}
+use Rattle.txn_core.proofs.Vocabulary.{with_suite, Step, on_with, give_up, short_cause, to_widen, votes_then, widened, widen_by, widen_one, widen_all, prepare, locked_at, change_of}
 use Rattle.suite_collect.specs.declared.coming.Coming.TheVariants as coming
 use Rattle.suite_collect.specs.declared.coming.Asked.{Asked}
-use Rattle.suite_collect.specs.Answering.{Comes}
-use Rattle.txn_core.specs.Doing.{Changes, Granted, Task, Widening, TransactionRun}
-use Rattle.txn_core.specs.code.Steps.{Steps, WidensTo, Widens}
-use Rattle.txn_core.specs.declared.ending.Ending.{Ending}
-use Rattle.txn_core.specs.Suites.{GatheredSuite, Suites, suite_of, with_suite}
-use Rattle.txn_core.specs.Transactions.{Step, on_with, give_up, short_cause, to_widen, votes_then, widened, widen_by, widen_one, widen_all, prepare, locked_at}
-use Rattle.txn_core.specs.Writing.{change_of}
+use Rattle.txn_core.specs.code.Steps.{Widens}
 
 -- ---- the changes from a place on
 

@@ -1,40 +1,8 @@
 -- One walk through what a transaction does with a response, for each claim on what is left after it.
-use Rattle.std.proofs.Common.{ℕ, subst}
-use Rattle.rep_core.specs.declared.request.Request.{Request}
-use Rattle.suite_collect.specs.Collecting.{next}
-use Rattle.weak_cache.specs.Entries.{Cache}
-use Rattle.txn_core.specs.Suites.{Suites}
-use Rattle.txn_core.specs.declared.response.Response.{Response}
-use Rattle.txn_core.specs.declared.ending.Cause.{Cause}
-use Rattle.txn_core.specs.Doing.{Fixed, Task, Proposal, Phase, Gathering, Fetching, Widening, TransactionRun, After, GoesOn}
-use Rattle.txn_core.specs.Moves.{
-  Stage,
-  Executes,
-  Widens,
-  Asks,
-  Prepares,
-  PreparesAt,
-  GivesUp,
-  Tells,
-  TellsAt,
-  Point,
-  point,
-  EndsIn,
-  Move,
-  prepares,
-  MovesTo,
-  gathering,
-  widening,
-  Hears,
-  settles,
-  prepared_by,
-  decides,
-  tells_next,
-  told_all,
-  asks_on,
-}
+use Rattle.txn_core.proofs.Vocabulary.{ℕ, subst, Request, next, Cache, Suites, Response, Cause, Fixed, Task, Proposal, Phase, Gathering, Fetching, Widening, TransactionRun, After, GoesOn, Stage, Executes, Widens, Asks, Prepares}
+use Rattle.txn_core.proofs.Vocabulary.{PreparesAt, GivesUp, Tells, TellsAt, Point, point, EndsIn, Move, prepares, MovesTo, gathering, widening, Hears, settles, prepared_by, decides, tells_next, told_all, asks_on, Step, Gathered}
+use Rattle.txn_core.proofs.Vocabulary.{give_up, prepare, locked_at, execute, after_response}
 use Rattle.txn_core.proofs.Moving.{kept, execute_moves, response_moves}
-use Rattle.txn_core.specs.Transactions.{Step, Gathered, give_up, prepare, locked_at, execute, after_response}
 
 -- a phase in which locks and contents are gathered
 abbrev pub IsEarly : Phase → Type 0

@@ -1,21 +1,8 @@
 -- Where memory may be wanting, phase by phase.
-use Rattle.std.proofs.Common.{◌≡◌, ℕ, true, false, Option, Some, None, Result, Ok, Err, refl, sym, ap, ◌∙◌}
-use Rattle.std.specs.Prelude.{List, ◌∷◌, is_some, IfErr}
-use Rattle.std.specs.declared.alloc.AllocError.{AllocError}
-use Rattle.rep_core.specs.declared.reply.Reply.{Reply}
-use Rattle.rep_core.specs.Fits.{is_held}
+use Rattle.txn_core.proofs.Vocabulary.{◌≡◌, ℕ, true, false, Option, Some, None, Result, Ok, Err, refl, sym, ap, ◌∙◌, List, ◌∷◌, is_some, IfErr, AllocError, Reply, is_held, is_answered, Asked, Poll, Upgrade, request_for, Flow, Response}
+use Rattle.txn_core.proofs.Vocabulary.{Replied, Agent, next_in, next_of, Fixed, Proposal, Gathering, Fetching, Widening, Deciding, Granted, TransactionRun, Doing, ReadPoint, GatheredSuite, suite_of, given_in, verdict_in, asked_by}
+use Rattle.txn_core.proofs.Vocabulary.{asked_for, fetched_at, fetched_for, request_in, request_of, by_reply, by_taking, asks_in}
 use Rattle.rep_core.specs.declared.reply.Verdict.TheVariants as verdict
-use Rattle.rep_core.specs.Service.{is_answered}
-use Rattle.suite_collect.specs.Collecting.{Asked, Poll, Upgrade, request_for}
-use Rattle.txn_core.specs.declared.ending.Flow.{Flow}
-use Rattle.txn_core.specs.declared.response.Response.{Response}
-use Rattle.txn_core.specs.declared.response.Response.TheVariants.{Replied}
-use Rattle.txn_core.specs.Agents.{Agent, next_in, next_of}
-use Rattle.txn_core.specs.Doing.{Fixed, Proposal, Gathering, Fetching, Widening, Deciding, Granted, TransactionRun, Doing}
-use Rattle.txn_core.specs.Suites.{ReadPoint, GatheredSuite, suite_of}
-use Rattle.txn_core.specs.Transactions.{given_in, verdict_in, asked_by, asked_for, fetched_at, fetched_for, request_in, request_of}
-use Rattle.txn_core.specs.Wanting.{by_reply, by_taking}
-use Rattle.txn_core.specs.code.Hearing.{asks_in}
 use Rattle.txn_core.proofs.Replies.{server_of, asked_at, asks_of}
 
 -- ---- a reply to what a suite asks

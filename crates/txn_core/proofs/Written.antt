@@ -1,53 +1,12 @@
 -- What is written is fixed before the first Prepare.
-use Rattle.std.proofs.Common.{◌≡◌, ℕ, true, false, cond, inl, inr, List, [], ◌∷◌, ◌++◌, Option, Some, None, refl, sym, ap, subst, ◌∙◌}
-use Rattle.std.proofs.lemmas.Bool.{false≢true}
-use Rattle.std.proofs.lemmas.Option.{same_Some}
-use Rattle.rep_core.proofs.Members.{Has, has_from}
-use Rattle.rep_core.specs.Fits.{is_prepared}
-use Rattle.rep_core.specs.declared.request.Part.{Part}
-use Rattle.rep_core.specs.declared.request.Request.{Request}
+use Rattle.txn_core.proofs.Vocabulary.{◌≡◌, ℕ, true, false, cond, inl, inr, List, [], ◌∷◌, ◌++◌, Option, Some, None, refl, sym, ap, subst, ◌∙◌, false≢true, same_Some, Has, has_from, is_prepared, Part, Request, Verdict, Cache, Suites}
+use Rattle.txn_core.proofs.Vocabulary.{suite_of, parts_at, Response, Ending, Replied, Lacked, Lost, Undecided, Changes, home_of, Fixed, Task, Proposal, Phase, Gathering, Fetching, Widening, Preparing, Deciding, Finishing, Sweeping}
+use Rattle.txn_core.proofs.Vocabulary.{Listing, Resolving, Telling, Breaking, SweepRun, Doing, Running, RunningSweep, After, GoesOn, Ends, tell_end, give_up, prepare, locked_at, after_response, request_in, changes_of, decision_of}
+use Rattle.txn_core.proofs.Vocabulary.{verdict_in, ending_by, cause_of_abort, lack_cause, Agent, Event, Take, Forget, next_in, next_of, take_in, take, begin, forget, Exchange, exchange_of, exchanges, is_prepare, WhatIsWrittenIsFixed}
 use Rattle.rep_core.specs.declared.request.Request.TheVariants as request
-use Rattle.rep_core.specs.declared.reply.Verdict.{Verdict}
 use Rattle.rep_core.specs.declared.reply.Verdict.TheVariants as verdict
-use Rattle.weak_cache.specs.Entries.{Cache}
-use Rattle.txn_core.specs.Suites.{Suites, suite_of}
-use Rattle.txn_core.specs.Writing.{parts_at}
-use Rattle.txn_core.specs.declared.response.Response.{Response}
-use Rattle.txn_core.specs.declared.ending.Ending.{Ending}
-use Rattle.txn_core.specs.declared.response.Response.TheVariants.{Replied, Lacked}
-use Rattle.txn_core.specs.declared.ending.Cause.TheVariants.{Lost}
-use Rattle.txn_core.specs.declared.ending.Ending.TheVariants.{Undecided}
-use Rattle.txn_core.specs.Doing.{
-  Changes,
-  home_of,
-  Fixed,
-  Task,
-  Proposal,
-  Phase,
-  Gathering,
-  Fetching,
-  Widening,
-  Preparing,
-  Deciding,
-  Finishing,
-  Sweeping,
-  Listing,
-  Resolving,
-  Telling,
-  Breaking,
-  SweepRun,
-  Doing,
-  Running,
-  RunningSweep,
-  After,
-  GoesOn,
-  Ends,
-}
-use Rattle.txn_core.specs.Transactions.{tell_end, give_up, prepare, locked_at, after_response, request_in, changes_of, decision_of, verdict_in, ending_by, cause_of_abort, lack_cause}
 use Rattle.txn_core.specs.Sweeps as sweep
 use Rattle.txn_core.specs.Agents as agents
-use Rattle.txn_core.specs.Agents.{Agent, Event, Take, Forget, next_in, next_of, take_in, take, begin, forget}
-use Rattle.txn_core.specs.Laws.{Exchange, exchange_of, exchanges, is_prepare, WhatIsWrittenIsFixed}
 use Rattle.txn_core.proofs.Asks.{asks_same, asked_as, fetched_as}
 
 -- ---- what later Prepares are of

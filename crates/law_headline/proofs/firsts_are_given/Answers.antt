@@ -1,5 +1,4 @@
-use Rattle.std.proofs.Common.{inr, refl}
-use Rattle.txn_core.specs.Agents.{after_all, begin}
+use Rattle.law_headline.proofs.Vocabulary.{inr, refl, after_all, begin}
 use Rattle.law_headline.proofs.Firsts.{firsts_given}
 use Rattle.law_headline.proofs.firsts_are_given.Goals as goal
 

@@ -1,8 +1,6 @@
-use Rattle.std.proofs.Common.{refl, sym, ap}
+use Rattle.file_exec.proofs.Vocabulary.{refl, sym, ap, Names, SetContent}
 use Rattle.file_exec.proofs.Holding.{parent_reached}
 use Rattle.file_exec.proofs.Steps.{goes, stops, unset, ruled, overruled, same_set, after_set, stopped_set}
-use Rattle.suite_content.specs.declared.content.Content.TheVariants.{Names}
-use Rattle.file_exec.specs.declared.edit_log.Edit.TheVariants.{SetContent}
 use Rattle.file_exec.proofs.act.drop.Goals as goal
 
 pub returns-in_err-parent-clause-answer : goal.returns-in_err-parent-clause-answer

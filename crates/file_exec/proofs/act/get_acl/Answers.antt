@@ -1,4 +1,4 @@
-use Rattle.std.proofs.Common.{◌≡◌, refl}
+use Rattle.file_exec.proofs.Vocabulary.{◌≡◌, refl}
 use Rattle.file_exec.proofs.Steps.{goes, stops, out_of_memory}
 use Rattle.file_exec.proofs.act.get_acl.Goals as goal
 

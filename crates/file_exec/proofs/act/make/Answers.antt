@@ -1,19 +1,8 @@
-use Rattle.std.proofs.Common.{◌≡◌, refl, sym, ap, ◌∙◌}
-use Rattle.std.specs.Prelude.{Bool, Result, Option}
-use Rattle.acl_core.specs.Identity.{Identity}
-use Rattle.vote_core.specs.Quorums.{Configuration}
-use Rattle.suite_content.specs.declared.content.Kind.{Kind}
+use Rattle.file_exec.proofs.Vocabulary.{◌≡◌, refl, sym, ap, ◌∙◌, Bool, Result, Option, Identity, Configuration, Kind, Init, Why, Service, votes_of_new, gives_default, is_misplaced, refuse_if, Give}
 use Rattle.file_ops.specs.declared.answer.Answer.TheVariants as answer
-use Rattle.file_ops.specs.declared.operation.Init.{Init}
-use Rattle.file_ops.specs.declared.refusal.Why.{Why}
 use Rattle.file_ops.specs.declared.refusal.Why.TheVariants as why
-use Rattle.file_ops.specs.declared.service.Service.{Service}
-use Rattle.file_ops.specs.KnownVotes.{votes_of_new}
-use Rattle.file_ops.specs.Lists.{gives_default, is_misplaced}
-use Rattle.file_ops.specs.Operations.{refuse_if}
 use Rattle.file_exec.proofs.Holding.{parent_reached, looked_at}
 use Rattle.file_exec.proofs.Steps.{goes, stops, stops_last, unset_both, ruled, overruled, same_both}
-use Rattle.file_exec.specs.Courses.{Give}
 use Rattle.file_exec.proofs.act.make.Goals as goal
 
 voted : {service service' : Service} (given : Option Configuration) {votes : Result Configuration Why} → service' ≡ service → votes ≡ votes_of_new service' given → votes_of_new service given ≡ votes

@@ -1,14 +1,7 @@
-use Rattle.std.proofs.Common.{◌≡◌, refl, sym, ap, ◌∙◌}
-use Rattle.std.specs.Prelude.{Bool, Result, is_some}
-use Rattle.acl_core.specs.declared.lists.Lists.{Lists}
-use Rattle.suite_content.specs.declared.content.Kind.{Kind}
-use Rattle.file_ops.specs.declared.refusal.Why.{Why}
+use Rattle.file_exec.proofs.Vocabulary.{◌≡◌, refl, sym, ap, ◌∙◌, Bool, Result, is_some, Lists, Kind, Why, is_misplaced, refuse_if, SetAcl}
 use Rattle.file_ops.specs.declared.refusal.Why.TheVariants as why
-use Rattle.file_ops.specs.Lists.{is_misplaced}
-use Rattle.file_ops.specs.Operations.{refuse_if}
 use Rattle.file_exec.proofs.Holding.{owns}
 use Rattle.file_exec.proofs.Steps.{goes, stops, ruled, overruled, unset, same_set, after_set, stopped_set}
-use Rattle.file_exec.specs.declared.edit_log.Edit.TheVariants.{SetAcl}
 use Rattle.file_exec.proofs.act.set_acl.Goals as goal
 
 placed : (kind : Kind) (acl : Lists) {given : Bool} {result : Result (Unit {0}) Why} → given ≡ is_some acl.default → result ≡ refuse_if (is_misplaced kind given) why.DefaultOnFile

@@ -1,4 +1,4 @@
-use Rattle.std.proofs.Common.{refl}
+use Rattle.file_exec.proofs.Vocabulary.{refl}
 use Rattle.file_exec.proofs.Steps.{stopped_first, after_set, stopped_set}
 use Rattle.file_exec.proofs.act.set_both.Goals as goal
 

@@ -1,9 +1,4 @@
-use Rattle.std.proofs.Common.{◌≡◌, refl, sym, ap, ◌∙◌}
-use Rattle.std.specs.Prelude.{Result}
-use Rattle.vote_core.specs.Quorums.{Configuration}
-use Rattle.file_ops.specs.declared.refusal.Why.{Why}
-use Rattle.file_ops.specs.declared.service.Service.{Service}
-use Rattle.file_ops.specs.KnownVotes.{known_votes}
+use Rattle.file_exec.proofs.Vocabulary.{◌≡◌, refl, sym, ap, ◌∙◌, Result, Configuration, Why, Service, known_votes}
 use Rattle.file_exec.proofs.Steps.{goes, stops, ruled, overruled, after_set, stopped_set}
 use Rattle.file_exec.proofs.act.set_votes.Goals as goal
 

@@ -1,8 +1,6 @@
-use Rattle.std.proofs.Common.{◌≡◌, refl, sym, ap}
+use Rattle.file_exec.proofs.Vocabulary.{◌≡◌, refl, sym, ap, Bytes, SetContent}
 use Rattle.file_exec.proofs.Holding.{reached}
 use Rattle.file_exec.proofs.Steps.{goes, stops, unset, ruled, overruled, same_set, after_set, stopped_set}
-use Rattle.suite_content.specs.declared.content.Content.TheVariants.{Bytes}
-use Rattle.file_exec.specs.declared.edit_log.Edit.TheVariants.{SetContent}
 use Rattle.file_exec.proofs.act.write.Goals as goal
 
 pub returns-in_err-require_fit-clause-answer : goal.returns-in_err-require_fit-clause-answer

@@ -1,4 +1,4 @@
-use Rattle.std.proofs.Common.{length}
+use Rattle.file_exec.proofs.Vocabulary.{length}
 use Rattle.file_exec.proofs.changes.+gather.Given as goal
 
 abbrev pub decreases-gather : goal.decreases-gather

@@ -1,6 +1,4 @@
-use Rattle.std.proofs.Common.{ap, ◌∙◌, take}
-use Rattle.std.specs.Ordering.{nat_cmp}
-use Rattle.sorted_map.specs.SortedMap.{insert}
+use Rattle.file_exec.proofs.Vocabulary.{ap, ◌∙◌, take, nat_cmp, insert}
 use Rattle.file_exec.proofs.Rising.{insert_next}
 use Rattle.file_exec.proofs.changes.copied.Goals as goal
 

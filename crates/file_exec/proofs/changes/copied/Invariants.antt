@@ -1,4 +1,4 @@
-use Rattle.std.proofs.Common.{◌≡◌, take}
+use Rattle.file_exec.proofs.Vocabulary.{◌≡◌, take}
 use Rattle.file_exec.proofs.changes.copied.Given as goal
 
 abbrev pub invariant-loop-suite : goal.invariant-loop-suite

@@ -1,5 +1,4 @@
-use Rattle.std.proofs.Common.{◌++◌, ◌∷◌, [], ap, sym, ◌∙◌, take}
-use Rattle.std.proofs.lemmas.List.{take_more}
+use Rattle.file_exec.proofs.Vocabulary.{◌++◌, ◌∷◌, [], ap, sym, ◌∙◌, take, take_more}
 use Rattle.file_exec.proofs.copying.copied.Goals as goal
 
 pub loop-number-preserved : goal.loop-number-preserved

@@ -1,4 +1,4 @@
-use Rattle.std.proofs.Common.{◌≡◌, take}
+use Rattle.file_exec.proofs.Vocabulary.{◌≡◌, take}
 use Rattle.file_exec.proofs.copying.copied.Given as goal
 
 abbrev pub invariant-loop-number : goal.invariant-loop-number

@@ -1,4 +1,4 @@
-use Rattle.std.proofs.Common.{◌≡◌, take}
+use Rattle.file_exec.proofs.Vocabulary.{◌≡◌, take}
 use Rattle.file_exec.proofs.copying.copied_items.Given as goal
 
 abbrev pub invariant-loop-value : goal.invariant-loop-value

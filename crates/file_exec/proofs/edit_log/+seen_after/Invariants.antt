@@ -1,4 +1,4 @@
-use Rattle.std.proofs.Common.{length}
+use Rattle.file_exec.proofs.Vocabulary.{length}
 use Rattle.file_exec.proofs.edit_log.+seen_after.Given as goal
 
 abbrev pub decreases-seen_after : goal.decreases-seen_after

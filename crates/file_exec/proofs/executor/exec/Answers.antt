@@ -1,20 +1,6 @@
-use Rattle.std.proofs.Common.{◌≡◌, ◌<◌, false, true, Option, Some, List, [], length, Result, Ok, Err, arith, sym, ap, subst, ◌∙◌}
-use Rattle.std.specs.Prelude.{◌==◌, IfOk, OnErr}
-use Rattle.std.proofs.lemmas.Bool.Decides.{nat_tests}
-use Rattle.std.proofs.lemmas.List.{take_all}
-use Rattle.file_ops.specs.declared.answer.Answer.{Answer}
-use Rattle.file_ops.specs.declared.operation.Op.{Op}
-use Rattle.file_ops.specs.declared.refusal.Refusal.{Refusal}
-use Rattle.file_exec.specs.Changes.{answered, changes_of}
-use Rattle.file_exec.specs.code.Ways.{PlaysTo}
-use Rattle.file_exec.specs.declared.act.Transaction.{Transaction}
-use Rattle.file_exec.specs.declared.executor.Outcome.{Outcome}
+use Rattle.file_exec.proofs.Vocabulary.{◌≡◌, ◌<◌, false, true, Option, Some, List, [], length, Result, Ok, Err, arith, sym, ap, subst, ◌∙◌, ◌==◌, IfOk, OnErr, nat_tests, take_all, Answer, Op, Refusal, answered, changes_of, PlaysTo}
+use Rattle.file_exec.proofs.Vocabulary.{Transaction, Outcome, Stage, Known, Heard, Done, exec_of, play, IsReached, run}
 use Rattle.file_exec.specs.declared.executor.Outcome.TheVariants as told
-use Rattle.file_exec.specs.declared.progress.Stage.{Stage}
-use Rattle.file_exec.specs.Known.{Known, Heard, Done, exec_of}
-use Rattle.file_exec.specs.Operations.{play}
-use Rattle.file_exec.specs.Reaching.{IsReached}
-use Rattle.file_exec.specs.Runs.{run}
 use Rattle.file_exec.proofs.Playing.{exec_plays, well_counted, begun_first}
 use Rattle.file_exec.proofs.Reaching.{unbegun_is_reached}
 use Rattle.file_exec.proofs.executor.exec.Goals as goal

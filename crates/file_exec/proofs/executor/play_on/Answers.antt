@@ -1,12 +1,4 @@
-use Rattle.std.proofs.Common.{◌≡◌, ◌+◌, ◌<◌, ◌∷◌, length, get_or, drop, Result, Ok, Err, ap, sym, subst, ◌∙◌}
-use Rattle.std.specs.Prelude.{IfOk, OnErr}
-use Rattle.std.proofs.lemmas.List.{take_rest}
-use Rattle.file_exec.specs.Changes.{answered}
-use Rattle.file_exec.specs.Known.{is_given}
-use Rattle.file_exec.specs.Operations.{operation, play}
-use Rattle.file_exec.specs.Runs.{run}
-use Rattle.file_exec.specs.Reaching.{walked_next}
-use Rattle.file_exec.specs.code.Ways.{LeadsTo, point_after, reached_of}
+use Rattle.file_exec.proofs.Vocabulary.{◌≡◌, ◌+◌, ◌<◌, ◌∷◌, length, get_or, drop, Result, Ok, Err, ap, sym, subst, ◌∙◌, IfOk, OnErr, take_rest, answered, is_given, operation, play, run, walked_next, LeadsTo, point_after, reached_of}
 use Rattle.file_exec.proofs.Playing.{one_ends, ends_given}
 use Rattle.file_exec.proofs.Reaching.{plays_next, done_too, leads_after, given_first}
 use Rattle.file_exec.proofs.executor.play_on.Goals as goal

@@ -1,6 +1,4 @@
-use Rattle.std.proofs.Common.{◌-◌, length}
-use Rattle.file_exec.specs.Reaching.{IsReached}
-use Rattle.file_exec.specs.code.Ways.{reached_of}
+use Rattle.file_exec.proofs.Vocabulary.{◌-◌, length, IsReached, reached_of}
 use Rattle.file_exec.proofs.executor.play_on.Given as goal
 
 -- so far the operations were done

@@ -1,6 +1,4 @@
-use Rattle.std.specs.Prelude.{[]}
-use Rattle.file_ops.specs.Rows.{row_of}
-use Rattle.file_exec.specs.Operations.{transaction}
+use Rattle.file_exec.proofs.Vocabulary.{[], row_of, transaction}
 use Rattle.file_exec.proofs.Alike.{goes_alike}
 use Rattle.file_exec.proofs.laws.goes_as_on_the_table.Goals as goal
 

@@ -1,7 +1,4 @@
-use Rattle.std.proofs.Common.{take, sym}
-use Rattle.std.proofs.lemmas.List.{take_all}
-use Rattle.std.proofs.lemmas.List.Elements.{All-more, All-same, recursion_from_All}
-use Rattle.law_headline.specs.Premises.{EventGivesValidVotes}
+use Rattle.law_headline.proofs.Vocabulary.{take, sym, take_all, All-more, All-same, recursion_from_All, EventGivesValidVotes}
 use Rattle.law_headline.proofs.promises.all_votes_are_valid.Goals as goal
 
 pub loop-event-preserved : goal.loop-event-preserved

@@ -1,6 +1,4 @@
-use Rattle.std.proofs.Common.{take}
-use Rattle.std.specs.Prelude.{All}
-use Rattle.law_headline.specs.Premises.{EventGivesValidVotes}
+use Rattle.law_headline.proofs.Vocabulary.{take, All, EventGivesValidVotes}
 use Rattle.law_headline.proofs.promises.all_votes_are_valid.Given as goal
 
 abbrev pub invariant-loop-event : goal.invariant-loop-event

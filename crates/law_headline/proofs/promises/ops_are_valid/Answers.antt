@@ -1,7 +1,4 @@
-use Rattle.std.proofs.Common.{take, sym}
-use Rattle.std.proofs.lemmas.List.{take_all}
-use Rattle.std.proofs.lemmas.List.Elements.{All-more, All-same, recursion_from_All}
-use Rattle.law_headline.specs.Premises.{GivesValidVotes}
+use Rattle.law_headline.proofs.Vocabulary.{take, sym, take_all, All-more, All-same, recursion_from_All, GivesValidVotes}
 use Rattle.law_headline.proofs.promises.ops_are_valid.Goals as goal
 
 pub loop-op-preserved : goal.loop-op-preserved

@@ -1,6 +1,4 @@
-use Rattle.std.proofs.Common.{take}
-use Rattle.std.specs.Prelude.{All}
-use Rattle.law_headline.specs.Premises.{GivesValidVotes}
+use Rattle.law_headline.proofs.Vocabulary.{take, All, GivesValidVotes}
 use Rattle.law_headline.proofs.promises.ops_are_valid.Given as goal
 
 abbrev pub invariant-loop-op : goal.invariant-loop-op

@@ -1,7 +1,4 @@
-use Rattle.std.proofs.Common.{ap, ◌∙◌, take, arith}
-use Rattle.std.specs.Prelude.{is_some}
-use Rattle.std.specs.Ordering.{nat_cmp}
-use Rattle.sorted_map.specs.SortedMap.{insert}
+use Rattle.rep_core.proofs.Vocabulary.{ap, ◌∙◌, take, arith, is_some, nat_cmp, insert}
 use Rattle.rep_core.proofs.Intentions.{insert_next, at_most_one}
 use Rattle.rep_core.proofs.copying.copied.Goals as goal
 

@@ -1,5 +1,4 @@
-use Rattle.std.proofs.Common.{◌≡◌, drop}
-use Rattle.rep_core.specs.Store.{lists_twice}
+use Rattle.rep_core.proofs.Vocabulary.{◌≡◌, drop, lists_twice}
 use Rattle.rep_core.proofs.evaluate.any_stands_twice.Given as goal
 
 abbrev pub invariant-loop-i : goal.invariant-loop-i

@@ -1,5 +1,4 @@
-use Rattle.std.proofs.Common.{rules}
-use Rattle.std.proofs.lemmas.Fn.{filter_same}
+use Rattle.rep_core.proofs.Vocabulary.{rules, filter_same}
 use Rattle.rep_core.proofs.few_locks.break_lock.Goals as goal
 
 pub returns : goal.returns

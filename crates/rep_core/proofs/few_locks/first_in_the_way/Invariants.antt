@@ -1,5 +1,4 @@
-use Rattle.std.proofs.Common.{◌≡◌, drop}
-use Rattle.rep_core.specs.Locks.{in_the_way}
+use Rattle.rep_core.proofs.Vocabulary.{◌≡◌, drop, in_the_way}
 use Rattle.rep_core.proofs.few_locks.first_in_the_way.Given as goal
 
 abbrev pub invariant-loop-lock : goal.invariant-loop-lock

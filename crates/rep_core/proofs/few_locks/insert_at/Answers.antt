@@ -1,6 +1,5 @@
-use Rattle.std.proofs.Common.{◌≡◌, ℕ, zero, suc, ◌+◌, ◌-◌, ◌<◌, List, [], ◌∷◌, ◌++◌, length, set, take, drop, refl, ap, ◌∙◌, arith}
+use Rattle.rep_core.proofs.Vocabulary.{◌≡◌, ℕ, zero, suc, ◌+◌, ◌-◌, ◌<◌, List, [], ◌∷◌, ◌++◌, length, set, take, drop, refl, ap, ◌∙◌, arith, copy_within}
 use Rattle.std.specs.Prelude.{insert}
-use Rattle.std.specs.List.{copy_within}
 use Rattle.rep_core.proofs.few_locks.insert_at.Goals as goal
 
 module _ {X : Type 0} (x : X) where

@@ -1,5 +1,4 @@
-use Rattle.std.proofs.Common.{rules}
-use Rattle.std.proofs.lemmas.List.Sorted.{IsPartitionPoint-from_clause}
+use Rattle.rep_core.proofs.Vocabulary.{rules, IsPartitionPoint-from_clause}
 use Rattle.rep_core.proofs.Searching.{stands_before, before_down, partitioned, count_point}
 use Rattle.rep_core.proofs.few_locks.place_of.Goals as goal
 

@@ -1,7 +1,4 @@
-use Rattle.std.proofs.Common.{◌<◌, length, arith}
-use Rattle.std.proofs.lemmas.List.Edits.{map_over_more}
-use Rattle.std.proofs.lemmas.List.{get_or_default}
-use Rattle.rep_core.specs.Locks.{prepared_lock}
+use Rattle.rep_core.proofs.Vocabulary.{◌<◌, length, arith, map_over_more, get_or_default, prepared_lock}
 use Rattle.rep_core.proofs.few_locks.prepare.Goals as goal
 
 pub loop-i-preserved : goal.loop-i-preserved

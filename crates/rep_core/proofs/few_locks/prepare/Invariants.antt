@@ -1,5 +1,4 @@
-use Rattle.std.proofs.Common.{◌≡◌, ◌++◌, take, drop}
-use Rattle.rep_core.specs.Locks.{with_prepared}
+use Rattle.rep_core.proofs.Vocabulary.{◌≡◌, ◌++◌, take, drop, with_prepared}
 use Rattle.rep_core.proofs.few_locks.prepare.Given as goal
 
 abbrev pub invariant-loop-i : goal.invariant-loop-i

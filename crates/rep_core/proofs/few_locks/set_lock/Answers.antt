@@ -1,7 +1,5 @@
-use Rattle.std.proofs.Common.{◌≡◌, ◌<◌, true, false, cond, length, set, ap, sym, ◌∙◌, arith}
-use Rattle.std.specs.Prelude.{insert, count_by}
-use Rattle.rep_core.specs.declared.lock.Lock.{Lock}
-use Rattle.rep_core.specs.Locks.{has_lock, raised, raised_lock, with_lock}
+use Rattle.rep_core.proofs.Vocabulary.{◌≡◌, ◌<◌, true, false, cond, length, set, ap, sym, ◌∙◌, arith, count_by, Lock, has_lock, raised, raised_lock, with_lock}
+use Rattle.std.specs.Prelude.{insert}
 use Rattle.rep_core.proofs.Rising.{insert_at_place}
 use Rattle.rep_core.proofs.Searching.{stands_before, raised-at}
 use Rattle.rep_core.proofs.few_locks.set_lock.Goals as goal

@@ -1,6 +1,4 @@
-use Rattle.std.proofs.Common.{ap, sym, ◌∙◌, ◌+◌}
-use Rattle.sorted_map.specs.Blocks.{first_from}
-use Rattle.rep_core.specs.code.Holders.{holder_cmp, of_first}
+use Rattle.rep_core.proofs.Vocabulary.{ap, sym, ◌∙◌, ◌+◌, first_from, holder_cmp, of_first}
 use Rattle.rep_core.proofs.FirstHolders.{first_of_others}
 use Rattle.rep_core.proofs.holders.first_other.Goals as goal
 

@@ -1,6 +1,4 @@
-use Rattle.std.proofs.Common.{sym, ap, ◌∙◌}
-use Rattle.file_ops.specs.code.AnswerEquality.{same_answer_decides}
-use Rattle.rep_core.specs.code.KeptVerdicts.{answer_of}
+use Rattle.rep_core.proofs.Vocabulary.{sym, ap, ◌∙◌, same_answer_decides, answer_of}
 use Rattle.rep_core.proofs.kept_verdict.same_answer.Goals as goal
 
 pub returns-in-Whole-Whole : goal.returns-in-Whole-Whole

@@ -1,5 +1,4 @@
-use Rattle.std.proofs.Common.{◌≡◌, take, map}
-use Rattle.rep_core.specs.code.KeptVerdicts.{answer_of}
+use Rattle.rep_core.proofs.Vocabulary.{◌≡◌, take, map, answer_of}
 use Rattle.rep_core.proofs.kept_verdict.same_answers.Given as goal
 
 abbrev pub invariant-loop-i : goal.invariant-loop-i

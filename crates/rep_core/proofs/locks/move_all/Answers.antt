@@ -1,5 +1,4 @@
-use Rattle.std.proofs.Common.{◌≡◌, ◌+◌, ◌∷◌, [], ◌++◌, true, length, length-append, sym, ap, ◌∙◌, arith}
-use Rattle.rep_core.specs.Locks.{rise}
+use Rattle.rep_core.proofs.Vocabulary.{◌≡◌, ◌+◌, ◌∷◌, [], ◌++◌, true, length, length-append, sym, ap, ◌∙◌, arith, rise}
 use Rattle.rep_core.proofs.LockEdits.{put_front, moved}
 use Rattle.rep_core.proofs.locks.move_all.Goals as goal
 

@@ -1,5 +1,4 @@
-use Rattle.std.proofs.Common.{◌≡◌, ◌++◌, drop}
-use Rattle.rep_core.specs.code.Keyed.{locks_of}
+use Rattle.rep_core.proofs.Vocabulary.{◌≡◌, ◌++◌, drop, locks_of}
 use Rattle.rep_core.proofs.many_locks.append_all.Given as goal
 
 abbrev pub invariant-loop-pair : goal.invariant-loop-pair

@@ -1,8 +1,4 @@
-use Rattle.std.proofs.Common.{rules, ◌≡◌, ◌==◌, ap, sym, ◌∙◌, filter, not}
-use Rattle.std.specs.Ordering.{nat_cmp}
-use Rattle.std.proofs.lemmas.Fn.{filter_same}
-use Rattle.sorted_map.specs.SortedMap.{get}
-use Rattle.rep_core.specs.code.Planning.{intentions_in}
+use Rattle.rep_core.proofs.Vocabulary.{rules, ◌≡◌, ◌==◌, ap, sym, ◌∙◌, filter, not, nat_cmp, filter_same, get, intentions_in}
 use Rattle.rep_core.proofs.Planned.{without_in, found_in_filter}
 use Rattle.rep_core.proofs.maps.forget.Goals as goal
 

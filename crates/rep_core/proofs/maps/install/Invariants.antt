@@ -1,8 +1,4 @@
-use Rattle.std.proofs.Common.{◌≡◌, ◌-◌, ◌≤◌, true, length, take, drop, not}
-use Rattle.std.specs.List.{list_all}
-use Rattle.vote_core.specs.Quorums.{Configuration}
-use Rattle.rep_core.specs.Store.{without_intentions, with_copies, with_forms}
-use Rattle.rep_core.specs.code.Planning.{Leaves, copies_in, forms_in, intentions_in}
+use Rattle.rep_core.proofs.Vocabulary.{◌≡◌, ◌-◌, ◌≤◌, true, length, take, drop, not, list_all, Configuration, without_intentions, with_copies, with_forms, Leaves, copies_in, forms_in, intentions_in}
 use Rattle.rep_core.proofs.Intentions.{is_of}
 use Rattle.rep_core.proofs.maps.install.Given as goal
 

@@ -1,8 +1,4 @@
-use Rattle.std.proofs.Common.{rules, ◌≡◌, ℕ, List, Some, ap, ◌∙◌}
-use Rattle.std.specs.Ordering.{nat_cmp}
-use Rattle.sorted_map.specs.Roomy.{Roomy}
-use Rattle.sorted_map.specs.SortedMap.{get, replace}
-use Rattle.suite_prefix.specs.Stored.{Kept}
+use Rattle.rep_core.proofs.Vocabulary.{rules, ◌≡◌, ℕ, List, Some, ap, ◌∙◌, nat_cmp, Roomy, get, replace, Kept}
 use Rattle.rep_core.proofs.Planned.{replaced_same}
 use Rattle.rep_core.proofs.maps.keep_content.Goals as goal
 

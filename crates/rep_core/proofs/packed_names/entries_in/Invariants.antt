@@ -1,5 +1,4 @@
-use Rattle.std.proofs.Common.{◌≡◌, map}
-use Rattle.rep_core.specs.code.PackedNames.{unnumbered}
+use Rattle.rep_core.proofs.Vocabulary.{◌≡◌, map, unnumbered}
 use Rattle.rep_core.proofs.packed_names.entries_in.Given as goal
 
 -- the parts so far are kept

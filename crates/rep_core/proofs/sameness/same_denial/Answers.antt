@@ -1,5 +1,4 @@
-use Rattle.std.proofs.Common.{sym, ◌∙◌}
-use Rattle.file_ops.specs.code.RefusalEquality.{same_item_decides}
+use Rattle.rep_core.proofs.Vocabulary.{sym, ◌∙◌, same_item_decides}
 use Rattle.rep_core.proofs.sameness.same_denial.Goals as goal
 
 pub returns : goal.returns

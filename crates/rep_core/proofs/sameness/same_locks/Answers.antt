@@ -1,5 +1,4 @@
-use Rattle.std.proofs.Common.{sym, ◌∙◌}
-use Rattle.rep_core.specs.code.Equality.{same_locks_decides}
+use Rattle.rep_core.proofs.Vocabulary.{sym, ◌∙◌, same_locks_decides}
 use Rattle.rep_core.proofs.sameness.same_locks.Goals as goal
 
 pub returns : goal.returns

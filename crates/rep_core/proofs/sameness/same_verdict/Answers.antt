@@ -1,5 +1,4 @@
-use Rattle.std.proofs.Common.{◌≡◌, Some, sym, ◌∙◌, ap, arith}
-use Rattle.std.specs.Option.{option_copied}
+use Rattle.rep_core.proofs.Vocabulary.{◌≡◌, Some, sym, ◌∙◌, ap, arith, option_copied}
 use Rattle.rep_core.proofs.sameness.same_verdict.Goals as goal
 
 pub returns-then-own-theirs : goal.returns-then-own-theirs

@@ -1,6 +1,4 @@
-use Rattle.std.proofs.Common.{◌≡◌, Some, None, sym, ◌∙◌, arith}
-use Rattle.std.specs.Ordering.{nat_cmp}
-use Rattle.sorted_map.specs.Blocks.{first_from}
+use Rattle.rep_core.proofs.Vocabulary.{◌≡◌, Some, None, sym, ◌∙◌, arith, nat_cmp, first_from}
 use Rattle.rep_core.proofs.Walks.{same_on, same_whole, first_above}
 use Rattle.rep_core.proofs.sameness.same_verdicts.Goals as goal
 

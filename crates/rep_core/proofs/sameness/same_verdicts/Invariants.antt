@@ -1,6 +1,4 @@
-use Rattle.std.proofs.Common.{◌≡◌, ℕ, ◌<◌, ◌-◌, ◌^◌}
-use Rattle.std.specs.Ordering.{nat_cmp}
-use Rattle.sorted_map.specs.SortedMap.{get}
+use Rattle.rep_core.proofs.Vocabulary.{◌≡◌, ℕ, ◌<◌, ◌-◌, ◌^◌, nat_cmp, get}
 use Rattle.rep_core.proofs.sameness.same_verdicts.Given as goal
 
 abbrev pub invariant-loop-next : goal.invariant-loop-next

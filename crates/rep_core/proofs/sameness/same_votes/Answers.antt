@@ -1,5 +1,4 @@
-use Rattle.std.proofs.Common.{sym, ◌∙◌}
-use Rattle.vote_core.specs.code.SameVotes.{same_votes_decides}
+use Rattle.rep_core.proofs.Vocabulary.{sym, ◌∙◌, same_votes_decides}
 use Rattle.rep_core.proofs.sameness.same_votes.Goals as goal
 
 pub returns : goal.returns

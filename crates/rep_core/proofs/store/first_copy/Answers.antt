@@ -1,9 +1,4 @@
-use Rattle.std.proofs.Common.{rules, ◌≡◌, [], subst, sym}
-use Rattle.suite_content.specs.Contents.{empty_content}
-use Rattle.suite_content.specs.declared.content.Content.{Content}
-use Rattle.suite_prefix.specs.Copies.{IsCopy, held_by}
-use Rattle.suite_prefix.specs.declared.copies.Prefix.{Prefix}
-use Rattle.suite_prefix.specs.declared.copies.Replica.{Replica}
+use Rattle.rep_core.proofs.Vocabulary.{rules, ◌≡◌, [], subst, sym, empty_content, Content, IsCopy, held_by, Prefix, Replica}
 use Rattle.rep_core.proofs.store.first_copy.Goals as goal
 
 pub new-requires : goal.new-requires

@@ -1,7 +1,4 @@
-use Rattle.std.proofs.Common.{take, sym}
-use Rattle.std.proofs.lemmas.List.{take_all}
-use Rattle.std.proofs.lemmas.List.Elements.{All-more, All-same}
-use Rattle.rep_core.specs.ValidCopies.{TakeFits}
+use Rattle.rep_core.proofs.Vocabulary.{take, sym, take_all, All-more, All-same, TakeFits}
 use Rattle.rep_core.proofs.types_fit.takes_fit.Goals as goal
 
 pub loop-part-preserved : goal.loop-part-preserved

@@ -1,6 +1,4 @@
-use Rattle.std.proofs.Common.{take}
-use Rattle.std.specs.Prelude.{All}
-use Rattle.rep_core.specs.ValidCopies.{TakeFits}
+use Rattle.rep_core.proofs.Vocabulary.{take, All, TakeFits}
 use Rattle.rep_core.proofs.types_fit.takes_fit.Given as goal
 
 abbrev pub invariant-loop-part : goal.invariant-loop-part

@@ -1,5 +1,4 @@
-use Rattle.std.proofs.Common.{◌≡◌, ◌-◌, ℕ, length}
-use Rattle.rep_core.specs.code.ByAgent.{pairs_at}
+use Rattle.rep_core.proofs.Vocabulary.{◌≡◌, ◌-◌, ℕ, length, pairs_at}
 use Rattle.rep_core.proofs.verdicts.grow.Given as goal
 
 abbrev pub invariant-loop-maps : goal.invariant-loop-maps

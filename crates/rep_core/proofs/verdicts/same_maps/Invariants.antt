@@ -1,5 +1,4 @@
-use Rattle.std.proofs.Common.{◌≡◌, ◌<◌, ℕ}
-use Rattle.rep_core.specs.code.ByAgent.{pairs_at}
+use Rattle.rep_core.proofs.Vocabulary.{◌≡◌, ◌<◌, ℕ, pairs_at}
 use Rattle.rep_core.proofs.verdicts.same_maps.Given as goal
 
 abbrev pub invariant-loop-agent : goal.invariant-loop-agent

@@ -1,5 +1,4 @@
-use Rattle.std.proofs.Common.{◌≡◌, ℕ, zero, suc, List, [], ◌∷◌, map, slice_set, Some, refl, ap}
-use Rattle.std.specs.Prelude.{option_copied}
+use Rattle.run_certify.proofs.Vocabulary.{◌≡◌, ℕ, zero, suc, List, [], ◌∷◌, map, slice_set, Some, refl, ap, option_copied}
 use Rattle.run_certify.proofs.begun.put_job.Goals as goal
 
 map_set : {A B : Type 0} (f : A → B) (xs : List A) (i : ℕ) (x : A) → map f (slice_set xs i x) ≡ slice_set (map f xs) i (f x)

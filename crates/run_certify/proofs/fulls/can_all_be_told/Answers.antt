@@ -1,4 +1,4 @@
-use Rattle.std.proofs.Common.{◌∙◌}
+use Rattle.run_certify.proofs.Vocabulary.{◌∙◌}
 use Rattle.run_certify.proofs.Fullness.{all_told}
 use Rattle.run_certify.proofs.fulls.can_all_be_told.Goals as goal
 

@@ -1,5 +1,4 @@
-use Rattle.std.proofs.Common.{◌≡◌, ◌+◌, ◌<◌, take}
-use Rattle.run_certify.specs.Fulls.{parts_in}
+use Rattle.run_certify.proofs.Vocabulary.{◌≡◌, ◌+◌, ◌<◌, take, parts_in}
 use Rattle.run_certify.proofs.fulls.can_be_full.Given as goal
 
 abbrev pub invariant-loop-item : goal.invariant-loop-item

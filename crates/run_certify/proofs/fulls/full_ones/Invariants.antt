@@ -1,5 +1,4 @@
-use Rattle.std.proofs.Common.{◌≡◌, ◌≤◌, length, map, take, vec_capacity}
-use Rattle.run_certify.specs.Fulls.{can_be_full}
+use Rattle.run_certify.proofs.Vocabulary.{◌≡◌, ◌≤◌, length, map, take, vec_capacity, can_be_full}
 use Rattle.run_certify.proofs.fulls.full_ones.Given as goal
 
 abbrev pub invariant-loop-history : goal.invariant-loop-history

@@ -1,18 +1,7 @@
-use Rattle.std.proofs.Common.{rules, ◌≡◌, true, List, [], sym, subst}
-use Rattle.std.proofs.lemmas.Result.{err_from_is_err_and}
-use Rattle.run_core.specs.Decisions.{Decided}
-use Rattle.server_lock.specs.declared.item.Item.{Item}
-use Rattle.run_certify.specs.declared.entry.Entry.{Entry}
-use Rattle.run_certify.specs.declared.fault.CertifyFault.TheVariants.{Mismatch}
-use Rattle.run_certify.specs.Certified.{IsCertifiedAs}
-use Rattle.run_certify.specs.Fulls.{can_all_be_told}
-use Rattle.run_certify.specs.code.Firsts.{AreAllPlayed}
-use Rattle.run_certify.specs.code.ValidVotes.{AllBegunAreValid}
-use Rattle.run_certify.specs.code.Walks.{IsStart, Walked}
+use Rattle.run_certify.proofs.Vocabulary.{rules, ◌≡◌, true, List, [], sym, subst, err_from_is_err_and, Decided, Item, Entry, Mismatch, IsCertifiedAs, can_all_be_told, AreAllPlayed, AllBegunAreValid, IsStart, Walked, Opening}
 use Rattle.run_certify.proofs.Going.{told_on, walked_no_further, walked_to_end}
 use Rattle.run_certify.proofs.Promised.{certified_is_promised}
 use Rattle.run_certify.proofs.Walking.{fails_further}
-use Rattle.suite_prefix.specs.SettingsRules.{Opening}
 use Rattle.run_certify.proofs.judging.certify.Goals as goal
 
 started : (given : Opening) (h histories : List (List Item)) (t transcripts : List (List Entry)) (walk : Walked) → h ≡ histories → t ≡ transcripts → IsStart given h t walk → IsStart given histories transcripts walk

@@ -1,8 +1,4 @@
-use Rattle.std.proofs.Common.{◌≡◌, sym, subst}
-use Rattle.std.specs.Prelude.{◌↔◌, IsTrue}
-use Rattle.run_core.specs.code.Equality.{same_outcome}
-use Rattle.run_core.specs.declared.done.EndedJob.{EndedJob}
-use Rattle.run_certify.specs.declared.entry.Entry.TheVariants.{Ended}
+use Rattle.run_certify.proofs.Vocabulary.{◌≡◌, sym, subst, ◌↔◌, IsTrue, same_outcome, EndedJob, Ended}
 use Rattle.run_certify.proofs.Equal.{same_end_decides}
 use Rattle.run_certify.proofs.unused.is_end.Goals as goal
 

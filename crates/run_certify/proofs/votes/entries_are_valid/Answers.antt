@@ -1,7 +1,4 @@
-use Rattle.std.proofs.Common.{take, sym}
-use Rattle.std.proofs.lemmas.List.{take_all}
-use Rattle.std.proofs.lemmas.List.Elements.{All-more, All-same, recursion_from_All}
-use Rattle.run_certify.specs.code.ValidVotes.{EntryGivesValidVotes}
+use Rattle.run_certify.proofs.Vocabulary.{take, sym, take_all, All-more, All-same, recursion_from_All, EntryGivesValidVotes}
 use Rattle.run_certify.proofs.votes.entries_are_valid.Goals as goal
 
 pub loop-entry-preserved : goal.loop-entry-preserved

@@ -1,11 +1,4 @@
-use Rattle.std.proofs.Common.{◌≡◌, true, Err, sym, ap, subst, ◌∙◌}
-use Rattle.rep_core.specs.declared.reply.Reply.{Reply}
-use Rattle.rep_core.specs.declared.stamped.Stamped.{Stamped}
-use Rattle.rep_core.specs.State.{State}
-use Rattle.rep_core.specs.Serving.{answer_of, served, is_full}
-use Rattle.txn_core.specs.declared.response.Response.TheVariants.{Replied}
-use Rattle.std.specs.Option.{option_or}
-use Rattle.run_core.specs.code.Seats.{after_response, ending_by}
+use Rattle.run_core.proofs.Vocabulary.{◌≡◌, true, Err, sym, ap, subst, ◌∙◌, Reply, Stamped, State, answer_of, served, is_full, Replied, option_or, after_response, ending_by}
 use Rattle.run_core.proofs.Exchanging.{served_exchange, full_exchange}
 use Rattle.run_core.proofs.exchange.exchange.Goals as goal
 

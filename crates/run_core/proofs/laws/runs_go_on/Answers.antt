@@ -1,6 +1,5 @@
+use Rattle.run_core.proofs.Vocabulary.{fixed_of, opening}
 use Rattle.run_core.proofs.Appending.{after-append, dones-append, decisions_from-append}
-use Rattle.txn_core.specs.Agents.{fixed_of}
-use Rattle.run_core.specs.Worlds.{opening}
 use Rattle.run_core.proofs.laws.runs_go_on.Goals as goal
 
 pub returns : goal.returns

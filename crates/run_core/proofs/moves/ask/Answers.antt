@@ -1,8 +1,4 @@
-use Rattle.std.proofs.Common.{refl, vec_len}
-use Rattle.std.proofs.lemmas.Option.{slice_get_read}
-use Rattle.std.proofs.lemmas.Result.{IfErr-weaker, IfOk-weaker}
-use Rattle.rep_core.specs.Wanting.{by_request}
-use Rattle.run_core.specs.code.Seats.{world_of}
+use Rattle.run_core.proofs.Vocabulary.{refl, vec_len, slice_get_read, IfErr-weaker, IfOk-weaker, by_request, world_of}
 use Rattle.run_core.proofs.Moving.{comes_there, comes_to_nothing, ask_nothing, ask_nowhere, asks_nobody, asks_somebody, of_exchange}
 use Rattle.run_core.proofs.Operating.{none_there}
 use Rattle.run_core.proofs.Wanting.{held, steps_there, asking_wants, exchange_wants, or_later}

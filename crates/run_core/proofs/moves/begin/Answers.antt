@@ -1,6 +1,4 @@
-use Rattle.std.proofs.Common.{refl}
-use Rattle.std.proofs.lemmas.Option.{slice_get_read}
-use Rattle.std.proofs.lemmas.Result.{IfErr-weaker}
+use Rattle.run_core.proofs.Vocabulary.{refl, slice_get_read, IfErr-weaker}
 use Rattle.run_core.proofs.Wanting.{begins_there}
 use Rattle.run_core.proofs.moves.begin.Goals as goal
 

@@ -1,6 +1,4 @@
-use Rattle.std.proofs.Common.{refl, sym, ◌∙◌}
-use Rattle.std.proofs.lemmas.Option.{slice_get_read}
-use Rattle.txn_core.specs.declared.response.Response.TheVariants.{Lacked}
+use Rattle.run_core.proofs.Vocabulary.{refl, sym, ◌∙◌, slice_get_read, Lacked}
 use Rattle.run_core.proofs.Moving.{comes_to_nothing, lack_nothing, lack_there}
 use Rattle.run_core.proofs.Wanting.{asks_none, asks_some}
 use Rattle.run_core.proofs.moves.lack.Goals as goal

@@ -1,4 +1,4 @@
-use Rattle.std.proofs.Common.{refl}
+use Rattle.run_core.proofs.Vocabulary.{refl}
 use Rattle.run_core.proofs.Numbered.{one_more_seat}
 use Rattle.run_core.proofs.opening.seats_of.Goals as goal
 

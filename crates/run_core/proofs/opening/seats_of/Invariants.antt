@@ -1,5 +1,4 @@
-use Rattle.std.proofs.Common.{◌≡◌}
-use Rattle.run_core.specs.code.Seats.{seats_from}
+use Rattle.run_core.proofs.Vocabulary.{◌≡◌, seats_from}
 use Rattle.run_core.proofs.opening.seats_of.Given as goal
 
 abbrev pub invariant-loop-index : goal.invariant-loop-index

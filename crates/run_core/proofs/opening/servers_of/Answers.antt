@@ -1,4 +1,4 @@
-use Rattle.std.proofs.Common.{refl}
+use Rattle.run_core.proofs.Vocabulary.{refl}
 use Rattle.run_core.proofs.Numbered.{one_more_server}
 use Rattle.run_core.proofs.opening.servers_of.Goals as goal
 

@@ -1,5 +1,4 @@
-use Rattle.std.proofs.Common.{◌≡◌}
-use Rattle.run_core.specs.Worlds.{servers_from}
+use Rattle.run_core.proofs.Vocabulary.{◌≡◌, servers_from}
 use Rattle.run_core.proofs.opening.servers_of.Given as goal
 
 abbrev pub invariant-loop-index : goal.invariant-loop-index

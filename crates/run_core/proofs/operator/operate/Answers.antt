@@ -1,8 +1,4 @@
-use Rattle.std.proofs.Common.{refl, sym, ap, ◌∙◌, Some, Result, Err}
-use Rattle.rep_core.specs.declared.reply.Reply.{Reply}
-use Rattle.rep_core.specs.declared.stamped.Lack.{Lack}
-use Rattle.rep_core.specs.declared.stamped.Stamped.{Stamped}
-use Rattle.std.proofs.lemmas.Option.{slice_get_read}
+use Rattle.run_core.proofs.Vocabulary.{refl, sym, ap, ◌∙◌, Some, Result, Err, Reply, Lack, Stamped, slice_get_read}
 use Rattle.run_core.proofs.Operating.{full_for_operator, served_for_operator}
 use Rattle.run_core.proofs.operator.operate.Goals as goal
 

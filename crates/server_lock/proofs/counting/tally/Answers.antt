@@ -1,5 +1,4 @@
-use Rattle.std.proofs.Common.{length, refl, ap, arith}
-use Rattle.std.proofs.lemmas.List.{get_or-replicate}
+use Rattle.server_lock.proofs.Vocabulary.{length, refl, ap, arith, get_or-replicate}
 use Rattle.server_lock.proofs.Tallies.{room}
 use Rattle.server_lock.proofs.counting.tally.Goals as goal
 

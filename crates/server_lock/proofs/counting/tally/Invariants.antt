@@ -1,6 +1,4 @@
-use Rattle.std.proofs.Common.{◌≡◌, ℕ, ◌<◌, length, slice_index, take}
-use Rattle.server_lock.specs.Closed.{histories_of}
-use Rattle.server_lock.specs.Counts.{made_at_all}
+use Rattle.server_lock.proofs.Vocabulary.{◌≡◌, ℕ, ◌<◌, length, slice_index, take, histories_of, made_at_all}
 use Rattle.server_lock.proofs.counting.tally.Given as goal
 
 abbrev pub invariant-loop-locked : goal.invariant-loop-locked

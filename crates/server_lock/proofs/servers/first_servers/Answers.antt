@@ -1,4 +1,4 @@
-use Rattle.std.proofs.Common.{refl, arith}
+use Rattle.server_lock.proofs.Vocabulary.{refl, arith}
 use Rattle.server_lock.proofs.Starting.{servers_more}
 use Rattle.server_lock.proofs.servers.first_servers.Goals as goal
 

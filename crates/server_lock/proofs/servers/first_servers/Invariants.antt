@@ -1,5 +1,4 @@
-use Rattle.std.proofs.Common.{◌≡◌, vec_len}
-use Rattle.server_lock.specs.Kept.{opened_from}
+use Rattle.server_lock.proofs.Vocabulary.{◌≡◌, vec_len, opened_from}
 use Rattle.server_lock.proofs.servers.first_servers.Given as goal
 
 abbrev pub invariant-loop-number : goal.invariant-loop-number

@@ -1,5 +1,4 @@
-use Rattle.std.proofs.Common.{◌≡◌, ◌+◌, ◌≤◌, vec_len, vec_capacity}
-use Rattle.std.specs.Vec.Iter.{into_iter_len}
+use Rattle.server_lock.proofs.Vocabulary.{◌≡◌, ◌+◌, ◌≤◌, vec_len, vec_capacity, into_iter_len}
 use Rattle.server_lock.proofs.servers.locks_over.Given as goal
 
 abbrev pub invariant-loop-locked : goal.invariant-loop-locked

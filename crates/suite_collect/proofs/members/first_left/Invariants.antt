@@ -1,7 +1,4 @@
-use Rattle.std.proofs.Common.{◌≡◌, drop}
-use Rattle.std.specs.Prelude.{find}
-use Rattle.std.specs.FinSet.{contains}
-use Rattle.suite_collect.specs.code.Dues.{is_left_by}
+use Rattle.suite_collect.proofs.Vocabulary.{◌≡◌, drop, find, contains, is_left_by}
 use Rattle.suite_collect.proofs.members.first_left.Given as goal
 
 abbrev pub invariant-loop-server : goal.invariant-loop-server

@@ -1,6 +1,4 @@
-use Rattle.std.proofs.Common.{◌≡◌, ◌&&◌, ◌<◌, ◌≤◌, ◌++◌, nat_lt, length, drop, map, filter, All}
-use Rattle.std.specs.FinSet.{contains}
-use Rattle.vote_core.specs.declared.TheConstants.{MAX_SERVERS}
+use Rattle.suite_collect.proofs.Vocabulary.{◌≡◌, ◌&&◌, ◌<◌, ◌≤◌, ◌++◌, nat_lt, length, drop, map, filter, All, contains, MAX_SERVERS}
 use Rattle.suite_collect.proofs.members.members_of.Given as goal
 
 abbrev pub invariant-loop-server : goal.invariant-loop-server

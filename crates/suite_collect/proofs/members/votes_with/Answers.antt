@@ -1,5 +1,4 @@
-use Rattle.std.proofs.Common.{◌≡◌, false, rules, arith, sym}
-use Rattle.std.specs.FinSet.{contains}
+use Rattle.suite_collect.proofs.Vocabulary.{◌≡◌, false, rules, arith, sym, contains}
 use Rattle.suite_collect.proofs.Counts.{votes_beside}
 use Rattle.suite_collect.proofs.members.votes_with.Goals as goal
 

@@ -1,6 +1,4 @@
-use Rattle.std.proofs.Common.{◌≡◌}
-use Rattle.std.specs.Vec.Iter.{into_iter_items}
-use Rattle.txn_core.specs.code.Plans.{opened_all}
+use Rattle.txn_core.proofs.Vocabulary.{◌≡◌, into_iter_items, opened_all}
 use Rattle.txn_core.proofs.carrying.open_all.Given as goal
 
 abbrev pub invariant-loop-number : goal.invariant-loop-number

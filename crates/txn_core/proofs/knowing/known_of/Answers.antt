@@ -1,10 +1,5 @@
-use Rattle.std.proofs.Common.{◌≡◌, ◌≤◌, ◌<◌, ◌++◌, ◌∙◌, ℕ, ap, sym, subst, arith, length, get_or, []}
-use Rattle.std.specs.Ordering.{nat_cmp}
-use Rattle.std.proofs.lemmas.List.{append-nil, at_drop_all}
-use Rattle.sorted_map.specs.SortedMap.{IsOrdered}
-use Rattle.file_exec.specs.Known.{Known}
-use Rattle.txn_core.specs.Suites.{Suites, known_of}
-use Rattle.txn_core.specs.code.Seeing.{Viewed, told_of, known_by}
+use Rattle.txn_core.proofs.Vocabulary.{◌≡◌, ◌≤◌, ◌<◌, ◌++◌, ◌∙◌, ℕ, ap, sym, subst, arith, length, get_or, [], nat_cmp, append-nil, at_drop_all, IsOrdered, Known, Suites, known_of, Viewed, known_by}
+use Rattle.txn_core.specs.code.Seeing.{told_of}
 use Rattle.txn_core.proofs.Seeing.{told_all, told_length, told_item, told_ordered, told_learned, known_seen}
 use Rattle.txn_core.proofs.Tellings.{telling_more, known_rises}
 use Rattle.txn_core.proofs.knowing.known_of.Goals as goal

@@ -1,5 +1,4 @@
-use Rattle.std.proofs.Common.{sym, ◌∙◌}
-use Rattle.rep_core.specs.code.Equality.{same_lock_decides}
+use Rattle.txn_core.proofs.Vocabulary.{sym, ◌∙◌, same_lock_decides}
 use Rattle.txn_core.proofs.sameness.same_lock.Goals as goal
 
 pub returns : goal.returns

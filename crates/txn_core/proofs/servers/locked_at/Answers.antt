@@ -1,6 +1,4 @@
-use Rattle.std.proofs.Common.{◌≡◌, ◌+◌, ℕ, [], ◌∷◌, ◌++◌, ap, sym, ◌∙◌, arith, length}
-use Rattle.arrayvec.specs.ArrayVec.{ArrayVec}
-use Rattle.txn_core.specs.Suites.{has_locks}
+use Rattle.txn_core.proofs.Vocabulary.{◌≡◌, ◌+◌, ℕ, [], ◌∷◌, ◌++◌, ap, sym, ◌∙◌, arith, length, ArrayVec, has_locks}
 use Rattle.txn_core.proofs.Numbers.{one_passes, one_fails}
 use Rattle.txn_core.proofs.servers.locked_at.Goals as goal
 use Rattle.txn_core.proofs.servers.locked_at.Goals.{then-contains, else-contains}

@@ -1,7 +1,4 @@
-use Rattle.std.proofs.Common.{◌≡◌, ◌≤◌, length}
-use Rattle.std.specs.Prelude.{filter}
-use Rattle.txn_core.specs.Suites.{has_locks}
-use Rattle.txn_core.specs.Transactions.{numbers_from}
+use Rattle.txn_core.proofs.Vocabulary.{◌≡◌, ◌≤◌, length, filter, has_locks, numbers_from}
 use Rattle.txn_core.proofs.servers.locked_at.Given as goal
 
 abbrev pub invariant-loop-server : goal.invariant-loop-server

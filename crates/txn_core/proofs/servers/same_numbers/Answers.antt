@@ -1,6 +1,4 @@
-use Rattle.std.proofs.Common.{sym, ◌∙◌}
-use Rattle.std.specs.Cmp.{unsigned_Decides}
-use Rattle.std.specs.Cmp.Lexicographic.{pointwise_decides}
+use Rattle.txn_core.proofs.Vocabulary.{sym, ◌∙◌, unsigned_Decides, pointwise_decides}
 use Rattle.txn_core.proofs.servers.same_numbers.Goals as goal
 
 pub returns : goal.returns

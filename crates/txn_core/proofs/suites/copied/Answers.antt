@@ -1,6 +1,5 @@
-use Rattle.std.proofs.Common.{◌++◌, ◌∷◌, [], ap, sym, ◌∙◌, take}
-use Rattle.std.proofs.lemmas.List.{take_more}
-use Rattle.txn_core.specs.Suites.{GatheredSuite}
+use Rattle.txn_core.proofs.Vocabulary.{◌++◌, ◌∷◌, [], ap, sym, ◌∙◌, take_more, GatheredSuite}
+use Rattle.std.proofs.Common.{take}
 use Rattle.txn_core.proofs.suites.copied.Goals as goal
 
 pub loop-number-preserved : goal.loop-number-preserved

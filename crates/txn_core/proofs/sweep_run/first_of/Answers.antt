@@ -1,5 +1,4 @@
-use Rattle.std.proofs.Common.{◌≤◌, length, sym, ◌∙◌, arith, rules}
-use Rattle.std.proofs.lemmas.List.Sorted.{IsPartitionPoint-from_clause}
+use Rattle.txn_core.proofs.Vocabulary.{◌≤◌, length, sym, ◌∙◌, arith, rules, IsPartitionPoint-from_clause}
 use Rattle.txn_core.proofs.Firsts.{up_to, own_pass, order_behind, first_breaks, first_resolves, order_left}
 use Rattle.txn_core.proofs.sweep_run.first_of.Goals as goal
 

@@ -1,8 +1,5 @@
-use Rattle.std.proofs.Common.{◌≡◌, ◌-◌, take, ap, ◌∙◌, arith, rules, tests}
-use Rattle.std.specs.VecDeque.Iter.{deque_iter_rest}
-use Rattle.std.proofs.lemmas.Iterator.Consumers.{YieldsList-from_deque}
-use Rattle.std.proofs.lemmas.Iterator.Search.{any_from_yields_List}
-use Rattle.rep_core.specs.declared.lock.Lock.{Lock}
+use Rattle.txn_core.proofs.Vocabulary.{◌≡◌, ◌-◌, ap, ◌∙◌, arith, rules, tests, deque_iter_rest, YieldsList-from_deque, any_from_yields_List, Lock}
+use Rattle.std.proofs.Common.{take}
 use Rattle.txn_core.proofs.sweep_run.has_prepared.Goals as goal
 
 pub returns : goal.returns

@@ -1,5 +1,4 @@
-use Rattle.std.proofs.Common.{◌∙◌}
-use Rattle.file_ops.proofs.Permitting.{same_permit_others}
+use Rattle.file_exec.proofs.Vocabulary.{◌∙◌, same_permit_others}
 use Rattle.file_exec.proofs.view.Object.permit_others.Goals as goal
 
 pub returns : goal.returns

@@ -1,8 +1,4 @@
-use Rattle.std.proofs.Common.{◌≡◌, refl, sym, ap, ◌∙◌}
-use Rattle.acl_core.specs.Identity.{Identity}
-use Rattle.acl_core.specs.declared.perms.Perms.{Perms}
-use Rattle.file_ops.specs.Walks.{Object, permit, to_change}
-use Rattle.file_exec.specs.code.Overlay.{seen_place}
+use Rattle.file_exec.proofs.Vocabulary.{◌≡◌, refl, sym, ap, ◌∙◌, Identity, Perms, Object, permit, to_change, seen_place}
 use Rattle.file_exec.proofs.Steps.{goes, stops, ruled, overruled}
 use Rattle.file_exec.proofs.view.View.parent_of.Goals as goal
 

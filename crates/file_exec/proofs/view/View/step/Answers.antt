@@ -1,4 +1,4 @@
-use Rattle.std.proofs.Common.{refl, sym}
+use Rattle.file_exec.proofs.Vocabulary.{refl, sym}
 use Rattle.file_exec.proofs.Steps.{goes, stops, ruled, overruled}
 use Rattle.file_exec.proofs.view.View.step.Goals as goal
 

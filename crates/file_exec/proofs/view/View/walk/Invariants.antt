@@ -1,5 +1,4 @@
-use Rattle.std.proofs.Common.{◌-◌, length}
-use Rattle.file_exec.specs.code.Ways.{LeadsTo}
+use Rattle.file_exec.proofs.Vocabulary.{◌-◌, length, LeadsTo}
 use Rattle.file_exec.proofs.view.View.walk.Given as goal
 
 -- the names so far led to the suite that was reached

@@ -1,5 +1,4 @@
-use Rattle.std.proofs.Common.{sym, ap, ◌∙◌}
-use Rattle.rep_core.specs.code.Equality.{same_verdict_decides}
+use Rattle.rep_core.proofs.Vocabulary.{sym, ap, ◌∙◌, same_verdict_decides}
 use Rattle.rep_core.specs.code.KeptVerdicts.{verdict_of}
 use Rattle.rep_core.proofs.kept_verdict.KeptVerdict.same.Goals as goal
 

@@ -1,8 +1,4 @@
-use Rattle.std.proofs.Common.{◌++◌, sym, ap, ◌∙◌}
-use Rattle.std.specs.Prelude.{List, not, ◌&&◌}
-use Rattle.rep_core.specs.declared.lock.Lock.{Lock}
-use Rattle.rep_core.specs.code.Holding.{Locking}
-use Rattle.rep_core.specs.Locks.{is_own}
+use Rattle.rep_core.proofs.Vocabulary.{◌++◌, sym, ap, ◌∙◌, List, not, ◌&&◌, Lock, Locking, is_own}
 use Rattle.rep_core.specs.Locks as locking
 use Rattle.rep_core.proofs.Rising.{rise_filter}
 use Rattle.rep_core.proofs.SuiteHolders.{still_alone}

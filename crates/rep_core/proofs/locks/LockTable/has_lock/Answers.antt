@@ -1,5 +1,4 @@
-use Rattle.std.proofs.Common.{is_some, sym, ap, ◌∙◌}
-use Rattle.rep_core.specs.Locks.{is_own}
+use Rattle.rep_core.proofs.Vocabulary.{is_some, sym, ap, ◌∙◌, is_own}
 use Rattle.rep_core.proofs.Finding.{any_find}
 use Rattle.rep_core.proofs.locks.LockTable.has_lock.Goals as goal
 

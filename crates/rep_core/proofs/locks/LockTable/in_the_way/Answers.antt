@@ -1,5 +1,4 @@
-use Rattle.std.proofs.Common.{sym, subst, ◌∙◌}
-use Rattle.rep_core.specs.Consistency.{IsAlone}
+use Rattle.rep_core.proofs.Vocabulary.{sym, subst, ◌∙◌, IsAlone}
 use Rattle.rep_core.proofs.TabledLocks.{many_only}
 use Rattle.rep_core.proofs.locks.LockTable.in_the_way.Goals as goal
 

@@ -1,9 +1,4 @@
-use Rattle.std.proofs.Common.{rules, ◌++◌, sym, ap, ◌∙◌}
-use Rattle.std.proofs.lemmas.Fn.{filter_same}
-use Rattle.std.specs.Prelude.{List}
-use Rattle.rep_core.specs.declared.lock.Lock.{Lock}
-use Rattle.rep_core.specs.code.Holding.{Locking}
-use Rattle.rep_core.specs.Locks.{is_own}
+use Rattle.rep_core.proofs.Vocabulary.{rules, ◌++◌, sym, ap, ◌∙◌, filter_same, List, Lock, Locking, is_own}
 use Rattle.rep_core.specs.Locks as locking
 use Rattle.rep_core.proofs.Rising.{rise_filter}
 use Rattle.rep_core.proofs.SuiteHolders.{still_alone}

@@ -1,9 +1,4 @@
-use Rattle.std.proofs.Common.{◌++◌, sym, ap, ◌∙◌}
-use Rattle.std.proofs.lemmas.List.{with_items_is}
-use Rattle.std.specs.Prelude.{List}
-use Rattle.rep_core.specs.declared.lock.Lock.{Lock}
-use Rattle.rep_core.specs.code.Holding.{Locking}
-use Rattle.rep_core.specs.Locks.{is_own}
+use Rattle.rep_core.proofs.Vocabulary.{◌++◌, sym, ap, ◌∙◌, with_items_is, List, Lock, Locking, is_own}
 use Rattle.rep_core.specs.Locks as locking
 use Rattle.rep_core.proofs.Rising.{rise_prepared}
 use Rattle.rep_core.proofs.SuiteHolders.{still_alone_prepared}

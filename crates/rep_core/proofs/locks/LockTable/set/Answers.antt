@@ -1,9 +1,4 @@
-use Rattle.std.proofs.Common.{◌≡◌, None, ◌++◌, sym, ap, ◌∙◌}
-use Rattle.std.specs.Prelude.{nat_lt, length}
-use Rattle.std.proofs.lemmas.Bool.{and_parts}
-use Rattle.rep_core.specs.code.Holding.{Locking}
-use Rattle.rep_core.specs.code.Keyed.{are_none}
-use Rattle.rep_core.specs.Locks.{in_the_way, locked}
+use Rattle.rep_core.proofs.Vocabulary.{◌≡◌, None, ◌++◌, sym, ap, ◌∙◌, nat_lt, length, and_parts, Locking, are_none, in_the_way, locked}
 use Rattle.rep_core.proofs.Rising.{rise_locked}
 use Rattle.rep_core.proofs.SuiteHolders.{still_alone_locked}
 use Rattle.rep_core.proofs.TabledLocks.{few_tabled, all_many}

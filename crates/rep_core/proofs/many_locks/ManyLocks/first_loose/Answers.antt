@@ -1,10 +1,5 @@
-use Rattle.std.proofs.Common.{◌≡◌, is_some, sym, ap, subst, ◌∙◌}
-use Rattle.sorted_map.specs.SortedMap.{get}
-use Rattle.rep_core.specs.Locks.{lock_at, prepared_locks}
-use Rattle.rep_core.specs.code.Holding.{Locking}
-use Rattle.rep_core.specs.code.Holders.{holder_cmp}
+use Rattle.rep_core.proofs.Vocabulary.{◌≡◌, is_some, sym, ap, subst, ◌∙◌, get, lock_at, prepared_locks, Locking, holder_cmp, locks_of}
 use Rattle.rep_core.specs.code.Keyed as keyed
-use Rattle.rep_core.specs.code.Keyed.{locks_of}
 use Rattle.rep_core.proofs.KeptLocks.{loose_listed, rise-kept, none_first}
 use Rattle.rep_core.proofs.LockEdits.{all_tight}
 use Rattle.rep_core.proofs.SuiteHolders.{first_has, has_get}

@@ -1,5 +1,4 @@
-use Rattle.std.proofs.Common.{◌≡◌, ◌-◌, ◌^◌}
-use Rattle.rep_core.specs.Locks.{has_prepared}
+use Rattle.rep_core.proofs.Vocabulary.{◌≡◌, ◌-◌, ◌^◌, has_prepared}
 use Rattle.rep_core.proofs.LockEdits.{has_ready}
 use Rattle.rep_core.proofs.many_locks.ManyLocks.has_prepared.Given as goal
 

@@ -1,9 +1,5 @@
-use Rattle.std.proofs.Common.{rules, ◌≡◌, Some, None, sym, ap, subst, ◌∙◌}
-use Rattle.rep_core.specs.Consistency.{IsAlone}
-use Rattle.rep_core.specs.Locks.{lock_at}
+use Rattle.rep_core.proofs.Vocabulary.{rules, ◌≡◌, Some, None, sym, ap, subst, ◌∙◌, IsAlone, lock_at, Locking, locks_of, if_conflict}
 use Rattle.rep_core.specs.Locks as locking
-use Rattle.rep_core.specs.code.Holding.{Locking}
-use Rattle.rep_core.specs.code.Keyed.{locks_of, if_conflict}
 use Rattle.rep_core.proofs.KeptLocks.{held-kept, holders_numbered}
 use Rattle.rep_core.proofs.SuiteHolders.{way_told, way_untold}
 use Rattle.rep_core.proofs.many_locks.ManyLocks.in_the_way.Goals as goal

@@ -1,6 +1,4 @@
-use Rattle.std.proofs.Common.{ap, ◌∙◌}
-use Rattle.rep_core.specs.code.Holding.{Locking}
-use Rattle.rep_core.specs.code.Keyed.{are_none}
+use Rattle.rep_core.proofs.Vocabulary.{ap, ◌∙◌, Locking, are_none}
 use Rattle.rep_core.proofs.KeptLocks.{none_of}
 use Rattle.rep_core.proofs.many_locks.ManyLocks.is_empty.Goals as goal
 

@@ -1,6 +1,4 @@
-use Rattle.std.proofs.Common.{sym, ap, ◌∙◌}
-use Rattle.rep_core.specs.Locks.{rise, lock_at}
-use Rattle.rep_core.specs.code.Holding.{Locking}
+use Rattle.rep_core.proofs.Vocabulary.{sym, ap, ◌∙◌, rise, lock_at, Locking}
 use Rattle.rep_core.specs.code.Keyed as keyed
 use Rattle.rep_core.proofs.KeptLocks.{loose_listed, rise-kept}
 use Rattle.rep_core.proofs.many_locks.ManyLocks.is_loose.Goals as goal

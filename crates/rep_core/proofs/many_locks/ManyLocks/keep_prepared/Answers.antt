@@ -1,5 +1,4 @@
-use Rattle.std.proofs.Common.{◌<◌, length, sym, ap, subst, ◌∙◌}
-use Rattle.rep_core.specs.Locks.{prepared_locks}
+use Rattle.rep_core.proofs.Vocabulary.{◌<◌, length, sym, ap, subst, ◌∙◌, prepared_locks}
 use Rattle.rep_core.proofs.LockEdits.{crashed_on, crashed_one}
 use Rattle.rep_core.proofs.many_locks.ManyLocks.keep_prepared.Goals as goal
 

@@ -1,5 +1,4 @@
-use Rattle.std.proofs.Common.{◌≡◌, length}
-use Rattle.rep_core.specs.Locks.{prepared_locks}
+use Rattle.rep_core.proofs.Vocabulary.{◌≡◌, length, prepared_locks}
 use Rattle.rep_core.proofs.many_locks.ManyLocks.keep_prepared.Given as goal
 
 abbrev pub invariant-loop-t : goal.invariant-loop-t

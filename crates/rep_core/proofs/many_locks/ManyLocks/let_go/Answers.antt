@@ -1,7 +1,4 @@
-use Rattle.std.proofs.Common.{sym, ap, ◌∙◌}
-use Rattle.rep_core.specs.Locks.{rise}
-use Rattle.rep_core.specs.code.Holding.{Locking}
-use Rattle.rep_core.specs.code.Keyed.{locks_of, without, is_loose_pair}
+use Rattle.rep_core.proofs.Vocabulary.{sym, ap, ◌∙◌, rise, Locking, locks_of, without, is_loose_pair}
 use Rattle.rep_core.proofs.KeptLocks.{kept_gone, kept_less, is_gone, rise-kept}
 use Rattle.rep_core.proofs.many_locks.ManyLocks.let_go.Goals as goal
 

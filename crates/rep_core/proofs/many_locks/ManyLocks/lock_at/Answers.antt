@@ -1,8 +1,4 @@
-use Rattle.std.proofs.Common.{Some, sym, ap, ◌∙◌}
-use Rattle.std.specs.Prelude.{option_map}
-use Rattle.rep_core.specs.Locks.{lock_at}
-use Rattle.rep_core.specs.code.Holding.{Locking}
-use Rattle.rep_core.specs.code.Keyed.{lock_with}
+use Rattle.rep_core.proofs.Vocabulary.{Some, sym, ap, ◌∙◌, option_map, lock_at, Locking, lock_with}
 use Rattle.rep_core.proofs.KeptLocks.{lock_at-kept}
 use Rattle.rep_core.proofs.many_locks.ManyLocks.lock_at.Goals as goal
 

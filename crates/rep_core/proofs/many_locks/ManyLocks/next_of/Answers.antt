@@ -1,8 +1,5 @@
-use Rattle.std.proofs.Common.{sym, ap, subst, ◌∙◌}
-use Rattle.rep_core.specs.Locks.{rise}
-use Rattle.rep_core.specs.code.Holding.{Locking}
+use Rattle.rep_core.proofs.Vocabulary.{sym, ap, subst, ◌∙◌, rise, Locking, AreNumbered}
 use Rattle.rep_core.specs.code.Keyed as keyed
-use Rattle.rep_core.specs.code.Keyed.{AreNumbered}
 use Rattle.rep_core.proofs.KeptLocks.{rise-kept, numbered-kept}
 use Rattle.rep_core.proofs.LockEdits.{by_own, next_is}
 use Rattle.rep_core.proofs.many_locks.ManyLocks.next_of.Goals as goal

@@ -1,5 +1,4 @@
-use Rattle.std.proofs.Common.{◌≡◌, drop}
-use Rattle.rep_core.specs.Locks.{with_prepared}
+use Rattle.rep_core.proofs.Vocabulary.{◌≡◌, drop, with_prepared}
 use Rattle.rep_core.proofs.many_locks.ManyLocks.prepare.Given as goal
 
 abbrev pub invariant-loop-part : goal.invariant-loop-part

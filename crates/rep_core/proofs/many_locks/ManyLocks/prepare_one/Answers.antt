@@ -1,8 +1,4 @@
-use Rattle.std.proofs.Common.{rules, ◌≡◌, Some, true, is_some, refl, sym, ap, ◌∙◌, arith}
-use Rattle.std.proofs.lemmas.Bool.{false≢true}
-use Rattle.rep_core.specs.Locks.{lock_at}
-use Rattle.rep_core.specs.code.Holding.{Locking}
-use Rattle.rep_core.specs.code.Keyed.{locks_of, IsPut}
+use Rattle.rep_core.proofs.Vocabulary.{rules, ◌≡◌, Some, true, is_some, refl, sym, ap, ◌∙◌, arith, false≢true, lock_at, Locking, locks_of, IsPut}
 use Rattle.rep_core.proofs.KeptLocks.{kept_there, kept_ready, is_put}
 use Rattle.rep_core.proofs.LockEdits.{put_ready, none_ready}
 use Rattle.rep_core.proofs.many_locks.ManyLocks.prepare_one.Goals as goal

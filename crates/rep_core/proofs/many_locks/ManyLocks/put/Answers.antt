@@ -1,6 +1,4 @@
-use Rattle.std.proofs.Common.{◌<◌, sym, ap, ◌∙◌, arith}
-use Rattle.rep_core.specs.Locks.{lock_at}
-use Rattle.rep_core.specs.code.Holding.{Locking}
+use Rattle.rep_core.proofs.Vocabulary.{◌<◌, sym, ap, ◌∙◌, arith, lock_at, Locking}
 use Rattle.rep_core.proofs.KeptLocks.{none_kept, none_held, kept_tight, kept_loose, is_put}
 use Rattle.rep_core.proofs.many_locks.ManyLocks.put.Goals as goal
 

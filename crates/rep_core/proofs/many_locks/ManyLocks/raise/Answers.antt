@@ -1,5 +1,4 @@
-use Rattle.std.proofs.Common.{ap, subst, ◌∙◌}
-use Rattle.rep_core.specs.code.Keyed.{IsPut, stronger_than}
+use Rattle.rep_core.proofs.Vocabulary.{ap, subst, ◌∙◌, IsPut, stronger_than}
 use Rattle.rep_core.proofs.LockEdits.{put_stronger}
 use Rattle.rep_core.proofs.many_locks.ManyLocks.raise.Goals as goal
 

@@ -1,5 +1,4 @@
-use Rattle.std.proofs.Common.{◌<◌, length, sym, ap, subst, ◌∙◌}
-use Rattle.rep_core.specs.Locks.{released}
+use Rattle.rep_core.proofs.Vocabulary.{◌<◌, length, sym, ap, subst, ◌∙◌, released}
 use Rattle.rep_core.proofs.LockEdits.{released_on, released_all, released_one}
 use Rattle.rep_core.proofs.many_locks.ManyLocks.release.Goals as goal
 

@@ -1,5 +1,4 @@
-use Rattle.std.proofs.Common.{◌≡◌, length}
-use Rattle.rep_core.specs.Locks.{released}
+use Rattle.rep_core.proofs.Vocabulary.{◌≡◌, length, released}
 use Rattle.rep_core.proofs.many_locks.ManyLocks.release.Given as goal
 
 abbrev pub invariant-loop-lock : goal.invariant-loop-lock

@@ -1,7 +1,4 @@
-use Rattle.std.proofs.Common.{◌≡◌, None, false, is_some, refl, sym, ap, subst, ◌∙◌, arith}
-use Rattle.rep_core.specs.Locks.{lock_at}
-use Rattle.rep_core.specs.code.Holding.{Locking}
-use Rattle.rep_core.specs.code.Keyed.{locks_of, stronger_than, IsPut}
+use Rattle.rep_core.proofs.Vocabulary.{◌≡◌, None, false, is_some, refl, sym, ap, subst, ◌∙◌, arith, lock_at, Locking, locks_of, stronger_than, IsPut}
 use Rattle.rep_core.proofs.KeptLocks.{kept_told, kept_loose, none_told, is_put}
 use Rattle.rep_core.proofs.LockEdits.{put_stronger}
 use Rattle.rep_core.proofs.many_locks.ManyLocks.set.Goals as goal

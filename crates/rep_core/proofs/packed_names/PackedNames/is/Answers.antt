@@ -1,6 +1,4 @@
-use Rattle.std.proofs.Common.{◌≡◌, length, sym, ap, ◌∙◌, arith, rules}
-use Rattle.suite_content.specs.Written.{with_commas}
-use Rattle.rep_core.specs.code.PackedNames.{parts}
+use Rattle.rep_core.proofs.Vocabulary.{◌≡◌, length, sym, ap, ◌∙◌, arith, rules, with_commas, parts}
 use Rattle.rep_core.proofs.PackedNames.{as_many_parts}
 use Rattle.rep_core.proofs.packed_names.PackedNames.is.Goals as goal
 

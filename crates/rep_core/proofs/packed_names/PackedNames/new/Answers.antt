@@ -1,5 +1,4 @@
-use Rattle.std.proofs.Common.{◌≡◌, length, sym, ap, subst, ◌∙◌}
-use Rattle.rep_core.specs.code.PackedNames.{parts, AreInOrder}
+use Rattle.rep_core.proofs.Vocabulary.{◌≡◌, length, sym, ap, subst, ◌∙◌, parts, AreInOrder}
 use Rattle.rep_core.proofs.PackedNames.{parts_of_all}
 use Rattle.rep_core.proofs.packed_names.PackedNames.new.Goals as goal
 

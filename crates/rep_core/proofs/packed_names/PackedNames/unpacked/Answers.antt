@@ -1,6 +1,4 @@
-use Rattle.std.proofs.Common.{ap, ◌∙◌}
-use Rattle.suite_content.specs.Folders.{names_in}
-use Rattle.rep_core.specs.code.PackedNames.{parts, unnumbered}
+use Rattle.rep_core.proofs.Vocabulary.{ap, ◌∙◌, names_in, parts, unnumbered}
 use Rattle.rep_core.proofs.PackedNames.{names-unnumbered}
 use Rattle.rep_core.proofs.packed_names.PackedNames.unpacked.Goals as goal
 

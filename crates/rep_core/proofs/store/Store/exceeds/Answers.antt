@@ -1,9 +1,4 @@
-use Rattle.std.proofs.Common.{◌≡◌, ◌+◌, false, length, ap, sym, ◌∙◌, arith}
-use Rattle.std.specs.Prelude.{nat_lt, min, count_by}
-use Rattle.std.proofs.lemmas.Bool.Decides.{nat_tests}
-use Rattle.rep_core.specs.code.Holding.{Storing}
-use Rattle.rep_core.specs.code.StoreFields.{store_of}
-use Rattle.rep_core.specs.Store.{Store, suites_with, intended, max_suites}
+use Rattle.rep_core.proofs.Vocabulary.{◌≡◌, ◌+◌, false, length, ap, sym, ◌∙◌, arith, nat_lt, min, count_by, nat_tests, Storing, store_of, Store, suites_with, intended, max_suites}
 use Rattle.rep_core.proofs.Planned.{length_in, rising_in}
 use Rattle.rep_core.proofs.Counting.{takes_new, suites_intended, over_most, not_over}
 use Rattle.rep_core.proofs.Kept.{length_copies}

@@ -1,10 +1,5 @@
-use Rattle.std.proofs.Common.{rules, ◌≡◌, ℕ, List, true, false, length, ap, subst, sym, ◌∙◌, arith}
-use Rattle.std.specs.List.{list_all}
-use Rattle.rep_core.specs.Intentions.{Intention}
-use Rattle.rep_core.specs.code.Holding.{Storing}
-use Rattle.rep_core.specs.code.Planning.{Leaves, intentions_in, planned_of, with_all}
-use Rattle.rep_core.specs.Store.{Store, intended, is_keep, is_sound_part, overfills, with_intentions}
-use Rattle.rep_core.specs.code.StoreFields.{store_of}
+use Rattle.rep_core.proofs.Vocabulary.{rules, ◌≡◌, ℕ, List, true, false, length, ap, subst, sym, ◌∙◌, arith, list_all, Intention, Storing, Leaves, intentions_in, planned_of, with_all, Store, intended, is_keep, is_sound_part, overfills}
+use Rattle.rep_core.proofs.Vocabulary.{with_intentions, store_of}
 use Rattle.rep_core.proofs.Intentions.{nothing_taken}
 use Rattle.rep_core.proofs.Planned.{few_planned, leaves_planned, planned_kept, rising_in}
 use Rattle.rep_core.proofs.Soundness.{sound_once_intended}

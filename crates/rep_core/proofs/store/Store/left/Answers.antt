@@ -1,10 +1,5 @@
-use Rattle.std.proofs.Common.{rules, ◌≡◌, subst, sym}
-use Rattle.suite_prefix.specs.Copies.{IsCopy}
-use Rattle.suite_prefix.specs.Copies.{PrefixFits}
-use Rattle.suite_prefix.specs.TestsExact.{CopyFits}
+use Rattle.rep_core.proofs.Vocabulary.{rules, ◌≡◌, subst, sym, IsCopy, PrefixFits, CopyFits, left_by, copy_of, TakeFits}
 use Rattle.rep_core.specs.declared.request.Take.TheVariants as take
-use Rattle.rep_core.specs.Store.{left_by, copy_of}
-use Rattle.rep_core.specs.ValidCopies.{TakeFits}
 use Rattle.rep_core.proofs.LeftCopies.{left_valid}
 use Rattle.rep_core.proofs.store.Store.left.Goals as goal
 

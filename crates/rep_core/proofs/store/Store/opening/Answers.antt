@@ -1,6 +1,4 @@
-use Rattle.std.proofs.Common.{rules, ◌≡◌, ap}
-use Rattle.rep_core.specs.Store.{Store, opening_store}
-use Rattle.rep_core.specs.code.Planning.{intentions_in}
+use Rattle.rep_core.proofs.Vocabulary.{rules, ◌≡◌, ap, Store, opening_store, intentions_in}
 use Rattle.rep_core.proofs.store.Store.opening.Goals as goal
 
 pub returns : goal.returns

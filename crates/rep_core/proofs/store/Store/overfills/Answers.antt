@@ -1,7 +1,4 @@
-use Rattle.std.proofs.Common.{◌≡◌, false, ap, sym, ◌∙◌}
-use Rattle.std.specs.Prelude.{◌||◌, nat_lt}
-use Rattle.std.specs.List.{list_any}
-use Rattle.rep_core.specs.Store.{Store, holds_last, suites_with, intended, max_suites}
+use Rattle.rep_core.proofs.Vocabulary.{◌≡◌, false, ap, sym, ◌∙◌, ◌||◌, nat_lt, list_any, Store, holds_last, suites_with, intended, max_suites}
 use Rattle.rep_core.proofs.store.Store.overfills.Goals as goal
 
 pub returns-else-any_holds_last : goal.returns-else-any_holds_last

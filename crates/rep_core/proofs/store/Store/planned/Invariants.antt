@@ -1,5 +1,4 @@
-use Rattle.std.proofs.Common.{◌≡◌, ◌++◌, drop}
-use Rattle.rep_core.specs.code.Planning.{planned_of}
+use Rattle.rep_core.proofs.Vocabulary.{◌≡◌, ◌++◌, drop, planned_of}
 use Rattle.rep_core.proofs.store.Store.planned.Given as goal
 
 abbrev pub invariant-loop-part : goal.invariant-loop-part

@@ -1,6 +1,4 @@
-use Rattle.std.proofs.Common.{◌≡◌, sym, ◌∙◌, ap}
-use Rattle.rep_core.specs.code.Planning.{copies_in, forms_in, intentions_in}
-use Rattle.rep_core.specs.code.StoreFields.{store_of}
+use Rattle.rep_core.proofs.Vocabulary.{◌≡◌, sym, ◌∙◌, ap, copies_in, forms_in, intentions_in, store_of}
 use Rattle.rep_core.proofs.store.Store.same.Goals as goal
 
 pub returns : goal.returns

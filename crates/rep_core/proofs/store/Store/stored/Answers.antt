@@ -1,9 +1,4 @@
-use Rattle.std.proofs.Common.{rules, ◌≡◌, ℕ, ◌<◌, get_or, length, Some, ap, sym, ◌∙◌}
-use Rattle.std.specs.Prelude.{option_map}
-use Rattle.std.specs.Ordering.{nat_cmp}
-use Rattle.sorted_map.specs.SortedMap.{get}
-use Rattle.suite_prefix.specs.Stored.{Kept}
-use Rattle.rep_core.specs.code.Holding.{Storing}
+use Rattle.rep_core.proofs.Vocabulary.{rules, ◌≡◌, ℕ, ◌<◌, get_or, length, Some, ap, sym, ◌∙◌, option_map, nat_cmp, get, Kept, Storing}
 use Rattle.rep_core.proofs.Installing.{has_at}
 use Rattle.rep_core.proofs.Kept.{get_copies, get_forms}
 use Rattle.rep_core.proofs.store.Store.stored.Goals as goal

@@ -1,10 +1,4 @@
-use Rattle.std.proofs.Common.{rules, ◌≡◌, None, subst, sym}
-use Rattle.std.specs.Prelude.{IfOk, unwrap_or}
-use Rattle.std.specs.Ordering.{nat_cmp}
-use Rattle.sorted_map.specs.SortedMap.{get}
-use Rattle.suite_prefix.specs.Absent.{absent_copy}
-use Rattle.rep_core.specs.Store.{with_prefix}
-use Rattle.rep_core.specs.code.Planning.{in_form_2}
+use Rattle.rep_core.proofs.Vocabulary.{rules, ◌≡◌, None, subst, sym, IfOk, unwrap_or, nat_cmp, get, absent_copy, with_prefix, in_form_2}
 use Rattle.rep_core.proofs.store.Store.under.Goals as goal
 
 pub returns-in-None : goal.returns-in-None

@@ -1,5 +1,4 @@
-use Rattle.std.proofs.Common.{◌∙◌, ap}
-use Rattle.rep_core.specs.code.ByAgent.{pairs_at}
+use Rattle.rep_core.proofs.Vocabulary.{◌∙◌, ap, pairs_at}
 use Rattle.rep_core.proofs.ByAgent.{merged_same}
 use Rattle.rep_core.proofs.verdicts.Verdicts.copy.Goals as goal
 

@@ -1,7 +1,4 @@
-use Rattle.std.proofs.Common.{sym, ◌∙◌, ap}
-use Rattle.std.specs.Ordering.{nat_cmp}
-use Rattle.sorted_map.specs.SortedMap.{get}
-use Rattle.rep_core.specs.code.ByAgent.{agent_of, pairs_at}
+use Rattle.rep_core.proofs.Vocabulary.{sym, ◌∙◌, ap, nat_cmp, get, agent_of, pairs_at}
 use Rattle.rep_core.proofs.ByAgent.{get-merged}
 use Rattle.rep_core.proofs.verdicts.Verdicts.get.Goals as goal
 

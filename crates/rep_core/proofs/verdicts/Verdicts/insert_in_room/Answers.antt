@@ -1,6 +1,4 @@
-use Rattle.std.proofs.Common.{◌∙◌, ap}
-use Rattle.std.specs.Ordering.{nat_cmp}
-use Rattle.sorted_map.specs.SortedMap.{insert}
+use Rattle.rep_core.proofs.Vocabulary.{◌∙◌, ap, nat_cmp, insert}
 use Rattle.rep_core.proofs.ByAgent.{by_agent_insert, merged_insert}
 use Rattle.rep_core.proofs.verdicts.Verdicts.insert_in_room.Goals as goal
 

@@ -1,9 +1,5 @@
-use Rattle.std.proofs.Common.{◌≡◌, ⊎_elim, List, [], Some, None, ℕ, ◌+◌, ◌<◌, ◌≤◌, length, map, ◌∙◌, sym, subst, rules}
-use Rattle.std.specs.Prelude.{MatchOption, Option}
-use Rattle.server_lock.specs.declared.item.Item.{Item}
-use Rattle.run_certify.specs.Merges.{history_of}
-use Rattle.run_certify.specs.declared.heads.Head.{Head}
-use Rattle.run_certify.specs.code.Firsts.{AreAllPlayed, IsFirst, IsFirstBelow, IsNext, Lesser, NoneBelow}
+use Rattle.run_certify.proofs.Vocabulary.{◌≡◌, ⊎_elim, List, [], Some, None, ℕ, ◌+◌, ◌<◌, ◌≤◌, length, map, ◌∙◌, sym, subst, rules, MatchOption, Option, Item, history_of, Head, AreAllPlayed, IsFirst, IsFirstBelow, IsNext, Lesser}
+use Rattle.run_certify.proofs.Vocabulary.{NoneBelow}
 use Rattle.run_certify.proofs.Least.{first_more, kept_empty, kept_more, less_more, next_of_all, none_more, none_of_all}
 use Rattle.run_certify.proofs.Lists.{at_place, empty_of, le_or, long_map, there}
 use Rattle.run_certify.proofs.heads.Heads.least.Goals as goal

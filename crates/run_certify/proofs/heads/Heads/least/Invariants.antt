@@ -1,6 +1,4 @@
-use Rattle.std.proofs.Common.{map}
-use Rattle.std.specs.Prelude.{MatchOption}
-use Rattle.run_certify.specs.code.Firsts.{NoneBelow, IsFirstBelow}
+use Rattle.run_certify.proofs.Vocabulary.{map, MatchOption, NoneBelow, IsFirstBelow}
 use Rattle.run_certify.proofs.heads.Heads.least.Given as goal
 
 abbrev pub invariant-loop-server : goal.invariant-loop-server

@@ -1,4 +1,4 @@
-use Rattle.std.proofs.Common.{◌≡◌, map, take}
+use Rattle.run_certify.proofs.Vocabulary.{◌≡◌, map, take}
 use Rattle.run_certify.proofs.heads.Heads.new.Given as goal
 
 abbrev pub invariant-loop-history : goal.invariant-loop-history

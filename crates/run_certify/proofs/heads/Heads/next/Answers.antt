@@ -1,5 +1,4 @@
-use Rattle.std.proofs.Common.{◌∙◌, ap, sym, List, length, ◌∷◌, slice_set, map, arith}
-use Rattle.server_lock.specs.declared.item.Item.{Item}
+use Rattle.run_certify.proofs.Vocabulary.{◌∙◌, ap, sym, List, length, ◌∷◌, slice_set, map, arith, Item}
 use Rattle.run_certify.proofs.Least.{taken}
 use Rattle.run_certify.proofs.Lists.{first_is, same_head, set_place, tail_of}
 use Rattle.run_certify.proofs.Picking.{none_falls}

@@ -1,6 +1,4 @@
-use Rattle.std.proofs.Common.{◌∙◌, ap, sym, subst, rules, List, ◌<◌, length, slice_set}
-use Rattle.run_certify.specs.declared.entry.Entry.{Entry}
-use Rattle.run_certify.specs.Weaves.{transcript_of}
+use Rattle.run_certify.proofs.Vocabulary.{◌∙◌, ap, sym, subst, rules, List, ◌<◌, length, slice_set, Entry, transcript_of}
 use Rattle.run_certify.proofs.Lists.{at_place, set_place, there}
 use Rattle.run_certify.proofs.unused.Unused.next.Goals as goal
 

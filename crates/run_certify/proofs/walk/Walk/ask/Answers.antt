@@ -1,7 +1,4 @@
-use Rattle.std.proofs.Common.{◌∙◌, ap, arith, sym}
-use Rattle.std.proofs.lemmas.Result.{on_ok_weaker}
-use Rattle.run_certify.specs.code.Firsts.{at_server}
-use Rattle.run_certify.specs.code.Walks.{Walked, what_was_done, with_decision}
+use Rattle.run_certify.proofs.Vocabulary.{◌∙◌, ap, arith, sym, on_ok_weaker, at_server, Walked, what_was_done, with_decision}
 use Rattle.run_certify.proofs.Asking.{asked_served, ended_otherwise}
 use Rattle.run_certify.proofs.Events.{served_there}
 use Rattle.run_certify.proofs.walk.Walk.ask.Goals as goal

@@ -1,6 +1,4 @@
-use Rattle.std.proofs.Common.{◌∙◌, sym, subst}
-use Rattle.run_core.specs.declared.event.Event.{Event}
-use Rattle.run_certify.specs.code.Walks.{IsEvent, what_was_done}
+use Rattle.run_certify.proofs.Vocabulary.{◌∙◌, sym, subst, Event, IsEvent, what_was_done}
 use Rattle.run_certify.proofs.Playing.{begin_fails, begun_goes, begun_shorter}
 use Rattle.run_certify.proofs.walk.Walk.begin.Goals as goal
 

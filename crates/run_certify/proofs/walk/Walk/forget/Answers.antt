@@ -1,6 +1,4 @@
-use Rattle.std.proofs.Common.{⊎_elim, inl, inr, ◌<◌, ◌≤◌, arith}
-use Rattle.run_core.specs.declared.event.Event.TheVariants.{Forget}
-use Rattle.run_certify.specs.code.Walks.{what_was_done}
+use Rattle.run_certify.proofs.Vocabulary.{⊎_elim, inl, inr, ◌<◌, ◌≤◌, arith, Forget, what_was_done}
 use Rattle.run_certify.proofs.Playing.{event_shorter, forget_fails, forgot_goes}
 use Rattle.run_certify.proofs.walk.Walk.forget.Goals as goal
 

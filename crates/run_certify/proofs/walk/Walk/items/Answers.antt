@@ -1,7 +1,4 @@
-use Rattle.std.proofs.Common.{[], ◌<◌, Ok, ap, sym, subst}
-use Rattle.std.proofs.lemmas.Result.{err_from_is_err_and}
-use Rattle.run_certify.specs.declared.fault.CertifyFault.TheVariants.{Mismatch}
-use Rattle.run_certify.specs.code.Walks.{Goes, Walked}
+use Rattle.run_certify.proofs.Vocabulary.{[], ◌<◌, Ok, ap, sym, subst, err_from_is_err_and, Mismatch, Goes, Walked}
 use Rattle.run_certify.proofs.Going.{item_fails, item_goes, left_in, taken_less, told_on, unmerged_fails}
 use Rattle.run_certify.proofs.Walking.{goes_nowhere}
 use Rattle.run_certify.proofs.walk.Walk.items.Goals as goal

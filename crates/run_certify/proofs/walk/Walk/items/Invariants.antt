@@ -1,5 +1,4 @@
-use Rattle.std.proofs.Common.{[]}
-use Rattle.run_certify.specs.code.Walks.{Goes}
+use Rattle.run_certify.proofs.Vocabulary.{[], Goes}
 use Rattle.run_certify.proofs.Going.{left_in}
 use Rattle.run_certify.proofs.walk.Walk.items.Given as goal
 

@@ -1,10 +1,4 @@
-use Rattle.std.proofs.Common.{◌≡◌, ◌≢◌, ℕ, true, false, not, Option, Some, None, ap, ◌∙◌, sym, arith}
-use Rattle.std.specs.Prelude.{nat_eq}
-use Rattle.std.specs.Option.{option_eq}
-use Rattle.std.proofs.lemmas.Bool.Decides.{nat_tests}
-use Rattle.std.proofs.lemmas.Result.{on_ok_weaker}
-use Rattle.run_core.specs.declared.event.Event.TheVariants.{Lack}
-use Rattle.run_certify.specs.code.Walks.{what_was_done}
+use Rattle.run_certify.proofs.Vocabulary.{◌≡◌, ◌≢◌, ℕ, true, false, not, Option, Some, None, ap, ◌∙◌, sym, arith, nat_eq, option_eq, nat_tests, on_ok_weaker, Lack, what_was_done}
 use Rattle.run_certify.proofs.Playing.{lack_fails, lacked_goes, lacked_otherwise, lacked_shorter}
 use Rattle.run_certify.proofs.walk.Walk.lack.Goals as goal
 

@@ -1,8 +1,4 @@
-use Rattle.std.proofs.Common.{◌∙◌, ap, subst, sym}
-use Rattle.txn_core.specs.Agents.{fixed_of}
-use Rattle.run_core.specs.declared.event.Event.TheVariants.{Begin}
-use Rattle.run_core.specs.Senses.{has_sense}
-use Rattle.run_certify.specs.code.Walks.{IsSound, Walked}
+use Rattle.run_certify.proofs.Vocabulary.{◌∙◌, ap, subst, sym, fixed_of, Begin, has_sense, IsSound, Walked}
 use Rattle.run_certify.proofs.Playing.{may_begin_is}
 use Rattle.run_certify.proofs.walk.Walk.may_begin.Goals as goal
 

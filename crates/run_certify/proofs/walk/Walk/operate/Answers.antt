@@ -1,7 +1,4 @@
-use Rattle.std.proofs.Common.{◌≡◌, ⊎_elim, ◌≤◌, [], ◌∙◌, sym, true≢false}
-use Rattle.run_certify.specs.Weaves.{operated}
-use Rattle.run_certify.specs.code.Firsts.{at_server}
-use Rattle.run_certify.specs.code.Walks.{what_was_done}
+use Rattle.run_certify.proofs.Vocabulary.{◌≡◌, ⊎_elim, ◌≤◌, [], ◌∙◌, sym, true≢false, operated, at_server, what_was_done}
 use Rattle.run_certify.proofs.Operating.{operate_goes, operate_otherwise, operator_far}
 use Rattle.run_certify.proofs.Walking.{operator_fails}
 use Rattle.run_certify.proofs.walk.Walk.operate.Goals as goal

@@ -1,8 +1,4 @@
-use Rattle.std.proofs.Common.{sym, subst}
-use Rattle.txn_core.specs.declared.job.Job.{Job}
-use Rattle.run_certify.specs.declared.entry.Entry.{Entry}
-use Rattle.run_certify.specs.declared.entry.Entry.TheVariants.{Begun}
-use Rattle.run_certify.specs.code.Walks.{EntryFails}
+use Rattle.run_certify.proofs.Vocabulary.{sym, subst, Job, Entry, Begun, EntryFails}
 use Rattle.run_certify.proofs.Going.{no_play}
 use Rattle.run_certify.proofs.walk.Walk.replay.Goals as goal
 

@@ -1,6 +1,4 @@
-use Rattle.std.proofs.Common.{[], sym, subst, ◌∙◌, arith}
-use Rattle.std.proofs.lemmas.Result.{err_from_is_err_and}
-use Rattle.run_certify.specs.code.Firsts.{AreAllPlayed}
+use Rattle.run_certify.proofs.Vocabulary.{[], sym, subst, ◌∙◌, arith, err_from_is_err_and, AreAllPlayed}
 use Rattle.run_certify.proofs.Going.{none_at_all, start_far}
 use Rattle.run_certify.proofs.Walking.{fails_further, goes_further}
 use Rattle.run_certify.proofs.walk.Walk.rest.Goals as goal

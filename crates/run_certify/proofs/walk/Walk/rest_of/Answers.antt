@@ -1,9 +1,4 @@
-use Rattle.std.proofs.Common.{◌≡◌, ℕ, ap, sym, subst, ◌∙◌, arith}
-use Rattle.std.proofs.lemmas.Result.{err_from_is_err_and}
-use Rattle.run_certify.specs.declared.entry.Entry.{Entry}
-use Rattle.run_certify.specs.Weaves.{transcript_of}
-use Rattle.run_certify.specs.code.Firsts.{AreAllPlayed}
-use Rattle.run_certify.specs.code.Walks.{EntryFails, EntryGoes, IsShorter, IsUse, Walked}
+use Rattle.run_certify.proofs.Vocabulary.{◌≡◌, ℕ, ap, sym, subst, ◌∙◌, arith, err_from_is_err_and, Entry, transcript_of, AreAllPlayed, EntryFails, EntryGoes, IsShorter, IsUse, Walked}
 use Rattle.run_certify.proofs.Going.{IsAsFar, far_on, less_of, none_up_to, other_than_asked, rest_asked, rest_fails_at, rest_far, start_far}
 use Rattle.run_certify.proofs.walk.Walk.rest_of.Goals as goal
 

@@ -1,5 +1,4 @@
-use Rattle.std.proofs.Common.{length}
-use Rattle.run_certify.specs.Weaves.{transcript_of}
+use Rattle.run_certify.proofs.Vocabulary.{length, transcript_of}
 use Rattle.run_certify.proofs.Going.{IsAsFar}
 use Rattle.run_certify.proofs.walk.Walk.rest_of.Given as goal
 

@@ -1,9 +1,4 @@
-use Rattle.std.proofs.Common.{◌≡◌, ℕ, [], ◌∷◌, refl, ap, subst, ◌∙◌}
-use Rattle.std.proofs.lemmas.Result.{err_from_is_err_and, on_ok_weaker}
-use Rattle.run_certify.specs.declared.entry.Entry.{Entry}
-use Rattle.run_certify.specs.Weaves.{transcript_of}
-use Rattle.run_certify.specs.code.Firsts.{at_server}
-use Rattle.run_certify.specs.code.Walks.{IsUse, Walked}
+use Rattle.run_certify.proofs.Vocabulary.{◌≡◌, ℕ, [], ◌∷◌, refl, ap, subst, ◌∙◌, err_from_is_err_and, on_ok_weaker, Entry, transcript_of, at_server, IsUse, Walked}
 use Rattle.run_certify.proofs.Going.{less_of, other_than_asked, same_histories, serve_asked, serve_asked_fails, serve_fails, serve_none, serve_on}
 use Rattle.run_certify.proofs.Walking.{goes_nowhere}
 use Rattle.run_certify.proofs.walk.Walk.serve.Goals as goal

@@ -1,7 +1,4 @@
-use Rattle.std.proofs.Common.{◌≡◌, [], ◌∷◌, length}
-use Rattle.run_certify.specs.Weaves.{transcript_of}
-use Rattle.run_certify.specs.code.Firsts.{at_server}
-use Rattle.run_certify.specs.code.Walks.{Goes}
+use Rattle.run_certify.proofs.Vocabulary.{◌≡◌, [], ◌∷◌, length, transcript_of, at_server, Goes}
 use Rattle.run_certify.proofs.walk.Walk.serve.Given as goal
 
 abbrev pub invariant-loop-entry : goal.invariant-loop-entry

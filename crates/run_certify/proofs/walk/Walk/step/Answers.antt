@@ -1,8 +1,4 @@
-use Rattle.std.proofs.Common.{refl}
-use Rattle.std.proofs.lemmas.Result.{IfOk-weaker}
-use Rattle.txn_core.specs.Agents.{fixed_of}
-use Rattle.run_core.specs.Telling.{ComesTo}
-use Rattle.run_core.specs.Worlds.{step}
+use Rattle.run_certify.proofs.Vocabulary.{refl, IfOk-weaker, fixed_of, ComesTo, step}
 use Rattle.run_certify.proofs.Events.{event_told}
 use Rattle.run_certify.proofs.walk.Walk.step.Goals as goal
 

@@ -1,5 +1,4 @@
-use Rattle.std.proofs.Common.{rules, ◌≡◌, Option, Some, None, refl, ◌∙◌}
-use Rattle.std.specs.Option.{option_or}
+use Rattle.run_core.proofs.Vocabulary.{rules, ◌≡◌, Option, Some, None, refl, ◌∙◌, option_or}
 use Rattle.run_core.proofs.seat.WorldAgent.lack.Goals as goal
 
 or_none : {A : Type 0} (x : Option A) → option_or x None ≡ x

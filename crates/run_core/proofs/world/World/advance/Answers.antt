@@ -1,6 +1,4 @@
-use Rattle.std.proofs.lemmas.Result.{IfErr-weaker, IfOk-weaker}
-use Rattle.txn_core.specs.Agents.{fixed_of, begin, forget}
-use Rattle.run_core.specs.code.Seats.{actors_in}
+use Rattle.run_core.proofs.Vocabulary.{IfErr-weaker, IfOk-weaker, fixed_of, begin, forget, actors_in}
 use Rattle.run_core.proofs.Moving.{of_becoming, becomes_there, comes_to_nothing, comes_by_operator}
 use Rattle.run_core.proofs.Wanting.{held}
 use Rattle.run_core.proofs.world.World.advance.Goals as goal

@@ -1,9 +1,4 @@
-use Rattle.std.proofs.Common.{ap}
-use Rattle.suite_prefix.specs.SettingsRules.{Opening}
-use Rattle.txn_core.specs.Agents.{fixed_of}
-use Rattle.run_core.specs.Opened.{Opened}
-use Rattle.run_core.specs.code.Seats.{AreOf}
-use Rattle.run_core.specs.Worlds.{opening}
+use Rattle.run_core.proofs.Vocabulary.{ap, Opening, fixed_of, Opened, AreOf, opening}
 use Rattle.run_core.proofs.Numbered.{seats_of_one_service, actors_of_seats}
 use Rattle.run_core.proofs.world.World.opening.Goals as goal
 

@@ -1,4 +1,4 @@
-use Rattle.std.proofs.Common.{◌<◌, length, refl, ◌∙◌, arith}
+use Rattle.run_core.proofs.Vocabulary.{◌<◌, length, refl, ◌∙◌, arith}
 use Rattle.run_core.proofs.Exchanging.{or_nothing}
 use Rattle.run_core.proofs.Playing.{world_played, outcomes_played}
 use Rattle.run_core.proofs.Wanting.{stops_before, stops_behind}

@@ -1,6 +1,4 @@
-use Rattle.std.proofs.Common.{◌≡◌, take}
-use Rattle.txn_core.specs.Agents.{fixed_of}
-use Rattle.run_core.specs.Runs.{after, dones, outcomes}
+use Rattle.run_core.proofs.Vocabulary.{◌≡◌, take, fixed_of, after, dones, outcomes}
 use Rattle.run_core.proofs.world.World.play.Given as goal
 
 abbrev pub invariant-loop-event : goal.invariant-loop-event

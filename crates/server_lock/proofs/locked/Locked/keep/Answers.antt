@@ -1,9 +1,4 @@
-use Rattle.std.proofs.Common.{rules, ◌≡◌, ◌∙◌, ◌<◌, List, [], ◌∷◌, ◌++◌, length, cond, None, Some, sym, ap, subst, arith}
-use Rattle.rep_core.specs.Serving.{answer_of, served}
-use Rattle.rep_core.specs.State.{State}
-use Rattle.server_lock.specs.declared.item.Item.{Item}
-use Rattle.server_lock.specs.Histories.{given_to, item_of, max_items}
-use Rattle.server_lock.specs.Kept.{IsKept, end_of}
+use Rattle.server_lock.proofs.Vocabulary.{rules, ◌≡◌, ◌∙◌, ◌<◌, List, [], ◌∷◌, ◌++◌, length, cond, None, Some, sym, ap, subst, arith, answer_of, served, State, Item, given_to, item_of, max_items, IsKept, end_of}
 use Rattle.server_lock.proofs.Legal.{kept_more, never_full}
 use Rattle.server_lock.proofs.locked.Locked.keep.Goals as goal
 

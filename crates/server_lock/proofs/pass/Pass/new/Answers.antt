@@ -1,8 +1,4 @@
-use Rattle.std.proofs.Common.{ℕ, ◌≤◌, List, refl, sym, subst, arith}
-use Rattle.std.proofs.lemmas.List.Elements.{All-replicate}
-use Rattle.vote_core.specs.Validity.{max_servers}
-use Rattle.server_lock.specs.Histories.{max_items}
-use Rattle.server_lock.specs.Passes.{IsHeld}
+use Rattle.server_lock.proofs.Vocabulary.{ℕ, ◌≤◌, List, refl, sym, subst, arith, All-replicate, max_servers, max_items, IsHeld}
 use Rattle.server_lock.proofs.pass.Pass.new.Goals as goal
 
 pub invariant_of-result : goal.invariant_of-result

@@ -1,7 +1,4 @@
-use Rattle.std.proofs.Common.{◌≡◌, length, subst, arith}
-use Rattle.std.specs.Prelude.{IfErr}
-use Rattle.suite_prefix.specs.SettingsRules.{Opening}
-use Rattle.server_lock.specs.Closed.{IsNotClosed}
+use Rattle.server_lock.proofs.Vocabulary.{◌≡◌, length, subst, arith, IfErr, Opening, IsNotClosed}
 use Rattle.server_lock.proofs.Placing.{not_closed}
 use Rattle.server_lock.proofs.servers.Servers.close.Goals as goal
 

@@ -1,8 +1,5 @@
-use Rattle.std.proofs.Common.{◌≡◌, ap, sym, ◌∙◌}
+use Rattle.suite_collect.proofs.Vocabulary.{◌≡◌, ap, sym, ◌∙◌, due_in, due_of, Collecting}
 use Rattle.suite_collect.specs.code.Dues as due
-use Rattle.suite_collect.specs.code.Dues.{due_in}
-use Rattle.suite_collect.specs.code.CollectFields.{due_of}
-use Rattle.suite_collect.specs.Collecting.{Collecting}
 use Rattle.suite_collect.proofs.Dues.{current_next}
 use Rattle.suite_collect.proofs.collect.Collect.coming.Goals as goal
 

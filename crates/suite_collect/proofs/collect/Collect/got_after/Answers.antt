@@ -1,11 +1,4 @@
-use Rattle.std.proofs.Common.{◌≡◌, ◌∷◌, false, true, ap, sym, ◌∙◌, rules}
-use Rattle.std.specs.Prelude.{◌==◌, ◌&&◌, ◌||◌}
-use Rattle.std.specs.FinSet.{contains}
-use Rattle.vote_core.specs.Quorums.{Configuration, votes_in}
-use Rattle.suite_prefix.specs.LockModes.{serves}
-use Rattle.suite_collect.specs.code.Sayings.{told_of}
-use Rattle.suite_collect.specs.Collecting.{all_told, counted, wanted, is_member, got, tell}
-use Rattle.suite_collect.specs.Telling.{is_held, holds}
+use Rattle.suite_collect.proofs.Vocabulary.{◌≡◌, ◌∷◌, false, true, ap, sym, ◌∙◌, rules, ◌==◌, ◌&&◌, ◌||◌, contains, Configuration, votes_in, serves, told_of, all_told, counted, wanted, is_member, got, tell, is_held, holds}
 use Rattle.suite_collect.proofs.Counts.{got_then, nobody_more, its_server_more}
 use Rattle.suite_collect.proofs.collect.Collect.got_after.Goals as goal
 

@@ -1,11 +1,5 @@
-use Rattle.std.proofs.Common.{◌≡◌, true, Some, refl, sym, ap, subst, ◌∙◌, rules}
-use Rattle.suite_collect.specs.code.Dues.{Standing, due_in}
-use Rattle.suite_collect.specs.declared.hearing.Hearing.{Hearing}
-use Rattle.suite_collect.specs.declared.told.Told.{Told}
-use Rattle.suite_collect.specs.Answering.{Completes, IsTold, Hears, has_quorum}
-use Rattle.suite_collect.specs.code.Sayings.{told_of}
-use Rattle.suite_collect.specs.Telling.{first_busy}
-use Rattle.suite_collect.specs.Collecting.{Collecting, all_told, asked_of, next, tell, told_by}
+use Rattle.suite_collect.proofs.Vocabulary.{◌≡◌, true, Some, refl, sym, ap, subst, ◌∙◌, rules, Standing, due_in, Hearing, Told, Completes, IsTold, Hears, has_quorum, told_of, first_busy, Collecting, all_told, asked_of, next, tell}
+use Rattle.suite_collect.proofs.Vocabulary.{told_by}
 use Rattle.suite_collect.proofs.Dues.{current_next, ask_next, short_next}
 use Rattle.suite_collect.proofs.Refusals.{quorum_shows}
 use Rattle.suite_collect.proofs.collect.Collect.hear.Goals.{in-Ask, in-Short}

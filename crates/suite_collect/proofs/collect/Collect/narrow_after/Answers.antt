@@ -1,10 +1,4 @@
-use Rattle.std.proofs.Common.{◌≡◌, ◌∷◌, None, ap, ◌∙◌, rules}
-use Rattle.std.specs.Prelude.{◌==◌, find, unwrap_or}
-use Rattle.std.specs.FinSet.{contains}
-use Rattle.suite_prefix.specs.declared.copies.Prefix.{Prefix}
-use Rattle.suite_collect.specs.declared.told.Told.{Told}
-use Rattle.suite_collect.specs.Telling.{newer, newest, holds, shown, greatest}
-use Rattle.suite_collect.specs.Collecting.{Collector, Collecting, members_of, first_members, version, source}
+use Rattle.suite_collect.proofs.Vocabulary.{◌≡◌, ◌∷◌, None, ap, ◌∙◌, rules, ◌==◌, find, unwrap_or, contains, Prefix, Told, newer, newest, holds, shown, greatest, Collector, Collecting, members_of, first_members, version, source}
 use Rattle.suite_collect.proofs.Dues.{gives_narrow}
 use Rattle.suite_collect.proofs.collect.Collect.narrow_after.Goals as goal
 

@@ -1,9 +1,6 @@
-use Rattle.std.proofs.Common.{◌≡◌, ap, sym, ◌∙◌, rules}
+use Rattle.suite_collect.proofs.Vocabulary.{◌≡◌, ap, sym, ◌∙◌, rules, due_in, due_of, Collecting, Current, asked_of, request_for}
 use Rattle.suite_collect.specs.code.Dues as due
-use Rattle.suite_collect.specs.code.Dues.{due_in}
-use Rattle.suite_collect.specs.code.CollectFields.{due_of}
 use Rattle.suite_collect.specs.Collecting as spec
-use Rattle.suite_collect.specs.Collecting.{Collecting, Current, asked_of, request_for}
 use Rattle.suite_collect.proofs.Dues.{current_next, ask_next}
 use Rattle.suite_collect.proofs.collect.Collect.next.Goals as goal
 

@@ -1,11 +1,4 @@
-use Rattle.std.proofs.Common.{◌≡◌, true, false, Option, Some, sym, ap, ◌∙◌, rules}
-use Rattle.std.specs.Prelude.{is_some}
-use Rattle.suite_prefix.specs.declared.copies.Prefix.{Prefix}
-use Rattle.suite_collect.specs.code.CollectFields.{collecting_of, tally_of, IsSummed}
-use Rattle.suite_collect.specs.code.Dues.{tally_in}
-use Rattle.suite_collect.specs.code.Sayings.{told_of}
-use Rattle.suite_collect.specs.Collecting.{Collecting, tell}
-use Rattle.suite_collect.specs.Telling.{newer, newest}
+use Rattle.suite_collect.proofs.Vocabulary.{◌≡◌, true, false, Option, Some, sym, ap, ◌∙◌, rules, is_some, Prefix, collecting_of, tally_of, IsSummed, tally_in, told_of, Collecting, tell, newer, newest}
 use Rattle.suite_collect.proofs.Dues.{KeepsNewest, keeps_newest, keeps_shown, keeps_wide, put_added}
 use Rattle.suite_collect.proofs.collect.Collect.put.Goals.{then-is_none+in-Some+in_ok-clone+in-Some-1, then-is_none+in-Some+in_ok-clone+in-None-1, then-is_none+in_default, else-is_none}
 use Rattle.suite_collect.proofs.collect.Collect.put.Goals as goal

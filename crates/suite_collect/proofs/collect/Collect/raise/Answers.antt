@@ -1,8 +1,4 @@
-use Rattle.std.proofs.Common.{ap, sym, ◌∙◌}
-use Rattle.suite_prefix.specs.declared.copies.Prefix.{Prefix}
-use Rattle.suite_prefix.specs.declared.lock_mode.LockMode.TheVariants.{Exclusive}
-use Rattle.suite_collect.specs.Telling.{newest}
-use Rattle.suite_collect.specs.Collecting.{Collecting}
+use Rattle.suite_collect.proofs.Vocabulary.{ap, sym, ◌∙◌, Prefix, Exclusive, newest, Collecting}
 use Rattle.suite_collect.proofs.Dues.{summed_narrow, narrow_of}
 use Rattle.suite_collect.proofs.collect.Collect.raise.Goals as goal
 

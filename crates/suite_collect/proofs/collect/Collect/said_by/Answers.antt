@@ -1,12 +1,5 @@
-use Rattle.std.proofs.Common.{◌≡◌, Option, Some, sym, ap, ◌∙◌, rules}
-use Rattle.suite_prefix.specs.declared.lock_mode.LockMode.{LockMode}
-use Rattle.suite_collect.specs.declared.told.Told.{Told}
-use Rattle.suite_collect.specs.Answering.{asked_in}
-use Rattle.suite_collect.specs.Collecting.{Collecting, asked_of, said_to, said_down}
-use Rattle.suite_collect.specs.code.Sayings.{said_of}
+use Rattle.suite_collect.proofs.Vocabulary.{◌≡◌, Option, Some, sym, ap, ◌∙◌, rules, LockMode, Told, asked_in, Collecting, asked_of, said_to, said_down, said_of, due_in, due_of}
 use Rattle.suite_collect.specs.code.Dues as due
-use Rattle.suite_collect.specs.code.Dues.{due_in}
-use Rattle.suite_collect.specs.code.CollectFields.{due_of}
 use Rattle.suite_collect.proofs.Dues.{told_said}
 use Rattle.suite_collect.proofs.collect.Collect.said_by.Goals.{in-Held, in-Busy, in-Down+in-Poll}
 use Rattle.suite_collect.proofs.collect.Collect.said_by.Goals as goal

@@ -1,7 +1,4 @@
-use Rattle.std.proofs.Common.{◌≡◌, Some, sym, ap, ◌∙◌, rules}
-use Rattle.suite_collect.specs.code.Sayings.{told_of}
-use Rattle.suite_collect.specs.Collecting.{next, tell, told_by}
-use Rattle.suite_collect.specs.Laws.{told_or}
+use Rattle.suite_collect.proofs.Vocabulary.{◌≡◌, Some, sym, ap, ◌∙◌, rules, told_of, next, tell, told_by, told_or}
 use Rattle.suite_collect.proofs.collect.Collect.take.Goals as goal
 
 pub returns-clause-ok : goal.returns-clause-ok

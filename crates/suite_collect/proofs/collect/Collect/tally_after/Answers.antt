@@ -1,10 +1,4 @@
-use Rattle.std.proofs.Common.{◌≡◌, ℕ, ◌∷◌, ap, sym, ◌∙◌}
-use Rattle.std.specs.FinSet.{contains}
-use Rattle.vote_core.specs.Quorums.{votes_in}
-use Rattle.suite_collect.specs.code.Dues.{Due, due_among, due_in}
-use Rattle.suite_collect.specs.code.Sayings.{told_of}
-use Rattle.suite_collect.specs.Collecting.{all_told, wanted}
-use Rattle.suite_collect.specs.Telling.{holds, has_refused}
+use Rattle.suite_collect.proofs.Vocabulary.{◌≡◌, ℕ, ◌∷◌, ap, sym, ◌∙◌, contains, votes_in, Due, due_among, due_in, told_of, all_told, wanted, holds, has_refused}
 use Rattle.suite_collect.proofs.Dues.{tally_then}
 use Rattle.suite_collect.proofs.Counts.{got_then}
 use Rattle.suite_collect.proofs.collect.Collect.tally_after.Goals as goal

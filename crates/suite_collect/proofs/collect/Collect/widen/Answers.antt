@@ -1,9 +1,5 @@
-use Rattle.std.proofs.Common.{◌≡◌, ◌++◌, ap, sym, ◌∙◌, subst, refl, Some}
-use Rattle.std.specs.Prelude.{IfSome, Option, option_map}
-use Rattle.suite_collect.specs.declared.collect.Collect.TheInside.{Inside}
+use Rattle.suite_collect.proofs.Vocabulary.{◌≡◌, ◌++◌, ap, sym, ◌∙◌, subst, refl, Some, IfSome, Option, option_map, Inside, Collecting, told_since, all_told, widening_of, IsSummed}
 use Rattle.suite_collect.specs.declared.widening.Widening.{Widening}
-use Rattle.suite_collect.specs.Collecting.{Collecting, told_since, all_told}
-use Rattle.suite_collect.specs.code.CollectFields.{widening_of, IsSummed}
 use Rattle.suite_collect.proofs.Dues.{summed_wide}
 use Rattle.suite_collect.proofs.collect.Collect.widen.Goals.{in-Some, in-None}
 use Rattle.suite_collect.proofs.collect.Collect.widen.Goals as goal

@@ -1,11 +1,4 @@
-use Rattle.std.proofs.Common.{◌≡◌, ◌∷◌, ◌++◌, ap, ◌∙◌, rules}
-use Rattle.std.specs.Prelude.{◌==◌, find, unwrap_or}
-use Rattle.std.specs.FinSet.{contains}
-use Rattle.suite_prefix.specs.declared.lock_mode.LockMode.TheVariants.{Exclusive}
-use Rattle.suite_collect.specs.code.CollectFields.{widening_of}
-use Rattle.suite_collect.specs.declared.told.Told.{Told}
-use Rattle.suite_collect.specs.Telling.{newest, holds, shown}
-use Rattle.suite_collect.specs.Collecting.{Collecting, told_since, members_of, version}
+use Rattle.suite_collect.proofs.Vocabulary.{◌≡◌, ◌∷◌, ◌++◌, ap, ◌∙◌, rules, ◌==◌, find, unwrap_or, contains, Exclusive, widening_of, Told, newest, holds, shown, Collecting, told_since, members_of, version}
 use Rattle.suite_collect.proofs.Dues.{gives_wide}
 use Rattle.suite_collect.proofs.collect.Collect.widened_after.Goals as goal
 

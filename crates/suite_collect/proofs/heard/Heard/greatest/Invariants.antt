@@ -1,5 +1,4 @@
-use Rattle.std.proofs.Common.{◌≡◌, drop, max}
-use Rattle.suite_collect.specs.Telling.{greatest}
+use Rattle.suite_collect.proofs.Vocabulary.{◌≡◌, drop, max, greatest}
 use Rattle.suite_collect.proofs.heard.Heard.greatest.Given as goal
 
 abbrev pub invariant-loop-server : goal.invariant-loop-server

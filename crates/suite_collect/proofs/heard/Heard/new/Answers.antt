@@ -1,7 +1,4 @@
-use Rattle.std.proofs.Common.{ap, sym, ◌∙◌}
-use Rattle.suite_prefix.specs.declared.lock_mode.LockMode.TheVariants.{Shared, Exclusive}
-use Rattle.vote_core.specs.declared.TheConstants.{MAX_SERVERS}
-use Rattle.suite_collect.specs.Telling.{holds, has_refused, shown, first_busy}
+use Rattle.suite_collect.proofs.Vocabulary.{ap, sym, ◌∙◌, Shared, Exclusive, MAX_SERVERS, holds, has_refused, shown, first_busy}
 use Rattle.suite_collect.proofs.Unseen.{unseen}
 use Rattle.suite_collect.proofs.heard.Heard.new.Goals as goal
 

@@ -1,5 +1,5 @@
 -- `new` makes the empty struct, with the items that its clause names. Assumes `Logic`.
-use Rattle.std.proofs.Common.{[], ◌∷◌, refl}
+use Rattle.suite_collect.proofs.Vocabulary.{[], ◌∷◌, refl}
 use seplogic.Ra.Ura.{Ura}
 use mir.Syntax.{Fn, Args, a_type}
 use mir.Val.{Val}

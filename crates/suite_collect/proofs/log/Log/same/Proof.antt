@@ -1,5 +1,5 @@
 -- `same` makes the empty struct, with the items that its clause names. Assumes `Logic`.
-use Rattle.std.proofs.Common.{List, [], ◌∷◌, ◌++◌, refl}
+use Rattle.suite_collect.proofs.Vocabulary.{List, [], ◌∷◌, ◌++◌, refl}
 use seplogic.Ra.Ura.{Ura}
 use mir.Syntax.{Fn, Args, a_type}
 use mir.Val.{Val, vptr}

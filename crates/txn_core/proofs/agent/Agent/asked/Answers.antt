@@ -1,8 +1,4 @@
-use Rattle.std.proofs.Common.{◌≡◌, Some, ap, sym, ◌∙◌}
-use Rattle.std.specs.Prelude.{option_map}
-use Rattle.txn_core.specs.code.AgentFields.{doing_of, standing_of}
-use Rattle.txn_core.specs.Agents.{next_in, next_of}
-use Rattle.txn_core.specs.Standing.{Standing}
+use Rattle.txn_core.proofs.Vocabulary.{◌≡◌, Some, ap, sym, ◌∙◌, option_map, doing_of, standing_of, next_in, next_of, Standing}
 use Rattle.txn_core.proofs.Replies.{server_of}
 use Rattle.txn_core.proofs.agent.Agent.asked.Goals as goal
 

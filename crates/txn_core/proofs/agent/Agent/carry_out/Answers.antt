@@ -1,8 +1,4 @@
-use Rattle.std.proofs.Common.{◌<◌, ◌≤◌, sym, ap, subst, ◌∙◌, rules}
-use Rattle.vote_core.specs.declared.TheConstants.{MAX_SERVERS}
-use Rattle.file_ops.specs.declared.service.Service.{Service}
-use Rattle.txn_core.specs.Agents.{is_idle}
-use Rattle.txn_core.specs.Standing.{Standing}
+use Rattle.txn_core.proofs.Vocabulary.{◌<◌, ◌≤◌, sym, ap, subst, ◌∙◌, rules, MAX_SERVERS, Service, is_idle, Standing}
 use Rattle.txn_core.proofs.Reaching.{reaches_begun, reaches_idle}
 use Rattle.txn_core.proofs.agent.Agent.carry_out.Goals as goal
 

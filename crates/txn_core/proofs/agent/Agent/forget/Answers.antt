@@ -1,6 +1,4 @@
-use Rattle.std.proofs.Common.{sym, subst}
-use Rattle.weak_cache.specs.Cache.{Limited}
-use Rattle.txn_core.specs.code.Unused.{HasUnused}
+use Rattle.txn_core.proofs.Vocabulary.{sym, subst, Limited, HasUnused}
 use Rattle.txn_core.proofs.Unused.{unused_forgotten}
 use Rattle.txn_core.proofs.agent.Agent.forget.Goals as goal
 

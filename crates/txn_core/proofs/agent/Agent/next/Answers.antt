@@ -1,13 +1,4 @@
-use Rattle.std.proofs.Common.{◌≡◌, ℕ, true, Option, Some, ap, sym, ◌∙◌}
-use Rattle.std.specs.declared.alloc.AllocError.{AllocError}
-use Rattle.std.specs.Prelude.{option_map}
-use Rattle.std.proofs.lemmas.Result.{IfOk-weaker, IfErr-weaker}
-use Rattle.rep_core.specs.declared.request.Request.{Request}
-use Rattle.weak_cache.specs.Cache.{Limits}
-use Rattle.txn_core.specs.code.AgentFields.{doing_of, standing_of}
-use Rattle.txn_core.specs.Agents.{next_of, next_in}
-use Rattle.txn_core.specs.Standing.{Standing}
-use Rattle.txn_core.specs.Wanting.{by_asking}
+use Rattle.txn_core.proofs.Vocabulary.{◌≡◌, ℕ, true, Option, Some, ap, sym, ◌∙◌, AllocError, option_map, IfOk-weaker, IfErr-weaker, Request, Limits, doing_of, standing_of, next_of, next_in, Standing, by_asking}
 use Rattle.txn_core.proofs.agent.Agent.next.Goals as goal
 
 pub returns-in-Some-clause-ok : goal.returns-in-Some-clause-ok

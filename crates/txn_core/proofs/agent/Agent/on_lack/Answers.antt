@@ -1,16 +1,7 @@
-use Rattle.std.proofs.Common.{◌≡◌, ◌<◌, ◌≤◌, Some, sym, ap, subst, ◌∙◌}
-use Rattle.std.specs.Prelude.{option_map}
-use Rattle.vote_core.specs.declared.TheConstants.{MAX_SERVERS}
-use Rattle.txn_core.specs.code.AgentFields.{doing_of, standing_of}
-use Rattle.txn_core.specs.code.Goings.{ending_of}
+use Rattle.txn_core.proofs.Vocabulary.{◌≡◌, ◌<◌, ◌≤◌, Some, sym, ap, subst, ◌∙◌, option_map, MAX_SERVERS, doing_of, standing_of, ending_of, HasUnused, Running, Resources, Lacked, Standing}
 use Rattle.txn_core.specs.code.Telling.{Tells}
-use Rattle.txn_core.specs.code.Unused.{HasUnused}
-use Rattle.txn_core.specs.Doing.{Running}
 use Rattle.txn_core.specs.declared.agent.Doing.{Doing as Coded}
 use Rattle.txn_core.specs.declared.agent.Doing.TheVariants as coded
-use Rattle.txn_core.specs.declared.resources.Resources.{Resources}
-use Rattle.txn_core.specs.declared.response.Response.TheVariants.{Lacked}
-use Rattle.txn_core.specs.Standing.{Standing}
 use Rattle.txn_core.proofs.Reaching.{unbegun_by}
 use Rattle.txn_core.proofs.ResponseTaken.{took_response, tells_by}
 use Rattle.txn_core.proofs.agent.Agent.on_lack.Goals as goal

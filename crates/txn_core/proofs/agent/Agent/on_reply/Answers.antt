@@ -1,16 +1,6 @@
-use Rattle.std.proofs.Common.{◌≡◌, ◌<◌, ◌≤◌, Some, sym, ap, subst, ◌∙◌}
-use Rattle.vote_core.specs.declared.TheConstants.{MAX_SERVERS}
-use Rattle.file_ops.specs.declared.service.Service.{Service}
-use Rattle.std.specs.Prelude.{option_map}
-use Rattle.std.proofs.lemmas.Result.{IfOk-weaker}
-use Rattle.txn_core.specs.code.AgentFields.{doing_of, standing_of}
-use Rattle.txn_core.specs.code.Goings.{ending_of}
-use Rattle.txn_core.specs.Agents.{Agent, take}
-use Rattle.txn_core.specs.Doing.{Running}
+use Rattle.txn_core.proofs.Vocabulary.{◌≡◌, ◌<◌, ◌≤◌, Some, sym, ap, subst, ◌∙◌, MAX_SERVERS, Service, option_map, IfOk-weaker, doing_of, standing_of, ending_of, Agent, take, Running, Replied, Standing, left_by}
 use Rattle.txn_core.specs.declared.agent.Doing.{Doing as Coded}
 use Rattle.txn_core.specs.declared.agent.Doing.TheVariants as coded
-use Rattle.txn_core.specs.declared.response.Response.TheVariants.{Replied}
-use Rattle.txn_core.specs.Standing.{Standing, left_by}
 use Rattle.txn_core.proofs.ResponseTaken.{Took, took_response}
 use Rattle.txn_core.proofs.agent.Agent.on_reply.Goals as goal
 

@@ -1,11 +1,4 @@
-use Rattle.std.proofs.Common.{ap, sym, subst, ◌∙◌}
-use Rattle.std.proofs.lemmas.Result.{IfOk-weaker}
-use Rattle.file_exec.specs.Changes.{answered}
-use Rattle.file_exec.specs.Known.{exec_of}
-use Rattle.file_exec.specs.Reaching.{IsReached}
-use Rattle.txn_core.specs.Doing.{Task}
-use Rattle.txn_core.specs.code.Planning.{answer_of}
-use Rattle.txn_core.specs.code.Reaching.{IsReachedOn}
+use Rattle.txn_core.proofs.Vocabulary.{ap, sym, subst, ◌∙◌, IfOk-weaker, answered, exec_of, IsReached, Task, answer_of, IsReachedOn}
 use Rattle.txn_core.proofs.execution.Execution.answer_on.Goals as goal
 
 pub exec-requires-clause-reached : goal.exec-requires-clause-reached

@@ -1,7 +1,4 @@
-use Rattle.std.proofs.Common.{refl, ap, ◌∙◌}
-use Rattle.txn_core.specs.code.Learning.{kept_by}
-use Rattle.txn_core.specs.code.Plans.{fixed_in}
-use Rattle.txn_core.specs.code.Seeing.{learned_suites}
+use Rattle.txn_core.proofs.Vocabulary.{refl, ap, ◌∙◌, kept_by, fixed_in, learned_suites}
 use Rattle.txn_core.proofs.Reaching.{reached_carried}
 use Rattle.txn_core.proofs.Seeing.{learned_ordered}
 use Rattle.txn_core.proofs.Sequences.{carried_follows, carried_unused}

@@ -1,10 +1,4 @@
-use Rattle.std.proofs.Common.{◌≡◌, ◌+◌, ℕ, [], ◌∷◌, ◌++◌, length, ap, sym, subst, ◌∙◌, arith}
-use Rattle.std.specs.Prelude.{Option, option_map}
-use Rattle.std.specs.Borrow.{Bor}
-use Rattle.suite_content.specs.declared.content.Content.{Content}
-use Rattle.txn_core.specs.code.Seeing.{seen_in}
-use Rattle.txn_core.specs.code.Plans.{fixed_in, seen_on, opened_all}
-use Rattle.txn_core.specs.code.Reaching.{IsReachedOn}
+use Rattle.txn_core.proofs.Vocabulary.{◌≡◌, ◌+◌, ℕ, [], ◌∷◌, ◌++◌, length, ap, sym, subst, ◌∙◌, arith, Option, option_map, Bor, Content, seen_in, fixed_in, seen_on, opened_all, IsReachedOn}
 use Rattle.txn_core.proofs.Reaching.{reached_from, reached_as, reached_learned, reached_opened, unbegun_on}
 use Rattle.txn_core.proofs.Seeing.{learned_ordered}
 use Rattle.txn_core.proofs.Rounds.{longer, playing_starts, playing_more, playing_stops}

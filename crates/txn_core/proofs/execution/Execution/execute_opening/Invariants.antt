@@ -1,7 +1,4 @@
-use Rattle.std.proofs.Common.{◌≡◌, length}
-use Rattle.txn_core.specs.code.Plans.{fixed_in, seen_on}
-use Rattle.txn_core.specs.code.Reaching.{IsReachedOn}
-use Rattle.txn_core.specs.code.Seeing.{seen_in}
+use Rattle.txn_core.proofs.Vocabulary.{◌≡◌, length, fixed_in, seen_on, IsReachedOn, seen_in}
 use Rattle.txn_core.proofs.Rounds.{IsPlaying}
 use Rattle.txn_core.proofs.execution.Execution.execute_opening.Given as goal
 

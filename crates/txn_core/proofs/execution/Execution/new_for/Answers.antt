@@ -1,7 +1,4 @@
-use Rattle.std.proofs.Common.{ap, ◌∙◌}
-use Rattle.suite_prefix.specs.declared.copies.Prefix.{Prefix}
-use Rattle.rep_core.specs.Store.{is_used_up}
-use Rattle.txn_core.specs.code.Plans.{fixed_in, entries_on}
+use Rattle.txn_core.proofs.Vocabulary.{ap, ◌∙◌, Prefix, is_used_up, fixed_in, entries_on}
 use Rattle.txn_core.proofs.Unused.{unused_start}
 use Rattle.txn_core.proofs.execution.Execution.new_for.Goals as goal
 

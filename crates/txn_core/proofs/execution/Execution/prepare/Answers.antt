@@ -1,8 +1,4 @@
-use Rattle.std.proofs.Common.{sym, subst}
-use Rattle.txn_core.specs.code.Plans.{IsPlanOf, fixed_in, opened_all, shelved}
-use Rattle.txn_core.specs.code.Reaching.{IsReachedIn}
-use Rattle.txn_core.specs.code.Seeing.{learned_suites}
-use Rattle.txn_core.specs.code.Unused.{HasUnused}
+use Rattle.txn_core.proofs.Vocabulary.{sym, subst, IsPlanOf, fixed_in, opened_all, shelved, IsReachedIn, learned_suites, HasUnused}
 use Rattle.txn_core.proofs.execution.Execution.prepare.Goals as goal
 
 pub plan-requires-clause-unused : goal.plan-requires-clause-unused

@@ -1,5 +1,4 @@
-use Rattle.std.proofs.Common.{drop, ap, sym, ◌∙◌}
-use Rattle.std.proofs.lemmas.List.{drop-drop}
+use Rattle.txn_core.proofs.Vocabulary.{drop, ap, sym, ◌∙◌, drop-drop}
 use Rattle.txn_core.proofs.servers.Servers.pass.Goals as goal
 
 pub returns-then-self-len : goal.returns-then-self-len

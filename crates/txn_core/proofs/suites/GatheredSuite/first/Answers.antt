@@ -1,8 +1,4 @@
-use Rattle.std.proofs.Common.{◌≡◌, Option, sym, subst, rules}
-use Rattle.std.specs.Prelude.{IfSome}
-use Rattle.std.specs.Option.{option_copied}
-use Rattle.txn_core.specs.Suites.{ReadPoint}
-use Rattle.txn_core.specs.code.Unused.{GaveUnused}
+use Rattle.txn_core.proofs.Vocabulary.{◌≡◌, Option, sym, subst, rules, IfSome, option_copied, ReadPoint, GaveUnused}
 use Rattle.txn_core.proofs.Unused.{first_gave}
 use Rattle.txn_core.proofs.suites.GatheredSuite.first.Goals as goal
 

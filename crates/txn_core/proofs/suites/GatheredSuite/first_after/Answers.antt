@@ -1,9 +1,5 @@
-use Rattle.std.proofs.Common.{◌≡◌, Some, None, ap, ◌∙◌, rules}
-use Rattle.suite_collect.specs.Answering.{read_point}
-use Rattle.suite_collect.specs.Collecting.{Collector, tell}
+use Rattle.txn_core.proofs.Vocabulary.{◌≡◌, Some, None, ap, ◌∙◌, rules, read_point, Collector, tell, first_unused, ReadPoint, GatheredSuite}
 use Rattle.txn_core.specs.declared.suites.Gathered.{Gathered}
-use Rattle.txn_core.specs.code.Unused.{first_unused}
-use Rattle.txn_core.specs.Suites.{ReadPoint, GatheredSuite}
 use Rattle.txn_core.proofs.Heard.{first_given}
 use Rattle.txn_core.proofs.Unused.{given_unused, tell_says}
 use Rattle.txn_core.proofs.suites.GatheredSuite.first_after.Goals as goal

@@ -1,9 +1,6 @@
-use Rattle.std.proofs.Common.{◌≡◌, sym, ap, subst, ◌∙◌}
-use Rattle.std.specs.Prelude.{IfOk}
+use Rattle.txn_core.proofs.Vocabulary.{◌≡◌, sym, ap, subst, ◌∙◌, IfOk, SawUnused, first_unused, GatheredSuite}
 use Rattle.txn_core.specs.declared.suites.Gathered.{Gathered}
 use Rattle.txn_core.specs.code.Hearing.{Hears}
-use Rattle.txn_core.specs.code.Unused.{SawUnused, first_unused}
-use Rattle.txn_core.specs.Suites.{GatheredSuite}
 use Rattle.txn_core.proofs.InPlace.{heard_as, heard_unused}
 use Rattle.txn_core.proofs.suites.GatheredSuite.hear.Goals as goal
 

@@ -1,5 +1,4 @@
-use Rattle.txn_core.specs.code.Hearing.{IsFirstAfter}
-use Rattle.txn_core.specs.declared.pending_quorum.PendingQuorum.{PendingQuorum}
+use Rattle.txn_core.proofs.Vocabulary.{IsFirstAfter, PendingQuorum}
 use Rattle.txn_core.proofs.Heard.{settles_if}
 use Rattle.txn_core.proofs.suites.GatheredSuite.pending.Goals as goal
 

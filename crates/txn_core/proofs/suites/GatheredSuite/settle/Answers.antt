@@ -1,7 +1,5 @@
-use Rattle.std.proofs.Common.{◌≡◌, sym, ap, subst, ◌∙◌, rules}
-use Rattle.suite_collect.specs.Collecting.{Collector, Collecting, tell}
+use Rattle.txn_core.proofs.Vocabulary.{◌≡◌, sym, ap, subst, ◌∙◌, rules, Collector, Collecting, tell, SawUnused, first_unused}
 use Rattle.txn_core.specs.declared.suites.Gathered.{Gathered}
-use Rattle.txn_core.specs.code.Unused.{SawUnused, first_unused}
 use Rattle.txn_core.proofs.Unused.{or_unused, tell_says}
 use Rattle.txn_core.proofs.suites.GatheredSuite.settle.Goals as goal
 

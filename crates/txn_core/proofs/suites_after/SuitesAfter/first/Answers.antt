@@ -1,5 +1,4 @@
-use Rattle.std.proofs.Common.{sym, ap, ◌∙◌}
-use Rattle.txn_core.specs.code.Seeing.{Viewed, first_at}
+use Rattle.txn_core.proofs.Vocabulary.{sym, ap, ◌∙◌, Viewed, first_at}
 use Rattle.txn_core.proofs.Seeing.{learned_found, learned_absent}
 use Rattle.txn_core.proofs.suites_after.SuitesAfter.first.Goals as goal
 

@@ -1,14 +1,5 @@
-use Rattle.std.proofs.Common.{◌≡◌, ℕ, List, ◌∷◌, true, Option, drop, sym, ap, ◌∙◌}
-use Rattle.std.specs.declared.alloc.AllocError.{AllocError}
-use Rattle.std.specs.Prelude.{option_map}
-use Rattle.std.proofs.lemmas.Result.{IfOk-weaker, IfErr-weaker}
-use Rattle.rep_core.specs.declared.request.Request.{Request}
-use Rattle.weak_cache.specs.Cache.{Limits}
-use Rattle.txn_core.specs.code.TransactionRunFields.{phase_of}
-use Rattle.txn_core.specs.declared.ending.Ending.{Ending}
-use Rattle.txn_core.specs.Doing.{TransactionRun, Fixed, Preparing, Deciding, Finishing}
-use Rattle.txn_core.specs.Transactions.{request_in, request_of}
-use Rattle.txn_core.specs.Wanting.{by_asking}
+use Rattle.txn_core.proofs.Vocabulary.{◌≡◌, ℕ, List, ◌∷◌, true, Option, drop, sym, ap, ◌∙◌, AllocError, option_map, IfOk-weaker, IfErr-weaker, Request, Limits, phase_of, Ending, TransactionRun, Fixed, Preparing, Deciding, Finishing}
+use Rattle.txn_core.proofs.Vocabulary.{request_in, request_of, by_asking}
 use Rattle.txn_core.proofs.Passing.{phase_at, proposing_first, proposing_none}
 use Rattle.txn_core.proofs.transaction_run.TransactionRun.ask.Goals as goal
 

@@ -1,12 +1,4 @@
-use Rattle.std.proofs.Common.{ap, subst, ◌∙◌}
-use Rattle.std.specs.Prelude.{Some, None}
-use Rattle.txn_core.specs.declared.ending.Flow.{Flow}
-use Rattle.txn_core.specs.declared.resources.Resources.{Resources}
-use Rattle.txn_core.specs.declared.learned.Learned.TheVariants.{Nothing}
-use Rattle.txn_core.specs.Doing.{Gathering}
-use Rattle.txn_core.specs.Suites.{Suites}
-use Rattle.txn_core.specs.Transactions.{Step}
-use Rattle.txn_core.specs.code.Goings.{Begins, IsStep, begun, executed}
+use Rattle.txn_core.proofs.Vocabulary.{ap, subst, ◌∙◌, Some, None, Flow, Resources, Nothing, Gathering, Suites, Step, Begins, IsStep, begun, executed}
 use Rattle.txn_core.proofs.Handling.{begins_on, begins_ended}
 use Rattle.txn_core.proofs.Reaching.{unbegun_in}
 use Rattle.txn_core.proofs.transaction_run.TransactionRun.begin.Goals as goal

@@ -1,10 +1,4 @@
-use Rattle.std.proofs.Common.{refl, subst, ap, ◌∙◌}
-use Rattle.txn_core.specs.code.Goings.{GoesBy, executed}
-use Rattle.txn_core.specs.declared.resources.Resources.{Resources}
-use Rattle.txn_core.specs.code.TransactionRunFields.{phase_of}
-use Rattle.txn_core.specs.Doing.{TransactionRun}
-use Rattle.txn_core.specs.Suites.{Suites}
-use Rattle.txn_core.specs.Transactions.{Step}
+use Rattle.txn_core.proofs.Vocabulary.{refl, subst, ap, ◌∙◌, GoesBy, executed, Resources, phase_of, TransactionRun, Suites, Step}
 use Rattle.txn_core.proofs.Reaching.{follows_unless, unbegun_by}
 use Rattle.txn_core.proofs.transaction_run.TransactionRun.execute.Goals as goal
 

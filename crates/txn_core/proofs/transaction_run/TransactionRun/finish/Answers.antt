@@ -1,6 +1,4 @@
-use Rattle.std.proofs.Common.{ap, ◌∙◌}
-use Rattle.txn_core.specs.code.Goings.{ending_of}
-use Rattle.txn_core.specs.Doing.{TransactionRun}
+use Rattle.txn_core.proofs.Vocabulary.{ap, ◌∙◌, ending_of, TransactionRun}
 use Rattle.txn_core.proofs.Ended.{finishes}
 use Rattle.txn_core.proofs.transaction_run.TransactionRun.finish.Goals as goal
 

@@ -1,9 +1,4 @@
-use Rattle.std.proofs.Common.{ap, ◌∙◌, sym, subst, Err}
-use Rattle.txn_core.specs.Doing.{TransactionRun}
-use Rattle.txn_core.specs.code.Goings.{ending_of}
-use Rattle.txn_core.specs.code.NextPhases.{follow}
-use Rattle.txn_core.specs.code.Steps.{Steps}
-use Rattle.txn_core.specs.declared.next_phase.NextPhase.{NextPhase}
+use Rattle.txn_core.proofs.Vocabulary.{ap, ◌∙◌, sym, subst, Err, TransactionRun, ending_of, follow, Steps, NextPhase}
 use Rattle.txn_core.proofs.Ended.{prepares}
 use Rattle.txn_core.proofs.transaction_run.TransactionRun.follow.Goals as goal
 

@@ -1,10 +1,5 @@
-use Rattle.std.proofs.Common.{◌≡◌, Ok, refl, sym, ap, subst, nat_cmp}
-use Rattle.sorted_map.specs.SortedMap.{IsOrdered, replace}
-use Rattle.suite_collect.specs.declared.coming.Coming.{Coming}
-use Rattle.suite_collect.specs.Answering.{Comes}
-use Rattle.suite_collect.specs.Collecting.{next}
-use Rattle.txn_core.specs.Doing.{TransactionRun}
-use Rattle.txn_core.specs.Suites.{Suites}
+use Rattle.txn_core.proofs.Vocabulary.{◌≡◌, Ok, refl, sym, ap, subst, IsOrdered, replace, Coming, Comes, next, TransactionRun, Suites}
+use Rattle.std.proofs.Common.{nat_cmp}
 use Rattle.txn_core.proofs.Handling.{err_by}
 use Rattle.txn_core.proofs.InPlace.{asks_nobody, asks_there, hears_there, left_there}
 use Rattle.txn_core.proofs.transaction_run.TransactionRun.hear.Goals as goal

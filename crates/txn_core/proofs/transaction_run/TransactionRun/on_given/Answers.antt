@@ -1,10 +1,5 @@
-use Rattle.std.proofs.Common.{◌≡◌, Some, None, sym, subst, ◌∙◌, rules}
-use Rattle.std.specs.Prelude.{Option, IfSome, IfOk}
+use Rattle.txn_core.proofs.Vocabulary.{◌≡◌, Some, None, sym, subst, ◌∙◌, rules, Option, IfSome, IfOk, Fetched, IsStep, IsKeepable, Step, given_in}
 use Rattle.txn_core.specs.declared.ending.Cause.TheVariants as cause
-use Rattle.txn_core.specs.declared.cache_after.Fetched.{Fetched}
-use Rattle.txn_core.specs.code.Goings.{IsStep}
-use Rattle.txn_core.specs.code.Learning.{IsKeepable}
-use Rattle.txn_core.specs.Transactions.{Step, given_in}
 use Rattle.txn_core.proofs.Handling.{given', up_step, not_given, not_learned, content_learned}
 use Rattle.txn_core.proofs.transaction_run.TransactionRun.on_given.Goals as goal
 

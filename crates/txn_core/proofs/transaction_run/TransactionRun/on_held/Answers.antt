@@ -1,9 +1,4 @@
-use Rattle.std.proofs.Common.{◌≡◌, ℕ, Option, Some, sym, ap, subst, ◌∙◌}
-use Rattle.std.specs.Prelude.{option_map}
-use Rattle.suite_collect.specs.declared.hearing.Hearing.{Hearing}
-use Rattle.txn_core.specs.code.Hearing.{HearsAt, HearsFrom, asks_in}
-use Rattle.txn_core.specs.declared.ending.Flow.TheVariants.{On}
-use Rattle.txn_core.specs.Suites.{suite_of}
+use Rattle.txn_core.proofs.Vocabulary.{◌≡◌, ℕ, Option, Some, sym, ap, subst, ◌∙◌, option_map, Hearing, HearsAt, HearsFrom, asks_in, On, suite_of}
 use Rattle.txn_core.proofs.Handling.{from_asked, held_lost, held_asks, held_short}
 use Rattle.txn_core.proofs.transaction_run.TransactionRun.on_held.Goals as goal
 

@@ -1,6 +1,4 @@
-use Rattle.std.proofs.Common.{sym, subst, ◌∙◌}
-use Rattle.txn_core.specs.code.Goings.{GoesBy, fixed_by}
-use Rattle.txn_core.specs.Transactions.{Step, request_of}
+use Rattle.txn_core.proofs.Vocabulary.{sym, subst, ◌∙◌, GoesBy, fixed_by, Step, request_of}
 use Rattle.txn_core.proofs.Handling.{lack_at, lack_of_none}
 use Rattle.txn_core.proofs.transaction_run.TransactionRun.on_lack.Goals as goal
 

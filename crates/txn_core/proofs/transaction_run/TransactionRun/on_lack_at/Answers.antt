@@ -1,10 +1,4 @@
-use Rattle.std.proofs.Common.{◌≡◌, ◌∷◌, sym, ap, subst}
-use Rattle.txn_core.specs.code.TransactionRunFields.{phase_of}
-use Rattle.txn_core.specs.code.Goings.{ending_of}
-use Rattle.txn_core.specs.code.Steps.{Steps}
-use Rattle.txn_core.specs.declared.ending.Cause.{Cause}
-use Rattle.txn_core.specs.Doing.{Phase, TransactionRun, Finishing}
-use Rattle.txn_core.specs.Transactions.{Step, after_lack, give_up, tell_end}
+use Rattle.txn_core.proofs.Vocabulary.{◌≡◌, ◌∷◌, sym, ap, subst, phase_of, ending_of, Steps, Cause, Phase, TransactionRun, Finishing, Step, after_lack, give_up, tell_end}
 use Rattle.txn_core.proofs.Ended.{lacks_at_end, lacks_before_end}
 use Rattle.txn_core.proofs.Passing.{phase_at, tells}
 use Rattle.txn_core.proofs.transaction_run.TransactionRun.on_lack_at.Goals as goal

@@ -1,13 +1,6 @@
-use Rattle.std.proofs.Common.{Some, subst}
-use Rattle.std.proofs.lemmas.Result.{IfOk-weaker}
-use Rattle.rep_core.specs.declared.reply.Reply.{Reply}
+use Rattle.txn_core.proofs.Vocabulary.{Some, subst, IfOk-weaker, Reply, PendingQuorum, IsStep, CompletesAt, SettlesAt, suite_of, Step, Option}
 use Rattle.txn_core.specs.declared.ending.Cause.TheVariants as cause
-use Rattle.txn_core.specs.declared.pending_quorum.PendingQuorum.{PendingQuorum}
-use Rattle.txn_core.specs.code.Goings.{IsStep, held_by}
-use Rattle.txn_core.specs.code.Hearing.{CompletesAt, SettlesAt}
-use Rattle.txn_core.specs.Suites.{suite_of}
-use Rattle.txn_core.specs.Transactions.{Step}
-use Rattle.std.specs.Prelude.{Option}
+use Rattle.txn_core.specs.code.Goings.{held_by}
 use Rattle.txn_core.proofs.Handling.{held_settles, held_unsettled, up_step}
 use Rattle.txn_core.proofs.InPlace.{settled_at}
 use Rattle.txn_core.proofs.transaction_run.TransactionRun.on_quorum.Goals as goal

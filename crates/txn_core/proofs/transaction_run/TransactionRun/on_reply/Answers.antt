@@ -1,7 +1,4 @@
-use Rattle.std.proofs.Common.{sym, subst}
-use Rattle.txn_core.specs.code.Goings.{GoesBy, Keeps, replied}
-use Rattle.txn_core.specs.code.Reaching.{IsReachedBy}
-use Rattle.txn_core.specs.declared.resources.Resources.{Resources}
+use Rattle.txn_core.proofs.Vocabulary.{sym, subst, GoesBy, Keeps, replied, IsReachedBy, Resources}
 use Rattle.txn_core.proofs.Handling.{err_by, kept_untouched}
 use Rattle.txn_core.proofs.Reaching.{reached_after}
 use Rattle.txn_core.proofs.transaction_run.TransactionRun.on_reply.Goals as goal

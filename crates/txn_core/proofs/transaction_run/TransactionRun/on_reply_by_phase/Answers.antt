@@ -1,17 +1,5 @@
-use Rattle.std.proofs.Common.{rules, ◌≡◌, ℕ, List, ◌∷◌, true, false, Some, refl, ap, sym, subst, ◌∙◌, drop}
-use Rattle.std.specs.Prelude.{IfOk, IfErr, OnErr, IsTrue, slice_get}
-use Rattle.std.proofs.lemmas.Result.{IfOk-weaker}
-use Rattle.rep_core.specs.Fits.{is_prepared}
-use Rattle.txn_core.specs.declared.ending.Cause.TheVariants.{Lost}
-use Rattle.txn_core.specs.declared.ending.Flow.TheVariants.{On}
-use Rattle.txn_core.specs.declared.response.Response.TheVariants.{Replied}
-use Rattle.txn_core.specs.code.TransactionRunFields.{phase_of, proposing}
-use Rattle.txn_core.specs.code.Goings.{GoesBy, IsStep, IsUntouched, fixed_by, replied}
-use Rattle.txn_core.specs.Doing.{Phase, Gathering, Fetching, Widening, Deciding, Finishing, TransactionRun}
-use Rattle.txn_core.specs.Transactions.{Step, give_up, request_of, tell_end, to_widen}
-use Rattle.txn_core.specs.Standing.{FitsAsked}
-use Rattle.txn_core.specs.Wanting.{by_taking}
-use Rattle.txn_core.specs.code.Reaching.{IsReachedBy}
+use Rattle.txn_core.proofs.Vocabulary.{rules, ◌≡◌, ℕ, List, ◌∷◌, true, false, Some, refl, ap, sym, subst, ◌∙◌, drop, IfOk, IfErr, OnErr, IsTrue, slice_get, IfOk-weaker, is_prepared, Lost, On, Replied, phase_of, proposing, GoesBy}
+use Rattle.txn_core.proofs.Vocabulary.{IsStep, IsUntouched, fixed_by, replied, Phase, Gathering, Fetching, Widening, Deciding, Finishing, TransactionRun, Step, give_up, request_of, tell_end, to_widen, FitsAsked, by_taking, IsReachedBy}
 use Rattle.txn_core.proofs.Handling.{late_step, untouched_on}
 use Rattle.txn_core.proofs.Passing.{in_place, phase_at, proposing_first, proposing_none, prepares_on, prepares_not, tells}
 use Rattle.txn_core.proofs.Replies.{replied_where_asked, widened_where_asked, replied_decided, replied_told, gathering_shows, widening_shows}

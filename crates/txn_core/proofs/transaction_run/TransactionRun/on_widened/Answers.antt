@@ -1,12 +1,5 @@
-use Rattle.std.proofs.Common.{◌≡◌, ◌∷◌, ℕ, Option, Some, sym, ap, subst, ◌∙◌}
-use Rattle.std.specs.Prelude.{option_map}
-use Rattle.suite_collect.specs.declared.hearing.Hearing.{Hearing}
-use Rattle.txn_core.specs.code.TransactionRunFields.{phase_of}
-use Rattle.txn_core.specs.code.Hearing.{HearsAt, HearsFrom, SettlesAt, asks_in}
-use Rattle.txn_core.specs.declared.pending_quorum.PendingQuorum.{PendingQuorum}
-use Rattle.txn_core.specs.code.Seeing.{changed_at, settled_with}
-use Rattle.txn_core.specs.Doing.{TransactionRun, Widening}
-use Rattle.txn_core.specs.Suites.{Suites, suite_of}
+use Rattle.txn_core.proofs.Vocabulary.{◌≡◌, ◌∷◌, ℕ, Option, Some, sym, ap, subst, ◌∙◌, option_map, Hearing, phase_of, HearsAt, HearsFrom, SettlesAt, asks_in, PendingQuorum, changed_at, settled_with, TransactionRun, Widening, Suites}
+use Rattle.txn_core.proofs.Vocabulary.{suite_of}
 use Rattle.txn_core.proofs.Handling.{widened_asked, widened_lost, widened_short, widened_settles, widened_unsettled, widened_completes, at_mid}
 use Rattle.txn_core.proofs.transaction_run.TransactionRun.on_widened.Goals as goal
 

@@ -1,6 +1,4 @@
-use Rattle.std.proofs.Common.{◌≡◌, Option, Some, subst, rules}
-use Rattle.txn_core.specs.code.Hearing.{SettlesBy}
-use Rattle.txn_core.specs.Suites.{GatheredSuite, suite_of}
+use Rattle.txn_core.proofs.Vocabulary.{◌≡◌, Option, Some, subst, rules, SettlesBy, GatheredSuite, suite_of}
 use Rattle.txn_core.proofs.transaction_run.TransactionRun.pending.Goals as goal
 
 pub returns-in_ok-pending-in-Some : goal.returns-in_ok-pending-in-Some

@@ -1,6 +1,5 @@
-use Rattle.std.proofs.Common.{ap, nat_cmp}
-use Rattle.sorted_map.specs.SortedMap.{replace}
-use Rattle.txn_core.specs.Doing.{TransactionRun}
+use Rattle.txn_core.proofs.Vocabulary.{ap, replace, TransactionRun}
+use Rattle.std.proofs.Common.{nat_cmp}
 use Rattle.txn_core.proofs.Votes.{widens_here}
 use Rattle.txn_core.proofs.transaction_run.TransactionRun.widen.Goals as goal
 

@@ -1,14 +1,6 @@
-use Rattle.std.proofs.Common.{◌≡◌, ◌+◌, ◌∷◌, drop, ap, sym, ◌∙◌, subst, ℕ, Some, None, Ok, nat_cmp}
-use Rattle.std.specs.Prelude.{slice_get}
-use Rattle.std.proofs.lemmas.Option.{slice_get-get_or, slice_get_past}
-use Rattle.std.proofs.lemmas.Bool.{ltb-true}
-use Rattle.sorted_map.specs.SortedMap.{IsOrdered}
-use Rattle.file_exec.specs.declared.changes.Change.{Change}
-use Rattle.txn_core.specs.Doing.{Changes, Granted, Widening, TransactionRun}
-use Rattle.txn_core.specs.code.Goings.{ending_of}
-use Rattle.txn_core.specs.code.Steps.{Steps}
-use Rattle.txn_core.specs.declared.ending.Cause.{Cause}
-use Rattle.txn_core.specs.Transactions.{to_widen, widen_all, give_up, prepare, locked_at}
+use Rattle.txn_core.proofs.Vocabulary.{◌≡◌, ◌+◌, ◌∷◌, drop, ap, sym, ◌∙◌, subst, ℕ, Some, None, Ok, slice_get, slice_get-get_or, slice_get_past, ltb-true, IsOrdered, Change, Changes, Granted, Widening, TransactionRun, ending_of, Steps}
+use Rattle.txn_core.proofs.Vocabulary.{Cause, to_widen, widen_all, give_up, prepare, locked_at}
+use Rattle.std.proofs.Common.{nat_cmp}
 use Rattle.txn_core.proofs.Ended.{prepares}
 use Rattle.txn_core.proofs.Votes.{left_met, left_asks, left_short, left_none}
 use Rattle.txn_core.proofs.transaction_run.TransactionRun.widen_all.Goals as goal

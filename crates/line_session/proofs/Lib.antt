@@ -1,0 +1,5 @@
+pub mod Folds
+pub mod Proper
+pub mod Saying
+pub mod Midway
+pub mod Loop
