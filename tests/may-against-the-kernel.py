@@ -33,7 +33,7 @@ from kernel_trees import DENIED, GRANTED, UNJUDGED, Dice, Tree, User, letters, t
 from may_changes import Count, differs
 
 # So many questions are asked of one tree.
-OF_A_TREE = 150
+OF_A_TREE = 400
 
 
 def ask_users(dice: Dice, tree: Tree, count: int) -> Count:
@@ -41,7 +41,7 @@ def ask_users(dice: Dice, tree: Tree, count: int) -> Count:
     asked, wrong, left = 0, 0, 0
     while asked < count:
         user, perms = dice.user(), dice.choice([1, 1, 2, 4, 4, 5, 6, 7])
-        some = [dice.choice(tree.paths) for _ in range(min(12, count - asked))]
+        some = [dice.choice(tree.paths) for _ in range(min(60, count - asked))]
         said = tried(user, [(path, perms) for path in some])
         for path, linux, (told, line) in zip(some, said, sentences(user, wanted(perms), some)):
             left += told == UNJUDGED
@@ -202,7 +202,7 @@ def ask(form: str, place: str, kind: str, given: argparse.Namespace, questions: 
     """Asks so many questions of a form on a file system."""
     dice, count = Dice(f"{given.seed} {kind} {form}"), Count(0, 0, 0)
     while count.asked < questions:
-        top = tempfile.mkdtemp(dir=place)
+        top = tempfile.mkdtemp(prefix="suites-may-", dir=place)
         tree = None
         try:
             tree = Tree(dice, top, given.mounts and form in ("user", "under", "who", "names", "many"), kind == "btrfs")

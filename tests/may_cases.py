@@ -30,7 +30,7 @@ class Room:
     """A folder for a case."""
 
     def __init__(self, place: str, kind: str) -> None:
-        self.top, self.kind = tempfile.mkdtemp(dir=place), kind
+        self.top, self.kind = tempfile.mkdtemp(prefix="suites-may-", dir=place), kind
         self.mounted: list[str] = []
         os.chmod(self.top, 0o755)
 

@@ -9,6 +9,7 @@ import argparse
 import contextlib
 import os
 import re
+import resource
 import shlex
 import subprocess
 import sys
@@ -19,6 +20,7 @@ import typing
 
 import beside
 import console
+import gate
 import trace
 
 HELP = os.path.join(beside.TOP, "help", "explore.txt")
@@ -34,6 +36,8 @@ NUMBERS = {
 COMMAND_LINE, FAULTY, NO_MEMORY, NO_STREAM, NOT_ALL = 2, 3, 4, 6, 7
 # How often it is looked whether the program has ended, in seconds.
 PAUSE = 0.1
+# What is left to others of the memory that is free, in bytes.
+LEFT = 256 << 20
 # What the program says of how far it is, where it is asked to by this word.
 PROGRESS, LOOKED = "--progress", re.compile(rb"(\d+) worlds\n")
 
@@ -140,11 +144,22 @@ def watched(process: subprocess.Popen[bytes]) -> None:
         progress.end()
 
 
+def limit_memory() -> None:
+    """Lets this process take no more memory than is free: the program then says `not all`, before the system kills
+    it."""
+    most = max(gate.free() - LEFT, LEFT)
+    soft, hard = resource.getrlimit(resource.RLIMIT_AS)
+    limits = [one for one in (most, soft, hard) if one != resource.RLIM_INFINITY]
+    resource.setrlimit(resource.RLIMIT_AS, (min(limits), hard))
+
+
 def status_of(given: argparse.Namespace, printed: typing.IO[bytes]) -> int:
     """Runs the program, which prints into a file. On a terminal it is watched."""
     is_watched = sys.stderr.isatty()
     words = [beside.program("explore"), *words_of(given), *([PROGRESS] if is_watched else [])]
-    process = subprocess.Popen(words, stdout=printed, stderr=subprocess.PIPE if is_watched else None)
+    process = subprocess.Popen(
+        words, stdout=printed, stderr=subprocess.PIPE if is_watched else None, preexec_fn=limit_memory
+    )
     try:
         if is_watched:
             watched(process)
@@ -163,10 +178,12 @@ def run(given: argparse.Namespace) -> int:
         text = printed.read()
     sys.stdout.buffer.write(text)
     sys.stdout.flush()
+    if status < 0:
+        console.Teller().say(console.ended("explore", status))
     told = advice(status, given, text.decode("latin1").rstrip("\n").rpartition("\n")[2])
     if told and (sys.stderr.isatty() or status == COMMAND_LINE):
         console.Teller().say(told)
-    return status
+    return console.status_of(status)
 
 
 def main() -> int:
@@ -177,11 +194,7 @@ def main() -> int:
         return 0
     if sys.stdin.isatty():
         console.Teller().say("reading from the terminal, up to its end (Ctrl-D at the start of a line)")
-    try:
-        return run(given)
-    except BrokenPipeError:
-        os.dup2(os.open(os.devnull, os.O_WRONLY), sys.stdout.fileno())
-        return NO_STREAM
+    return run(given)
 
 
 if __name__ == "__main__":

@@ -73,7 +73,9 @@ def events_of(script: bytes) -> list[str]:
         sys.stdout.write(text)
         if sys.stderr.isatty() and done.returncode in trace.EXPLAINED:
             console.Teller().say(trace.EXPLAINED[done.returncode])
-        sys.exit(done.returncode)
+        elif done.returncode < 0:
+            console.Teller().say(console.ended("trace", done.returncode))
+        sys.exit(console.status_of(done.returncode))
     return text.split("\n")[:-1]
 
 

@@ -27,8 +27,8 @@ those of the proved access check of acl(5): a line a folder, up to the first tha
     --              what stands behind it is no option
 
 Exit status: 0 all is granted, 1 something is denied or to be mended, 2 a bad command, 3 a path or a list cannot be read
-(run it as root) or is not judged here, 6 a write failed. --under, --who, --without and --with end with 0 where they
-could tell all.
+(run it as root) or is not judged here, 4 out of memory, 6 a write failed. --under, --who, --without and --with end with
+0 where they could tell all.
 
 What Linux does otherwise than lists say is told, and the status is that of Linux. Looked at beside lists:
   - a list with an empty mask, which Linux looks at for the owner alone; and root, whom Linux lets pass
@@ -52,8 +52,9 @@ import errno
 import io
 import os
 import sys
-from typing import NoReturn, Optional
+from typing import Iterator, NoReturn, Optional
 
+import console
 from may import changes, everybody, lint, names, people, telling, under
 from may.lists import BITS, Bad, Unread, quoted
 from may.saying import SAYER
@@ -61,9 +62,6 @@ from may.telling import BAD, DENIED, GRANTED, UNREAD, Judged
 from may.trees import Tree
 from may.ways import WRITE
 
-FAILED_WRITE = 6
-# What is wrong where standard output cannot be written.
-WRITES = (errno.EPIPE, errno.ENOSPC, errno.EIO, errno.EBADF, errno.EFBIG, errno.EDQUOT)
 VERBS = (names.CREATE, names.DELETE)
 
 
@@ -121,14 +119,16 @@ def tell(told: Judged) -> int:
     return told.status
 
 
-def judged(given: argparse.Namespace, caller: people.Caller, wanted: int, path: str) -> Judged:
+def judged(given: argparse.Namespace, caller: people.Caller, wanted: int, paths: list[str]) -> Iterator[Judged]:
+    """What is told of each path."""
     if not wanted:
-        return names.judge_name(caller, given.words[1], path, given.v)
-    told = telling.judge(caller, wanted, path, given.v)
-    if told.status == UNREAD and wanted & WRITE and told.last.endswith(os.strerror(errno.ENOENT)):
-        how = f"./suites may {quoted(given.words[0])} create {quoted(path)}"
-        return told._replace(last=f"{told.last} (whether it may be made: {how})")
-    return told
+        yield from (names.judge_name(caller, given.words[1], path, given.v) for path in paths)
+        return
+    for path, told in zip(paths, telling.judge_all(caller, wanted, paths, given.v)):
+        if told.status == UNREAD and wanted & WRITE and told.last.endswith(os.strerror(errno.ENOENT)):
+            how = f"./suites may {quoted(given.words[0])} create {quoted(path)}"
+            told = told._replace(last=f"{told.last} (whether it may be made: {how})")
+        yield told
 
 
 def of_user(given: argparse.Namespace) -> int:
@@ -138,12 +138,9 @@ def of_user(given: argparse.Namespace) -> int:
     user, verb, *paths = given.words
     caller, status = people.caller_of(user, given.groups), GRANTED
     wanted = 0 if verb in VERBS else wanted_of(verb)
-    for path in paths:
-        try:
-            status = max(status, tell(judged(given, caller, wanted, path)))
-        except Unread as error:
-            SAYER.error(str(error))
-            status = UNREAD
+    for count, told in enumerate(judged(given, caller, wanted, paths)):
+        status = max(status, tell(told))
+        SAYER.at(count)
     return status
 
 
@@ -260,7 +257,7 @@ def run(words: list[str]) -> int:
             SAYER.error(line)
         return UNREAD
     except OSError as error:
-        if error.errno in WRITES:
+        if error.errno in (*console.NOT_WRITTEN, errno.ENOMEM) and not error.filename:
             raise
         named = f"{quoted(os.fsdecode(error.filename))}: " if error.filename else ""
         SAYER.error(f"{named}{error.strerror}")
@@ -272,12 +269,6 @@ def main() -> int:
         if isinstance(stream, io.TextIOWrapper):
             stream.reconfigure(errors="backslashreplace")
     try:
-        status = run(sys.argv[1:])
+        return run(sys.argv[1:])
+    finally:
         SAYER.clear()
-        sys.stdout.flush()
-        return status
-    except OSError as error:
-        os.dup2(os.open(os.devnull, os.O_WRONLY), 1)
-        if not isinstance(error, BrokenPipeError):
-            print(f"suites: a write failed: {error.strerror}", file=sys.stderr)
-        return FAILED_WRITE

@@ -8,6 +8,7 @@ import subprocess
 from typing import Iterable, NamedTuple
 
 import beside
+import console
 from may.lists import (
     GROUP,
     GROUP_OBJ,
@@ -31,6 +32,9 @@ MOST_GROUPS = 32
 # So many bytes of questions are asked at once; the program takes 16 MiB.
 MOST_BYTES = 15_000_000
 GRANTS = "granted"
+# What was answered to lines, of which so many are kept.
+KNOWN: dict[str, str] = {}
+MOST_KNOWN = 300_000
 
 
 class Question(NamedTuple):
@@ -86,7 +90,7 @@ def asked(lines: list[str]) -> dict[str, str]:
             told[left.pop(int(faulty[1]) - 1)] = f"fault {faulty[2]}"
             continue
         if done.returncode != 0 or len(given) != len(left):
-            raise Unread(f"the program `may` ended with status {done.returncode}: {' '.join(given[:1])}")
+            raise Unread(f"{console.ended('may', done.returncode)}: {' '.join(given[:1])}")
         told.update(zip(left, given))
         left = []
     return told
@@ -97,16 +101,19 @@ def answers(questions: Iterable[Question]) -> list[str]:
     given = list(questions)
     faults = {entries: fault(entries) for entries in {one.entries for one in given}}
     lines = [None if faults[one.entries] else one.line() for one in given]
-    told: dict[str, str] = {}
+    if len(KNOWN) > MOST_KNOWN:
+        KNOWN.clear()
+    told = {line: KNOWN[line] for line in lines if line in KNOWN}
     batch: list[str] = []
     size = 0
-    for line in dict.fromkeys(line for line in lines if line is not None):
+    for line in dict.fromkeys(line for line in lines if line is not None and line not in told):
         if size + len(line) >= MOST_BYTES:
             told.update(asked(batch))
             batch, size = [], 0
         batch.append(line)
         size += len(line) + 1
     told.update(asked(batch))
+    KNOWN.update(told)
     return [f"fault {faults[one.entries]}" if line is None else told[line] for one, line in zip(given, lines)]
 
 

@@ -12,6 +12,8 @@ from may.ways import Place, Way
 
 GRANTED, DENIED, BAD, UNREAD = 0, 1, 2, 3
 Answers = dict[Question, str]
+# So many paths are looked at before their questions are asked.
+AT_ONCE = 200
 
 
 class Judged(NamedTuple):
@@ -115,8 +117,20 @@ def answers_of(ways: list[Way], caller: Caller) -> Answers:
 
 def judge(caller: Caller, wanted: int, path: str, verbose: bool = False) -> Judged:
     """What is told of a path; of a script also whether its interpreters may be executed."""
-    first, *others = ways_of(path, wanted)
-    told_of = answers_of([first, *others], caller)
+    return judged_ways(caller, wanted, path, verbose, ways_of(path, wanted))
+
+
+def judge_all(caller: Caller, wanted: int, paths: list[str], verbose: bool) -> Iterator[Judged]:
+    """The same of many paths: what is to be known of some is asked at once."""
+    for begun in range(0, len(paths), AT_ONCE):
+        some = [(path, ways_of(path, wanted)) for path in paths[begun : begun + AT_ONCE]]
+        answers_of([found for _, ways in some for found in ways], caller)
+        yield from (judged_ways(caller, wanted, path, verbose, ways) for path, ways in some)
+
+
+def judged_ways(caller: Caller, wanted: int, path: str, verbose: bool, ways: list[Way]) -> Judged:
+    first, *others = ways
+    told_of = answers_of(ways, caller)
     told = judged(caller, wanted, verbose, first, told_of)
     for found in others if told.status == GRANTED else ():
         of_it = judged(caller, linux.EXECUTE, verbose, found, told_of)
