@@ -22,6 +22,8 @@ import typing
 import played
 import wrapper
 
+import sources
+
 # In place of a program: it ends by the signal of this number.
 KILLED = "#!/bin/sh\ncat > /dev/null\nkill -{0} $$\n"
 SCRIPT = b"servers 1\nagents 1\nvotes 1/1/1\nroot 1 1 777\ncache 0 0 0\nbegin 0 1 1 0 list /\nrun 0\n"
@@ -32,17 +34,15 @@ SLEEPS = "#!/bin/sh\necho $$ > {0}\nexec sleep 60\n"
 # In place of the kit: what it compiles is a module of one empty block.
 KIT = """#!/bin/sh
 case $1 in
-version) echo 'kit logic 0' ;;
+version) echo 'kit logic {2}' ;;
 doc) echo "{0}/START-HERE.md" ;;
 try)
     mkdir -p "$TMPDIR/a"
-    printf 'BC\\300\\336\\0\\0\\0\\0\\0\\0\\0\\0\\004\\0\\0\\0suites::main\\0\\0\\0\\0' > "$TMPDIR/a/module.bc.part"
     {1}
     echo run=ended ;;
 esac
 """
-MODULE = """printf 'BC\\300\\336' > "$TMPDIR/a/module.bc.part"
-    printf '\\0\\0\\0\\0\\0\\0\\0\\0\\004\\0\\0\\0suites::main\\0\\0\\0\\0' >> "$TMPDIR/a/module.bc.part"
+MODULE = """printf 'BC\\300\\336\\0\\0\\0\\0\\003\\0\\0\\0suites::main' > "$TMPDIR/a/module.bc.part"
     mv "$TMPDIR/a/module.bc.part" "$TMPDIR/a/module.bc"
     sleep 5"""
 
@@ -123,7 +123,8 @@ def by_settings(copy: wrapper.Copy) -> None:
     """What the environment asks of Python changes nothing."""
     for setting in ({"PYTHONSAFEPATH": "1"}, {"PYTHONOPTIMIZE": "2"}):
         for words in ("votes --help", "may --help", "explain U1"):
-            plain, other = asked(copy, f"./suites {words}"), asked(copy, f"./suites {words}", env={**os.environ, **setting})
+            plain = asked(copy, f"./suites {words}")
+            other = asked(copy, f"./suites {words}", env={**os.environ, **setting})
             same = (plain.returncode, plain.stdout) == (other.returncode, other.stdout)
             copy.holds(same and plain.stdout, f"{words} with {setting}: {other}")
 
@@ -187,7 +188,7 @@ def by_builds(copy: wrapper.Copy) -> None:
         write(os.path.join(kit, name), "")
     env = {**os.environ, "PATH": f"{kit}/path:{before}"}
     clang = os.path.join(kit, "toolchain", "bin", "clang")
-    write(os.path.join(kit, "path", "rt"), KIT.format(kit, MODULE))
+    write(os.path.join(kit, "path", "rt"), KIT.format(kit, MODULE, sources.KIT_LOGIC))
     for name in ("trial.json", "checked.json", "choice.sh"):
         with contextlib.suppress(FileNotFoundError):
             os.unlink(os.path.join(copy.top, "out", name))
@@ -195,13 +196,14 @@ def by_builds(copy: wrapper.Copy) -> None:
         write(clang, text)
         holds(copy, "python3 tools/choose.py", 1, told, env=env)
         copy.holds(kept(copy) == [], f"{told} is kept: {kept(copy)}")
-    write(os.path.join(kit, "path", "rt"), KIT.format(kit, "kill -9 $$"))
+    write(os.path.join(kit, "path", "rt"), KIT.format(kit, "kill -9 $$", sources.KIT_LOGIC))
     holds(copy, "python3 tools/choose.py", 1, "signal 9", env=env)
     copy.holds(kept(copy) == [], "a killed rt is kept")
-    write(os.path.join(kit, "path", "rt"), KIT.format(kit, MODULE))
+    write(os.path.join(kit, "path", "rt"), KIT.format(kit, MODULE, sources.KIT_LOGIC))
     os.unlink(clang)
     done = asked(copy, "python3 tools/choose.py", env=env)
-    copy.holds(done.stdout == b"trial tools/trial.py\n" and kept(copy) == ["trial.json"], f"a kit without clang: {done}")
+    is_kept = done.stdout == b"trial tools/trial.py\n" and kept(copy) == ["trial.json"]
+    copy.holds(is_kept, f"a kit without clang: {done}")
 
 
 def main() -> int:

@@ -111,6 +111,7 @@ PARTS = (
     Part("table of public functions", tool("tools/proved_page.py", "--check")),
     Part("forms in pages and help", tool("tools/forms_page.py", "--check")),
     Part("words that need no build", tool("tests/wrapper.py")),
+    Part("how tools end", tool("tests/ends.py")),
     Part("type hints", tool("tests/hints.py")),
     Part("tests of runs", **tried("run_tests")),
     Part("tests of libraries", **tried("library_tests")),
@@ -146,6 +147,7 @@ PARTS = (
 LONG = (
     Part("programs of tests and measurements", tool("tests/compiled.py")),
     Part("instructions", tool("tests/instructions.py")),
+    Part("slow inputs", tool("tests/growth.py"), [PROGRAM, TRACE, MAY, FORMS, EXPLORE]),
     Part("races", tool("tests/races.py", "1")),
     Part("lies about runs", tool("tests/lies.py", "1000"), [TRACE]),
     Part(
