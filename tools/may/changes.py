@@ -313,6 +313,6 @@ def tell_change_under(callers: list[Caller], change: Change, top: str) -> Iterat
         if told:
             count += 1
             yield f"{quoted(row.path)}  {'; '.join(told)}"
-    yield f"{len(changed.lists):,} of {len(tree.rows):,} lists would change; who may what changes at {count:,} paths"
+    yield f"lists that would change: {len(changed.lists):,} of {len(tree.rows):,}; paths where who may what: {count:,}"
     if why:
         raise Unread("\n".join(dict.fromkeys(why)))
