@@ -3,3 +3,4 @@ pub mod Proper
 pub mod Saying
 pub mod Midway
 pub mod Loop
+pub mod Restoring

@@ -5,3 +5,4 @@ pub mod InTime
 pub mod Begun
 pub mod Steps
 pub mod Memory
+pub mod Restored

@@ -68,7 +68,7 @@ pub use lines::{PLAY_LINES, SERVE_LINES, TABLE_LINES};
 pub use misfit::{Expected, Misfit};
 pub use names::{judge_name, misplaced, read_name};
 pub use operation::read_operations;
-pub use outcome::{push_answered, push_denial, push_refused};
+pub use outcome::{push_answered, push_bytes, push_denial, push_refused};
 pub use play_error::PlayError;
 pub use root::Root;
 pub use scope::{LAST_SITE, MAX_STEPS, Scope};
