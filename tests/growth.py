@@ -183,10 +183,9 @@ def lists_set(count: int) -> str:
 
 
 def left_locks(count: int) -> str:
-    left = "".join(
-        f"begin 0 1000 100 0 write /{number} 00\nstep 0 2\ncrash 0\nreturn 0\nrun 0\n" for number in range(count)
-    )
-    return header() + "".join(job(f"file /{number} 644") for number in range(count)) + left + job("list /") * count
+    paths = [f"/{number % 100:02}/{number:06}" for number in range(count)]
+    left = "".join(f"begin 0 1000 100 0 write {path} 00\nstep 0 2\ncrash 0\nreturn 0\nrun 0\n" for path in paths)
+    return names_made(count) + left + job("getvotes /") * count
 
 
 def silent(count: int) -> str:
@@ -264,7 +263,7 @@ TABLE: tuple[Input, ...] = tuple(
         ("many-folders", many_folders, 1000), ("made-and-dropped", made_and_dropped, 500), ("named", named, 1000),
         ("deep", deep, 100), ("long-list", long_list, 20), ("contents", contents, 20), ("content", one_content, 30_000),
         ("returns", repeated("\r", ROOT, "\n"), 100_000), ("remarks", repeated("#\n", ROOT), 50_000),
-        ("semicolons", repeated(" ;", ROOT + "do 1 1 list /", "\n"), 50_000), ("no-line-end", repeated("x"), 100_000),
+        ("semicolons", repeated(" ;", ROOT + "do 1 1 list /", "\n"), 90_000), ("no-line-end", repeated("x"), 200_000),
         ("votes", repeated("1,", ROOT + "do 1 1 setvotes / ", "1/1/1\n"), 50_000),
         ("bytes-0", repeated("\0", ROOT + "do 1 1 list /", "\n"), 100_000),
         ("list-commas", repeated(",", ROOT + "do 1 1 setacl / ", "\n"), 100_000),
@@ -274,7 +273,7 @@ TABLE: tuple[Input, ...] = tuple(
 PLAYED = (
     ("reads", reads, 100), ("writes", writes, 100), ("names-made", names_made, 200), ("cached", cached, 200),
     ("denied", denied, 200), ("failing", failing, 50), ("swept", swept, 50), ("many-agents", many_agents, 5),
-    ("moved-votes", moved_votes, 40), ("lists-set", lists_set, 20), ("silent", silent, 1000), ("faulty", faulty, 100),
+    ("moved-votes", moved_votes, 40), ("lists-set", lists_set, 20), ("silent", silent, 1000), ("faulty", faulty, 300),
     ("left-locks", left_locks, 60),
 )  # fmt: skip
 PLAY: tuple[Input, ...] = tuple((f"play-{name}", "suites", ["play"], make, size) for name, make, size in PLAYED)
