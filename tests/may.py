@@ -10,6 +10,8 @@ something does.
 """
 from __future__ import annotations
 
+import contextlib
+import io
 import os
 import re
 import subprocess
@@ -20,7 +22,7 @@ import played
 from played import Tally
 
 import console
-from may import changes, everybody, lint, lists, mounts, people, program
+from may import changes, everybody, lint, lists, mounts, people, program, saying
 from may.people import Caller
 
 LIST = "u::rw,u:1001:rw,g::r,m::r,o::-"
@@ -273,6 +275,33 @@ def reads_mounts(tally: Tally) -> None:
     tally.holds(people.caller_of("0", "5,6") == Caller("root", 0, 5, (6,)), "a caller by its number")
 
 
+class Terminal(io.StringIO):
+    def isatty(self) -> bool:
+        return True
+
+
+def says_how_far(tally: Tally) -> None:
+    """On a terminal it is said how far a walk is, from the third second on, and taken away before a line comes."""
+    terminal, lines = Terminal(), io.StringIO()
+    with contextlib.redirect_stderr(terminal), contextlib.redirect_stdout(lines):
+        sayer = saying.Sayer()
+        sayer.at(1)
+        early = terminal.getvalue()
+        sayer.next = 0
+        sayer.at(12_345)
+        sayer.line("found")
+    shown = terminal.getvalue()
+    tally.holds(early == "", f"it is said at once: {early!r}")
+    tally.holds("may is at work: 12,345 paths" in shown and shown.endswith("\r\033[K"), f"it is said: {shown!r}")
+    tally.holds(lines.getvalue() == "found\n", f"a line is another: {lines.getvalue()!r}")
+    lines_as_found = io.StringIO()
+    with contextlib.redirect_stderr(lines_as_found):
+        quiet = saying.Sayer()
+        quiet.next = 0
+        quiet.at(1)
+    tally.holds(lines_as_found.getvalue() == "", "it is said where there is no terminal")
+
+
 def plain(code: str) -> str:
     """Code without the spaces before its lines."""
     return re.sub(r"^ +", "", code, flags=re.M)
@@ -302,6 +331,7 @@ def main() -> int:
     asks_of_names(tally)
     asks_of_lists(tally)
     reads_mounts(tally)
+    says_how_far(tally)
     shown_code_stands(tally)
     return tally.told("things")
 
