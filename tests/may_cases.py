@@ -4,6 +4,7 @@ held what `may` tells against what a user meets who tries it.
 from __future__ import annotations
 
 import contextlib
+import fcntl
 import os
 import shutil
 import stat
@@ -292,19 +293,21 @@ def sticky_links(room: Room) -> Case:
 
 @contextlib.contextmanager
 def links_protected() -> Iterator[None]:
-    """Linux protects links in sticky folders, whatever was set here."""
+    """Linux protects links in sticky folders, whatever was set here; other tests that set it wait for that."""
     path = "/proc/sys/fs/protected_symlinks"
-    with open(path, encoding="ascii") as file:
-        before = file.read()
+    file = open(path, encoding="ascii")
+    fcntl.flock(file, fcntl.LOCK_EX)
+    before = file.read()
     try:
-        with contextlib.suppress(OSError), open(path, "w", encoding="ascii") as file:
-            file.write("1")
+        with contextlib.suppress(OSError), open(path, "w", encoding="ascii") as setting:
+            setting.write("1")
         linux.follows_all_links.cache_clear()
         yield
     finally:
-        with contextlib.suppress(OSError), open(path, "w", encoding="ascii") as file:
-            file.write(before)
+        with contextlib.suppress(OSError), open(path, "w", encoding="ascii") as setting:
+            setting.write(before)
         linux.follows_all_links.cache_clear()
+        file.close()
 
 
 def of_sticky_links(room: Room) -> Case:
