@@ -355,7 +355,7 @@ const Model = (() => {
     for (const row of rows) {
       if (row.kind !== "group") continue;
       const last = row.rows[row.rows.length - 1].event;
-      Object.assign(row, groupWords(paths, row.rows.map((own) => events[own.event]), worlds[last]));
+      Object.assign(row, groupWords(paths, row.rows.map((own) => events[own.event]), worlds.at(last)));
     }
     return rows;
   }

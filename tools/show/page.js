@@ -124,7 +124,7 @@ const Page = (() => {
 
   function entryPart(one, at) {
     const about = { "data-entry": `${one.site} ${one.suite} ${one.prefix} ${one.content}` };
-    const late = Model.staleEntry(run.worlds[here], one).map((part) => ({ prefix: "list", content: "content" })[part]);
+    const late = Model.staleEntry(run.worlds.at(here), one).map((part) => ({ prefix: "list", content: "content" })[part]);
     const mark = late.length ? make("span", { class: "stale" }, " ", word("stale"), `: ${late.join(", ")}`) : null;
     return make("span", about, `${at === 0 ? "" : ", "}${pathOf(one.suite)} p${one.prefix} c${one.content}`, mark);
   }
@@ -156,7 +156,7 @@ const Page = (() => {
   }
 
   function showWorld() {
-    const state = run.worlds[here];
+    const state = run.worlds.at(here);
     const event = run.events[here];
     const server = event.server !== undefined ? event.server : event.at && event.at.server;
     const by = event.by && event.by.agent;
