@@ -35,7 +35,7 @@ is_long line = nat_lt max_line (length line)
 -- ---- one line
 
 abbrev pub long_line : ℕ → List ℕ
-long_line number = codes "fault line " ++ decimal number ++ codes ": S8\n"
+long_line number = codes "fault line " ++ decimal number ++ codes ": S3\n"
 
 abbrev pub journal_line : List ℕ
 journal_line = codes "fault journal\n"

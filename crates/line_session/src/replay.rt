@@ -1,6 +1,7 @@
 //! A journal that is heard again: what is told of its lines is dropped, but the first fault.
 
-ghost use Rattle.std.specs.Prelude.{◌≡◌, None, false};
+ghost use Rattle.std.specs.Prelude.{◌≡◌, ◌+◌, ◌<◌, ◌≤◌, None, false, length, take, IfOk, OnErr};
+ghost use Rattle.line_session.specs.Turns.{Adds, Heard, Stays};
 
 use crate::talk::{KeepFailed, Talk};
 use byte_streams::{ByteIn, ReadFailed, WriteFailed};
