@@ -91,6 +91,9 @@ def lines() -> typing.Iterator[Line]:
     for script in stories("explore"):
         yield from (Line("explore", text, script) for text in printed("explore", script=script))
     yield from (Line("explore", text, script) for text in printed("explore", "--worlds", "9", script=script))
+    for question in ("0.1 answered", "1.0 undecided U5", "0.1 answered or not 0.1 answered"):
+        asked = printed("explore", "--ask", question, script=stories("explore")[0])
+        yield from (Line("explore", text, stories("explore")[0]) for text in asked)
     for script in stories("serve"):
         yield from (Line("serve", text, script) for text in printed("serve", "--agents", "1", script=script))
     for name in sorted(glob.glob(os.path.join(played.TOP, "tests", "explored", "*.ways"))):
