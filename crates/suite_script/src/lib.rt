@@ -2,7 +2,7 @@
 //!
 //! Words stand between spaces and tabs, and operations between words that are a semicolon. An empty line, and one
 //! that begins with `#`, says nothing. A command says with which words its own lines begin, and what they say
-//! (`Language`). What reads a script line by line by itself has `words_after` and `root_of` for a header, and
+//! (`Language`). What reads a script line by line by itself has `misplaced` and `root_of` for a header, and
 //! `read_name` and `judge_name` for the lines below it.
 //!
 //! **Promises.** `ScriptReader` gives the lines one by one, each with the names that are known there, or the first
@@ -66,13 +66,13 @@ pub use laws::misfits_have_the_fault_of_operations;
 pub use line::Line;
 pub use lines::{PLAY_LINES, SERVE_LINES, TABLE_LINES};
 pub use misfit::{Expected, Misfit};
-pub use names::{judge_name, read_name};
+pub use names::{judge_name, misplaced, read_name};
 pub use operation::read_operations;
-pub use outcome::{push_answered, push_denial, push_refused};
+pub use outcome::{push_answered, push_bytes, push_denial, push_refused};
 pub use play_error::PlayError;
 pub use root::Root;
 pub use scope::{LAST_SITE, MAX_STEPS, Scope};
-pub use script::{ScriptReader, words_after};
+pub use script::ScriptReader;
 pub use stage::{Stage, play_lines};
 pub use verb::{VERBS, Verb};
 pub use votes::{push_votes, read_votes};

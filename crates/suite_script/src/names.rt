@@ -1,6 +1,6 @@
 //! Lines that name users and groups, and lines out of their place.
 
-ghost use Rattle.std.specs.Prelude.{◌≡◌, false, Some, Err, MatchResult, OnErr};
+ghost use Rattle.std.specs.Prelude.{◌≡◌, false, Some, Err, IfErr, MatchResult, OnErr};
 ghost use Rattle.file_ops.specs.Steps.{ok_map};
 ghost use Rattle.suite_script.specs.Scripts.{is_group, is_user, misplaced, name_line, named_in, refused};
 ghost use Rattle.suite_script.specs.Progress.{GivesGroups, GivesNames, GivesUsers, IsEntry};
@@ -26,7 +26,7 @@ fn is_group(word: &[u8]) -> bool
 }
 
 /// What is wrong with a line that begins so and stands out of its place.
-pub(crate) fn misplaced<L: Language>(first: &[u8]) -> LineFault
+pub fn misplaced<L: Language>(first: &[u8]) -> LineFault
     ensures { result ≡ misplaced L.is_known first.now }
 {
     if is_user(first) || is_group(first) || L::is_known(first) {
@@ -64,7 +64,8 @@ pub fn judge_name<L: Language>(
     first: &[u8],
     words: &mut Words<'_>,
 ) -> Result<(), LineFault>
-    ensures { result ≡ ok_map (λ _. tt) (name_line L.is_known false names.now first.now words.old) }
+    ensures judged { result ≡ ok_map (λ _. tt) (name_line L.is_known false names.now first.now words.old) }
+    ensures fault { IfErr result (λ fault. name_line L.is_known false names.now first.now words.old ≡ Err fault) }
 {
     if is_user(first) {
         user_in(names, words)?;

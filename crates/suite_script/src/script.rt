@@ -227,8 +227,8 @@ impl<'a> ScriptReader<'a> {
     }
 }
 
-/// The words after the first of a line of a header, which has to be this word.
-pub fn words_after<L: Language>(word: &[u8], words: &mut Words<'_>) -> Result<(), LineFault>
+/// The words after the first of a line, which has to be this word.
+fn words_after<L: Language>(word: &[u8], words: &mut Words<'_>) -> Result<(), LineFault>
     ensures { MatchResult result (λ _. words_after L.is_known word.now words.old ≡ Ok words.new)
         (λ fault. words_after L.is_known word.now words.old ≡ Err fault) }
 {
