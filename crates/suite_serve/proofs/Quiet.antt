@@ -11,7 +11,7 @@ use Rattle.agent_pool.proofs.Seating.{other_cons}
 
 -- the operator is no agent
 pub no_operator : (players : List Played) → IsOther players None
-no_operator [] = unit
+no_operator [] = tt
 no_operator (player ∷ players) = (λ e. let bad = ap seat_of e in omega arith, no_operator players)
 
 operators_from : (start count : ℕ) → passes_by None (agents_from start count ++ new_pass None ∷ []) ≡ new_pass None ∷ []

@@ -119,7 +119,7 @@ fn work<R: Threads + Wait + Sync>(
 ) -> Result<Worked, CertifyFault>
     requires { opened.passes.items ≡ passes_of opened.servers.now.agents }
     ensures done { IfOk result (λ worked. AreDone jobs.items alone worked) }
-    ensures quiet { IfOk result (λ worked. passes_by None worked.passes.items ≡ passes_by None opened.passes.items) }
+    ensures quiet { IfOk result (λ worked. passes_by None worked.passes.items ≡ passes_by None opened.entry.passes.items) }
 {
     let Opened { servers, passes } = opened;
     let (first, others) = first_and_others(alloc, servers.settings())?;
