@@ -15,6 +15,8 @@ SUITES = os.path.join(played.TOP, "suites")
 DOOR = [sys.executable, os.path.join(played.TOP, "tools", "mount")]
 # Another session than that of these sources, as a command: SUITES_SESSION names it.
 SESSION = os.environ.get("SUITES_SESSION")
+# Where syncs wait for no disk, which may be busy with much else.
+PLACE = "/dev/shm" if os.path.isdir("/dev/shm") else None
 
 
 def wanting() -> str:
@@ -27,7 +29,8 @@ def wanting() -> str:
         os.close(os.open("/dev/fuse", os.O_RDWR))
     except OSError as error:
         return f"/dev/fuse: {os.strerror(error.errno)}"
-    return "" if SESSION or os.path.exists(os.path.join(played.TOP, "help", "session.txt")) else "no session"
+    is_there = SESSION or subprocess.run([SUITES, "session", "--help"], capture_output=True).returncode == 0
+    return "" if is_there else "no session"
 
 
 def skipped() -> bool:
@@ -42,7 +45,7 @@ class Mounted:
     """A mount in a folder of its own, and its journal where it has one."""
 
     def __init__(self, *words: str, journal: bool = False, session: str | None = SESSION) -> None:
-        self.room = tempfile.mkdtemp(prefix="suites-mount-")
+        self.room = tempfile.mkdtemp(prefix="suites-mount-", dir=PLACE)
         os.chmod(self.room, 0o755)
         self.top, self.journal = os.path.join(self.room, "m"), os.path.join(self.room, "journal")
         os.mkdir(self.top)

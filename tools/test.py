@@ -138,6 +138,7 @@ PARTS = (
     ),
     Part("the mount", tool("tests/mount.py"), [PROGRAM]),
     Part("the mount against the kernel", tool("tests/mount-against-the-kernel.py"), [PROGRAM]),
+    Part("programs on the mount", tool("tests/mount-programs.py", "--well"), [PROGRAM]),
     Part("what votes tells", tool("tests/votes.py"), [PROGRAM, TRACE]),
     Part("what votes tells of scripts", tool("tests/votes-left.py"), [PROGRAM, TRACE]),
     Part("pictures", tool("tests/drawn.py"), [TRACE]),
@@ -151,6 +152,9 @@ LONG = (
     Part("programs of tests and measurements", tool("tests/compiled.py")),
     Part("instructions", tool("tests/instructions.py")),
     Part("races", tool("tests/races.py", "1")),
+    Part("the mount, long", tool("tests/mount-against-the-kernel.py", "--calls", "200000"), [PROGRAM]),
+    Part("programs on the mount, and servers that crash", tool("tests/mount-programs.py"), [PROGRAM]),
+    Part("faults of the mount", tool("tests/mount-faults.py"), [PROGRAM]),
     Part("lies about runs", tool("tests/lies.py", "1000"), [TRACE]),
     Part(
         "refused allocations",

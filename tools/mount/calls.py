@@ -8,6 +8,7 @@ import errno
 import stat
 import struct
 import sys
+from collections.abc import Callable
 
 from mount import control, kernel, lists, rows
 from mount.kernel import Request
@@ -54,17 +55,19 @@ class Listing:
 class Calls:
     """What the kernel asks for."""
 
-    def __init__(self, tree: Tree, owner: int, compact: control.Compact | None) -> None:
-        self.tree, self.owner, self.compact = tree, owner, compact
+    def __init__(
+        self, tree: Tree, owner: int, compact: control.Compact | None, syncs: Callable[[], None] = lambda: None
+    ) -> None:
+        self.tree, self.owner, self.compact, self.syncs = tree, owner, compact, syncs
         self.handles: dict[int, Open | Listing | control.Talk] = {}
         self.next = 1
         self.is_told = False
         self.known = {
             1: self.lookup, 3: self.getattr, 4: self.setattr, 6: self.none, 8: self.mknod, 9: self.mkdir,
             10: self.drop, 11: self.drop, 12: self.rename, 13: self.none, 14: self.open, 15: self.read,
-            16: self.write, 17: self.statfs, 18: self.release, 20: self.flush, 21: self.setxattr, 22: self.getxattr,
+            16: self.write, 17: self.statfs, 18: self.release, 20: self.sync, 21: self.setxattr, 22: self.getxattr,
             23: self.listxattr, 24: self.removexattr, 25: self.flush, 27: self.opendir, 28: self.readdir,
-            29: self.release, 30: self.kept, 34: self.access, 35: self.create, 38: self.kept, 45: self.rename2,
+            29: self.release, 30: self.sync, 34: self.access, 35: self.create, 38: self.kept, 45: self.rename2,
             kernel.FORGET: self.forget, kernel.FORGET_MANY: self.forget_many, kernel.INTERRUPT: self.kept,
         }
 
@@ -217,10 +220,15 @@ class Calls:
         return TWO.pack(self.tree.write(what, place, data), 0)
 
     def flush(self, request: Request) -> bytes:
-        """What close and fsync do."""
+        """What close does, and fsync first."""
         what = self.handled(request)
         if isinstance(what, Open):
             self.tree.flush(what)
+        return b""
+
+    def sync(self, request: Request) -> bytes:
+        self.flush(request)
+        self.syncs()
         return b""
 
     def release(self, request: Request) -> bytes:

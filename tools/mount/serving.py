@@ -5,12 +5,11 @@ import argparse
 import errno
 import os
 import shlex
-import subprocess
 
 import console
 from console import Stop
 
-from mount import calls, kernel, rows, words
+from mount import calls, kernel, making, rows, words
 from mount.talking import Ended, Session
 from mount.tree import Tree
 
@@ -43,7 +42,8 @@ class Mounted:
         self.tree = Tree(self.session)
 
     def command(self) -> list[str]:
-        journal = ["--journal", self.journal] if self.journal else []
+        # whoever calls fsync has the journal synced, and nobody else waits for it
+        journal = ["--journal", self.journal, "--no-sync"] if self.journal else []
         return [*shlex.split(self.given.session), "--marks", *journal]
 
     def begin(self) -> Session:
@@ -72,23 +72,33 @@ class Mounted:
             raise Stop(f"the session did not begin: its status is {session.child.wait()}{said}") from None
         return session
 
+    def sync(self) -> None:
+        """What was answered is kept by the disk."""
+        if self.journal:
+            file = os.open(self.journal, os.O_RDONLY)
+            try:
+                os.fsync(file)
+            finally:
+                os.close(file)
+
     def compact(self) -> str:
-        """Has the session put a shorter journal in place of its long one, and goes on with that."""
+        """Puts a shorter journal in place of the long one, and goes on with that."""
         tree = self.tree
         for node in list(tree.nodes.nodes.values()):
             tree.settle(node)
         before = os.path.getsize(self.journal)
         self.session.close()
-        words = [*self.command(), "--compact"]
-        done = subprocess.run(words, stdin=subprocess.DEVNULL, stdout=subprocess.PIPE, text=True)
+        try:
+            command = [*shlex.split(self.given.session), "--marks", "--no-sync", "--journal"]
+            things = making.shortened(command, self.journal)
+            told = f"compact {things} files and folders, {before} to {os.path.getsize(self.journal)} bytes"
+        except (making.Told, OSError) as why:
+            told = f"fault compact: {why}"
         self.session = tree.session = Session(self.command())
         held = {inode: node for inode, node in tree.nodes.nodes.items() if not node.is_gone}
-        told = self.session.tell(*(f"row {node.path}" for node in held.values()))
-        found = dict(zip(held, map(rows.row_of, told)))
-        tree.nodes.compacted({inode: row for inode, row in found.items() if row is not None})
-        if done.returncode != 0:
-            return f"fault compact: status {done.returncode} {done.stdout.strip()}"
-        return f"compact {before} {os.path.getsize(self.journal)}"
+        found = zip(held, map(rows.row_of, self.session.tell(*(f"row {node.path}" for node in held.values()))))
+        tree.nodes.compacted({inode: row for inode, row in found if row is not None})
+        return told
 
     def options(self) -> list[str]:
         given = {"ro": self.given.read_only, "allow_other": self.given.allow_other}
@@ -105,7 +115,7 @@ class Mounted:
 
     def serve(self, device: int) -> None:
         """Answers the kernel, until the folder is unmounted or a signal comes."""
-        asked = calls.Calls(self.tree, os.getuid(), self.compact if self.journal else None)
+        asked = calls.Calls(self.tree, os.getuid(), self.compact if self.journal else None, self.sync)
         try:
             kernel.serve(device, asked.answer)
             for node in list(self.tree.nodes.nodes.values()):
