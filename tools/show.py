@@ -22,6 +22,7 @@ import webbrowser
 
 import console
 import explain
+import quoted
 import trace
 
 PARTS = os.path.join(trace.TOOLS, "show")
@@ -44,6 +45,7 @@ OWN = {
     "telling": "A sweep tells the server how a transaction ended.",
     "breaking": "A sweep breaks a lock of which nothing was prepared.",
 }
+FAULTY = 3
 CODES = [*(f"F{number}" for number in range(1, 13)), *(f"U{number}" for number in range(1, 8))]
 
 
@@ -71,7 +73,9 @@ def events_of(script: bytes) -> list[str]:
     text = done.stdout.decode("latin1")
     if done.returncode != 0:
         sys.stdout.write(text)
-        if sys.stderr.isatty() and done.returncode in trace.EXPLAINED:
+        if sys.stderr.isatty() and done.returncode == FAULTY:
+            console.Teller().say(console.shows(text.strip()))
+        elif sys.stderr.isatty() and done.returncode in trace.EXPLAINED:
             console.Teller().say(trace.EXPLAINED[done.returncode])
         sys.exit(done.returncode)
     return text.split("\n")[:-1]
@@ -111,10 +115,13 @@ def main() -> int:
     read = argparse.ArgumentParser(prog="./suites show", add_help=False)
     read.add_argument("--open", action="store_true")
     read.add_argument("-h", "--help", action="store_true")
+    read.add_argument("file", nargs="?")
     given = read.parse_args()
     if given.help:
         print(__doc__.strip())
         return 0
+    if given.file is not None:
+        raise console.Bad(f"a script is read from standard input: {read.prog} < {quoted.plain(given.file)}")
     script = trace.script()
     page = page_of(script, events_of(script))
     if given.open:
