@@ -44,16 +44,24 @@ def masked(entries: dict[tuple[int, int], Entry], is_set: bool) -> tuple[Entry, 
     return tuple(sorted(entries.values(), key=lambda one: (one.tag, one.who)))
 
 
+def bare(entries: tuple[Entry, ...]) -> tuple[Entry, ...]:
+    """The entries of owner, group and all others, the group's cut by the mask."""
+    mask = next((one.bits for one in entries if one.tag == lists.MASK), 7)
+    kept = (one for one in entries if one.tag in (lists.OWNER, lists.GROUP, lists.OTHER))
+    return tuple(one._replace(bits=one.bits & mask) if one.tag == lists.GROUP else one for one in kept)
+
+
 def changed(before: Lists, change: Sequence[str], number: Number) -> Lists | None:
     """The lists after a change; none where the words are no change."""
     is_default = "-d" in change
     told = [one for one in change if one != "-d"]
     part = before.default if is_default else before.access
     if told == ["-b"]:
-        kept = tuple(one for one in before.access if one.tag in (lists.OWNER, lists.GROUP, lists.OTHER))
-        return Lists(before.access, ()) if is_default else Lists(kept, ())
+        return before._replace(default=()) if is_default else Lists(bare(before.access), ())
     if len(told) != 2 or told[0] not in ("-m", "-x"):
         return None
+    if is_default and not part and told[0] == "-x":
+        return before
     if is_default and not part:
         part = tuple(one for one in before.access if one.tag in (lists.OWNER, lists.GROUP, lists.OTHER))
     entries = {(one.tag, one.who): one for one in part}
