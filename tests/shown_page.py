@@ -49,7 +49,8 @@ SEEN = """(() => ({
     copies: [...card.querySelectorAll('[data-copy]')].map((one) =>
       [one.dataset.copy, one.dataset.prefix, one.dataset.content].map(Number)),
     locks: [...card.querySelectorAll('[data-lock]')].map((one) => one.dataset.lock) })),
-  agents: [...document.querySelectorAll('[data-agent]')].map((card) => ({
+  agents: [...document.querySelectorAll('[data-agent]')].sort((one, other) =>
+    one.dataset.agent - other.dataset.agent).map((card) => ({
     stage: card.dataset.stage,
     gathered: [...card.querySelectorAll('[data-gathered]')].map((one) => one.dataset.gathered),
     cache: [...card.querySelectorAll('[data-entry]')].map((one) => one.dataset.entry) })),
@@ -183,7 +184,10 @@ def whole(tally: Tally, pages: Pages, shots: str | None) -> None:
             told = agents_at(events, place)
             tally.holds(seen["agents"] == told, name, "agents", place, seen["agents"], told)
         tally.holds(seen["servers"] == ended(lines), name, "servers", seen["servers"], ended(lines))
-        tally.holds(seen["told"] == seen["text"] == printed(lines), name, "what play prints", seen["told"])
+        texts = [re.sub(" “[^”]*”", "", text) for text in seen["text"]]
+        tally.holds(seen["told"] == texts == printed(lines), name, "what play prints", seen["told"])
+        said = pages.driver.value("document.getElementById('says').textContent")
+        tally.holds(len(said) > 10 and "undefined" not in said, name, "a sentence of the moment", said)
         pages.driver.press("ArrowLeft", 2)
         tally.holds(pages.seen()["here"] == max(0, seen["last"] - 2), name, "keys lead back")
         pages.driver.press("Home")
@@ -198,13 +202,13 @@ def hostile(tally: Tally, pages: Pages) -> None:
     pages.driver.press("End")
     driver = pages.driver
     tally.holds(driver.value("document.images.length") == 0, "an image came of a name or of bytes")
-    tally.holds(driver.value("document.scripts.length") == 4, "a script came of bytes")
+    tally.holds(driver.value("document.scripts.length") == 5, "a script came of bytes")
     shown = driver.value("document.getElementById('script').textContent")
     tally.holds(NAMED in shown, "the script is shown as it is", shown)
     world = driver.value("document.getElementById('world').textContent")
     tally.holds("</script><s…" in world or "</script>" in world, "bytes are shown as a text", world)
     with open(os.path.join(pages.folder, f"{pages.count}.html"), encoding="utf-8") as file:
-        tally.holds(file.read().count("</script>") == 4, "what bytes hold stands in the page")
+        tally.holds(file.read().count("</script>") == 5, "what bytes hold stands in the page")
 
 
 def hands(tally: Tally, pages: Pages) -> None:

@@ -7,11 +7,15 @@ alone: it needs a browser, and neither a network nor these tools.
 
     --open   writes the page into a new file, and opens that in a browser
 
-On the page: the arrow keys, Home and End go through the run, and space plays it. A click on an arrow goes there, one on
-a folded phase opens it, and one on a path shows the file through time. What has dots below it is explained to whoever
+On the page: the arrow keys, Home and End go through the run, PageUp and PageDown by its rows, `b` and `n` by its jobs,
+and space plays it. `p` is for who presents: large type, and nothing of what is still to come. A sentence says what
+happens at the moment. A click on an arrow goes there, one on a folded phase opens it, and one on a path shows the file
+through time. What has dots below it is explained to whoever
 points at it.
 """
 import argparse
+import base64
+import hashlib
 import json
 import os
 import re
@@ -27,7 +31,7 @@ import trace
 
 PARTS = os.path.join(trace.TOOLS, "show")
 # What stands for what in the page.
-FILES = {"STYLE": "style.css", "MODEL": "model.js", "DRAWING": "drawing.js", "PAGE": "page.js"}
+FILES = {"STYLE": "style.css", "MODEL": "model.js", "SAYING": "saying.js", "DRAWING": "drawing.js", "PAGE": "page.js"}
 # Words of the page that are explained elsewhere than their like.
 OWN = {
     "stale": "A copy is stale where one of a newer version is in effect elsewhere:"
@@ -44,6 +48,7 @@ OWN = {
     "resolving": "A sweep asks the home of a transaction how it ended.",
     "telling": "A sweep tells the server how a transaction ended.",
     "breaking": "A sweep breaks a lock of which nothing was prepared.",
+    "in doubt": "The home of the transaction is down, and nobody else can tell how it ends: the lock stands till then.",
 }
 FAULTY = 3
 CODES = [*(f"F{number}" for number in range(1, 13)), *(f"U{number}" for number in range(1, 8))]
@@ -92,13 +97,21 @@ def part(name: str) -> str:
         return file.read()
 
 
+def digest(text: str) -> str:
+    """The digest of a script or a style, by which alone a browser lets it run."""
+    return f"'sha256-{base64.b64encode(hashlib.sha256(text.encode()).digest()).decode()}'"
+
+
 def page_of(script: bytes, events: list[str]) -> str:
     """The page of a run."""
     lines = script.decode("utf-8", "replace").split("\n")
     if lines[-1] == "":
         lines.pop()
     data = {"script": [line.removesuffix("\r") for line in lines], "events": events, "meanings": meanings()}
-    parts = {**{name: part(file) for name, file in FILES.items()}, "DATA": embedded(data)}
+    parts = {name: part(file) for name, file in FILES.items()}
+    styles = [digest(parts["STYLE"])]
+    scripts = [digest(text) for name, text in parts.items() if name != "STYLE"]
+    parts |= {"DATA": embedded(data), "STYLES": " ".join(styles), "SCRIPTS": " ".join(scripts)}
     return re.sub(r"@([A-Z]+)@", lambda found: parts[found[1]], part("page.html"))
 
 

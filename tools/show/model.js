@@ -32,6 +32,25 @@ const Model = (() => {
     return isText ? `${short} “${String.fromCharCode(...codes)}${digits.length > most ? "…" : ""}”` : short;
   }
 
+  // What nobody sees, what a terminal obeys, and what turns the order of letters, is shown by its number.
+  const HIDDEN = /[\u0000-\u0008\u000b-\u001f\u007f-\u009f\u061c\u200b-\u200f\u2028-\u202e\u2066-\u2069\ufeff]/g;
+
+  const safe = (text) => text.replace(HIDDEN, (found) => `\\x${found.charCodeAt(0).toString(16).padStart(2, "0")}`);
+
+  // A line of a script: events tell it byte by byte.
+  function lineOf(text) {
+    try {
+      return safe(new TextDecoder("utf-8", { fatal: true }).decode(Uint8Array.from(text, (letter) => letter.charCodeAt(0))));
+    } catch {
+      return safe(text);
+    }
+  }
+
+  // How a job ended, with the bytes that are a text as a text.
+  function endText(text) {
+    return text.replace(/\bread ((?:[0-9a-f]{2})+)\b/g, (all, digits) => `read ${shownBytes(digits)}`);
+  }
+
   const verdictWord = (text) => text.split(" ")[0];
 
   // ---- paths
@@ -98,14 +117,14 @@ const Model = (() => {
 
   // The job that a line begins, as it is told.
   function begunBy(event, agent) {
-    const words = event.text.trim().split(/\s+/);
+    const words = lineOf(event.text).trim().split(/\s+/);
     const isSweep = words[0] === "sweep";
     return {
       number: event.by.jobs - 1,
       t: AGENTS * (event.by.jobs - 1) + agent,
       text: isSweep ? `sweeps server ${words[2]}` : words.slice(5).join(" "),
-      user: isSweep ? null : words[2],
-      line: event.line, refused: {}, parts: null, prepared: [], decided: null, told: [],
+      user: isSweep ? null : words[2], groups: isSweep ? [] : words[3].split(","),
+      line: event.line, refused: {}, shown: {}, parts: null, prepared: [], decided: null, told: [],
     };
   }
 
@@ -115,6 +134,9 @@ const Model = (() => {
     if (["poll", "upgrade"].includes(request.asks) && reply.says !== "held") {
       const refused = { ...job.refused[request.suite], [server]: reply.says };
       return { ...job, refused: { ...job.refused, [request.suite]: refused } };
+    }
+    if (["poll", "upgrade"].includes(request.asks)) {
+      return { ...job, shown: { ...job.shown, [request.suite]: { ...job.shown[request.suite], [server]: reply } } };
     }
     if (request.asks === "prepare") {
       const prepared = reply.says === "prepared" ? [...job.prepared, server] : job.prepared;
@@ -174,6 +196,38 @@ const Model = (() => {
     const votes = readVotes(suite.votes);
     const got = holdersOf(suite).reduce((sum, { server, counts }) => sum + (counts ? votes.of[server] || 0 : 0), 0);
     return { got, of: suite.mode === "exclusive" ? votes.w : votes.r };
+  }
+
+  // A bar of votes: each server that has some, how many, and whether it gave them, showed an old list, or was in the way.
+  function barOf(suite, job) {
+    const votes = readVotes(suite.votes);
+    const held = new Map(holdersOf(suite).map(({ server, counts }) => [server, counts]));
+    const shown = (job && job.shown[suite.suite]) || {};
+    const refused = (job && job.refused[suite.suite]) || {};
+    return votes.of.flatMap((count, server) => {
+      if (!count && !held.has(server)) return [];
+      const isOld = Object.hasOwn(shown, server) && shown[server].prefix < suite.newest;
+      const says = held.get(server) ? (isOld ? "old" : "gave") : Object.hasOwn(refused, server) ? refused[server] : "not asked";
+      return [{ server, votes: count, says, prefix: Object.hasOwn(shown, server) ? shown[server].prefix : null }];
+    });
+  }
+
+  // Which servers showed the list that counts.
+  function listFrom(suite, job) {
+    const shown = (job && job.shown[suite.suite]) || {};
+    return Object.entries(shown).filter(([, copy]) => copy.prefix === suite.prefix).map(([server]) => Number(server));
+  }
+
+  // In what an entry of a cache is behind what is in effect.
+  function staleEntry(world, entry) {
+    const newest = world.newest[entry.suite];
+    return ["prefix", "content"].filter((part) => newest && entry[part] !== undefined && entry[part] < newest[part]);
+  }
+
+  // Whether a lock is in doubt: it is prepared, and the home of its transaction is down.
+  function isInDoubt(world, lock) {
+    const home = (lock.t % AGENTS + Math.floor(lock.t / AGENTS)) % world.servers.length;
+    return lock.prepared && !world.servers[home].up;
   }
 
   // ---- rows of the picture
@@ -248,13 +302,23 @@ const Model = (() => {
 
   const GOOD = ["held", "prepared", "done"];
 
-  function groupWords(paths, events) {
+  // The votes that are had of a suite behind an event.
+  function votesThen(world, event) {
+    const one = world.agents[event.agent].gathered.find((own) => own.suite === event.request.suite);
+    return one ? votesOf(one) : null;
+  }
+
+  function groupWords(paths, events, world) {
     const { request } = events[0];
     const good = events.filter((event) => GOOD.includes(event.reply.says)).length;
     const count = good === events.length ? `×${good}` : `${good} of ${events.length}`;
     switch (request.asks) {
-      case "poll": case "upgrade":
-        return { text: `locks of ${pathOf(paths, request.suite)}: ${good} of ${events.length}`, good };
+      case "poll": case "upgrade": {
+        const votes = votesThen(world, events[events.length - 1]);
+        if (!votes) return { text: `locks of ${pathOf(paths, request.suite)}: ${good} of ${events.length}`, good };
+        const isEnough = votes.got >= votes.of;
+        return { text: `locks of ${pathOf(paths, request.suite)}: ${votes.got} of ${votes.of} votes`, good: isEnough ? events.length : good };
+      }
       case "prepare": return { text: `prepare ${count}`, good };
       case "finish": return { text: `finish ${verdictWord(request.verdict)} ${count}`, good };
       default: return { text: `${request.asks} ${count}`, good };
@@ -262,7 +326,7 @@ const Model = (() => {
   }
 
   // The rows: what is said, requests, groups of requests with those that they fold, and how jobs ended.
-  function rowsOf(events, paths) {
+  function rowsOf(events, paths, worlds) {
     const rows = [];
     let key = null;
     events.forEach((event, place) => {
@@ -285,11 +349,13 @@ const Model = (() => {
       if (event.end) {
         key = null;
         const { agent, job, requests, text } = event.end;
-        rows.push({ kind: "end", event: place, agent, text: `${agent}.${job} ${requests} ${text}` });
+        rows.push({ kind: "end", event: place, agent, text: `${agent}.${job} ${requests} ${endText(text)}` });
       }
     });
     for (const row of rows) {
-      if (row.kind === "group") Object.assign(row, groupWords(paths, row.rows.map((own) => events[own.event])));
+      if (row.kind !== "group") continue;
+      const last = row.rows[row.rows.length - 1].event;
+      Object.assign(row, groupWords(paths, row.rows.map((own) => events[own.event]), worlds[last]));
     }
     return rows;
   }
@@ -319,10 +385,13 @@ const Model = (() => {
     const worlds = [opening(events[0])];
     for (const event of events.slice(1)) worlds.push(after(worlds[worlds.length - 1], event));
     const paths = pathsOf(events);
-    return { events, worlds, paths, rows: rowsOf(events, paths), last: events.length - 1 };
+    return { events, worlds, paths, rows: rowsOf(events, paths, worlds), last: events.length - 1 };
   }
 
-  return { read, behind, holdersOf, votesOf, lifeOf, pathOf, askedWords, repliedWords, shortList, shownBytes };
+  return {
+    read, behind, holdersOf, votesOf, barOf, listFrom, staleEntry, isInDoubt, lifeOf, pathOf, askedWords, repliedWords, shortList,
+    shownBytes, endText, lineOf, safe,
+  };
 })();
 
 if (typeof module !== "undefined") module.exports = Model;

@@ -136,7 +136,7 @@ const Saying = (() => {
   }
 
   function ofLine(run, event) {
-    const words = event.text.trim().split(/\s+/);
+    const words = Model.lineOf(event.text).trim().split(/\s+/);
     const place = Number(words[1]);
     if (event.nothing) return `This line does nothing: agent ${place} ${event.nothing.replace(/^agent \d+ /, "")}.`;
     switch (words[0]) {
@@ -162,11 +162,14 @@ const Saying = (() => {
     return end ? `${told} Job ${end.job} of agent ${end.agent} has ended: ${Model.endText(end.text)}.` : told;
   }
 
-  // The comments of the script that stand right above a line.
+  // The comments of the script that stand above a line, with no empty line between.
   function caption(script, line) {
+    const isComment = (at) => /^\s*#/.test(script[at]);
+    let at = line - 2;
+    while (at >= 0 && script[at].trim() && !isComment(at)) at -= 1;
     const told = [];
-    for (let at = line - 2; at >= 0 && /^\s*#/.test(script[at]); at -= 1) told.unshift(script[at].replace(/^\s*#\s?/, ""));
-    return told.join(" ");
+    for (; at >= 0 && isComment(at); at -= 1) told.unshift(script[at].replace(/^\s*#\s?/, ""));
+    return Model.safe(told.join(" "));
   }
 
   // The names that a script gives to users, by their numbers.
