@@ -139,6 +139,7 @@ PARTS = (
     ),
     Part("the mount", tool("tests/mount.py"), [PROGRAM]),
     Part("the mount against the kernel", tool("tests/mount-against-the-kernel.py"), [PROGRAM]),
+    Part("the shell, import and stories", tool("tests/shell.py"), [PROGRAM]),
     Part("programs on the mount", tool("tests/mount-programs.py", "--well"), [PROGRAM]),
     Part("what votes tells", tool("tests/votes.py"), [PROGRAM, TRACE]),
     Part("what votes tells of scripts", tool("tests/votes-left.py"), [PROGRAM, TRACE]),
