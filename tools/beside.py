@@ -49,5 +49,8 @@ def program(name: str) -> str:
     kind, path = choice
     if kind == "checked":
         text = f"checked build of {name}, not proved yet; ./suites --prove {name} proves and builds it"
-        console.say_once_a_day(os.path.join(TOP, "out", f"{name}-told"), text)
+        if sys.stderr.isatty():
+            console.Teller().say(text)
+        else:
+            console.say_once_a_day(os.path.join(TOP, "out", f"{name}-told"), text)
     return os.path.join(TOP, path)

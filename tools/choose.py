@@ -6,7 +6,7 @@ same code without a proof, with its checks at run time, which is done here where
 no such build, so `rt try` is run each time. The choice is kept in out/choice.sh with all files that it was made from,
 so that `./suites` makes it again only where one of them has changed. With the word --is-fresh: status 0 where the
 proved program is that of these sources, and their proofs are those that proved it. With --version: tells the version,
-the commit, the kit, and the kind of build that would run; builds nothing.
+the commit, the kit, and the kinds of builds that would run; builds nothing.
 """
 import json
 import os
@@ -15,6 +15,7 @@ import shlex
 import subprocess
 import typing
 
+import beside
 import console
 import sources
 import trial
@@ -27,6 +28,8 @@ PROGRAMS = {
     "trial": "tools/trial.py",
 }
 STOPPED = "stopped; there is no checked build yet"
+# The programs beside it that tools use.
+BESIDE = ("trace", "explore", "may", "forms")
 CHANGES = os.path.join(sources.TOP, "CHANGELOG.md")
 
 
@@ -147,6 +150,10 @@ def version() -> typing.Iterator[str]:
     kit = sources.Kit()
     is_there = "which is on the path" if sources.KIT_LOGIC in kit.name.split() else "which is not on the path"
     yield f"kit logic {sources.KIT_LOGIC}, {is_there}"
+    others = [(name, beside.kept_choice(name)) for name in BESIDE]
+    told = [f"{name} {choice[0]}" for name, choice in others if choice]
+    if told:
+        yield f"beside it {', '.join(told)}"
     kind = any(map(os.path.exists, map(record_path, PROGRAMS))) and fresh_kind(sources.Sources(), kit)
     yield (
         f"build {kind}, {PROGRAMS[kind]}"

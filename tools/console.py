@@ -94,10 +94,13 @@ def stop(process: subprocess.Popen[bytes]) -> None:
             process.wait(10)
 
 
-def name_of_input() -> str:
-    """The name of the file that standard input is, as a shell takes it; what stands for it where it is none."""
+def shows(fault: str) -> str:
+    """What shows a fault of what was read: with the name of the file that standard input is, where it is one."""
     name = os.readlink("/proc/self/fd/0")
-    return shlex.quote(os.path.relpath(name)) if os.path.isfile(name) else "SCRIPT"
+    if not os.path.isfile(name):
+        return f"./suites explain {shlex.quote(fault)} tells what it means"
+    named = ascii(os.path.relpath(name))[1:-1] if not os.path.relpath(name).isprintable() else os.path.relpath(name)
+    return f"./suites explain {shlex.quote(fault)} {shlex.quote(named)} shows it"
 
 
 def words(text: str) -> argparse.ArgumentParser:

@@ -27,6 +27,7 @@ import typing
 from collections.abc import Iterable, Iterator
 
 import console
+import quoted
 import trace
 
 # The most requests of a picture that is drawn without a word.
@@ -117,11 +118,11 @@ class Picture:
         """A text right of a place, or left of it where the room is negative. What has no room is cut."""
         most, title = int(abs(room) / LETTER), ""
         if len(words) > most:
-            title = f"<title>{html.escape(words)}</title>"
+            title = f"<title>{html.escape(quoted.safe(words))}</title>"
             words = words[: max(0, most - 1)] + "…"
         style = f' class="{style}"' if style else ""
         anchor = ' text-anchor="end"' if room < 0 else ""
-        self.parts.append(f'<text x="{x}" y="{y}"{style}{anchor}>{html.escape(words)}{title}</text>')
+        self.parts.append(f'<text x="{x}" y="{y}"{style}{anchor}>{html.escape(quoted.safe(words))}{title}</text>')
 
     def beside(self, x: int, y: int, words: str, style: str) -> None:
         """A text that has room up to the edge of the picture."""

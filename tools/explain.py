@@ -21,6 +21,7 @@ import argparse
 import io
 import os
 import re
+import shlex
 import sys
 import textwrap
 import typing
@@ -31,6 +32,9 @@ import forms
 import happened
 import in_script
 import laid_out
+import printed
+import quoted
+import ways_told
 import worded
 
 
@@ -41,14 +45,6 @@ SPAN = r"`([^`]*)`"
 EXAMPLE = re.compile(rf"({SPAN}(?:, {SPAN})*) prints {SPAN}(?: \({SPAN}\))?")
 STATUS = re.compile(r"(?:status |exit )?(\d)$")
 FAULT = re.compile(r"fault (?:line (\d+): )?([SAVNG]\d+(?: A\d+)?(?: item \d+)?)(?: (.+))?$")
-# Lines of `votes`, with the words by which its help tells of them, and lines of `may`.
-VOTES = re.compile(
-    r"(may be lost|stopped by|blocked|not found|U5 at first)\b|(?:read|write|read and write): (?:\d+ of \d+"
-    r" votes$|votes that)"
-)
-MAY = re.compile(
-    r"(?:\S.* )?[r-][w-][x-] (?:granted|denied by [a-z]+:)|.*\(\d+; groups [\d, ]+\) may (?:not )?[rwx]+: "
-)
 EXPLORED = re.compile(r"(way) \d+ in \d+ of \d+ ends$|(?:not )?(all):? \d+ ways, \d+ worlds$|\d+\.\d+ -$")
 # What begins the line of an outcome: an agent and its job, or a job, and how many requests it took; or a transaction.
 # An outcome of `explore` tells no requests.
@@ -92,8 +88,6 @@ def codes_in(text: str) -> list[str]:
     explored = EXPLORED.match(text)
     if explored:
         return [explored[1] or explored[2] or "way"]
-    if MAY.match(text):
-        return ["may"]
     if TRACED.match(text) or ENTRY.match(text):
         return ["trace" if TRACED.match(text) else "entry"]
     rest = text[front.end() :] if front else text
@@ -169,27 +163,17 @@ def about(lines: list[str], text: str) -> list[str]:
     return kept if any(line.startswith("- ") for line in kept) else lines
 
 
-def of_votes(text: str) -> str:
-    """What the help of `votes` says of one of its lines."""
-    import votes
-    word = VOTES.match(text)[1]
-    if not word:
-        return (
-            "Of `./suites votes`: so many of all votes a read or a write collects; the lines below it tell what that"
-            " bears."
-        )
-    found = re.search(rf"^    {word} +(.*(?:\n {{18}}.*)*)", votes.__doc__, re.M)
-    return filled(f"{word} (`./suites votes`): {' '.join(found[1].split())}.")
-
-
 def explained(text: str) -> str:
     """What there is to say of a text: the page's part, or what its words say; or nothing."""
-    text = " ".join(text.split())
-    if VOTES.match(text):
-        return of_votes(text)
+    as_printed, text = text, " ".join(text.split())
     line = worded.own_line(text) if text else None
+    # a line of a trace begins with the line of the script
+    line = line or (worded.own_line(text[2:]) if text.startswith("> ") and text[2:] else None)
     if line:
         return line
+    of_tool = printed.of_tools(as_printed.rstrip()) if not EXPLORED.match(text) and not TRACED.match(text) else None
+    if of_tool:
+        return of_tool
     parts = {code: (group, more, lines) for group, more, code, lines in page()}
     told = []
     for code in codes_in(text):
@@ -250,13 +234,25 @@ def of_printed(text: str, path: str, language: str | None) -> str:
     """What happened behind a line that was printed of a script: what stands in the script, and for `play` how it came
     to it.
     """
-    name, script = read_file(path)
-    kind = language or fitting.in_script(script.decode("latin1"), 1)[0].command
-    if kind == "play":
-        told = happened.of_line(text, script, name)
+    name, given = read_file(path)
+    script, shown = given.decode("latin1"), quoted.plain(name)
+    kind = language or fitting.in_script(script, 1)[0].command
+    if ways_told.is_explored(script) and (kind == "play" or EXPLORED.match(text)):
+        told = list(ways_told.of_line(text, script, shown))
+    elif printed.of_tools(text):
+        told = []
+    elif kind == "play":
+        told = happened.of_line(text, given, shown)
     else:
-        told = in_script.of_line(text, script.decode("latin1"), name, kind)
+        told = in_script.of_line(text, script, shown, kind)
     return "\n".join(filled(line) for line in told)
+
+
+def with_name(told: str, path: str) -> str:
+    """What is told, where the script is known: it stands in the commands that are to be typed."""
+    name = "SCRIPT" if path == "-" else shlex.quote(path)
+    told = re.sub(r"(?<=< )SCRIPT\b", lambda _: name, told)
+    return re.sub(r"(?<=--script )FILE\b", lambda _: name, told)
 
 
 def answer(words: list[str]) -> str:
@@ -269,12 +265,15 @@ def answer(words: list[str]) -> str:
     if fault and fault[3]:
         return of_file(fault, fault[3], given.of)
     path = given.text[-1]
+    if len(given.text) == 2 and not os.path.isfile(path) and path != "-" and explained(given.text[0]):
+        raise console.Stop(f"there is no file {quoted.plain(path)}")
     if len(given.text) > 1 and (path == "-" or os.path.isfile(path)):
-        text = " ".join(" ".join(given.text[:-1]).split())
-        return "\n\n".join(filter(None, [of_printed(text, path, given.of), explained(text)]))
+        text = " ".join(given.text[:-1]).rstrip()
+        told = "\n\n".join(filter(None, [of_printed(text, path, given.of), explained(text)]))
+        return with_name(told, path)
     told = explained(text)
     if not told:
-        raise console.Stop(f"nothing that the program prints is called so: {text} (docs/FAULTS.md has all codes)")
+        raise console.Stop(f"nothing that is printed is called so: {quoted.plain(text)} (docs/FAULTS.md has all codes)")
     if fault and fault[1]:
         line = f"Line {fault[1]} of the script, counted from 1 with empty lines and comments."
         line += " With the name of the script behind it this command shows what is wrong there."
@@ -286,7 +285,7 @@ def main() -> int:
     # a script may have bytes that this terminal cannot show
     if isinstance(sys.stdout, io.TextIOWrapper):
         sys.stdout.reconfigure(errors="backslashreplace")
-    print(answer(sys.argv[1:]))
+    print(quoted.safe(answer(sys.argv[1:])))
     return 0 if sys.argv[1:] else 2
 
 

@@ -2,8 +2,8 @@
 """./suites explore [OPTIONS] < SCRIPT
 
 Tells every way in which the jobs below the line `together` of a script of events may end; help/explore.txt tells all
-of it. The program `explore` does the work. Here its words are looked at, and on a terminal it is told how many worlds
-it has looked at, and what its exit status means.
+of it. The program `explore` does the work. Here its words are looked at, questions of the ways that it tells are
+answered (`asked`), and on a terminal it is told how many worlds it has looked at, and what its exit status means.
 """
 import argparse
 import contextlib
@@ -17,6 +17,7 @@ import threading
 import time
 import typing
 
+import asked
 import beside
 import console
 import trace
@@ -31,7 +32,11 @@ NUMBERS = {
     "--worlds": (1, 4_294_967_295),
     "--way": (1, 4_294_967_295),
 }
-COMMAND_LINE, FAULTY, NO_MEMORY, NO_STREAM, NOT_ALL = 2, 3, 4, 6, 7
+DONE, COMMAND_LINE, FAULTY, NO_MEMORY, NO_STREAM, NOT_ALL = 0, 2, 3, 4, 6, 7
+# The options with which the jobs are told at once: every agent may stop where it is.
+AT_ONCE = ["--worlds", "1", "--stops", "255"]
+# The most bytes of a script, and one that is too many.
+MOST_READ = (16 << 20) + 1
 # How often it is looked whether the program has ended, in seconds.
 PAUSE = 0.1
 # What the program says of how far it is, where it is asked to by this word.
@@ -62,8 +67,11 @@ def read(words: list[str]) -> argparse.Namespace:
     parser.add_argument("--brief", action="store_true")
     for option in NUMBERS:
         parser.add_argument(option, type=number_of(option))
+    parser.add_argument("--ask", type=asked.read, action="append")
     parser.add_argument("files", nargs="*")
     given = parser.parse_args(words)
+    if given.ask and (given.brief or given.way is not None):
+        raise console.Bad("--ask is asked of all ways as they are, without --brief and --way (./suites explore --help)")
     if given.files and not given.help:
         name = shlex.quote(given.files[0])
         raise console.Bad(f"a script is read from standard input: ./suites explore < {name}")
@@ -85,7 +93,8 @@ def words_of(given: argparse.Namespace) -> list[str]:
 def advice(status: int, given: argparse.Namespace, last: str) -> str:
     """What an exit status means, where it says more than the line that is printed."""
     if status == COMMAND_LINE and given.way is not None:
-        return f"there is no way {given.way}: {last}"
+        is_found = "was not found" if last.startswith("not all") else "is not there"
+        return f"way {given.way} {is_found}: {last}"
     if status == FAULTY:
         return f"./suites explain {shlex.quote(last)} tells what it means"
     if status == NO_STREAM:
@@ -140,11 +149,13 @@ def watched(process: subprocess.Popen[bytes]) -> None:
         progress.end()
 
 
-def status_of(given: argparse.Namespace, printed: typing.IO[bytes]) -> int:
-    """Runs the program, which prints into a file. On a terminal it is watched."""
+def status_of(options: list[str], printed: typing.IO[bytes], script: typing.IO[bytes] | None = None) -> int:
+    """Runs the program with these options on a script, or on standard input. It prints into a file. On a terminal it is
+    watched.
+    """
     is_watched = sys.stderr.isatty()
-    words = [beside.program("explore"), *words_of(given), *([PROGRESS] if is_watched else [])]
-    process = subprocess.Popen(words, stdout=printed, stderr=subprocess.PIPE if is_watched else None)
+    words = [beside.program("explore"), *options, *([PROGRESS] if is_watched else [])]
+    process = subprocess.Popen(words, stdin=script, stdout=printed, stderr=subprocess.PIPE if is_watched else None)
     try:
         if is_watched:
             watched(process)
@@ -155,12 +166,67 @@ def status_of(given: argparse.Namespace, printed: typing.IO[bytes]) -> int:
             process.wait()
 
 
+def told_of(options: list[str], script: typing.IO[bytes]) -> tuple[int, typing.IO[bytes]]:
+    """The exit status of the program for a script, and what it printed, as a file."""
+    printed = tempfile.TemporaryFile()
+    script.seek(0)
+    status = status_of(options, printed, script)
+    printed.seek(0)
+    return status, printed
+
+
+def lines_of(printed: typing.IO[bytes]) -> typing.Iterator[str]:
+    """The lines of a file."""
+    for line in printed:
+        yield line.decode("latin1")
+
+
+def answer(given: argparse.Namespace) -> int:
+    """Answers questions of the ways that the program tells, and tells how many these are."""
+    with tempfile.TemporaryFile() as script:
+        script.write(sys.stdin.buffer.read(MOST_READ))
+        status, printed = told_of(AT_ONCE, script)
+        with printed:
+            if status not in (DONE, NOT_ALL):
+                return ended(given, status, printed.read())
+            jobs = next(asked.ways_in(lines_of(printed)))
+        wrong = asked.unknown(given.ask, jobs)
+        if wrong:
+            raise console.Bad(wrong)
+        status, printed = told_of(words_of(given), script)
+        with printed:
+            if status not in (DONE, NOT_ALL):
+                return ended(given, status, printed.read())
+            answers, count = [asked.Answer(question) for question in given.ask], 0
+            for count, way in enumerate(asked.ways_in(lines_of(printed)), 1):
+                for one in answers:
+                    one.look(count, way)
+            printed.seek(0)
+            last = printed.read().rpartition(b"\nnot all: " if status == NOT_ALL else b"\nall ")
+    said = "".join(one.told(count, status == DONE, lambda way: command_of(given, way)) for one in answers)
+    head = b"not all: " if status == NOT_ALL else b"all "
+    return ended(given, status, said.encode("latin1") + head + last[2].removeprefix(head))
+
+
+def command_of(given: argparse.Namespace, way: int) -> str:
+    """What prints the script that leads to a way."""
+    name = "SCRIPT"
+    with contextlib.suppress(OSError):
+        path = os.readlink("/proc/self/fd/0")
+        name = shlex.quote(os.path.relpath(path)) if os.path.isfile(path) else name
+    return " ".join(["./suites explore", *words_of(given), f"--way {way}", "<", name])
+
+
 def run(given: argparse.Namespace) -> int:
     """Runs the program, and prints what it prints once it has ended."""
     with tempfile.TemporaryFile() as printed:
-        status = status_of(given, printed)
+        status = status_of(words_of(given), printed)
         printed.seek(0)
-        text = printed.read()
+        return ended(given, status, printed.read())
+
+
+def ended(given: argparse.Namespace, status: int, text: bytes) -> int:
+    """Prints what the program printed, and on a terminal what its exit status means."""
     sys.stdout.buffer.write(text)
     sys.stdout.flush()
     told = advice(status, given, text.decode("latin1").rstrip("\n").rpartition("\n")[2])
@@ -178,7 +244,7 @@ def main() -> int:
     if sys.stdin.isatty():
         console.Teller().say("reading from the terminal, up to its end (Ctrl-D at the start of a line)")
     try:
-        return run(given)
+        return answer(given) if given.ask else run(given)
     except BrokenPipeError:
         os.dup2(os.open(os.devnull, os.O_WRONLY), sys.stdout.fileno())
         return NO_STREAM

@@ -65,13 +65,23 @@ def above(path: str) -> list[str]:
     return ["/" + "/".join(parts[:count]) for count in range(len(parts))]
 
 
-def list_then(script: str, jobs: list[Asked], path: str) -> tuple[str, str, str] | None:
-    """The owner, the group and the list of a path after these transactions."""
+def header_of(script: str) -> list[str]:
+    """The lines of a script of which a script of `table` has the same: its root folder and its names."""
     said = [line.split() for line in laid_out.lines_of(script) if line.split() and not line.startswith("#")]
     root = next(words for words in said if words[0] == "root")
-    header = [" ".join(root), *(" ".join(words) for words in said if words[0] in ("user", "group"))]
+    return [" ".join(root), *(" ".join(words) for words in said if words[0] in ("user", "group"))]
+
+
+def answers(script: str, jobs: list[Asked]) -> list[str]:
+    """What the plain table answers these transactions, one after the other."""
+    return table([*header_of(script), *(job.line() for job in jobs)])
+
+
+def list_then(script: str, jobs: list[Asked], path: str) -> tuple[str, str, str] | None:
+    """The owner, the group and the list of a path after these transactions."""
+    header = header_of(script)
     lines = [*header, *(job.line() for job in jobs)]
-    owner = owners(root, jobs, table(lines))
+    owner = owners(header[0].split(), jobs, table(lines))
     if path not in owner or any(folder not in owner for folder in above(path)):
         return None
     lines += [f"do {owner[folder][0]} {owner[folder][1]} setacl {folder} {OPEN}" for folder in above(path)]

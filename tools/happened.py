@@ -4,6 +4,7 @@ The script is played once more by the program of `./suites trace`, up to where t
 told which line of the script began the job, which path a number is, which servers were down, who was in the way, and
 why a home was one.
 """
+import functools
 import re
 import subprocess
 import typing
@@ -13,6 +14,7 @@ import forms
 import guarded
 import laid_out
 import quoted
+import refused
 import trace
 
 OUTCOME = re.compile(r"(\d+)\.(\d+) (\d+) (answered|denied|refused|undecided|swept)\b ?(.*)")
@@ -84,7 +86,7 @@ class Played:
         # of each server: when it crashed or came back, whether it is up from there on, and the line of the script
         self.turns: dict[int, list[tuple[int, bool, int]]] = {}
         self.printed: list[tuple[str, int, int]] = []
-        self.lines = lines
+        self.lines, self.script = lines, laid_out.lines_of(script)
         for at, line in enumerate(lines):
             if line.startswith("="):
                 break
@@ -148,6 +150,7 @@ class Played:
         return f"{known} (suite {suite})" if known else f"suite {suite}"
 
 
+@functools.cache
 def played(script: bytes, name: str) -> Played:
     """The run of a script, by the program `trace`."""
     done = subprocess.run([trace.program()], input=script, stdout=subprocess.PIPE, env=trace.ENV)
@@ -301,9 +304,45 @@ def home_down(run: Played, job: Job) -> typing.Iterator[str]:
     )
     if since is not None:
         yield f"Server {home} is down, since line {since}."
+    tries = ((turn, (job.agent + job.count + turn) % run.servers) for turn in range(1, run.servers + 1))
+    is_up = next(((turn, one) for turn, one in tries if run.down_since(one, job.ended or 0) is None), None)
+    if is_up and is_up[0] == 1:
+        yield f"Begun again at once, it is job {job.count + 1}, whose home is server {is_up[1]}, which was up then."
+    elif is_up:
+        yield (
+            f"Begun again at once, job {job.count + 1} has a home that was down then, too; job {job.count + is_up[0]}"
+            f" is the first whose home was up, server {is_up[1]}."
+        )
+    else:
+        yield "No server was up then, so no transaction can be decided before one is back."
+
+
+def why_refused(run: Played, job: Job, rest: str) -> typing.Iterator[str]:
+    """Which operation was refused, and what was there and what was not."""
+    code, place = rest.split()[0], int((rest.split()[2:] or ["0"])[0])
+    if place:
+        yield f"Operation {place} is `{job.operations[place - 1]}`."
+    until = run.decided.index(job.t) if job.t in run.decided else len(run.decided)
+    before = [run.jobs[t].operations for t in run.decided[:until] if run.jobs[t].verdict == "answered"]
+    told = refused.why(code, place, job.operations, before)
+    if told:
+        yield f"{told}."
+
+
+def how_full(run: Played, rest: str) -> typing.Iterator[str]:
+    """How many files and folders a server has at the end, which was full."""
+    found = re.match(r"U6 server (\d+)", rest)
+    if not found:
+        return
+    counts: dict[int, int] = {}
+    server = -1
+    for line in run.lines:
+        head = re.match(r"= server (\d+)", line)
+        server = int(head[1]) if head else server
+        counts[server] = counts.get(server, 0) + (server >= 0 and trace.COPY.match(line) is not None)
     yield (
-        f"Begun again at once, it is job {job.count + 1}, whose home is server"
-        f" {(job.agent + job.count + 1) % run.servers}."
+        f"Server {found[1]} has {counts.get(int(found[1]), 0):,} files and folders at the end of the script, dropped"
+        " ones among them, and has room for 4,096."
     )
 
 
@@ -328,8 +367,8 @@ def why(run: Played, job: Job, how: str, rest: str, script: str, number: int) ->
         yield from made(run, job, rest)
     elif how == "denied":
         yield from denied(run, job, rest, script)
-    elif how == "refused" and rest.split()[2:] and rest.split()[2] != "0":
-        yield f"Operation {rest.split()[2]} is `{job.operations[int(rest.split()[2]) - 1]}`."
+    elif how == "refused":
+        yield from why_refused(run, job, rest)
     elif how == "swept":
         yield from dict.fromkeys(swept(job))
     elif code == "U1":
@@ -339,6 +378,8 @@ def why(run: Played, job: Job, how: str, rest: str, script: str, number: int) ->
         yield from (in_the_way if code == "U2" else lock_lost)(run, job, rest)
     elif code in ("U4", "U5"):
         yield from (aborted if code == "U4" else home_down)(run, job)
+    elif code == "U6":
+        yield from how_full(run, rest)
 
 
 def found_line(run: Played, text: str, name: str) -> tuple[str, int]:
@@ -353,8 +394,36 @@ def found_line(run: Played, text: str, name: str) -> tuple[str, int]:
     )
 
 
+def as_traced(line: str) -> str:
+    """A line of a trace without paths and rows of spaces."""
+    return " ".join(re.sub(r"\S+=(?=suite \d)", "", line).partition("   behind: ")[0].split())
+
+
+def of_trace(run: Played, text: str, name: str) -> list[str]:
+    """What is told of a line that the trace of this run has, and `play` has not: where in the script it comes."""
+    number, own, job, wanted = 0, forms.lines_of("play", "own"), None, as_traced(text)
+    events = iter([at for at, line in enumerate(run.script, 1) if line.split()[:1] and line.split()[0] in own])
+    for line in run.lines:
+        number = next(events, number) if line.startswith("> ") else number
+        if as_traced(line) != wanted:
+            continue
+        if line.startswith("= ") or line.startswith("    "):
+            return [f"The trace tells at its end what each server has, once {name} is played."]
+        found = trace.REQUEST.match(line)
+        of = OF.match(found[3].strip()) if found else None
+        job = run.jobs.get(int(of[1])) if of else None
+        told = f"It is line {number} of {name}"
+        told = told if line.startswith("> ") else f"The trace tells it of line {number} of {name}"
+        whose = f", and it is about transaction {job.t}, {job.name()}: {job.about()}" if job else ""
+        return [f"{told}{whose}."]
+    return []
+
+
 def of_run(run: Played, text: str, script: str, name: str) -> list[str]:
     """What is told of a line that this run of a script printed."""
+    traced = of_trace(run, text, name) if text not in {line for line, _, _ in run.printed} else []
+    if traced:
+        return traced
     line, number = found_line(run, text, name)
     outcome, audited = OUTCOME.match(line), AUDITED.match(line)
     if audited:

@@ -7,10 +7,36 @@ import typing
 LONG = 60
 
 
+# What a terminal would obey, and what nobody sees or that turns the order of what stands beside it.
+OBEYED = re.compile("[\x00-\x1f\x7f-\x9f\u061c\u200b-\u200f\u2028-\u202e\u2066-\u2069\ufeff]")
+
+
+def escaped(found: re.Match[str]) -> str:
+    return f"\\x{ord(found[0]):02x}"
+
+
 def plain(text: str) -> str:
     """Bytes of a script as a terminal can show them."""
-    shown = text.encode("latin1", "replace").decode("utf-8", "backslashreplace")
-    return re.sub(r"[\x00-\x1f\x7f-\x9f\u200b\u2028\u2029\ufeff]", lambda found: f"\\x{ord(found[0]):02x}", shown)
+    return OBEYED.sub(escaped, text.encode("latin1", "replace").decode("utf-8", "backslashreplace"))
+
+
+def safe(text: str) -> str:
+    """Lines of a text as a terminal or a picture can show them: line feeds and tabs stay."""
+    return OBEYED.sub(lambda found: found[0] if found[0] in "\n\t" else escaped(found), text)
+
+
+class Terminal:
+    """A stream to which bytes are written as a terminal can show them."""
+
+    def __init__(self, out: typing.BinaryIO) -> None:
+        self.out = out
+
+    def write(self, text: bytes) -> int:
+        return self.out.write(safe(text.decode("utf-8", "backslashreplace")).encode())
+
+    def writelines(self, texts: typing.Iterable[bytes]) -> None:
+        for text in texts:
+            self.write(text)
 
 
 def short(text: str) -> str:

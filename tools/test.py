@@ -4,11 +4,11 @@
 Runs all tests that need no proof, side by side: the rows of crates/rows/stdin through the program that `./suites`
 runs (which it first makes, where there is none), the tests of libraries, runs and commands without their proofs (`rt
 try`), the examples of docs/FAULTS.md, the command lines that README.md, docs/FAULTS.md and docs/SCRIPTS.md show, what
-`./suites votes` tells, pictures, what `explore` tells, random scripts of `play` against the plain table, and the
-checks of documents. With --long those too that take minutes: every program that only tests and measurements have is
-compiled, instructions are counted, allocations are refused, reads and writes fail, inputs are cut off, lies are told
-about runs, and races between threads are looked for: some ten minutes more on four free processors. Prints a line for
-each part as it ends, of a part that fails also what it printed, and last how many passed and failed. Status 1 where
+`./suites votes` tells, pictures, what `explore` tells and answers, random scripts of `play` against the plain table,
+and the checks of documents. With --long those too that take minutes: every program that only tests and measurements
+have is compiled, instructions are counted, allocations are refused, reads and writes fail, inputs are cut off, lies are
+told about runs, and races between threads are looked for: some ten minutes more on four free processors. Prints a line
+for each part as it ends, of a part that fails also what it printed, and last how many passed and failed. Status 1 where
 one failed. The gate (.ci/run) begins with it.
 """
 import os
@@ -85,7 +85,8 @@ class Part:
         if not self.process:
             return f"{self.title}: not run, since a part that it stands on failed"
         passed, failed = self.counts
-        skipped = "".join(f" ({line})" for line in self.text.splitlines() if line.startswith("skipped: "))
+        told = [line for line in self.text.splitlines() if line.startswith(("skipped: ", "told: "))]
+        skipped = "".join(f" ({line.removeprefix('told: ')})" for line in told)
         line = f"{self.title}: {passed} passed, {failed} failed, {time.monotonic() - self.begun:.0f} s{skipped}"
         return f"{line}\n{console.tail(self.text, 60)}status {self.process.returncode}" if failed else line
 
@@ -104,12 +105,14 @@ FORMS, EXPLORE, JUDGE = "the program of forms", "the program of explore", "the p
 PARTS = (
     Part("what pages show", tool("tools/shown.py")),
     Part("what documents name", tool("tools/named.py")),
+    Part("words of pages", tool("tools/page_words.py")),
     Part("texts of wrong bodies", tool("tools/wrong_bodies.py", "--check")),
     Part("page of wrong bodies", tool("tools/wrong_bodies_page.py", "--check")),
     Part("table of public functions", tool("tools/proved_page.py", "--check")),
     Part("forms in pages and help", tool("tools/forms_page.py", "--check")),
     Part("words that need no build", tool("tests/wrapper.py")),
     Part("type hints", tool("tests/hints.py")),
+    Part("functions that call themselves", tool("tests/self-calls.py")),
     Part("tests of runs", **tried("run_tests")),
     Part("tests of libraries", **tried("library_tests")),
     Part(PROGRAM, tool("tools/choose.py")),
@@ -122,7 +125,10 @@ PARTS = (
     Part("rows", tool("tests/checked-build.py"), [PROGRAM]),
     Part("the table of forms", tool("tests/form-table.py"), [PROGRAM]),
     Part("everything that can happen", tool("tests/explored.py"), [PROGRAM, TRACE, EXPLORE]),
+    Part("questions of everything that can happen", tool("tests/asking.py"), [EXPLORE]),
+    Part("a stack of 1 MiB", tool("tests/small-stack.py"), [PROGRAM, TRACE, FORMS, EXPLORE]),
     Part("examples of FAULTS", tool("tests/explained.py"), [PROGRAM, TRACE, FORMS, EXPLORE]),
+    Part("what explain says of every line", tool("tests/every_line.py"), [PROGRAM, TRACE, FORMS, EXPLORE, MAY]),
     Part("what explain says of damaged scripts", tool("tests/damaged-scripts.py", "--cases", "1000"), [PROGRAM, FORMS]),
     Part("command lines of documents", tool("tests/typed.py"), [PROGRAM, TRACE, FORMS, EXPLORE]),
     Part("verdicts on histories", tool("tests/judged.py"), [JUDGE]),
@@ -132,6 +138,9 @@ PARTS = (
         tool("tests/may-against-the-kernel.py", "--questions", "100", "--mounts", "--if-possible"),
         [MAY],
     ),
+    Part("the mount", tool("tests/mount.py"), [PROGRAM]),
+    Part("the mount against the kernel", tool("tests/mount-against-the-kernel.py"), [PROGRAM]),
+    Part("programs on the mount", tool("tests/mount-programs.py", "--well"), [PROGRAM]),
     Part("what votes tells", tool("tests/votes.py"), [PROGRAM, TRACE]),
     Part("what votes tells of scripts", tool("tests/votes-left.py"), [PROGRAM, TRACE]),
     Part("pictures", tool("tests/drawn.py"), [TRACE]),
@@ -145,6 +154,9 @@ LONG = (
     Part("programs of tests and measurements", tool("tests/compiled.py")),
     Part("instructions", tool("tests/instructions.py")),
     Part("races", tool("tests/races.py", "1")),
+    Part("the mount, long", tool("tests/mount-against-the-kernel.py", "--calls", "200000"), [PROGRAM]),
+    Part("programs on the mount, and servers that crash", tool("tests/mount-programs.py"), [PROGRAM]),
+    Part("faults of the mount", tool("tests/mount-faults.py"), [PROGRAM]),
     Part("lies about runs", tool("tests/lies.py", "1000"), [TRACE]),
     Part(
         "refused allocations",
@@ -152,6 +164,7 @@ LONG = (
         [PROGRAM, TRACE],
         settings={"EVERY": "61"},
     ),
+    Part("refused allocations of explore", tool("tests/refuse-explore.py", "--every", "61"), [EXPLORE]),
     Part(
         "refused allocations in tests",
         ["sh", os.path.join(sources.TOP, "tests/refuse-in-test.sh")],

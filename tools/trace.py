@@ -28,6 +28,7 @@ from typing import Any, BinaryIO, NoReturn
 
 import beside
 import console
+import quoted
 from known_paths import FEW, Paths, paths
 
 TOOLS = os.path.dirname(os.path.abspath(__file__))
@@ -137,7 +138,7 @@ class Run:
         sys.stdout.write(text)
         sys.stdout.flush()
         if sys.stderr.isatty() and self.process.returncode == 3:
-            console.Teller().say(f"./suites explain {shlex.quote(text.strip())} {console.name_of_input()} shows it")
+            console.Teller().say(console.shows(text.strip()))
         elif sys.stderr.isatty() and self.process.returncode in EXPLAINED:
             console.Teller().say(EXPLAINED[self.process.returncode])
         sys.exit(self.process.returncode)
@@ -354,17 +355,18 @@ def asked(words: list[str], text: str, more: Mapping[str, Mapping[str, Any]] | N
         print(text.strip())
         sys.exit(0)
     if given.file is not None:
-        raise console.Bad(f"a script is read from standard input: {read.prog} < {given.file}")
+        raise console.Bad(f"a script is read from standard input: {read.prog} < {quoted.plain(given.file)}")
     return given
 
 
 def number_of(suite: str | None, known: dict[int, str]) -> int | None:
     """The number of a suite that is named by its path or number."""
-    if suite is None or suite.isdigit():
+    if suite is None or (suite.isdigit() and (int(suite) in known or int(suite) == 0)):
         return None if suite is None else int(suite)
     found = [number for number, path in known.items() if path == suite]
     if not found:
-        raise console.Stop(f"no path {suite} is met in this run")
+        what = f"file or folder {suite}" if suite.isdigit() else f"path {quoted.plain(suite)}"
+        raise console.Stop(f"no {what} is met in this run")
     return found[-1]
 
 
@@ -420,7 +422,7 @@ class Held:
                 yield os.pread(self.file.fileno(), size, at)
 
 
-def write_all(run: Run, out: BinaryIO, agent: int | None) -> None:
+def write_all(run: Run, out: BinaryIO | quoted.Terminal, agent: int | None) -> None:
     """Writes a trace, or what is about an agent, while the program plays, up to where a path was not known that may be
     told later; and then the rest.
     """
@@ -440,7 +442,7 @@ def write_all(run: Run, out: BinaryIO, agent: int | None) -> None:
     out.writelines(held.texts(run, agent, found.known))
 
 
-def write_about(run: Run, out: BinaryIO, agent: int | None, suite: str | None) -> None:
+def write_about(run: Run, out: BinaryIO | quoted.Terminal, agent: int | None, suite: str | None) -> None:
     """Writes what is about a suite, and of that what is about an agent, once the script is played."""
     known = run.play()
     for line in with_paths(behind(narrowed(run, agent, number_of(suite, known))), known):
@@ -454,11 +456,14 @@ def main() -> int:
             raise console.Bad("--json stands alone: ./suites trace --json < SCRIPT")
         os.execve(program(), [program(), "--json"], ENV)
     given = asked(sys.argv[1:], __doc__)
+    out: BinaryIO | quoted.Terminal = sys.stdout.buffer
+    if sys.stdout.isatty():
+        out = quoted.Terminal(sys.stdout.buffer)
     with Run(script(given.agent)) as run:
         if given.suite is None:
-            write_all(run, sys.stdout.buffer, given.agent)
+            write_all(run, out, given.agent)
         else:
-            write_about(run, sys.stdout.buffer, given.agent, given.suite)
+            write_about(run, out, given.agent, given.suite)
     return 0
 
 

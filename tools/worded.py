@@ -13,6 +13,8 @@ from quoted import either, letters, plain, short
 
 TOP = os.path.dirname(os.path.dirname(os.path.abspath(__file__)))
 ROW = re.compile(r"\| (.*) \| (.*) \|$")
+# Slanted words, and no sign of multiplication.
+SLANTED = re.compile(r"\*(\w(?:[^*]*\w)?)\*")
 WIDE, INDENT = 100, 4
 
 
@@ -27,11 +29,16 @@ def words() -> dict[str, str]:
     rows = [row for row in map(ROW.match, text_of("docs", "WORDS.md").split("\n")) if row and row[1].startswith("*")]
     for row in rows:
         for word in re.findall(r"\*([^*]+)\*", row[1]):
-            found[word] = f"{row[1].replace('*', '')}: {row[2].replace('*', '')}"
+            found[word] = f"{upright(row[1])}: {upright(row[2])}"
     for row in rows:
-        for word in re.findall(r"\*([^*]+)\*", row[2]):
-            found.setdefault(word, f"{row[1].replace('*', '')}: {row[2].replace('*', '')}")
+        for word in SLANTED.findall(row[2]):
+            found.setdefault(word.lower(), f"{upright(row[1])}: {upright(row[2])}")
     return found
+
+
+def upright(text: str) -> str:
+    """A text without the marks of slanted words; a sign of multiplication stays."""
+    return SLANTED.sub(r"\1", text)
 
 
 def meant(place: str, word: str) -> str:
@@ -102,7 +109,8 @@ def own_line(text: str) -> str | None:
 def one_word(word: str) -> str | None:
     """What one word means: of the service, of a line, or of an operation."""
     told = []
-    meaning = words().get(word)
+    known = words()
+    meaning = known.get(word) or known.get(word.removesuffix("s"))
     if meaning:
         told.append(filled(f"{meaning[0].upper()}{meaning[1:]}."))
     lines: dict[tuple[str, str], list[str]] = {}

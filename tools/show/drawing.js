@@ -5,7 +5,7 @@
 const Drawing = (() => {
   const SVG = "http://www.w3.org/2000/svg";
   // The height of a row, how wide a letter is, what stands between agents and servers, and beside the outer lines.
-  const ROW = 24, LETTER = 6.65, GAP = 250, EDGE = 34, NAMES = 22, LEAST = 16, MOST = 72;
+  const ROW = 24, LETTER = 6.65, GAP = 250, EDGE = 34, NAMES = 22, LEAST = 16, MOST = 72, PIECE = 30;
 
   function element(name, attributes = {}, text = null) {
     const made = document.createElementNS(SVG, name);
@@ -22,8 +22,8 @@ const Drawing = (() => {
   class Picture {
     constructor(run, names, rows, onPick) {
       Object.assign(this, { run, names, rows, onPick, opened: new Set(), folds: true, here: 0 });
-      this.agents = run.worlds[0].agents.length;
-      this.servers = run.worlds[0].servers.length;
+      this.agents = run.events[0].agents.length;
+      this.servers = run.events[0].servers.length;
       this.measure();
       this.arrange();
     }
@@ -103,13 +103,25 @@ const Drawing = (() => {
       const first = all ? 0 : Math.max(0, Math.floor(view.scrollTop / ROW) - 4);
       const inView = Math.ceil(view.clientHeight / ROW) + 10;
       const end = all ? this.shown.length : Math.min(this.shown.length, first + inView);
-      const svg = element("svg", { width: this.width, height: (end - first) * ROW + 12 });
-      svg.style.transform = `translateY(${first * ROW}px)`;
+      const focused = this.rows.contains(document.activeElement) ? document.activeElement.dataset.row : null;
+      // on paper a picture breaks only between pieces
+      const size = all ? PIECE : end - first;
+      const pieces = [];
+      for (let from = first; from < end; from += size) pieces.push(this.piece(from, Math.min(end, from + size)));
+      if (!all && pieces.length) pieces[0].style.transform = `translateY(${first * ROW}px)`;
+      this.rows.replaceChildren(...pieces);
+      const again = focused === null ? null : this.rows.querySelector(`[data-row="${focused}"]`);
+      if (again) again.focus({ preventScroll: true });
+    }
+
+    // The rows from one to another, as a picture.
+    piece(first, end) {
       const height = (end - first) * ROW;
+      const svg = element("svg", { width: this.width, height: height + (end === this.shown.length ? 12 : 0) });
       for (let number = 0; number < this.agents; number += 1) this.lifeLine(svg, this.agentAt(number), height);
       for (let number = 0; number < this.servers; number += 1) this.lifeLine(svg, this.serverAt(number), height);
       for (let place = first; place < end; place += 1) svg.append(this.row(place, (place - first) * ROW));
-      this.rows.replaceChildren(svg);
+      return svg;
     }
 
     lifeLine(svg, x, height) {
@@ -122,14 +134,29 @@ const Drawing = (() => {
       const group = element("g", { class: "row", transform: `translate(0 ${top})`, ...about });
       const isHere = place === this.placeOf(this.here);
       group.append(element("rect", { class: isHere ? "here" : "reach", x: 0, y: 0, width: this.width, height: ROW }));
-      this.run.worlds[row.event].servers.forEach((server, number) => {
+      this.run.worlds.at(row.event).servers.forEach((server, number) => {
         const box = { class: "down", x: this.serverAt(number) - 5, y: 0, width: 10, height: ROW };
         if (!server.up) group.append(element("rect", box));
       });
       const draw = { said: "said", end: "ended", request: "request", group: "folded" }[row.kind];
       this[draw](group, row);
+      if (row.event > this.here) group.classList.add("later");
+      group.setAttribute("tabindex", "0");
+      group.setAttribute("role", "button");
+      group.setAttribute("aria-label", this.wordsOf(row));
       group.addEventListener("click", () => this.onPick(row));
+      group.addEventListener("keydown", (event) => {
+        if (event.key === "Enter" || event.key === " ") this.onPick(row);
+      });
       return group;
+    }
+
+    // A row as it is read aloud.
+    wordsOf(row) {
+      if (row.kind !== "request") return row.text;
+      const event = this.run.events[row.event];
+      const asked = Model.askedWords(this.run.paths, event);
+      return `agent ${event.agent} asks server ${event.server}: ${asked}; ${Model.repliedWords(event.reply)}`;
     }
 
     text(group, x, y, words, room, kind, isLeft = false) {
@@ -187,8 +214,9 @@ const Drawing = (() => {
       for (const event of events) {
         const isGood = ["held", "prepared", "done"].includes(event.reply.says);
         const isLast = event === this.run.events[this.here];
-        const kind = isGood ? "tip" : "wrong";
-        const mark = element("circle", { cx: this.serverAt(event.server), cy: 15, r: isLast ? 6 : 4.2, class: kind });
+        const [x, r] = [this.serverAt(event.server), isLast ? 6 : 4.2];
+        const cross = `M${x - r} ${15 - r}l${2 * r} ${2 * r}M${x - r} ${15 + r}l${2 * r} ${-2 * r}`;
+        const mark = isGood ? element("circle", { cx: x, cy: 15, r, class: "tip" }) : element("path", { d: cross, class: "cross" });
         mark.append(element("title", {}, `server ${event.server}: ${Model.repliedWords(event.reply)}`));
         group.append(mark);
       }

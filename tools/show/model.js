@@ -4,6 +4,8 @@
 
 const Model = (() => {
   const AGENTS = 64;
+  // Of so many events in a row the worlds are kept at once; of all others those behind each so many-th.
+  const STRETCH = 256;
 
   // ---- words
 
@@ -30,6 +32,25 @@ const Model = (() => {
     const codes = digits.slice(0, most).match(/../g).map((pair) => parseInt(pair, 16));
     const isText = codes.every((code) => code >= 32 && code < 127);
     return isText ? `${short} “${String.fromCharCode(...codes)}${digits.length > most ? "…" : ""}”` : short;
+  }
+
+  // What nobody sees, what a terminal obeys, and what turns the order of letters, is shown by its number.
+  const HIDDEN = /[\u0000-\u0008\u000b-\u001f\u007f-\u009f\u061c\u200b-\u200f\u2028-\u202e\u2066-\u2069\ufeff]/g;
+
+  const safe = (text) => text.replace(HIDDEN, (found) => `\\x${found.charCodeAt(0).toString(16).padStart(2, "0")}`);
+
+  // A line of a script: events tell it byte by byte.
+  function lineOf(text) {
+    try {
+      return safe(new TextDecoder("utf-8", { fatal: true }).decode(Uint8Array.from(text, (letter) => letter.charCodeAt(0))));
+    } catch {
+      return safe(text);
+    }
+  }
+
+  // How a job ended, with the bytes that are a text as a text.
+  function endText(text) {
+    return text.replace(/\bread ((?:[0-9a-f]{2})+)\b/g, (all, digits) => `read ${shownBytes(digits)}`);
   }
 
   const verdictWord = (text) => text.split(" ")[0];
@@ -75,22 +96,56 @@ const Model = (() => {
     return { ...newest, [suite]: { prefix: Math.max(prefix, now.prefix), content: Math.max(content, now.content) } };
   }
 
-  function opening(event) {
+  // The world that a run, or a part of one, opens with. Of a part it is told besides what is in effect, what agents did for the
+  // jobs that they have, and how their last jobs ended.
+  function opening(event, before = { newest: {}, jobs: [], ends: [] }) {
     const servers = event.servers.map((server) => ({ ...server, copies: bySuite(server.copies) }));
     const agents = event.agents.map((agent) => ({ ...agent, job: null, end: null }));
-    let newest = {};
+    let { newest } = before;
     for (const server of event.servers) {
       for (const copy of server.copies) newest = raised(newest, copy.suite, copy.prefix, copy.content);
+    }
+    for (const end of before.ends) agents[end.agent].end = end;
+    for (const [begun, ...requests] of before.jobs) {
+      const job = begunBy(begun, begun.by.agent);
+      agents[begun.by.agent].job = requests.reduce((own, one) => heard(own, one.server, one.request, one.reply), job);
     }
     return { servers, agents, newest };
   }
 
   const replaced = (list, place, value) => list.map((own, at) => (at === place ? value : own));
 
+  // A list without some of its things, which are told in its order.
+  function without(list, gone, isSame) {
+    if (gone.length === 0) return list;
+    let at = 0;
+    return list.filter((one) => {
+      const goes = at < gone.length && isSame(one, gone[at]);
+      if (goes) at += 1;
+      return !goes;
+    });
+  }
+
+  const isSameLock = (lock, other) => lock.t === other.t && lock.suite === other.suite;
+  const isSameEntry = (one, other) => one.site === other.site && one.suite === other.suite;
+  const isBefore = (lock, other) => lock.t < other.t || (lock.t === other.t && lock.suite < other.suite);
+
+  // Locks with those that came, each in its place.
+  function withLocks(locks, came) {
+    const all = [];
+    let at = 0;
+    for (const lock of locks) {
+      for (; at < came.length && isBefore(came[at], lock); at += 1) all.push(came[at]);
+      all.push(lock);
+    }
+    return [...all, ...came.slice(at)];
+  }
+
   // What a server has once it is told what changed there.
   function changed(server, at) {
     const next = { ...server, up: at.up };
-    if (at.locks) next.locks = at.locks;
+    if (at.freed) next.locks = without(server.locks, at.freed, isSameLock);
+    if (at.locks) next.locks = withLocks(next.locks, at.locks);
     if (at.copies && at.copies.length) next.copies = { ...server.copies, ...bySuite(at.copies) };
     if (at.denials) next.denials = [...server.denials, ...at.denials];
     return next;
@@ -98,14 +153,14 @@ const Model = (() => {
 
   // The job that a line begins, as it is told.
   function begunBy(event, agent) {
-    const words = event.text.trim().split(/\s+/);
+    const words = lineOf(event.text).trim().split(/\s+/);
     const isSweep = words[0] === "sweep";
     return {
       number: event.by.jobs - 1,
       t: AGENTS * (event.by.jobs - 1) + agent,
       text: isSweep ? `sweeps server ${words[2]}` : words.slice(5).join(" "),
-      user: isSweep ? null : words[2],
-      line: event.line, refused: {}, parts: null, prepared: [], decided: null, told: [],
+      user: isSweep ? null : words[2], groups: isSweep ? [] : words[3].split(","),
+      line: event.line, refused: {}, shown: {}, parts: null, prepared: [], decided: null, told: [],
     };
   }
 
@@ -115,6 +170,9 @@ const Model = (() => {
     if (["poll", "upgrade"].includes(request.asks) && reply.says !== "held") {
       const refused = { ...job.refused[request.suite], [server]: reply.says };
       return { ...job, refused: { ...job.refused, [request.suite]: refused } };
+    }
+    if (["poll", "upgrade"].includes(request.asks)) {
+      return { ...job, shown: { ...job.shown, [request.suite]: { ...job.shown[request.suite], [server]: reply } } };
     }
     if (request.asks === "prepare") {
       const prepared = reply.says === "prepared" ? [...job.prepared, server] : job.prepared;
@@ -151,11 +209,44 @@ const Model = (() => {
       if (event.kind === "request") job = heard(job, event.server, event.request, event.reply);
       newest = inEffect(newest, job, event);
       // what is not told of an agent is as it was, but for what it asks next
-      const own = { next: undefined, of: undefined, ...event.by };
+      const { dropped = [], put = [], ...told } = event.by;
+      const kept = without(before.cache, [...dropped].reverse(), isSameEntry);
+      const own = { next: undefined, of: undefined, ...told, cache: put.length ? [...[...put].reverse(), ...kept] : kept };
       if (event.end) Object.assign(own, { job: null, end: event.end });
       agents = replaced(agents, event.by.agent, { ...before, job, ...own });
     }
     return { servers, agents, newest };
+  }
+
+  // The worlds behind the events of a run. Most are made again where they are asked for, since what a server or an agent has
+  // may be large.
+  class Worlds {
+    constructor(events, before) {
+      this.events = events;
+      this.starts = [opening(events[0], before)];
+      this.kept = { number: -1, worlds: [] };
+    }
+
+    // The world behind an event.
+    at(place) {
+      const number = Math.floor(place / STRETCH);
+      if (this.kept.number !== number) this.kept = { number, worlds: this.stretch(number) };
+      return this.kept.worlds[place - number * STRETCH];
+    }
+
+    // The worlds of a stretch, and the one with which the next stretch begins.
+    stretch(number) {
+      while (this.starts.length <= number) this.worldsFrom(this.starts.length - 1);
+      return this.worldsFrom(number);
+    }
+
+    worldsFrom(number) {
+      const worlds = [this.starts[number]];
+      const next = number * STRETCH + 1;
+      for (const event of this.events.slice(next, next + STRETCH)) worlds.push(after(worlds[worlds.length - 1], event));
+      if (worlds.length > STRETCH) this.starts[number + 1] = worlds.pop();
+      return worlds;
+    }
   }
 
   // In what a copy is behind what is in effect elsewhere.
@@ -174,6 +265,38 @@ const Model = (() => {
     const votes = readVotes(suite.votes);
     const got = holdersOf(suite).reduce((sum, { server, counts }) => sum + (counts ? votes.of[server] || 0 : 0), 0);
     return { got, of: suite.mode === "exclusive" ? votes.w : votes.r };
+  }
+
+  // A bar of votes: each server that has some, how many, and whether it gave them, showed an old list, or was in the way.
+  function barOf(suite, job) {
+    const votes = readVotes(suite.votes);
+    const held = new Map(holdersOf(suite).map(({ server, counts }) => [server, counts]));
+    const shown = (job && job.shown[suite.suite]) || {};
+    const refused = (job && job.refused[suite.suite]) || {};
+    return votes.of.flatMap((count, server) => {
+      if (!count && !held.has(server)) return [];
+      const isOld = Object.hasOwn(shown, server) && shown[server].prefix < suite.newest;
+      const says = held.get(server) ? (isOld ? "old" : "gave") : Object.hasOwn(refused, server) ? refused[server] : "not asked";
+      return [{ server, votes: count, says, prefix: Object.hasOwn(shown, server) ? shown[server].prefix : null }];
+    });
+  }
+
+  // Which servers showed the list that counts.
+  function listFrom(suite, job) {
+    const shown = (job && job.shown[suite.suite]) || {};
+    return Object.entries(shown).filter(([, copy]) => copy.prefix === suite.prefix).map(([server]) => Number(server));
+  }
+
+  // In what an entry of a cache is behind what is in effect.
+  function staleEntry(world, entry) {
+    const newest = world.newest[entry.suite];
+    return ["prefix", "content"].filter((part) => newest && entry[part] !== undefined && entry[part] < newest[part]);
+  }
+
+  // Whether a lock is in doubt: it is prepared, and the home of its transaction is down.
+  function isInDoubt(world, lock) {
+    const home = (lock.t % AGENTS + Math.floor(lock.t / AGENTS)) % world.servers.length;
+    return lock.prepared && !world.servers[home].up;
   }
 
   // ---- rows of the picture
@@ -248,13 +371,23 @@ const Model = (() => {
 
   const GOOD = ["held", "prepared", "done"];
 
-  function groupWords(paths, events) {
+  // The votes that are had of a suite behind an event.
+  function votesThen(world, event) {
+    const one = world.agents[event.agent].gathered.find((own) => own.suite === event.request.suite);
+    return one ? votesOf(one) : null;
+  }
+
+  function groupWords(paths, events, world) {
     const { request } = events[0];
     const good = events.filter((event) => GOOD.includes(event.reply.says)).length;
     const count = good === events.length ? `×${good}` : `${good} of ${events.length}`;
     switch (request.asks) {
-      case "poll": case "upgrade":
-        return { text: `locks of ${pathOf(paths, request.suite)}: ${good} of ${events.length}`, good };
+      case "poll": case "upgrade": {
+        const votes = votesThen(world, events[events.length - 1]);
+        if (!votes) return { text: `locks of ${pathOf(paths, request.suite)}: ${good} of ${events.length}`, good };
+        const isEnough = votes.got >= votes.of;
+        return { text: `locks of ${pathOf(paths, request.suite)}: ${votes.got} of ${votes.of} votes`, good: isEnough ? events.length : good };
+      }
       case "prepare": return { text: `prepare ${count}`, good };
       case "finish": return { text: `finish ${verdictWord(request.verdict)} ${count}`, good };
       default: return { text: `${request.asks} ${count}`, good };
@@ -262,7 +395,7 @@ const Model = (() => {
   }
 
   // The rows: what is said, requests, groups of requests with those that they fold, and how jobs ended.
-  function rowsOf(events, paths) {
+  function rowsOf(events, paths, worlds) {
     const rows = [];
     let key = null;
     events.forEach((event, place) => {
@@ -285,11 +418,13 @@ const Model = (() => {
       if (event.end) {
         key = null;
         const { agent, job, requests, text } = event.end;
-        rows.push({ kind: "end", event: place, agent, text: `${agent}.${job} ${requests} ${text}` });
+        rows.push({ kind: "end", event: place, agent, text: `${agent}.${job} ${requests} ${endText(text)}` });
       }
     });
     for (const row of rows) {
-      if (row.kind === "group") Object.assign(row, groupWords(paths, row.rows.map((own) => events[own.event])));
+      if (row.kind !== "group") continue;
+      const last = row.rows[row.rows.length - 1].event;
+      Object.assign(row, groupWords(paths, row.rows.map((own) => events[own.event]), worlds.at(last)));
     }
     return rows;
   }
@@ -303,7 +438,7 @@ const Model = (() => {
       const at = event.kind === "opening" ? event.servers : event.at && event.at.copies ? [event.at] : [];
       const told = at.flatMap((server) => server.copies.map((copy) => [server.server, copy]));
       for (const [server, copy] of told) {
-        const before = place === 0 ? null : run.worlds[place - 1].servers[server].copies[suite];
+        const before = place === 0 ? null : run.worlds.at(place - 1).servers[server].copies[suite];
         const isSame = before && before.prefix === copy.prefix && before.content === copy.content;
         if (copy.suite === suite && copy.kind !== "absent" && !isSame) life.push({ event: place, server, copy });
       }
@@ -313,16 +448,19 @@ const Model = (() => {
 
   // ---- a run
 
-  // The run that events tell, of a script in lines.
-  function read(lines) {
+  // The run, or the part of one, that events tell; of a part with what was before.
+  function read(lines, before) {
     const events = lines.map((line) => JSON.parse(line));
-    const worlds = [opening(events[0])];
-    for (const event of events.slice(1)) worlds.push(after(worlds[worlds.length - 1], event));
+    const was = before ? { ...before, jobs: before.jobs.map((told) => told.map((line) => JSON.parse(line))) } : undefined;
+    const worlds = new Worlds(events, was);
     const paths = pathsOf(events);
-    return { events, worlds, paths, rows: rowsOf(events, paths), last: events.length - 1 };
+    return { events, worlds, paths, rows: rowsOf(events, paths, worlds), last: events.length - 1 };
   }
 
-  return { read, behind, holdersOf, votesOf, lifeOf, pathOf, askedWords, repliedWords, shortList, shownBytes };
+  return {
+    read, behind, holdersOf, votesOf, barOf, listFrom, staleEntry, isInDoubt, lifeOf, pathOf, askedWords, repliedWords, shortList,
+    shownBytes, endText, lineOf, safe,
+  };
 })();
 
 if (typeof module !== "undefined") module.exports = Model;

@@ -3,9 +3,10 @@
 
 const Page = (() => {
   const given = JSON.parse(document.getElementById("given").textContent);
-  const run = Model.read(given.events);
+  const run = Model.read(given.events, given.before);
+  run.names = Saying.namesIn(given.script);
   const find = (name) => document.getElementById(name);
-  const [slider, moment, world, script, hint, life] = ["slider", "moment", "world", "script", "hint", "life"].map(find);
+  const [slider, moment, says, world, script, hint, life] = ["slider", "moment", "says", "world", "script", "hint", "life"].map(find);
   let here = 0;
   let timer = null;
 
@@ -22,13 +23,13 @@ const Page = (() => {
 
   // A word with what it means, where that is known.
   function word(text, key = text) {
-    if (!given.meanings[key]) return document.createTextNode(text);
+    if (!Object.hasOwn(given.meanings, key)) return document.createTextNode(text);
     return make("span", { "data-hint": key, tabindex: "0" }, text);
   }
 
   // A line as `play` prints it, with its words and codes explained.
   function explained(text) {
-    return text.split(/(\s+)/).map((part) => word(part, part.replace(/[;:]$/, "")));
+    return Model.endText(text).split(/(\s+)/).map((part) => word(part, part.replace(/[;:]$/, "")));
   }
 
   const kindOf = (text) => (/^(answered|swept)/.test(text) ? "good" : /^undecided/.test(text) ? "open" : "bad");
@@ -58,10 +59,11 @@ const Page = (() => {
       make("div", { class: "small" }, `${Model.shortList(copy.list)} ${copy.votes}`));
   }
 
-  function lockPart(lock) {
-    const kinds = `lock ${lock.mode}${lock.prepared ? " prepared" : ""}`;
+  function lockPart(state, lock) {
+    const isInDoubt = Model.isInDoubt(state, lock);
+    const kinds = `lock ${lock.mode}${lock.prepared ? " prepared" : ""}${isInDoubt ? " doubt" : ""}`;
     const about = { class: kinds, "data-lock": `${lock.t} ${lock.suite} ${lock.mode} ${lock.prepared}` };
-    const prepared = lock.prepared ? [" ", word("prepared")] : [];
+    const prepared = lock.prepared ? [" ", word("prepared"), ...(isInDoubt ? [", ", word("in doubt")] : [])] : [];
     return make("span", about, `t ${lock.t} ${pathOf(lock.suite)} `, word(lock.mode), ...prepared);
   }
 
@@ -71,7 +73,7 @@ const Page = (() => {
     const card = make("div", { class: kinds, "data-server": number, "data-up": server.up },
       make("span", { class: "state" }, server.up ? "up" : word("down")), make("b", {}, `server ${number}`));
     card.append(...copies.map((copy) => copyPart(state, copy)));
-    if (server.locks.length) card.append(make("div", {}, ...server.locks.map(lockPart)));
+    if (server.locks.length) card.append(make("div", {}, ...server.locks.map((lock) => lockPart(state, lock))));
     if (server.denials.length) {
       const last = server.denials[server.denials.length - 1];
       const told = `${server.denials.length} denied; last t ${last.t}: ${last.denied}`;
@@ -83,22 +85,38 @@ const Page = (() => {
   // ---- agents
 
   // A suite that was gathered: which servers hold it, what its first quorum gave, and whether its content is there.
-  function suitePart(one, refused) {
+  // A bar of the votes of a file: how many each server has, and what came of it.
+  function votesBar(one, job) {
+    const parts = Model.barOf(one, job).map(({ server, votes, says, prefix }) => {
+      const list = prefix === null ? "" : `, shows list ${prefix}`;
+      const mark = { gave: "", old: " old", "not asked": "" }[says];
+      const text = `s${server}${mark === undefined ? ` ${says}` : mark}`;
+      const part = make("span", { class: `vote ${says.replace(" ", "-")}`, title: `server ${server}: ${votes} votes, ${says}${list}` }, text);
+      part.style.flexGrow = Math.max(votes, 0.4);
+      return part;
+    });
+    return make("div", { class: "bar", "aria-hidden": "true" }, ...parts);
+  }
+
+  function suitePart(one, job) {
     const { got, of } = Model.votesOf(one);
-    const held = Model.holdersOf(one).map(({ server, counts }) => `s${server}${counts ? "" : " shared"}`);
-    const others = Object.entries(refused || {}).map(([server, says]) => `s${server} ${says}`);
-    const where = [...held, ...others].join(", ");
-    const known = one.prefix === undefined ? "" : `; p${one.prefix} c${one.content} at s${one.source}${one.open ? ", read" : ""}`;
+    const where = Model.holdersOf(one).map(({ server, counts }) => `s${server}${counts ? "" : " shared"}`).join(", ");
+    const lists = Model.listFrom(one, job).map((server) => `s${server}`).join(" ");
+    const content = `content c${one.content} (s${one.source}${one.open ? ", read" : ""})`;
+    const known = one.prefix === undefined ? "" : `; list p${one.prefix}${lists ? ` (${lists})` : ""}, ${content}`;
     const about = { class: "small", "data-gathered": `${one.suite} ${one.mode} ${one.newest} ${one.held}` };
-    return make("div", about, `${pathOf(one.suite)} `, word(one.mode), `: ${got} of ${of} votes${where ? ` (${where})` : ""}${known}`);
+    const votes = make("span", { class: got < of ? "open" : "" }, `${got} of ${of} votes`);
+    return make("div", about, `${pathOf(one.suite)} `, word(one.mode), ": ", votes, `${where ? ` (${where})` : ""}${known}`, votesBar(one, job));
   }
 
   function gatheredPart(agent) {
     const { gathered, job } = agent;
-    const parts = gathered.map((one) => suitePart(one, job.refused[one.suite]));
+    const parts = gathered.map((one) => suitePart(one, job));
     const named = (servers) => servers.map((one) => `s${one}`).join(" ");
     const add = (kind, ...told) => parts.push(make("div", { class: kind }, ...told));
-    if (job.prepared.length) add("small", word("prepared"), `: ${named(job.prepared)}`);
+    const kept = (job.parts || []).filter((part) => part.takes !== "nothing");
+    const leaves = kept.map((part) => `${pathOf(part.suite)} list p${part.prefix}${part.takes === "whole" ? `, content c${part.content} ${contentOf(part)}` : ""}`);
+    if (job.prepared.length) add("small", word("prepared"), `: ${named(job.prepared)}${leaves.length ? `, to leave ${leaves.join("; ")}` : ""}`);
     if (job.decided) add(`small ${kindOf(job.decided)}`, `decided: ${job.decided}`);
     if (job.told.length) add("small", `told the end: ${named(job.told)}`);
     return parts;
@@ -106,7 +124,9 @@ const Page = (() => {
 
   function entryPart(one, at) {
     const about = { "data-entry": `${one.site} ${one.suite} ${one.prefix} ${one.content}` };
-    return make("span", about, `${at === 0 ? "" : ", "}${pathOf(one.suite)} p${one.prefix} c${one.content}`);
+    const late = Model.staleEntry(run.worlds.at(here), one).map((part) => ({ prefix: "list", content: "content" })[part]);
+    const mark = late.length ? make("span", { class: "stale" }, " ", word("stale"), `: ${late.join(", ")}`) : null;
+    return make("span", about, `${at === 0 ? "" : ", "}${pathOf(one.suite)} p${one.prefix} c${one.content}`, mark);
   }
 
   // What each site keeps, the newest first.
@@ -121,7 +141,7 @@ const Page = (() => {
     const about = { class: `card${isNow ? " now" : ""}`, "data-agent": number, "data-stage": agent.stage };
     const card = make("div", about, make("b", {}, `agent ${number}`));
     if (job) {
-      const told = job.user === null ? job.text : `user ${job.user}: ${job.text}`;
+      const told = job.user === null ? job.text : `${Saying.userOf(run, job.user)}: ${job.text}`;
       card.append(` job ${job.number} (t ${job.t})`, make("div", {}, told));
       const next = agent.next ? ["; asks next: ", word(agent.next), ` of server ${agent.of}`] : [];
       card.append(make("div", { class: "small" }, word(agent.stage), ...next), ...gatheredPart(agent));
@@ -136,14 +156,37 @@ const Page = (() => {
   }
 
   function showWorld() {
-    const state = run.worlds[here];
+    const state = run.worlds.at(here);
     const event = run.events[here];
     const server = event.server !== undefined ? event.server : event.at && event.at.server;
     const by = event.by && event.by.agent;
     const servers = state.servers.map((own, number) => serverCard(state, own, number, number === server));
     const agents = state.agents.map((own, number) => agentCard(own, number, number === by));
-    world.replaceChildren(make("h2", {}, "servers"), make("div", { class: "cards" }, ...servers),
-      make("h2", {}, "agents"), make("div", { class: "cards" }, ...agents));
+    const acting = by === undefined ? [] : [make("div", { class: "cards acting" }, ...agents.splice(by, 1))];
+    const kept = focusIn(world);
+    world.replaceChildren(...acting, make("h2", {}, "servers"), make("div", { class: "cards" }, ...servers),
+      make("h2", {}, acting.length ? "other agents" : "agents"), make("div", { class: "cards" }, ...agents));
+    kept();
+  }
+
+  const FOCUSED = "button, [tabindex]";
+
+  // What has the focus in a part that is made anew, so that it can be given back to the like of it.
+  function focusIn(part) {
+    const at = [...part.querySelectorAll(FOCUSED)].indexOf(document.activeElement);
+    const text = at >= 0 ? document.activeElement.textContent : "";
+    return () => {
+      const found = at < 0 ? [] : [...part.querySelectorAll(FOCUSED)];
+      const like = found.filter((one) => one.textContent === text);
+      const next = like.sort((one, other) => Math.abs(found.indexOf(one) - at) - Math.abs(found.indexOf(other) - at))[0];
+      if (next) next.focus({ preventScroll: true });
+    };
+  }
+
+  // What happens at the moment, in a sentence, and what the script says above its line.
+  function showSaying() {
+    const caption = Saying.caption(given.script, run.events[here].line);
+    says.replaceChildren(make("p", { class: "sentence" }, Saying.of(run, here)), ...(caption ? [make("p", { class: "caption" }, caption)] : []));
   }
 
   // ---- the script
@@ -184,7 +227,7 @@ const Page = (() => {
       const place = firstOf.get(at + 1);
       const kinds = `line${place === undefined ? " dead" : ""}`;
       const how = { class: kinds, "data-line": at + 1, onclick: () => place !== undefined && go(place) };
-      const part = make("div", how, make("span", { class: "number" }, `${at + 1}`), make("span", {}, text));
+      const part = make("div", how, make("span", { class: "number" }, `${at + 1}`), make("span", {}, Model.safe(text)));
       lineParts[at + 1] = part;
       script.append(part, ...(told.get(at + 1) || []));
     });
@@ -234,6 +277,9 @@ const Page = (() => {
     slider.value = here;
     slider.setAttribute("aria-valuetext", momentText());
     moment.textContent = momentText();
+    document.title = `${here} of ${run.last}: ${Saying.of(run, here)}`;
+    history.replaceState(null, "", `#${here}`);
+    showSaying();
     showWorld();
     showScript();
     picture.show(here, follows);
@@ -262,12 +308,33 @@ const Page = (() => {
     go(row.event, false);
   }
 
+  // The moment of the next row, or of the one before.
+  function rowFrom(step) {
+    const place = picture.placeOf(here) + step;
+    const row = picture.shown[Math.max(0, Math.min(picture.shown.length - 1, place))];
+    const own = row.rows ? row.rows[row.rows.length - 1] : row;
+    go(step > 0 ? Math.max(own.event, here) : own.event);
+  }
+
+  // The moment at which the next job begins or ends, or the one before.
+  function jobFrom(step) {
+    const isTurn = (event) => Boolean(event.end) || (event.kind === "line" && event.by && /^\s*(begin|sweep)\b/.test(event.text));
+    for (let at = here + step; at >= 0 && at <= run.last; at += step) if (isTurn(run.events[at])) return go(at);
+    return go(step > 0 ? run.last : 0);
+  }
+
+  // Large type, and nothing of what is still to come.
+  const present = () => document.body.classList.toggle("presents");
+
   const WAYS = { first: () => go(0), back: () => go(here - 1), on: () => go(here + 1), end: () => go(run.last), play };
-  const KEYS = { Home: WAYS.first, ArrowLeft: WAYS.back, ArrowRight: WAYS.on, End: WAYS.end, " ": play };
+  const KEYS = {
+    Home: WAYS.first, ArrowLeft: WAYS.back, ArrowRight: WAYS.on, End: WAYS.end, " ": play,
+    PageDown: () => rowFrom(1), PageUp: () => rowFrom(-1), n: () => jobFrom(1), b: () => jobFrom(-1), p: present,
+  };
 
   function onKey(event) {
-    const isOwn = event.target.closest(event.key === " " ? "select, dialog, button, input" : "select, dialog");
-    if (KEYS[event.key] && !isOwn && !event.ctrlKey && !event.metaKey && !event.altKey) {
+    const isOwn = event.target.closest(event.key === " " ? "select, dialog, button, input, .row" : "select, dialog");
+    if (Object.hasOwn(KEYS, event.key) && !isOwn && !event.ctrlKey && !event.metaKey && !event.altKey) {
       event.preventDefault();
       KEYS[event.key]();
     }
@@ -309,8 +376,13 @@ const Page = (() => {
     });
     window.addEventListener("beforeprint", () => picture.draw(true));
     window.addEventListener("afterprint", () => picture.draw());
-    const asked = Number(location.hash.slice(1));
-    go(Number.isInteger(asked) ? asked : 0);
+    find("present").addEventListener("click", present);
+    const goThere = () => {
+      const asked = Number(location.hash.slice(1));
+      if (asked !== here || !moment.textContent) go(Number.isInteger(asked) ? asked : 0);
+    };
+    window.addEventListener("hashchange", goThere);
+    goThere();
   }
 
   begin();

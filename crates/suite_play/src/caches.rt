@@ -2,8 +2,8 @@
 
 /// The limits of each agent's cache: bytes in all, bytes of a site, and entries.
 #[derive(Clone, Copy)]
-pub(crate) struct Caches {
-    pub(crate) budget: usize,
-    pub(crate) quota: usize,
-    pub(crate) slots: usize,
+pub struct Caches {
+    pub budget: usize,
+    pub quota: usize,
+    pub slots: usize,
 }

@@ -56,8 +56,8 @@ pub fn read_opening<L: Language>(
     Ok(settings_of((servers, agents), c0, root, caches, old))
 }
 
-/// Settings that keep to their limits.
-fn settings_of(
+/// The settings that the lines of a header give, which keep to their limits.
+pub fn settings_of(
     counts: (usize, usize),
     c0: Votes,
     root: Root,
@@ -113,7 +113,7 @@ fn read_count<L: Language>(
 }
 
 /// How many there are, which is all that is left.
-fn count_of(words: &mut Words<'_>, most: usize) -> Result<usize, LineFault>
+pub fn count_of(words: &mut Words<'_>, most: usize) -> Result<usize, LineFault>
     ensures count { result ≡ count_in most words.old }
     ensures range { IfOk result (λ count. (1 ≤ count) × (count ≤ most)) }
 {
@@ -147,7 +147,8 @@ fn read_opening_votes<L: Language>(
     votes_of(&mut line.words, servers).map_err(|fault| LineError::Faulty(fault).at(line.number))
 }
 
-fn votes_of(words: &mut Words<'_>, servers: usize) -> Result<Votes, LineFault>
+/// The opening votes, which are all that is left.
+pub fn votes_of(words: &mut Words<'_>, servers: usize) -> Result<Votes, LineFault>
     ensures votes { result ≡ opening_votes servers words.old }
     ensures known { IfOk result (λ votes. All (λ rep. rep.0 < servers) votes.reps) }
 {
@@ -165,7 +166,8 @@ fn read_caches<L: Language>(script: &mut ScriptReader<'_>) -> Result<Caches, Scr
     caches_of(&mut line.words).map_err(|fault| LineError::Faulty(fault).at(line.number))
 }
 
-fn caches_of(words: &mut Words<'_>) -> Result<Caches, LineFault>
+/// The limits of the caches, which are all that is left.
+pub fn caches_of(words: &mut Words<'_>) -> Result<Caches, LineFault>
     ensures caches { result ≡ caches_in words.old }
     ensures range { IfOk result (λ caches. (caches.budget ≤ MAX_CACHE) × (caches.quota ≤ MAX_CACHE) × (caches.slots ≤ MAX_SLOTS)) }
 {
@@ -211,7 +213,8 @@ fn read_old<L: Language>(
     old.map_err(|fault| LineError::Faulty(fault).at(line.number))
 }
 
-fn old_of(
+/// The servers that open with their root in form 1, which are all that is left.
+pub fn old_of(
     words: &mut Words<'_>,
     servers: usize,
     acl: &Lists,

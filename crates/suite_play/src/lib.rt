@@ -6,9 +6,12 @@
 //! (`lines_are_events`). `run A` steps until the agent has no job (`run_is_until_idle`).
 //!
 //! Others use what is public beside that. `serve` takes the lines of the header, transactions as words, and
-//! endings. `trace` takes the header, the lines (`Places` is their language), outcomes and audits.
+//! endings. `trace` takes the header, the lines (`Places` is their language), outcomes and audits. A session takes
+//! what follows the first word of each line of the header (`count_of`, `votes_of`, `caches_of`, `old_of`), and makes
+//! the settings of them (`settings_of`).
 //!
-//! **The caller owes** a text below 2^60 bytes, and to `read_opening` 1 to 32 servers and 1 to 64 agents.
+//! **The caller owes** a text below 2^60 bytes, and to `read_opening`, `old_of` and `settings_of` numbers within
+//! their limits: 1 to 32 servers, 1 to 64 agents.
 //!
 //! **Files**: `places`, `verb`, `command`, `caches`, `header`, `language`, `outcome`, `player`, `laws`.
 //!
@@ -25,8 +28,11 @@ mod places;
 mod player;
 mod verb;
 
+pub use caches::Caches;
 pub use command::Command;
-pub use header::{read_header, read_opening, read_servers};
+pub use header::{
+    caches_of, count_of, old_of, read_header, read_opening, read_servers, settings_of, votes_of,
+};
 pub use language::{read_place, read_transaction};
 pub use laws::{lines_are_events, run_is_until_idle};
 pub use outcome::push_ending;

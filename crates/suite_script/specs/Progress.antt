@@ -1,6 +1,6 @@
 -- What reading a script line by line comes to.
-use Rattle.std.specs.Prelude.{◌≡◌, ℕ, true, List, [], Option, Some, None, Result, Ok, Err}
-use Rattle.acl_text.specs.Tables.{Tables}
+use Rattle.std.specs.Prelude.{◌≡◌, ℕ, true, List, [], ◌∷◌, ◌++◌, Option, Some, None, Result, Ok, Err}
+use Rattle.acl_text.specs.Tables.{Tables, name_fault}
 use Rattle.suite_script.specs.declared.fault.LineFault.{LineFault}
 use Rattle.suite_script.specs.declared.fault.LineError.{LineError}
 use Rattle.suite_script.specs.declared.fault.LineError.TheVariants.{Faulty, Memory}
@@ -51,6 +51,10 @@ abbrev pub GivesGroups : Result (Unit {0}) LineError → Tables → Tables → R
 GivesGroups (Ok done) before after named = (named ≡ Ok after.groups) × (after ≡ record before { groups = after.groups })
 GivesGroups (Err (Faulty fault)) before after named = named ≡ Err fault
 GivesGroups (Err Memory) before after named = Unit {0}
+
+-- a name that a table takes, with its number
+abbrev pub IsEntry : List (List ℕ × ℕ) → List ℕ → ℕ → Result (List (List ℕ × ℕ)) LineFault → Type 0
+IsEntry table name id named = (named ≡ Ok (table ++ (name, id) ∷ [])) × (name_fault table name ≡ None)
 
 -- the first fault of a reading, if there is one
 abbrev pub fault_of : {A : Type 0} → Result A ScriptFault → Option ScriptFault

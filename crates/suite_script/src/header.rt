@@ -24,12 +24,19 @@ pub fn read_root<L: Language>(
     ensures fewer { length script.new.lines ≤ length script.old.lines }
 {
     let mut line = script.header_line::<L>(b"root")?;
-    let names = Names::new(alloc);
-    root_of(alloc, &names, &mut line.words).map_err(|error| error.at(line.number))
+    root_of(alloc, &mut line.words).map_err(|error| error.at(line.number))
 }
 
 /// What follows the word `root`: the root folder's owner, group and lists, for which no names are known.
-fn root_of(alloc: Global, names: &Names, words: &mut Words<'_>) -> Result<Root, LineError>
+pub fn root_of(alloc: Global, words: &mut Words<'_>) -> Result<Root, LineError>
+    ensures { Gives result (root_in words.old) }
+{
+    let names = Names::new(alloc);
+    root_under(alloc, &names, words)
+}
+
+/// A root folder's owner, group and lists, where no names are known.
+fn root_under(alloc: Global, names: &Names, words: &mut Words<'_>) -> Result<Root, LineError>
     requires { names.now ≡ no_names }
     ensures { Gives result (root_in words.old) }
 {

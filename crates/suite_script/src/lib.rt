@@ -2,7 +2,8 @@
 //!
 //! Words stand between spaces and tabs, and operations between words that are a semicolon. An empty line, and one
 //! that begins with `#`, says nothing. A command says with which words its own lines begin, and what they say
-//! (`Language`).
+//! (`Language`). What reads a script line by line by itself has `misplaced` and `root_of` for a header, and
+//! `read_name` and `judge_name` for the lines below it.
 //!
 //! **Promises.** `ScriptReader` gives the lines one by one, each with the names that are known there, or the first
 //! fault (`specs/Scripts.antt`). `play_lines` plays them as they are read, on what the command plays them on
@@ -59,14 +60,15 @@ pub use code::{fault_text, push_line_code};
 pub use fault::{LineError, LineFault, ScriptError, ScriptFault};
 pub use form::{Ending, Form, Forms, Place};
 pub use gathered::{write_gathered, write_if_full};
-pub use header::read_root;
+pub use header::{read_root, root_of};
 pub use language::Language;
 pub use laws::misfits_have_the_fault_of_operations;
 pub use line::Line;
 pub use lines::{PLAY_LINES, SERVE_LINES, TABLE_LINES};
 pub use misfit::{Expected, Misfit};
+pub use names::{judge_name, misplaced, read_name};
 pub use operation::read_operations;
-pub use outcome::{push_answered, push_denial, push_refused};
+pub use outcome::{push_answered, push_bytes, push_denial, push_refused};
 pub use play_error::PlayError;
 pub use root::Root;
 pub use scope::{LAST_SITE, MAX_STEPS, Scope};

@@ -85,7 +85,8 @@ fn push_reply(alloc: Global, text: &mut Vec<u8>, reply: &Answer) -> Result<(), A
     }
 }
 
-fn push_bytes(alloc: Global, text: &mut Vec<u8>, bytes: &FileBytes) -> Result<(), AllocError>
+/// Bytes in hexadecimal digits; a hyphen stands for none.
+pub fn push_bytes(alloc: Global, text: &mut Vec<u8>, bytes: &FileBytes) -> Result<(), AllocError>
     ensures { OnOk result (text.new.items ≡ text.old.items ++ bytes_text bytes.now) }
 {
     let bytes = bytes.as_slice();

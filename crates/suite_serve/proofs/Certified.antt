@@ -1,12 +1,16 @@
 -- What was certified is what came of a script's jobs.
-use Rattle.std.proofs.Common.{◌≡◌, ap, sym, subst, ℕ, List, map}
+use Rattle.std.proofs.Common.{◌≡◌, ◌∙◌, ap, arith, refl, sym, subst, ℕ, ◌+◌, List, [], ◌∷◌, length, map}
+use Rattle.txn_core.specs.declared.job.Job.{Job}
+use Rattle.agent_pool.specs.Pools.{begun_by}
+use Rattle.agent_pool.specs.Transcripts.{Played}
 use Rattle.server_lock.specs.declared.item.Item.{Item}
 use Rattle.run_certify.specs.declared.entry.Entry.{Entry}
 use Rattle.run_certify.specs.Certified.{IsCertified}
+use Rattle.run_certify.specs.Promised.{CertifiedIsPromised}
 use Rattle.agent_pool.specs.declared.outcome.JobOutcome.{JobOutcome}
 use Rattle.agent_pool.specs.declared.pool_context.NamedJob.{NamedJob}
 use Rattle.suite_serve.specs.Scripts.{Plan}
-use Rattle.suite_serve.specs.Served.{AreApart, AreBefore, AreFirst, AreInOrder, AreJobEnds, Came, IsServed, end_in, items_in}
+use Rattle.suite_serve.specs.Served.{AreApart, AreBefore, AreFirst, AreInOrder, AreJobEnds, Came, IsServed, begun_in, end_in, items_in}
 use Rattle.suite_serve.specs.code.Working.{AreDone, HaveEnded, StandBefore, named_from, transcripts_of}
 use Rattle.suite_serve.specs.declared.serving.Worked.{Worked}
 use Rattle.suite_serve.proofs.Ended.{all_ends, apart_ends, before_ends, first_ends, order_ends}
@@ -15,10 +19,18 @@ use Rattle.suite_serve.proofs.Ended.{all_ends, apart_ends, before_ends, first_en
 abbrev pub came_of : List (List Entry) → List JobOutcome → ℕ → Came
 came_of transcripts outcomes steps = record { ends = map (end_in transcripts) outcomes; steps = steps }
 
+begun_same : (players : List Played) → begun_in (transcripts_of players) ≡ begun_by players
+begun_same [] = refl
+begun_same (p ∷ players) = let e = begun_same players in omega arith
+
+named_long : (number : ℕ) (jobs : List Job) → length (named_from number jobs) ≡ length jobs
+named_long number [] = refl
+named_long number (job ∷ jobs) = let e = named_long (number + 1) jobs in omega arith
+
 pub is_served : (plan : Plan) (came : Came) (histories : List (List Item)) (transcripts : List (List Entry)) (jobs : List NamedJob) (worked : Worked)
-    → IsCertified plan.settings histories transcripts → jobs ≡ named_from 0 plan.jobs → transcripts ≡ transcripts_of worked.agents.items → AreDone jobs plan.alone worked
+    → IsCertified plan.settings histories transcripts → CertifiedIsPromised plan.settings histories transcripts → jobs ≡ named_from 0 plan.jobs → transcripts ≡ transcripts_of worked.agents.items → AreDone jobs plan.alone worked
     → came ≡ came_of transcripts worked.outcomes.items (items_in histories) → IsServed plan came
-is_served plan came histories transcripts jobs worked certified named told done is =
+is_served plan came histories transcripts jobs worked certified promised named told done is =
     let players = worked.agents.items in
     let outcomes = worked.outcomes.items in
     let ended : HaveEnded players (named_from 0 plan.jobs) outcomes = subst (λ (js : List NamedJob). HaveEnded players js outcomes) named done.each in
@@ -30,6 +42,7 @@ is_served plan came histories transcripts jobs worked certified named told done 
       histories = histories;
       transcripts = transcripts;
       certified = certified;
+      promised = promised;
       each =
           subst (λ (all : Came). AreJobEnds transcripts 0 plan.jobs all.ends) (sym is)
           (subst (λ (ts : List (List Entry)). AreJobEnds ts 0 plan.jobs (map (end_in ts) outcomes)) (sym told) each);
@@ -38,6 +51,7 @@ is_served plan came histories transcripts jobs worked certified named told done 
       before =
           subst (λ (all : Came). AreBefore plan.alone all.ends transcripts) (sym is)
           (before_ends plan.alone outcomes transcripts done.first (subst (λ (ts : List (List Entry)). StandBefore plan.alone outcomes ts) (sym told) done.before));
+      once = ap begun_in told ∙ begun_same players ∙ done.once ∙ ap length named ∙ named_long 0 plan.jobs;
       order = subst (λ (all : Came). AreInOrder all.ends) (sym is) (subst (λ (ts : List (List Entry)). AreInOrder (map (end_in ts) outcomes)) (sym told) order);
       steps = ap (λ (all : Came). all.steps) is;
     }

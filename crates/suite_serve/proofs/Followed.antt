@@ -75,6 +75,20 @@ new_rest player others new one has = new one (suc has.0, (let low = has.1 in ome
 pub new_others : (given : Opening) (others : List Played) → first_player given 0 ∷ others ≡ players_from given 0 given.agents → AreNew others
 new_others given others are = new_rest (first_player given 0) others (subst AreNew (sym are) (new_from given 0 given.agents))
 
+-- who followed began nothing yet
+pub none_begun : (leaders others later : List Played) → AllZip (FollowsAll leaders) others later → AreNew others → begun_by later ≡ 0
+none_begun leaders [] [] all fresh = refl
+none_begun leaders [] (l ∷ later) all fresh = absurd all
+none_begun leaders (o ∷ others) [] all fresh = absurd all
+none_begun leaders (o ∷ others) (l ∷ later) all fresh =
+    let e : begins l.entries ≡ 0 = ap begins (all.0.entries ∙ fresh o (0, omega arith, refl)) in
+    let rest = none_begun leaders others later all.1 (new_rest o others fresh) in
+    omega arith
+
+pub begun_both : (xs ys : List Played) → begun_by (xs ++ ys) ≡ begun_by xs + begun_by ys
+begun_both [] ys = omega arith
+begun_both (x ∷ xs) ys = let e = begun_both xs ys in omega arith
+
 later_all : (old new : List Held) (lead : Played) (others later now : List Played) → AllZip (FollowsAll (lead ∷ [])) others later → AllZip (WentOn old new) later now
     → AreNew others → (entries : List Entry) → Contains (transcripts_of now) entries
     → (server stamp : ℕ) → server < most_numbers → Contains entries (Asked server stamp) → known_at lead server < stamp

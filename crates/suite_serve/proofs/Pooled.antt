@@ -21,7 +21,7 @@ use Rattle.agent_pool.proofs.Readiness.{ready_first}
 use Rattle.agent_pool.proofs.Works.{told_longer}
 use Rattle.suite_serve.specs.code.Working.{AreDone, AreNumbered, AreOfFirst, FollowsAll, HasEnded, HaveEnded, StandBefore, transcripts_of}
 use Rattle.suite_serve.specs.declared.serving.Worked.{Worked}
-use Rattle.suite_serve.proofs.Followed.{AreNew, end_stands, new_others, numbered_followers, stand_before}
+use Rattle.suite_serve.proofs.Followed.{AreNew, begun_both, none_begun, end_stands, new_others, numbered_followers, stand_before}
 use Rattle.suite_serve.proofs.Numbers.{number_at}
 use Rattle.suite_serve.proofs.Places.{contained_get, get_contained, get_either, zip_append, zip_at, zip_map}
 
@@ -280,7 +280,14 @@ both_done given jobs above below alone passes others later first second worked s
     let less = here.1 in
     omega arith
     in
+    let halves = length-append above below in
+    let whole : length jobs ≡ length (above ++ below) = ap length split in
+    let sum = begun_both first.agents.items later in
+    let fresh = none_begun first.agents.items others later follow (new_others given others are) in
+    let then = two.once in
+    let here : begun_by worked.agents.items ≡ begun_by second.agents.items = ap begun_by agents in
     record {
+      once = omega arith;
       numbered = subst (AreNumbered 0) (sym agents) (numbered_still first.passes.items second.passes.items 0 was second.agents.items two.agents numbered);
       each = subst (λ (ps : List Played). HaveEnded ps jobs worked.outcomes.items) (sym agents) (subst (λ (os : List JobOutcome). HaveEnded second.agents.items jobs os) (sym outcomes) each);
       apart = subst AreApart (sym outcomes) (apart_both first.outcomes.items second.outcomes.items one.apart two.apart (λ i j a b at_i at_j agent count. let less = cross i j a b at_i at_j agent in omega arith));

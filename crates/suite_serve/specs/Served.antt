@@ -8,6 +8,7 @@ use Rattle.server_lock.specs.declared.item.Item.{Item}
 use Rattle.run_certify.specs.declared.entry.Entry.{Entry}
 use Rattle.run_certify.specs.declared.entry.Entry.TheVariants.{Begun, Asked, Ended}
 use Rattle.run_certify.specs.Certified.{IsCertified}
+use Rattle.run_certify.specs.Promised.{CertifiedIsPromised}
 use Rattle.agent_pool.specs.declared.outcome.JobOutcome.{JobOutcome}
 use Rattle.agent_pool.specs.Endings.{end_at}
 use Rattle.agent_pool.specs.Transcripts.{AreAsks, begins}
@@ -116,6 +117,11 @@ pub record AreBefore (alone : ℕ) (ends : List JobEnd) (transcripts : List (Lis
   pub before : (server stamp later : ℕ) (entries : List Entry) → Contains first (Asked server stamp) → Contains (rest ∷ others) entries
       → Contains entries (Asked server later) → stamp < later
 
+-- how many jobs were begun, all together
+abbrev pub begun_in : List (List Entry) → ℕ
+begun_in [] = 0
+begun_in (entries ∷ later) = begins entries + begun_in later
+
 -- What came of a script's jobs is what came of them in one run of servers and agents, which opens with the script's settings: each job ended so in what
 -- the agents did, those above `together` as the first jobs of agent 0, in their order, and served before all others; each agent did its jobs in their
 -- order; and so many requests were served.
@@ -123,9 +129,11 @@ pub record IsServed (plan : Plan) (came : Came) : Type 0 where
   pub histories : List (List Item)
   pub transcripts : List (List Entry)
   pub certified : IsCertified plan.settings histories transcripts
+  pub promised : CertifiedIsPromised plan.settings histories transcripts
   pub each : AreJobEnds transcripts 0 plan.jobs came.ends
   pub apart : AreApart came.ends
   pub alone : AreFirst plan.alone came.ends
   pub before : AreBefore plan.alone came.ends transcripts
   pub order : AreInOrder came.ends
+  pub once : begun_in transcripts ≡ length plan.jobs
   pub steps : came.steps ≡ items_in histories

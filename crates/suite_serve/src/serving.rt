@@ -4,6 +4,7 @@ ghost use Rattle.std.specs.Prelude.{◌≡◌, ◌++◌, ◌∷◌, [], IfOk, On
 ghost use Rattle.agent_pool.specs.Transcripts.{first_player, players_from};
 ghost use Rattle.server_lock.specs.Passes.{passes_of};
 ghost use Rattle.run_certify.specs.Certified.{IsCertified};
+ghost use Rattle.run_certify.specs.Promised.{CertifiedIsPromised};
 ghost use Rattle.suite_serve.specs.Served.{IsServed};
 ghost use Rattle.std.specs.List.{AllZip};
 ghost use Rattle.suite_serve.specs.code.Working.{AreDone, FollowsAll, named_from, transcripts_of};
@@ -67,7 +68,8 @@ fn judge(
     histories: &Histories,
     transcripts: &Transcripts,
 ) -> Result<(), CertifyFault>
-    ensures { OnOk result (IsCertified settings.now histories.now transcripts.now) }
+    ensures certified { OnOk result (IsCertified settings.now histories.now transcripts.now) }
+    ensures promised { OnOk result (CertifiedIsPromised settings.now histories.now transcripts.now) }
 {
     certify(alloc, settings, histories, transcripts)?;
     Ok(())

@@ -7,7 +7,7 @@ use Rattle.run_certify.specs.declared.entry.Entry.TheVariants.{Asked, Ended}
 use Rattle.run_core.specs.declared.done.EndedJob.{EndedJob}
 use Rattle.agent_pool.specs.declared.outcome.JobOutcome.{JobOutcome}
 use Rattle.agent_pool.specs.declared.pool_context.NamedJob.{NamedJob}
-use Rattle.agent_pool.specs.Pools.{AreApart, AreInOrder}
+use Rattle.agent_pool.specs.Pools.{AreApart, AreInOrder, begun_by}
 use Rattle.agent_pool.specs.Transcripts.{Played, IsTold, begins, known_at, most_numbers, number_of}
 use Rattle.suite_serve.specs.declared.serving.Worked.{Worked}
 
@@ -66,3 +66,4 @@ pub record AreDone (jobs : List NamedJob) (alone : ℕ) (worked : Worked) : Type
   pub first : AreOfFirst alone worked.outcomes.items
   pub order : AreInOrder worked.outcomes.items
   pub before : StandBefore alone worked.outcomes.items (transcripts_of worked.agents.items)
+  pub once : begun_by worked.agents.items ≡ length jobs

@@ -17,7 +17,7 @@ returns g c =
     let done : AreDone jobs plan.alone worked = c.in_ok-agents.ensures in
     let told = c.new.ensures ∙ ap (came_of transcripts worked.outcomes.items) c.items_in-steps.ensures in
     subst (λ (p : Plan). IsServed p c.new.result) c.script.view_is
-    (is_served plan c.new.result c.in-Ok.histories transcripts jobs worked c.in_ok-judge.ensures c.in_ok-jobs.ensures c.in_ok-transcripts.ensures done told)
+    (is_served plan c.new.result c.in-Ok.histories transcripts jobs worked c.in_ok-judge.ensures.certified c.in_ok-judge.ensures.promised c.in_ok-jobs.ensures c.in_ok-transcripts.ensures done told)
 
 pub items_in-steps-requires : goal.items_in-steps-requires
 items_in-steps-requires g c =

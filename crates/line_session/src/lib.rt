@@ -1,0 +1,44 @@
+//! A session: lines are heard, and each is answered before more is heard.
+//!
+//! **Promises.** `session` tells for each line what its desk answers, before it hears more (`IsInTime`); where lines
+//! are kept, each is kept before it is carried out, and so before it is answered (`IsAhead`). That holds whatever the
+//! result is. Where the other side has ended, each line was answered, the last one too where no line feed ends it, and
+//! the exit status and the desk are those after them (`IsAnswered`). A line that is too long, one for which memory ran
+//! out and one that could not be kept are told, and the session goes on (`Came`).
+//!
+//! A session over the lines that another one kept restores its desk: `journal_restores` says so of every front of what
+//! was kept, and `done_is_run` of a session that ended with status 0.
+//!
+//! **The caller owes** nothing.
+//!
+//! **Files**: `talk` (a conversation), `desk` (what lines are carried out on), `line_kind`, `memory` (of tests),
+//! `system`, `journal` (a file), `replay` (a journal heard again), `session_error`, `begun_line` (within the limit),
+//! `course`, `answering` (one line), `sessions`, `laws`.
+//! **Definitions** (`specs/`): `Turns`, `Lines`, `Answers`, `InTime`, `Begun`, `Steps`, `Memory`, `Restored`.
+#![tactic(auto)]
+
+mod answering;
+mod begun_line;
+mod course;
+mod desk;
+mod journal;
+mod laws;
+mod line_kind;
+mod memory;
+mod replay;
+mod session_error;
+mod sessions;
+mod system;
+mod talk;
+
+pub use begun_line::MAX_LINE;
+pub use desk::Desk;
+pub use journal::Journal;
+pub use laws::{done_is_run, journal_restores};
+pub use line_kind::LineKind;
+pub use memory::{MemoryTalk, MemoryTurn};
+pub use replay::Replay;
+pub use session_error::SessionError;
+pub use sessions::session;
+pub use system::SystemTalk;
+pub use talk::{KeepFailed, Talk};

@@ -1,0 +1,196 @@
+#!/usr/bin/env python3
+"""tests/asking.py
+tests/asking.py --against PROTOTYPE [--scripts N] [--from SEED]
+
+Asks `./suites explore --ask` random questions of the scripts of examples/explore and tests/explored, and holds the
+answers against the ways that are kept in tests/explored/NAME.ways, which another program told. Where not all was looked
+at nothing is said to be never or always so. What is no question is a fault.
+
+With --against it asks of N random scripts (200 by default), and holds the answers against the ways that the other
+program tells of them now. Prints each that differs; status 1 where one does.
+"""
+import argparse
+import os
+import random
+import re
+import subprocess
+import sys
+import tempfile
+import typing
+
+import explored
+import played
+from played import Tally
+
+import console
+
+TOOL = os.path.join(played.TOP, "tools", "explore.py")
+STORY = os.path.join(explored.STORIES, "revocation.script")
+# How many questions are asked of a script at once, and of how many atoms each is at most.
+AT_ONCE, ATOMS = 12, 4
+# The options in the order in which a command is told.
+OPTIONS = ("--crashes", "--returns", "--forgets", "--stops")
+# What is no question of the story above, and what has to be said of it.
+FAULTS = (
+    ("", "and not nothing"),
+    ("0.1", "is told how it ended"),
+    ("0.1 done", "no job ends so: done"),
+    ("0.1 answered sett", "no job ends so: answered sett"),
+    ("0.1 answered set; rote", "no job ends so"),
+    ("0.1 undecided U8", "no job ends so"),
+    ("0.1 undecided U2 sever 0", "no job ends so"),
+    ("1.0 answered read 686", "no job ends so"),
+    ("0.1 stopped now", "no job ends so"),
+    ("0.1 answered and", "and not nothing"),
+    ("or 0.1 answered", "and not or"),
+    ("(0.1 answered", "a bracket is not closed"),
+    ("0.1 answered)", "and not )"),
+    ("0.1 answered 1.0 answered", "no job ends so"),
+    ("0.2 answered", "there is no job 0.2 below together, but 0.1, 1.0"),
+    ("00.1 answered", "there is no job 00.1"),
+    ("0.0 answered", "there is no job 0.0"),
+    ("2.0 answered", "there is no job 2.0"),
+    ("( " * 150 + "0.1 answered" + " )" * 150, "at most 200 words"),
+)
+
+
+# Endings that say that a transaction was decided.
+DECIDED = ("answered", "denied", "refused")
+
+
+class Asked(typing.NamedTuple):
+    """A question: its text, and in which ways what it asks for is so, each by its lines."""
+
+    text: str
+    holds: typing.Callable[[tuple[str, ...]], bool]
+
+
+def atom(dice: random.Random, ways: list[tuple[str, ...]]) -> Asked:
+    """A job of a way, and how it ended there, cut off after some word."""
+    line = dice.choice(dice.choice(ways))
+    job, ending = line.split(" ", 1)
+    cut = " ".join(ending.split()[: dice.randint(1, 3)]).rstrip(";")
+    told = "stopped" if ending == "-" else dice.choice(["decided", cut]) if cut.split()[0] in DECIDED else cut
+    if told == "decided":
+        pattern = rf"{re.escape(job)} (?:{'|'.join(DECIDED)})\b"
+    else:
+        pattern = re.escape(f"{job} {'-' if told == 'stopped' else told}") + r"(?![^ ;])"
+    return Asked(f"{job} {told}", lambda way: any(re.match(pattern, one) for one in way))
+
+
+def question(dice: random.Random, ways: list[tuple[str, ...]], atoms: int) -> Asked:
+    """A random question of so many atoms."""
+    if atoms == 1:
+        one = atom(dice, ways)
+        return Asked(f"not {one.text}", lambda way: not one.holds(way)) if dice.random() < 0.3 else one
+    front = dice.randint(1, atoms - 1)
+    left, right = question(dice, ways, front), question(dice, ways, atoms - front)
+    if dice.random() < 0.5:
+        return Asked(f"({left.text}) and ({right.text})", lambda way: left.holds(way) and right.holds(way))
+    return Asked(f"({left.text} or {right.text})", lambda way: left.holds(way) or right.holds(way))
+
+
+def asked(path: str, words: list[str], questions: typing.Sequence[str]) -> tuple[int, str, str]:
+    """The exit status of `explore` for a script and questions, what it printed, and what it said."""
+    told = [sys.executable, TOOL, *words, *(word for text in questions for word in ("--ask", text))]
+    with open(path, "rb") as script:
+        done = subprocess.run(told, stdin=script, capture_output=True, cwd=played.TOP)
+    return done.returncode, done.stdout.decode(), done.stderr.decode()
+
+
+def wanted(one: Asked, ways: list[tuple[str, ...]], words: list[str], path: str) -> str:
+    """What has to be told of a question, where these are all ways."""
+    places = [place for place, way in enumerate(ways, 1) if one.holds(way)]
+    if len(places) == len(ways):
+        return f"always: {one.text}\n"
+    if not places:
+        return f"never: {one.text}\n"
+    options = [f"{option} {words[words.index(option) + 1]}" for option in OPTIONS if option in words]
+    command = " ".join(["./suites explore", *options, f"--way {places[0]}", "<", path])
+    return f"sometimes, in {len(places)} of {len(ways)} ways: {one.text}\n  the shortest: {command}\n"
+
+
+def compare(path: str, words: list[str], ways: list[tuple[str, ...]], dice: random.Random, tally: Tally) -> None:
+    """Compares answers with what these ways tell."""
+    name = os.path.relpath(path, played.TOP)
+    questions = [question(dice, ways, dice.randint(1, ATOMS)) for _ in range(AT_ONCE)]
+    status, told, said = asked(path, words, [one.text for one in questions])
+    found = re.sub(r"^all .*\n\Z", "", told, flags=re.M)
+    tally.holds(status == 0 and found != told, f"{name}: status {status}, and told is {told}{said}")
+    for one in questions:
+        text = wanted(one, ways, words, os.path.relpath(path, played.TOP))
+        tally.holds(found.startswith(text), f"{name}: told is {found[:200]}, and not {text}")
+        found = found.partition("\n")[2] if not found.startswith("sometimes") else found.split("\n", 2)[2]
+
+
+def compare_kept(dice: random.Random, tally: Tally) -> None:
+    """Asks of the scripts whose ways are kept whole."""
+    for folder in (explored.STORIES, explored.KEPT):
+        for name in sorted(os.listdir(folder)):
+            if name.endswith(".script"):
+                path, ways = os.path.join(folder, name), os.path.join(explored.KEPT, f"{name[:-7]}.ways")
+                with open(path, encoding="utf-8") as file:
+                    words = explored.RUN.search(file.read())[1].split()
+                if "--brief" not in words:
+                    with open(ways, encoding="utf-8") as file:
+                        compare(path, words, explored.read(file.read()), dice, tally)
+
+
+def compare_some(tally: Tally) -> None:
+    """Where not all was looked at nothing is said to be never or always so."""
+    for worlds in (1, 300):
+        questions = ["0.1 answered read 00", "0.1 answered or not 0.1 answered", "1.0 denied"]
+        status, told, _ = asked(STORY, ["--worlds", str(worlds)], questions)
+        lines = [line for line in told.split("\n") if not line.startswith(" ")]
+        begun = [line.split(":")[0].split(",")[0] for line in lines[:3]]
+        so_far = {"never so far", "always so far", "sometimes"}
+        is_so = status == 7 and set(begun) <= so_far and lines[3].startswith("not all: ")
+        tally.holds(is_so, f"--worlds {worlds}: {told}")
+        tally.holds(begun[0] == "never so far", f"--worlds {worlds}: {told}")
+
+
+def compare_faults(tally: Tally) -> None:
+    """What is no question is a fault, and nothing is printed."""
+    for text, why in FAULTS:
+        status, told, said = asked(STORY, [], ["0.1 answered", text])
+        tally.holds((status, told) == (2, "") and why in said, f"'{text}': status {status}, {told}{said}")
+    for words in (["--brief"], ["--way", "1"]):
+        status, told, said = asked(STORY, words, ["0.1 answered"])
+        tally.holds((status, told) == (2, ""), f"{words}: status {status}, {told}{said}")
+    path = os.path.join(played.TOP, "README.md")
+    tally.holds(asked(path, [], ["0.1 answered"])[0] == 3, "README.md is explored")
+
+
+def compare_random(given: argparse.Namespace, tally: Tally) -> None:
+    """Asks of random scripts, of which the other program tells the ways."""
+    seed, count = given.first, 0
+    while count < given.scripts:
+        script, words = explored.Explorable(seed).whole()
+        seed += 1
+        ways = explored.prototype_ways(given.against, script, words, "descent")
+        if ways and "--forgets" not in words and "--returns" not in words:
+            count += 1
+            with tempfile.NamedTemporaryFile("w", suffix=".script") as file:
+                file.write(script)
+                file.flush()
+                compare(file.name, words.split(), ways.lines, random.Random(seed), tally)
+    print(f"{count} scripts of {seed - given.first}")
+
+
+def main() -> int:
+    read = console.words(__doc__)
+    read.add_argument("--against", metavar="PROTOTYPE")
+    read.add_argument("--scripts", type=int, default=200)
+    read.add_argument("--from", type=int, default=0, dest="first")
+    given, tally = read.parse_args(), Tally()
+    if given.against:
+        compare_random(given, tally)
+    else:
+        compare_kept(random.Random(102), tally)
+        compare_some(tally)
+        compare_faults(tally)
+    return tally.told("answers compared")
+
+
+if __name__ == "__main__":
+    console.run(main, "stopped")

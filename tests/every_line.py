@@ -1,0 +1,178 @@
+#!/usr/bin/env python3
+"""tests/every_line.py [--told]
+
+Asks `./suites explain` about every kind of line that a command or a tool prints. The lines are those of all rows
+(crates/rows/stdin), of the traces and the votes of all stories, of the ways in tests/explored, of `votes` and `may` by
+many words; of those that differ in numbers, paths and lists alone one is asked about. Of each something has to be said,
+and of those of a story also with its script behind. What is said has to name no file that is to be filled in where one
+is known. Words that stand slanted in documents have to be known, and words that no terminal may obey have to be shown
+escaped. With --told each kind is printed. Prints what differs; status 1 where something does.
+"""
+import glob
+import os
+import re
+import subprocess
+import sys
+import typing
+
+import played
+
+import console
+import explain
+import quoted
+import worded
+
+# So many kinds of lines at least are printed; fewer were found by mistake.
+FEWEST = 200
+VOTES = ("1,1,1/2/2", "2,1,1/2/3", "1,0,0/1/1", "1,1,1/1/3", "1,1,1,1,1/3/3", "-,1/1/1", "1,1/1/2")
+OF = (("--of", "5", "--lose-read", "2", "--lose-write", "1"), ("--of", "3"))
+SHADOW = "/etc/shadow"
+MAY = (
+    ("nobody", "r", SHADOW),
+    ("nobody", "rw", "/etc/hostname", "/etc/passwd"),
+    ("-v", "nobody", "r", SHADOW),
+    ("--who", "r", SHADOW),
+    ("--with", "u:nobody:r", SHADOW),
+    ("--without", "g::r", SHADOW),
+    ("nobody", "create", "/etc/none"),
+    ("nobody", "delete", "/etc/hostname"),
+    ("nobody", "r", "--under", "/etc/apt"),
+)
+SLANTED = re.compile(r"(?<!\*)\*([a-z][a-z -]*[a-z])\*(?!\*)")
+# Pages whose slanted words are to be known.
+PAGES = ("README.md", "docs/SCRIPTS.md", "docs/WORDS.md", "docs/HEADLINE.md", "docs/FAULTS.md", "docs/EVENTS.md")
+OBEYED = (
+    "servers 3\nagents 1\nvotes 1,1,1/2/2\nroot 1000 100 777\ncache 0 0 0\n"
+    "begin 0 1000 100 0 read /a\x1b[31m\x07\nrun 0\n"
+)
+# Questions of a story that are answered so: sometimes, always and never.
+ASKED = ["--ask", "0.1 answered", "--ask", "0.1 decided or not 0.1 decided", "--ask", "0.1 stopped"]
+
+
+class Line(typing.NamedTuple):
+    """A line, what printed it, and the script that it was printed of, where it was of a story."""
+
+    of: str
+    text: str
+    script: str = ""
+
+
+def kind(text: str) -> str:
+    """What lines have in common that differ in numbers, paths and lists alone."""
+    text = re.sub(r"(?:u|user)::\S+", "LIST", text)
+    text = re.sub(r"(?<![\w.])/[\w./-]*", "PATH", text)
+    text = re.sub(r"\b(read|given) (?:[0-9a-f]{2,}|-)(?=;|$)", r"\1 HEX", text)
+    text = re.sub(r"list [\w.,-]+", "list NAMES", text)
+    text = re.sub(r"\d+(\.\d+)?(e-\d+)?", "N", text)
+    return re.sub(r"(?:\{N(?:,N)*\} ?)+", "SETS", re.sub(r"(?:N[ ,])+N", "NS", text))
+
+
+def printed(*words: str, script: str = "") -> typing.Iterator[str]:
+    """What `./suites` prints."""
+    with open(script or os.devnull, "rb") as given:
+        done = subprocess.run(["./suites", *words], cwd=played.TOP, stdin=given, capture_output=True, check=False)
+    yield from (line for line in done.stdout.decode("latin1").splitlines() if line.strip())
+
+
+def stories(folder: str) -> list[str]:
+    return sorted(glob.glob(os.path.join(played.TOP, "examples", folder, "*.script")))
+
+
+def lines() -> typing.Iterator[Line]:
+    """All lines that are asked about."""
+    for row in played.rows():
+        words = [word.decode("latin1") for word in row["words"]]
+        is_help = {"--help", "-h", "help"} & set(words)
+        for text in row["output"].decode("latin1").splitlines() if not is_help else ():
+            yield Line(" ".join(words[:1]), text)
+    for script in stories("play"):
+        yield from (Line("play", text, script) for text in printed("play", script=script))
+        yield from (Line("trace", text, script) for text in printed("trace", script=script))
+        yield from (Line("trace", text, script) for text in printed("trace", "--suite", "0", script=script))
+        yield from (Line("votes", text) for text in printed("votes", "--script", script))
+    for script in stories("explore"):
+        yield from (Line("explore", text, script) for text in printed("explore", script=script))
+    for words in (["--worlds", "9"], ASKED, [*ASKED, "--worlds", "9"]):
+        yield from (Line("explore", text, script) for text in printed("explore", *words, script=script))
+    for script in stories("serve"):
+        yield from (Line("serve", text, script) for text in printed("serve", "--agents", "1", script=script))
+    for name in sorted(glob.glob(os.path.join(played.TOP, "tests", "explored", "*.ways"))):
+        with open(name, encoding="utf-8") as file:
+            yield from (Line("explore", line.rstrip("\n")) for line in file)
+    for asked in [*((one,) for one in VOTES), *OF]:
+        yield from (Line("votes", text) for text in printed("votes", *asked))
+    for asked in MAY:
+        yield from (Line("may", text) for text in printed("may", *asked))
+
+
+def said(words: list[str]) -> str:
+    try:
+        return explain.answer(words)
+    except console.Stop as why:
+        return f"stopped: {why}"
+
+
+def wrong_with(line: Line) -> str:
+    """What is wrong with what is said of a line."""
+    alone = said([line.text])
+    if alone.startswith("stopped: "):
+        return alone
+    if not line.script:
+        return ""
+    told = said([line.text, line.script])
+    if told.startswith("stopped: ") or "Was it changed" in told:
+        return f"with {os.path.relpath(line.script, played.TOP)}: {told[:300]}"
+    left = re.search(r"< SCRIPT|--script FILE", told)
+    return f"{left[0]} is not filled in" if left else ""
+
+
+def unknown_words() -> typing.Iterator[str]:
+    """Slanted words of documents of which `explain` knows nothing."""
+    known = set(worded.words())
+    known |= {f"{word}s" for word in known}
+    for page in PAGES:
+        path = os.path.join(played.TOP, page)
+        for name in [path] if os.path.isfile(path) else sorted(glob.glob(os.path.join(path, "*"))):
+            with open(name, encoding="utf-8") as file:
+                words = {word for word in SLANTED.findall(file.read()) if len(word.split()) <= 3}
+            yield from (f"{page}: {word} is slanted, and explain does not know it" for word in sorted(words - known))
+
+
+def obeyed(tally: played.Tally) -> None:
+    """A script with bytes that a terminal would obey: none comes out of the tools that show it."""
+    path = os.path.join(played.TOP, "out", "obeyed.script")
+    os.makedirs(os.path.dirname(path), exist_ok=True)
+    with open(path, "w", encoding="latin1") as file:
+        file.write(OBEYED)
+    try:
+        for words in (["explain", "0.0 1 refused F1 op 1", path], ["draw"], ["show"]):
+            text = "\n".join(printed(*words, script="" if words[0] == "explain" else path))
+            tally.holds(text and not {"\x1b", "\x07"} & set(text), f"{words[0]} shows what a terminal obeys")
+        tally.holds("\\x1b" in quoted.safe("\x1b[31m") and quoted.safe("a\tb\n") == "a\tb\n", "quoted.safe")
+    finally:
+        os.remove(path)
+
+
+def main() -> int:
+    read = console.words(__doc__)
+    read.add_argument("--told", action="store_true")
+    is_told = read.parse_args().told
+    kinds: dict[tuple[str, bool], Line] = {}
+    for line in lines():
+        if line.text.strip():
+            kinds.setdefault((kind(line.text), bool(line.script)), line)
+    tally = played.Tally(width=500)
+    tally.holds(len(kinds) >= FEWEST, f"only {len(kinds)} kinds of lines were found")
+    for (name, _), line in sorted(kinds.items()):
+        why = wrong_with(line)
+        tally.holds(not why, f"of the line of {line.of}, {line.text}", why)
+        if is_told:
+            print(f"{line.of}: {name}")
+    for text in unknown_words():
+        tally.holds(False, text)
+    obeyed(tally)
+    return tally.told("kinds of lines and words")
+
+
+if __name__ == "__main__":
+    sys.exit(main())

@@ -1,0 +1,222 @@
+#!/usr/bin/env python3
+"""tests/mount-faults.py [--rounds N]
+
+What a mount bears: adapter and session killed (SIGKILL) at random moments under load, N times, and mounted again from
+the journal, where all has to be that `close` answered; 64 processes at once; 4,096 files; a full server, and the
+compaction that makes room; and the memory of the adapter, which must not grow with files read. Prints figures, and what
+differs; status 1 where something does.
+"""
+from __future__ import annotations
+
+import argparse
+import errno
+import os
+import random
+import signal
+import sys
+import time
+
+import mounted
+import played
+from mounted import Mounted
+
+# A worker's files, and how many workers there are under load and at once.
+FILES, LOADED, MANY = 8, 6, 64
+# The adapter may take so much more memory after many files were read, in bytes.
+MORE = 4 << 20
+
+
+def work(top: str, number: int, log: str, seconds: float) -> None:
+    """Writes files again and again, and notes what was answered: of each line the file and what it has."""
+    dice, until, count = random.Random(number), time.monotonic() + seconds, 0
+    with open(log, "ab", buffering=0) as noted:
+        while time.monotonic() < until:
+            name, count = f"w{number}-{dice.randrange(FILES)}", count + 1
+            text = f"{name} {count} {'x' * dice.randrange(300)}"
+            noted.write(f"begun {text}\n".encode())
+            with open(os.path.join(top, name), "w", encoding="ascii") as file:
+                file.write(text)
+            noted.write(f"done {text}\n".encode())
+
+
+def forked(top: str, room: str, workers: int, seconds: float) -> list[int]:
+    """Processes that write."""
+    children = []
+    for number in range(workers):
+        child = os.fork()
+        if child == 0:
+            try:
+                work(top, number, os.path.join(room, f"log{number}"), seconds)
+                os._exit(0)
+            except OSError:
+                os._exit(1)
+        children.append(child)
+    return children
+
+
+def answered(log: str) -> tuple[dict[str, str], str]:
+    """What was answered last of each file, and what had begun and was not answered."""
+    known, begun = dict[str, str](), ""
+    with open(log, encoding="ascii") as file:
+        for line in file.read().splitlines():
+            word, _, text = line.partition(" ")
+            begun = text if word == "begun" else ""
+            if word == "done":
+                known[text.split(" ")[0]] = text
+    return known, begun
+
+
+def is_restored(tally: played.Tally, rounds: int) -> None:
+    """Killed under load, and mounted again: what was answered is there; of what was not, either the old or the new."""
+    dice, seen = random.Random(3), 0
+    with Mounted("--root", "0:0:777", journal=True) as mount:
+        for number in range(rounds):
+            children = forked(mount.top, mount.room, LOADED, 60)
+            time.sleep(0.2 + dice.random() * 0.6)
+            victims = [mount.child.pid, *mount.sessions()]
+            dice.shuffle(victims)
+            for victim in victims:
+                os.kill(victim, signal.SIGKILL)
+            mount.child.wait()
+            for child in children:
+                os.waitpid(child, 0)
+            mount.begin()
+            for worker in range(LOADED):
+                known, begun = answered(os.path.join(mount.room, f"log{worker}"))
+                for name, text in known.items():
+                    with open(os.path.join(mount.top, name), encoding="ascii") as file:
+                        stands = file.read()
+                    may_be = {text} | ({begun, ""} if begun.startswith(name + " ") else set())
+                    seen += 1
+                    tally.holds(stands in may_be, f"round {number}, {name}", f"{stands[:40]!r} and not {text[:40]!r}")
+                # what stands is what the next round begins with
+                with open(os.path.join(mount.room, f"log{worker}"), "a", encoding="ascii") as file:
+                    name = begun.split(" ")[0]
+                    path = os.path.join(mount.top, name)
+                    if begun and os.path.exists(path):
+                        with open(path, encoding="ascii") as stands_there:
+                            file.write(f"done {stands_there.read() or name}\n")
+        print(f"{rounds} kills under load: {seen} files looked at, journal {os.path.getsize(mount.journal)} bytes")
+
+
+def bears_many(tally: played.Tally) -> None:
+    """64 processes at once, with all servers up and with one that crashes and returns."""
+    with Mounted("--root", "0:0:777") as mount:
+        begun = time.monotonic()
+        children = forked(mount.top, mount.room, MANY, 5)
+        for turn in range(20):
+            mount.control(f"{'return' if turn % 2 else 'crash'} {turn // 2 % 3}")
+            time.sleep(0.1)
+        status = [os.waitstatus_to_exitcode(os.waitpid(child, 0)[1]) for child in children]
+        seconds = time.monotonic() - begun
+        tally.holds(not any(status), "of 64 processes some were not answered", status)
+        written = 0
+        for worker in range(MANY):
+            known, _ = answered(os.path.join(mount.room, f"log{worker}"))
+            with open(os.path.join(mount.room, f"log{worker}"), encoding="ascii") as file:
+                written += file.read().count("done ")
+            for name, text in known.items():
+                with open(os.path.join(mount.top, name), encoding="ascii") as file:
+                    tally.holds(file.read() == text, f"{name} is another")
+        print(f"{MANY} processes: {written} files written in {seconds:.0f} s, {written / seconds:.0f} a second")
+
+
+def is_full(tally: played.Tally) -> None:
+    """A server that is full, and compaction."""
+    with Mounted("--root", "0:0:777", journal=True) as mount:
+        begun, made, folder = time.monotonic(), 0, ""
+        try:
+            while True:
+                if made % 1000 == 0:
+                    folder = os.path.join(mount.top, f"d{made // 1000}")
+                    os.mkdir(folder)
+                with open(os.path.join(folder, f"f{made}"), "wb") as file:
+                    made += 1
+                    file.write(b"%d" % made)
+        except OSError as error:
+            told = errno.errorcode[error.errno]
+        print(f"{made} files in {time.monotonic() - begun:.0f} s, then {told}")
+        tally.holds(told == "ENOSPC" and made > 4000, f"full after {made} files, {told}")
+        tally.holds(os.statvfs(mount.top).f_ffree == 0, "df tells that there is room")
+        names = sorted(os.listdir(os.path.join(mount.top, "d1")))
+        tally.holds(len(names) == 1000, f"of 1000 files {len(names)} are listed")
+        tally.holds(played_bytes(mount, "d1", names), "a file has other bytes")
+        for name in names:
+            os.unlink(os.path.join(mount.top, "d1", name))
+        os.chmod(os.path.join(mount.top, "d2"), 0o750)
+        mount.control("crash 2")
+        held = os.open(os.path.join(mount.top, "d2", "f2000"), os.O_RDWR)
+        try:
+            with open(os.path.join(mount.top, "d1", "new"), "wb"):
+                told = "no error"
+        except OSError as error:
+            told = errno.errorcode[error.errno]
+        tally.holds(told == "ENOSPC", f"what is dropped keeps its place, and it is {told}")
+        begun = time.monotonic()
+        said = mount.control("compact")
+        print(f"{said.strip()} in {time.monotonic() - begun:.0f} s")
+        tally.holds(said.startswith("compact "), f"compaction says {said}")
+        with open(os.path.join(mount.top, "d1", "new"), "wb") as file:
+            file.write(b"new")
+        tally.holds(os.pread(held, 9, 0) == b"2001", "an open file is lost by compaction")
+        os.pwrite(held, b"more", 0)
+        os.close(held)
+        mount.end()
+        mount.begin()
+        with open(os.path.join(mount.top, "d2", "f2000"), "rb") as file:
+            tally.holds(file.read() == b"more", "what was written after compaction is lost")
+        tally.holds(os.listdir(os.path.join(mount.top, "d1")) == ["new"], "a dropped file is there again")
+        tally.holds(os.stat(os.path.join(mount.top, "d2")).st_mode & 0o777 == 0o750, "a list is another")
+        names = sorted(os.listdir(os.path.join(mount.top, "d3")))
+        tally.holds(played_bytes(mount, "d3", names), "a file has other bytes after compaction")
+
+
+def played_bytes(mount: Mounted, folder: str, names: list[str]) -> bool:
+    """Whether files have what was written into them: the number behind that of their name."""
+    for name in names:
+        with open(os.path.join(mount.top, folder, name), "rb") as file:
+            if file.read() not in (b"%d" % (int(name[1:]) + 1), b""):
+                return False
+    return bool(names)
+
+
+def memory_of(process: int) -> int:
+    with open(f"/proc/{process}/status", encoding="ascii") as file:
+        return next(int(line.split()[1]) * 1024 for line in file if line.startswith("VmRSS:"))
+
+
+def keeps_its_memory(tally: played.Tally) -> None:
+    """Reads many files of 64 KiB again and again: the adapter takes no more memory for it."""
+    with Mounted("--root", "0:0:777") as mount:
+        for number in range(64):
+            with open(os.path.join(mount.top, f"f{number}"), "wb") as file:
+                file.write(bytes([number]) * 65_536)
+        told = []
+        for turn in range(9):
+            for number in range(64):
+                with open(os.path.join(mount.top, f"f{number}"), "rb") as file:
+                    if file.read() != bytes([number]) * 65_536:
+                        tally.holds(False, f"f{number} has other bytes")
+            with open("/proc/sys/vm/drop_caches", "w", encoding="ascii") as file:
+                file.write("2")
+            told.append(memory_of(mount.child.pid))
+        print(f"memory of the adapter while 36 MiB are read: {told[0] >> 10} KiB, and at the end {told[-1] >> 10} KiB")
+        tally.holds(told[-1] - told[0] < MORE, f"the adapter's memory grows with files read: {told}")
+
+
+def main() -> int:
+    read = argparse.ArgumentParser(description=__doc__, formatter_class=argparse.RawDescriptionHelpFormatter)
+    read.add_argument("--rounds", type=int, default=10)
+    given = read.parse_args()
+    if mounted.skipped():
+        return 0
+    tally = played.Tally(most=20)
+    keeps_its_memory(tally)
+    is_full(tally)
+    bears_many(tally)
+    is_restored(tally, given.rounds)
+    return tally.told("things that a mount bears")
+
+
+if __name__ == "__main__":
+    sys.exit(main())

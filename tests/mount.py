@@ -1,0 +1,320 @@
+#!/usr/bin/env python3
+"""tests/mount.py
+
+Mounts sessions and looks at what the mount itself does: that it decides nothing (over a session that grants all,
+everybody may all; over one that denies all, nobody may anything), umask and default lists, what an open file sees, each
+error of its table, lines of control and who may give them, and how it ends. Prints what differs; status 1 where
+something does.
+"""
+from __future__ import annotations
+
+import errno
+import os
+import signal
+import struct
+import subprocess
+import sys
+import time
+from collections.abc import Callable
+from typing import Any
+
+import mounted
+import played
+from mounted import Mounted
+
+FAKE = f"{sys.executable} {os.path.join(played.TOP, 'tests', 'granting.py')}"
+STRANGER = (4321, 4322, (4323,))
+ACCESS, DEFAULT = "system.posix_acl_access", "system.posix_acl_default"
+NOBODY = 0xFFFFFFFF
+
+
+def acl(*entries: tuple[int, int, int]) -> bytes:
+    return struct.pack("<I", 2) + b"".join(struct.pack("<HHI", *one) for one in entries)
+
+
+def error_of(does: Callable[[], Any]) -> str:
+    """The name of the error of a call; nothing where it is answered."""
+    try:
+        does()
+    except OSError as error:
+        return errno.errorcode[error.errno]
+    return ""
+
+
+def as_user(user: tuple[int, int, tuple[int, ...]], does: Callable[[], Any], umask: int = 0o22) -> str:
+    """What a call of another user answers: its error, or nothing."""
+    reader, writer = os.pipe()
+    child = os.fork()
+    if child == 0:
+        told = "stopped"
+        try:
+            mounted.as_user(*user, umask)
+            told = error_of(does)
+        finally:
+            os.write(writer, told.encode())
+            os._exit(0)
+    os.close(writer)
+    with open(reader, "rb") as pipe:
+        told = pipe.read().decode()
+    os.waitpid(child, 0)
+    return told
+
+
+def put(path: str, data: bytes, flags: int = os.O_CREAT | os.O_TRUNC, mode: int = 0o666) -> None:
+    file = os.open(path, os.O_WRONLY | flags, mode)
+    try:
+        while data:
+            data = data[os.write(file, data) :]
+    finally:
+        os.close(file)
+
+
+def got(path: str) -> bytes:
+    with open(path, "rb") as file:
+        return file.read()
+
+
+LISTS = acl((1, 0, NOBODY), (2, 0, 1), (4, 0, NOBODY), (16, 0, NOBODY), (32, 0, NOBODY))
+
+
+def let(is_so: bool) -> None:
+    if not is_so:
+        raise OSError(errno.EACCES, "no access")
+
+
+def all_calls(top: str) -> list[tuple[str, Callable[[], Any]]]:
+    """Each call once, in an order in which each can be done."""
+    file, folder, other = f"{top}/f", f"{top}/d", f"{top}/g"
+    return [
+        ("mkdir", lambda: os.mkdir(folder, 0)),
+        ("create", lambda: put(file, b"one", os.O_CREAT | os.O_EXCL, 0)),
+        ("list", lambda: os.listdir(top)),
+        ("stat", lambda: os.stat(file)),
+        ("read", lambda: got(file)),
+        ("write", lambda: put(file, b"two", os.O_TRUNC)),
+        ("append", lambda: put(file, b"three", os.O_APPEND)),
+        ("truncate", lambda: os.truncate(file, 2)),
+        ("chmod", lambda: os.chmod(file, 0)),
+        ("chmod folder", lambda: os.chmod(folder, 0)),
+        ("set", lambda: os.setxattr(file, ACCESS, LISTS)),
+        ("set default", lambda: os.setxattr(folder, DEFAULT, LISTS)),
+        ("get", lambda: os.getxattr(file, ACCESS)),
+        ("get default", lambda: os.getxattr(folder, DEFAULT)),
+        ("list attributes", lambda: os.listxattr(file)),
+        ("remove default", lambda: os.removexattr(folder, DEFAULT)),
+        ("remove", lambda: os.removexattr(file, ACCESS)),
+        ("access", lambda: let(os.access(file, os.R_OK | os.W_OK))),
+        ("access folder", lambda: let(os.access(folder, os.R_OK | os.W_OK | os.X_OK))),
+        ("chdir", lambda: os.chdir(folder)),
+        ("times", lambda: os.utime(file, (5, 5))),
+        ("touch", lambda: os.utime(file)),
+        ("rename", lambda: os.rename(file, other)),
+        ("unlink", lambda: os.unlink(other)),
+        ("rmdir", lambda: os.rmdir(folder)),
+    ]
+
+
+def decides_nothing(tally: played.Tally) -> None:
+    """What a session grants or denies is granted or denied, by lists of which the opposite would follow."""
+    with Mounted(session=f"{FAKE} grant") as mount:
+        for name, does in all_calls(mount.top):
+            tally.holds(as_user(STRANGER, does, 0o777) == "", f"{name} is denied, which the session grants")
+    with Mounted("--root", "4321:4322:777", session=f"{FAKE} deny") as mount:
+        for name, does in all_calls(mount.top):
+            if name != "stat":
+                told = as_user(STRANGER, does)
+                tally.holds(told == "EACCES", f"{name} is answered {told or 'well'}, which the session denies")
+        tally.holds(error_of(lambda: os.stat(f"{mount.top}/f")) == "EACCES", "stat below what is denied")
+
+
+def minds_umask(tally: played.Tally) -> None:
+    """The umask cuts a mode, and a default list takes its place."""
+    def mode(path: str) -> int:
+        return os.stat(path).st_mode & 0o777
+
+    with Mounted("--root", "0:0:777") as mount:
+        top = mount.top
+        as_user(STRANGER, lambda: put(f"{top}/a", b"", mode=0o666), 0o027)
+        as_user(STRANGER, lambda: os.mkdir(f"{top}/d", 0o777), 0o077)
+        tally.holds((mode(f"{top}/a"), mode(f"{top}/d")) == (0o640, 0o700), "the umask does not cut a mode")
+        value = acl((1, 7, NOBODY), (2, 7, 1000), (4, 5, NOBODY), (16, 7, NOBODY), (32, 4, NOBODY))
+        as_user(STRANGER, lambda: os.setxattr(f"{top}/d", DEFAULT, value))
+        as_user(STRANGER, lambda: put(f"{top}/d/a", b"x", mode=0o666), 0o077)
+        as_user(STRANGER, lambda: os.mkdir(f"{top}/d/b", 0o777), 0o077)
+        wanted = acl((1, 6, NOBODY), (2, 7, 1000), (4, 5, NOBODY), (16, 6, NOBODY), (32, 4, NOBODY))
+        told = as_user(STRANGER, lambda: let(os.getxattr(f"{top}/d/a", ACCESS) == wanted))
+        tally.holds(told == "", "a default list is not that of a new file")
+        told = as_user(STRANGER, lambda: let(os.getxattr(f"{top}/d/b", DEFAULT) == value))
+        tally.holds(told == "", "a default list is not that of a new folder")
+
+
+def sees_what_is_written(tally: played.Tally) -> None:
+    """Open files: what one writes others see, also before it is closed; what is dropped stays to whom has it open."""
+    with Mounted("--root", "0:0:777") as mount:
+        path = f"{mount.top}/a"
+        put(path, b"first")
+        reader, writer = os.open(path, os.O_RDONLY), os.open(path, os.O_RDWR)
+        adders = [os.open(path, os.O_WRONLY | os.O_APPEND) for _ in range(2)]
+        os.pwrite(writer, b"F", 0)
+        tally.holds(os.pread(writer, 9, 0) == b"First", "an open file does not read what it wrote")
+        tally.holds(os.pread(reader, 9, 0) == b"First", "what was written is not seen by who has the file open")
+        for number in range(20):
+            os.write(adders[number % 2], b"%d" % (number % 10))
+        tally.holds(os.stat(path).st_size == 25, "the size of what is written is not told")
+        tally.holds(got(path) == b"First" + b"0123456789" * 2, "what two append is lost")
+        os.chmod(path, 0)
+        os.pwrite(writer, b"G", 0)
+        os.fsync(writer)
+        tally.holds(os.pread(writer, 5, 0) == b"Girst", "an owner's open file is not written after chmod 000")
+        os.unlink(path)
+        os.pwrite(writer, b"H", 0)
+        is_kept = os.pread(writer, 5, 0) == b"Hirst" and os.fstat(writer).st_nlink == 0
+        tally.holds(is_kept, "a dropped file is not kept for who has it open")
+        tally.holds(not os.path.exists(path), "a dropped file is there again")
+        for file in (reader, writer, *adders):
+            os.close(file)
+        put(path, b"secret", mode=0o644)
+        os.chmod(path, 0o644)
+
+        def reads_on() -> None:
+            with open(path, "rb", buffering=0) as file:
+                os.write(told_by, file.read())
+                os.read(waits, 1)
+                file.seek(0)
+                file.read()
+
+        (waits, go), (seen, told_by) = os.pipe(), os.pipe()
+        child = os.fork()
+        if child == 0:
+            mounted.as_user(*STRANGER)
+            os._exit(errno.EACCES if error_of(reads_on) == "EACCES" else 0)
+        os.close(told_by)
+        tally.holds(os.read(seen, 9) == b"secret", "a stranger does not read what it may")
+        os.chmod(path, 0o600)
+        put(path, b"newer", os.O_TRUNC)
+        os.write(go, b"x")
+        status = os.waitstatus_to_exitcode(os.waitpid(child, 0)[1])
+        tally.holds(status == errno.EACCES, "a right that was taken away is not gone for an open file")
+
+
+def answers_errors(tally: played.Tally) -> None:
+    """The table of errors, and what the mount has not."""
+    with Mounted("--root", "0:0:777") as mount:
+        top = mount.top
+        put(f"{top}/a", b"hi")
+        os.makedirs(f"{top}/1/2/3/4/5/6/7")
+        put(f"{top}/1/f", b"")
+        as_user(STRANGER, lambda: put(f"{top}/theirs", b""))
+        os.chmod(f"{top}/1/f", 0)
+        calls: list[tuple[str, Callable[[], Any]]] = [
+            ("ENOENT", lambda: got(f"{top}/no")),
+            ("ENOTDIR", lambda: got(f"{top}/a/b")),
+            ("EEXIST", lambda: os.mkdir(f"{top}/1")),
+            ("ENOTEMPTY", lambda: os.rmdir(f"{top}/1")),
+            ("EISDIR", lambda: put(f"{top}/1", b"", 0)),
+            ("EACCES", lambda: got(f"{top}/1/f")),
+            ("EPERM", lambda: os.chmod(f"{top}/theirs", 0o777)),
+            ("EPERM", lambda: os.link(f"{top}/a", f"{top}/b")),
+            ("EPERM", lambda: os.symlink("a", f"{top}/b")),
+            ("EPERM", lambda: os.mkfifo(f"{top}/b")),
+            ("EPERM", lambda: os.chown(f"{top}/a", 1, -1)),
+            ("EPERM", lambda: os.chmod(f"{top}/a", 0o4755)),
+            ("EXDEV", lambda: os.rename(f"{top}/1", f"{top}/2")),
+            ("EXDEV", lambda: os.rename(f"{top}/theirs", f"{top}/2")),
+            ("EFBIG", lambda: put(f"{top}/a", bytes(65_537))),
+            ("EFBIG", lambda: os.truncate(f"{top}/a", 65_537)),
+            ("EINVAL", lambda: put(f"{top}/a b", b"")),
+            ("EINVAL", lambda: os.mkdir(f"{top}/1/2/3/4/5/6/7/8/9")),
+            ("ENAMETOOLONG", lambda: os.mkdir(f"{top}/{'n' * 65}")),
+            ("ENOTSUP", lambda: os.setxattr(f"{top}/a", "user.x", b"1")),
+            ("EINVAL", lambda: os.setxattr(f"{top}/a", ACCESS, acl((1, 7, NOBODY)))),
+            ("EACCES", lambda: os.setxattr(f"{top}/a", DEFAULT, LISTS)),
+        ]
+        os.mkdir(f"{top}/1/2/3/4/5/6/7/8")
+        for wanted, does in calls:
+            told = error_of(does)
+            tally.holds(told == wanted, f"{told or 'no error'} and not {wanted}, at {does.__code__.co_firstlineno}")
+        many = (4321, 4322, tuple(range(5000, 5040)))
+        tally.holds(as_user(many, lambda: os.stat(f"{top}/a")) == "EIO", "a caller of too many groups is asked for")
+        put(f"{top}/a", bytes(65_536))
+        tally.holds(len(got(f"{top}/a")) == 65_536, "a file of 65,536 bytes is not kept")
+    with Mounted("--root", "0:0:777", "--read-only") as mount:
+        tally.holds(error_of(lambda: os.mkdir(f"{mount.top}/d")) == "EROFS", "--read-only lets write")
+
+
+def is_controlled(tally: played.Tally) -> None:
+    """Lines of control, who may give them, and what servers that are down do."""
+    with Mounted("--root", "0:0:777") as mount:
+        top = mount.top
+        put(f"{top}/a", b"hi")
+        put(f"{top}/b", b"", mode=0o600)
+        tally.holds("size 2" in mount.control("row /a"), "row is not told")
+        tally.holds(mount.control("crash 1", "row /b").startswith("row /b file"), "two lines are not told")
+        tally.holds(mount.control("nonsense").startswith("fault line "), "a faulty line is not told")
+        tally.holds(mount.control("sweep 0 0").split(" ")[2:3] == ["swept"], "a sweep of agent 0 is not carried out")
+        tally.holds(got(f"{top}/a") == b"hi", "with one server down a file is not read")
+        name = f"{top}/.suites:control"
+        tally.holds(as_user(STRANGER, lambda: os.open(name, os.O_RDWR)) == "EINVAL", "a stranger gives lines")
+        tally.holds(as_user(STRANGER, lambda: os.stat(name)) == "EINVAL", "a stranger sees where lines are given")
+        tally.holds(".suites:control" not in os.listdir(top), "a listing tells where lines are given")
+        mount.control("crash 0")
+        tally.holds(error_of(lambda: got(f"{top}/a")) == "EIO", "with two servers down it is no EIO")
+        mount.control("return 0", "return 1")
+        tally.holds(got(f"{top}/a") == b"hi", "with all servers up again a file is not read")
+        mount.control("begin 1 0 0 0 write /a 00", "step 1 6")
+        tally.holds(error_of(lambda: put(f"{top}/a", b"x", os.O_TRUNC)) == "EIO", "another's lock is no EIO")
+        mount.control("run 1")
+        put(f"{top}/a", b"x")
+        tally.holds(got(f"{top}/a") == b"x", "a lock that is gone is in the way")
+
+
+def ends(tally: played.Tally) -> None:
+    """umount, a signal, a session that dies, and a mount whose program was killed."""
+    with Mounted() as mount:
+        put(f"{mount.top}/a", b"")
+        subprocess.run(["umount", mount.top], check=True)
+        tally.holds(mount.child.wait(30) == 0, "umount does not end it")
+        tally.holds(not os.listdir(mount.top), "it is mounted still")
+        mount.begin()
+        mount.child.send_signal(signal.SIGINT)
+        tally.holds(mount.child.wait(30) == 0 and not os.path.ismount(mount.top), "Ctrl-C does not end it")
+        mount.begin()
+        file = os.open(f"{mount.top}/a", os.O_CREAT | os.O_RDWR)
+        for process in mount.sessions():
+            os.kill(process, signal.SIGKILL)
+        time.sleep(0.2)
+        begun = time.monotonic()
+        for does in (lambda: os.listdir(mount.top), lambda: os.stat(f"{mount.top}/a"), lambda: os.fsync(file)):
+            told = error_of(does)
+            tally.holds(told in ("EIO", ""), f"without a session it is {told}")
+        tally.holds(error_of(lambda: os.mkdir(f"{mount.top}/d")) == "EIO", "without a session a folder is made")
+        tally.holds(time.monotonic() - begun < 10, "without a session calls hang")
+        tally.holds("the session has ended" in mount.told(), "that the session has ended is not told")
+        os.close(file)
+        mount.end()
+        mount.begin()
+        mount.child.kill()
+        mount.child.wait()
+        tally.holds(error_of(lambda: os.listdir(mount.top)) == "ENOTCONN", "a killed mount answers")
+        mount.begin()
+        tally.holds(os.listdir(mount.top) == [], "over a killed mount none is mounted")
+        mount.end()
+        done = subprocess.run([*mounted.DOOR, *mount.session, mount.top], stdout=subprocess.PIPE, timeout=60)
+        tally.holds(done.returncode == 0 and os.path.ismount(mount.top), "it does not go into the background")
+
+
+def main() -> int:
+    if mounted.skipped():
+        return 0
+    tally = played.Tally()
+    decides_nothing(tally)
+    minds_umask(tally)
+    sees_what_is_written(tally)
+    answers_errors(tally)
+    is_controlled(tally)
+    ends(tally)
+    return tally.told("answers of the mount")
+
+
+if __name__ == "__main__":
+    sys.exit(main())

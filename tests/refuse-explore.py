@@ -1,0 +1,129 @@
+#!/usr/bin/env python3
+"""tests/refuse-explore.py [--every N] [--words WORDS SCRIPT]
+
+Runs `explore` on scripts with its first, its second, .. allocation refused, until none is left to refuse: that one
+alone, and then all from it on. Each answer has to be the full one with its status; or `not all` with status 7 and no
+way that the full one has not; or `fault memory` with status 4. With --every N it looks at each N-th allocation. Needs
+`cc` (tests/refuse.c stands before the allocator). Status 1 where an answer differs, or none was refused.
+"""
+import collections
+import os
+import re
+import shlex
+import shutil
+import subprocess
+import tempfile
+import typing
+
+import explored
+import played
+from played import Tally
+
+import beside
+import console
+
+# The scripts that are explored, each with its words, where none is named.
+STORIES = (
+    ("examples/explore/revocation.script", ""),
+    ("examples/explore/revocation.script", "--brief --crashes 1"),
+    ("examples/explore/revocation.script", "--way 2"),
+    ("examples/explore/writer-stops.script", "--brief --stops 1"),
+)
+ALL = 10**9
+MEMORY = (4, "fault memory\n")
+
+
+class Run(typing.NamedTuple):
+    """The exit status of a run, what it printed, and whether an allocation was refused."""
+
+    status: int
+    text: str
+    is_hit: bool
+
+    def ways(self) -> set[tuple[str, ...]]:
+        return set(explored.read(self.text))
+
+
+class Refused:
+    """The program with the allocator behind tests/refuse.c."""
+
+    def __init__(self, folder: str) -> None:
+        self.library, self.mark = os.path.join(folder, "refuse.so"), os.path.join(folder, "mark")
+        source = os.path.join(played.TOP, "tests", "refuse.c")
+        subprocess.run(["cc", "-O1", "-shared", "-fPIC", "-o", self.library, source, "-ldl"], check=True)
+
+    def run(self, words: list[str], script: bytes, first: int = 0, last: int = 0) -> Run:
+        """Runs the program, where the allocations from the first to the last of these are refused."""
+        reach = {"REFUSE_FROM": str(first), "REFUSE_TO": str(last), "REFUSE_MARK": self.mark}
+        setting = {"LD_PRELOAD": self.library, **reach}
+        done = subprocess.run(
+            [beside.program("explore"), *words],
+            input=script,
+            capture_output=True,
+            env={**os.environ, **(setting if first else {})},
+        )
+        is_hit = os.path.exists(self.mark)
+        if is_hit:
+            os.remove(self.mark)
+        return Run(done.returncode, (done.stdout + done.stderr).decode(), is_hit)
+
+
+def kind(told: Run, full: Run) -> str | None:
+    """What an answer is; nothing, where it may not be given."""
+    if (told.status, told.text) == (full.status, full.text):
+        return "full"
+    if (told.status, told.text) == MEMORY:
+        return "memory"
+    is_partial = told.status == 7 and re.search(r"^not all: \d+ ways, \d+ worlds\n\Z", told.text, re.M)
+    return "not all" if is_partial and told.ways() <= full.ways() else None
+
+
+def refuse_each(refused: Refused, path: str, words: list[str], every: int, tally: Tally) -> collections.Counter[str]:
+    """Refuses each allocation in turn. Answers how often each kind of answer was given."""
+    with open(os.path.join(played.TOP, path), "rb") as file:
+        script = file.read()
+    full, counts = refused.run(words, script), collections.Counter[str]()
+    for is_alone in (True, False):
+        number = 1
+        while (told := refused.run(words, script, number, number if is_alone else ALL)).is_hit:
+            found = kind(told, full) or one_way(refused, told, script, words)
+            counts[found or "other"] += 1
+            about = f"{path} {' '.join(words)}: allocation {number}{'' if is_alone else ' and all from there on'}"
+            tally.holds(found, f"{about}: status {told.status}, {told.text[-200:]}")
+            number += every
+    tally.holds(counts, f"{path} {' '.join(words)}: no allocation was refused")
+    return counts
+
+
+def one_way(refused: Refused, told: Run, script: bytes, words: list[str]) -> str | None:
+    """With --way a script may be told that leads to another way than the full answer's of this number, or that it was
+    not found: the number is that among the ways that were found.
+    """
+    if "--way" not in words:
+        return None
+    if told.status == 2 and told.text.startswith("not all: "):
+        return "not all"
+    above = script[: script.index(b"\ntogether") + 1].decode()
+    return "another way" if told.status == 0 and told.text.startswith(above) else None
+
+
+def main() -> int:
+    read = console.words(__doc__)
+    read.add_argument("--every", type=int, default=1)
+    read.add_argument("--words", nargs=2, metavar=("WORDS", "SCRIPT"))
+    given, tally = read.parse_args(), Tally(20)
+    if not shutil.which("cc"):
+        print("skipped: no cc")
+        return 0
+    stories = [(given.words[1], given.words[0])] if given.words else STORIES
+    with tempfile.TemporaryDirectory() as folder:
+        refused = Refused(folder)
+        for path, words in stories:
+            counts = refuse_each(refused, path, shlex.split(words), given.every, tally)
+            told = ", ".join(f"{count} {name}" for name, count in sorted(counts.items()))
+            print(f"{path} {words}: {told}", flush=True)
+    return tally.told("answers of explore compared")
+
+
+if __name__ == "__main__":
+    console.run(main, "stopped")
