@@ -45,7 +45,6 @@ SPAN = r"`([^`]*)`"
 EXAMPLE = re.compile(rf"({SPAN}(?:, {SPAN})*) prints {SPAN}(?: \({SPAN}\))?")
 STATUS = re.compile(r"(?:status |exit )?(\d)$")
 FAULT = re.compile(r"fault (?:line (\d+): )?([SAVNG]\d+(?: A\d+)?(?: item \d+)?)(?: (.+))?$")
-ASKED = re.compile(r"(?:never|always)(?: so far)?: |sometimes, in \d+ of \d+ ways: |  the shortest: ")
 EXPLORED = re.compile(r"(way) \d+ in \d+ of \d+ ends$|(?:not )?(all):? \d+ ways, \d+ worlds$|\d+\.\d+ -$")
 # What begins the line of an outcome: an agent and its job, or a job, and how many requests it took; or a transaction.
 # An outcome of `explore` tells no requests.
@@ -86,8 +85,6 @@ def codes_in(text: str) -> list[str]:
     status, front = STATUS.match(text), FRONT.match(text)
     if status:
         return [f"status {status[1]}"]
-    if ASKED.match(text) or text.startswith("the shortest: "):
-        return ["question"]
     explored = EXPLORED.match(text)
     if explored:
         return [explored[1] or explored[2] or "way"]
