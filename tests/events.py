@@ -123,7 +123,7 @@ def talks(events: list[dict]) -> Iterator[tuple[dict, bool]]:
         if not by:
             continue
         run.hear(event)
-        own, talk = run.agents[by["agent"]], heard[by["agent"]]
+        own, talk = run.bare[by["agent"]], heard[by["agent"]]
         if event["kind"] == "request":
             talk.hear(event)
         if "end" in event or own["stage"] == "idle":
@@ -180,7 +180,7 @@ def main() -> int:
         tally.holds([event["event"] for event in events] == [*range(len(events))], name, "numbers of events")
         run = replayed(events)
         tally.holds(run.standing() == events[-1]["servers"], name, "what changed is not what there is at the end")
-        tally.holds(run.agents == events[-1]["agents"], name, "agents by their changes")
+        tally.holds(run.agents() == events[-1]["agents"], name, "agents by their changes")
         for event, is_so in talks(events):
             tally.holds(is_so, name, "gathered otherwise than replies say", event)
         lines = trace.traced(script.encode())

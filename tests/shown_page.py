@@ -153,7 +153,7 @@ def agents_at(events: list[dict], place: int) -> list[dict]:
     for event in events[1:place + 1]:
         agents.hear(event)
     shown = []
-    for agent in agents.agents:
+    for agent in agents.agents():
         sites = list(dict.fromkeys(one["site"] for one in agent["cache"]))
         cache = sorted(agent["cache"], key=lambda one: sites.index(one["site"]))
         shown.append({

@@ -11,12 +11,26 @@ def entry_place(entry: dict) -> tuple[int, int]:
     return entry["site"], entry["suite"]
 
 
+def listed(server: dict) -> dict:
+    """A server as it is told: copies by suite, and locks by transaction and suite."""
+    copies, locks = (server[part] for part in ("copies", "locks"))
+    return {**server, "locks": [locks[at] for at in sorted(locks)], "copies": [copies[at] for at in sorted(copies)]}
+
+
 class Retold:
-    """The servers and agents of a run, from its opening on: each has all that is told of it, with its copies by suite."""
+    """The servers and agents of a run, from its opening on. What is told of them costs as much as it says."""
 
     def __init__(self, opening: dict) -> None:
-        self.servers = [{**one, "copies": {copy["suite"]: copy for copy in one["copies"]}} for one in opening["servers"]]
-        self.agents = [*opening["agents"]]
+        self.servers = [self.server_of(one) for one in opening["servers"]]
+        self.bare = [{name: part for name, part in one.items() if name != "cache"} for one in opening["agents"]]
+        # the oldest first
+        self.caches = [{entry_place(entry): entry for entry in reversed(one["cache"])} for one in opening["agents"]]
+
+    @staticmethod
+    def server_of(told: dict) -> dict:
+        copies = {copy["suite"]: copy for copy in told["copies"]}
+        locks = {lock_place(lock): lock for lock in told["locks"]}
+        return {**told, "locks": locks, "copies": copies, "denials": [*told["denials"]]}
 
     def hear(self, event: dict) -> None:
         """What is told in an event: `at` of a server, and `by` of an agent."""
@@ -28,33 +42,27 @@ class Retold:
     def changed(self, at: dict) -> None:
         server = self.servers[at["server"]]
         server["up"] = at["up"]
-        if "freed" in at or "locks" in at:
-            server["locks"] = locked(server["locks"], at.get("freed", ()), at.get("locks", ()))
-        for copy in at.get("copies", ()):
-            server["copies"][copy["suite"]] = copy
-        server["denials"] = server["denials"] + at.get("denials", [])
+        for lock in at.get("freed", ()):
+            del server["locks"][lock_place(lock)]
+        server["locks"].update((lock_place(lock), lock) for lock in at.get("locks", ()))
+        server["copies"].update((copy["suite"], copy) for copy in at.get("copies", ()))
+        server["denials"].extend(at.get("denials", ()))
 
     def acted(self, by: dict) -> None:
-        before = {name: part for name, part in self.agents[by["agent"]].items() if name not in ("next", "of")}
-        told = {name: part for name, part in by.items() if name not in ("dropped", "put")}
-        cache = kept(before["cache"], by.get("dropped", ()), by.get("put", []))
-        self.agents[by["agent"]] = {**before, **told, "cache": cache}
+        number, cache = by["agent"], self.caches[by["agent"]]
+        before = {name: part for name, part in self.bare[number].items() if name not in ("next", "of")}
+        self.bare[number] = {**before, **{name: part for name, part in by.items() if name not in ("dropped", "put")}}
+        for entry in by.get("dropped", ()):
+            del cache[entry_place(entry)]
+        cache.update((entry_place(entry), entry) for entry in by.get("put", ()))
 
     def standing(self) -> list[dict]:
         """The servers as `standing` tells them."""
-        return [{**one, "copies": [one["copies"][suite] for suite in sorted(one["copies"])]} for one in self.servers]
+        return [listed(server) for server in self.servers]
 
-
-def locked(locks: list[dict], freed: Iterable[dict], came: Iterable[dict]) -> list[dict]:
-    """Locks without those that went and with those that came, in their order."""
-    gone = {lock_place(lock) for lock in freed}
-    return sorted([*(lock for lock in locks if lock_place(lock) not in gone), *came], key=lock_place)
-
-
-def kept(cache: list[dict], dropped: Iterable[dict], put: list[dict]) -> list[dict]:
-    """A cache without what it dropped, and with what was put in front, one after another."""
-    gone = {entry_place(entry) for entry in dropped}
-    return [*reversed(put), *(entry for entry in cache if entry_place(entry) not in gone)]
+    def agents(self) -> list[dict]:
+        """The agents as `standing` tells them."""
+        return [{**one, "cache": [*reversed(cache.values())]} for one, cache in zip(self.bare, self.caches)]
 
 
 class Part(Retold):
@@ -93,7 +101,7 @@ class Part(Retold):
     def begun_by(self, event: dict) -> bool:
         """Whether a job begins."""
         by = event.get("by")
-        return by is not None and by["jobs"] > self.agents[by["agent"]]["jobs"]
+        return by is not None and by["jobs"] > self.bare[by["agent"]]["jobs"]
 
     def hear_reply(self, event: dict) -> None:
         """What was prepared is in effect from a decision on."""
@@ -113,7 +121,7 @@ class Part(Retold):
     def opening(self) -> str:
         """What there is by now, as a line that opens a run."""
         told = {"event": self.last["event"], "line": self.last["line"], "kind": "opening", "form": self.form}
-        return json.dumps({**told, "servers": self.standing(), "agents": self.agents}, separators=(",", ":"))
+        return json.dumps({**told, "servers": self.standing(), "agents": self.agents()}, separators=(",", ":"))
 
     def before(self) -> dict:
         """What is in effect, what agents did for the jobs that they have, and how their last jobs ended."""
