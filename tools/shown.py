@@ -4,12 +4,13 @@
 Looks whether all that README.md, docs/SCRIPTS.md and examples/ show is played by the gate.
 
 Each file of examples/ has to be the input of a row of crates/rows/stdin, and one of examples/explore have its ways in
-tests/explored (tests/shell.py plays those of the mount and the shell); each script, command and output that the two pages show has to be that of a row, and an output that of
-the script or the command before it; behind `| head -N` or `| tail -N` stand so many lines of it. Each text of help/
-but that of the tools has to be what a row of help prints: with --help-texts it is written from that row. The picture
-and what is shown of `./suites trace` have to be those of the trace which the program of crates/trace is to print of
-the same script (its stdin and stdout). What differs is told, and the status is 1. The rows themselves are played by
-the program of crates/rows, and commands of tools, with what the pages show of them, by tests/typed.py.
+tests/explored (tests/shell.py plays those of mount and shell); each script, command and output that the two pages
+show has to be that of a row, and an output that of the script or the command before it; behind `| head -N` or
+`| tail -N` stand so many lines of it. Each text of help/ but that of the tools has to be what a row of help prints:
+with --help-texts it is written from that row. The picture and what is shown of `./suites trace` have to be those of
+the trace which the program of crates/trace is to print of the same script (its stdin and stdout). What differs is
+told, and the status is 1. The rows themselves are played by the program of crates/rows, and commands of tools, with
+what the pages show of them, by tests/typed.py.
 """
 import os
 import re
