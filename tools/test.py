@@ -100,7 +100,7 @@ def tried(crate: str) -> dict[str, typing.Any]:
 
 
 PROGRAM, TRACE, MAY = "the program", "the program of trace", "the program of may"
-FORMS, EXPLORE = "the program of forms", "the program of explore"
+FORMS, EXPLORE, JUDGE = "the program of forms", "the program of explore", "the program of judge"
 # What takes longest stands first, but for what tells at once that something is wrong.
 PARTS = (
     Part("what pages show", tool("tools/shown.py")),
@@ -111,6 +111,7 @@ PARTS = (
     Part("table of public functions", tool("tools/proved_page.py", "--check")),
     Part("forms in pages and help", tool("tools/forms_page.py", "--check")),
     Part("words that need no build", tool("tests/wrapper.py")),
+    Part("how tools end", tool("tests/ends.py")),
     Part("type hints", tool("tests/hints.py")),
     Part("functions that call themselves", tool("tests/self-calls.py")),
     Part("tests of runs", **tried("run_tests")),
@@ -120,6 +121,7 @@ PARTS = (
     Part(MAY, tool("tools/choose.py"), program="may"),
     Part(FORMS, tool("tools/choose.py"), program="forms"),
     Part(EXPLORE, tool("tools/choose.py"), program="explore"),
+    Part(JUDGE, tool("tools/choose.py"), program="judge"),
     Part("tests of commands", **tried("command_tests")),
     Part("rows", tool("tests/checked-build.py"), [PROGRAM]),
     Part("the table of forms", tool("tests/form-table.py"), [PROGRAM]),
@@ -130,6 +132,7 @@ PARTS = (
     Part("what explain says of every line", tool("tests/every_line.py"), [PROGRAM, TRACE, FORMS, EXPLORE, MAY]),
     Part("what explain says of damaged scripts", tool("tests/damaged-scripts.py", "--cases", "1000"), [PROGRAM, FORMS]),
     Part("command lines of documents", tool("tests/typed.py"), [PROGRAM, TRACE, FORMS, EXPLORE]),
+    Part("verdicts on histories", tool("tests/judged.py"), [JUDGE]),
     Part("answers of may", tool("tests/may.py"), [MAY]),
     Part(
         "may against the kernel",
@@ -152,6 +155,7 @@ PARTS = (
 LONG = (
     Part("programs of tests and measurements", tool("tests/compiled.py")),
     Part("instructions", tool("tests/instructions.py")),
+    Part("slow inputs", tool("tests/growth.py"), [PROGRAM, TRACE, MAY, FORMS, EXPLORE]),
     Part("races", tool("tests/races.py", "1")),
     Part("the mount, long", tool("tests/mount-against-the-kernel.py", "--calls", "200000"), [PROGRAM]),
     Part("programs on the mount, and servers that crash", tool("tests/mount-programs.py"), [PROGRAM]),

@@ -3,7 +3,7 @@
 
 const Page = (() => {
   const given = JSON.parse(document.getElementById("given").textContent);
-  const run = Model.read(given.events);
+  const run = Model.read(given.events, given.before);
   run.names = Saying.namesIn(given.script);
   const find = (name) => document.getElementById(name);
   const [slider, moment, says, world, script, hint, life] = ["slider", "moment", "says", "world", "script", "hint", "life"].map(find);
@@ -124,7 +124,7 @@ const Page = (() => {
 
   function entryPart(one, at) {
     const about = { "data-entry": `${one.site} ${one.suite} ${one.prefix} ${one.content}` };
-    const late = Model.staleEntry(run.worlds[here], one).map((part) => ({ prefix: "list", content: "content" })[part]);
+    const late = Model.staleEntry(run.worlds.at(here), one).map((part) => ({ prefix: "list", content: "content" })[part]);
     const mark = late.length ? make("span", { class: "stale" }, " ", word("stale"), `: ${late.join(", ")}`) : null;
     return make("span", about, `${at === 0 ? "" : ", "}${pathOf(one.suite)} p${one.prefix} c${one.content}`, mark);
   }
@@ -156,7 +156,7 @@ const Page = (() => {
   }
 
   function showWorld() {
-    const state = run.worlds[here];
+    const state = run.worlds.at(here);
     const event = run.events[here];
     const server = event.server !== undefined ? event.server : event.at && event.at.server;
     const by = event.by && event.by.agent;
