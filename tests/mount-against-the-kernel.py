@@ -21,7 +21,7 @@ import struct
 import subprocess
 import sys
 import tempfile
-from collections.abc import Iterable
+from collections.abc import Callable, Iterable
 from typing import Any
 
 import mounted
@@ -38,7 +38,7 @@ LEAST = 100
 # How often each call is made.
 KINDS = {
     "read": 8, "write": 5, "append": 4, "update": 3, "create": 7, "creat": 3, "mkdir": 6, "unlink": 3, "rmdir": 2,
-    "list": 5, "stat": 6, "chmod": 3, "access": 5, "rename": 4, "truncate": 3, "touch": 2, "settime": 1, "chown": 1,
+    "list": 5, "stat": 6, "chmod": 5, "access": 5, "rename": 4, "truncate": 3, "touch": 2, "settime": 1, "chown": 1,
     "setacl": 6, "setdefault": 4, "getacl": 3, "getdefault": 2, "rmacl": 1, "rmdefault": 1, "fstat": 2, "statfs": 0,
 }
 # So many calls make the first things, and these change something.
@@ -105,6 +105,12 @@ def update(file: int, data: bytes) -> str:
     return f"{before.hex()} {os.pread(file, 70000, 0).hex()}"
 
 
+def seen(path: str, does: Callable[[], object]) -> str:
+    """What a change leaves."""
+    does()
+    return shown(os.stat(path))
+
+
 def made(top: str, call: Call) -> Any:
     """What a call answers."""
     kind, path, rest = call[0], os.path.join(top, call[1]), call[2:]
@@ -119,23 +125,23 @@ def made(top: str, call: Call) -> Any:
         "update": lambda: opened(path, os.O_RDWR, 0, lambda file: update(file, data)),
         "create": lambda: opened(path, os.O_CREAT | os.O_EXCL | os.O_RDWR, rest[0], lambda file: os.write(file, b"n")),
         "creat": lambda: opened(path, os.O_CREAT | os.O_WRONLY, rest[0], lambda file: os.write(file, b"mm")),
-        "mkdir": lambda: os.mkdir(path, rest[0]),
+        "mkdir": lambda: seen(path, lambda: os.mkdir(path, rest[0])),
         "unlink": lambda: os.unlink(path),
         "rmdir": lambda: os.rmdir(path),
         "list": lambda: ",".join(sorted(os.listdir(path))),
         "stat": lambda: shown(os.stat(path)),
-        "chmod": lambda: os.chmod(path, rest[0]),
+        "chmod": lambda: seen(path, lambda: os.chmod(path, rest[0])),
         "chown": lambda: os.chown(path, os.getuid(), -1),
         "access": lambda: os.access(path, rest[0]),
         "rename": lambda: os.rename(path, os.path.join(top, rest[0])),
-        "truncate": lambda: os.truncate(path, rest[0]),
+        "truncate": lambda: seen(path, lambda: os.truncate(path, rest[0])),
         "touch": lambda: os.utime(path),
         "settime": lambda: os.utime(path, (1000, 1000)),
-        "setacl": lambda: os.setxattr(path, ACCESS, data),
+        "setacl": lambda: seen(path, lambda: os.setxattr(path, ACCESS, data)),
         "setdefault": lambda: os.setxattr(path, DEFAULT, data),
         "getacl": lambda: os.getxattr(path, ACCESS).hex(),
         "getdefault": lambda: os.getxattr(path, DEFAULT).hex(),
-        "rmacl": lambda: os.removexattr(path, ACCESS),
+        "rmacl": lambda: seen(path, lambda: os.removexattr(path, ACCESS)),
         "rmdefault": lambda: os.removexattr(path, DEFAULT),
     }[kind]()
 
