@@ -100,7 +100,7 @@ def tried(crate: str) -> dict[str, typing.Any]:
 
 
 PROGRAM, TRACE, MAY = "the program", "the program of trace", "the program of may"
-FORMS, EXPLORE = "the program of forms", "the program of explore"
+FORMS, EXPLORE, SESSION = "the program of forms", "the program of explore", "the program of session"
 # What takes longest stands first, but for what tells at once that something is wrong.
 PARTS = (
     Part("what pages show", tool("tools/shown.py")),
@@ -119,6 +119,7 @@ PARTS = (
     Part(MAY, tool("tools/choose.py"), program="may"),
     Part(FORMS, tool("tools/choose.py"), program="forms"),
     Part(EXPLORE, tool("tools/choose.py"), program="explore"),
+    Part(SESSION, tool("tools/choose.py"), program="session"),
     Part("tests of commands", **tried("command_tests")),
     Part("rows", tool("tests/checked-build.py"), [PROGRAM]),
     Part("the table of forms", tool("tests/form-table.py"), [PROGRAM]),
@@ -134,6 +135,7 @@ PARTS = (
     ),
     Part("the mount", tool("tests/mount.py"), [PROGRAM]),
     Part("the mount against the kernel", tool("tests/mount-against-the-kernel.py"), [PROGRAM]),
+    Part("sessions and their journals", tool("tests/session.py"), [PROGRAM, SESSION]),
     Part("what votes tells", tool("tests/votes.py"), [PROGRAM, TRACE]),
     Part("what votes tells of scripts", tool("tests/votes-left.py"), [PROGRAM, TRACE]),
     Part("pictures", tool("tests/drawn.py"), [TRACE]),
@@ -147,6 +149,7 @@ LONG = (
     Part("programs of tests and measurements", tool("tests/compiled.py")),
     Part("instructions", tool("tests/instructions.py")),
     Part("races", tool("tests/races.py", "1")),
+    Part("sessions that are killed", tool("tests/session.py", "--long"), [PROGRAM, SESSION]),
     Part("lies about runs", tool("tests/lies.py", "1000"), [TRACE]),
     Part(
         "refused allocations",
