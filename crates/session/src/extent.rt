@@ -36,7 +36,7 @@ impl Extent {
         }
     }
 
-    /// Whether not even the first line is there.
+    /// Whether the first line is there.
     pub(crate) fn is_begun(&self) -> bool {
         self.lines > 0
     }

@@ -25,10 +25,9 @@ mod words;
 
 use byte_streams::{
     ByteIn, ByteOut, COMMAND_LINE, DONE, NO_STREAM, SystemIn, SystemOut, finish, lack_memory,
-    write_all,
 };
-use line_session::{Desk, Journal, SystemTalk, session};
-use opened::{Opened, open_journal};
+use line_session::{Desk, SystemTalk, session};
+use opened::open_journal;
 use refusal::tell_refusal;
 use script_text::push_number;
 use std::alloc::{AllocError, Global};
