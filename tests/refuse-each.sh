@@ -149,6 +149,7 @@ else
     for input in "$here"/examples/*/*"${ONLY-}"*; do
         folder=${input%/*}
         case ${folder##*/} in
+        session) ;; # tests/session.py
         acl) refuse_each "$input" acl user:lisa=1001 ;;
         serve) refuse_each "$input" serve --agents "${AGENTS:-4}" ;;
         play)

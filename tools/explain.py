@@ -48,6 +48,8 @@ FAULT = re.compile(r"fault (?:line (\d+): )?([SAVNG]\d+(?: A\d+)?(?: item \d+)?)
 EXPLORED = re.compile(r"(way) \d+ in \d+ of \d+ ends$|(?:not )?(all):? \d+ ways, \d+ worlds$|\d+\.\d+ -$")
 # What begins the line of an outcome: an agent and its job, or a job, and how many requests it took; or a transaction.
 # An outcome of `explore` tells no requests.
+# What a session tells besides what its lines print.
+SPOKEN = re.compile(r"= (?:restored \d+ lines|\d+)$|(?:row|content|copies|locks?|room) ")
 FRONT = re.compile(r"(?:(\d+)\.(\d+)(?: (\d+))?|(\d+) (\d+)|(\d+)) (?=answered|denied|refused|undecided|swept)")
 # The number of what was made, or of a transaction.
 NUMBERED = re.compile(r"\b(?:(made) ([1-9]\d*)|(?:holder|t) (\d+))\b")
@@ -57,7 +59,7 @@ REPLIES = ("made", "wrote", "read", "list", "dropped", "acl", "votes", "set")
 # The part of the page about a line that begins with a word, where it is not called by that word.
 PARTS = {**dict.fromkeys(REPLIES, "answered"), "t": "audit", "denied": "F3"}
 WHOLE = ("answered", "swept", "audit", "refused", "undecided", "certified", "mismatch", "trace", "transaction")
-FAULTS = ("fault command line", "fault memory", "fault word")
+FAULTS = ("fault command line", "fault memory", "fault word", "fault journal")
 
 
 def page() -> typing.Iterator[tuple[str, str, str, list[str]]]:
@@ -88,6 +90,8 @@ def codes_in(text: str) -> list[str]:
     explored = EXPLORED.match(text)
     if explored:
         return [explored[1] or explored[2] or "way"]
+    if SPOKEN.match(text):
+        return ["session"]
     if TRACED.match(text) or ENTRY.match(text):
         return ["trace" if TRACED.match(text) else "entry"]
     rest = text[front.end() :] if front else text

@@ -4,13 +4,14 @@
 Looks whether all that README.md, docs/SCRIPTS.md and examples/ show is played by the gate.
 
 Each file of examples/ has to be the input of a row of crates/rows/stdin, and one of examples/explore have its ways in
-tests/explored (tests/shell.py plays those of the mount and the shell, tests/judged.py looks at those of
-examples/judge); each script, command and output that the two pages show has to be that of a row, and an output that of
-the script or the command before it; behind `| head -N` or `| tail -N` stand so many lines of it. Each text of help/
-but that of the tools has to be what a row of help prints: with --help-texts it is written from that row. The picture
-and what is shown of `./suites trace` have to be those of the trace which the program of crates/trace is to print of
-the same script (its stdin and stdout). What differs is told, and the status is 1. The rows themselves are played by
-the program of crates/rows, and commands of tools, with what the pages show of them, by tests/typed.py.
+tests/explored (tests/shell.py plays those of the mount and the shell, tests/session.py those of sessions, and
+tests/judged.py looks at those of examples/judge); each script, command and output that the two pages show has to be
+that of a row, and an output that of the script or the command before it; behind `| head -N` or `| tail -N` stand so
+many lines of it. Each text of help/ but that of the tools has to be what a row of help prints: with --help-texts it
+is written from that row. The picture and what is shown of `./suites trace` have to be those of the trace which the
+program of crates/trace is to print of the same script (its stdin and stdout). What differs is told, and the status is
+1. The rows themselves are played by the program of crates/rows, and commands of tools, with what the pages show of
+them, by tests/typed.py.
 """
 import os
 import re
@@ -27,15 +28,15 @@ import votes
 TOP = os.path.join(os.path.dirname(os.path.abspath(__file__)), "..")
 PICTURE, STORY = "docs/revocation.svg", "examples/play/revocation.script"
 PAGES = ("README.md", "docs/SCRIPTS.md")
-HELP, OF_TOOLS = "help", ("tools.txt", "explore.txt", "judge.txt")
+HELP, OF_TOOLS = "help", ("tools.txt", "explore.txt", "judge.txt", "session.txt")
 # What is shown of an output.
 CUT = re.compile(rb" \| (head|tail) -(\d+)$")
 # The commands of which no row can tell the output.
 TOOLS = re.compile(rb"\$ \./suites (?:(?:explain|trace|draw|show|votes|may|--version)\b|explore .*--ask)")
 # Stories of `explore`, and where what it tells of them is kept; tests/explored.py compares.
 STORIES, WAYS = "examples/explore", "tests/explored"
-# Stories that tests/shell.py plays, and histories, which tests/judged.py looks at.
-PLAYED = ("examples/mount", "examples/shell", "examples/judge")
+# Stories that tests/shell.py and tests/session.py play, and histories, which tests/judged.py looks at.
+PLAYED = ("examples/mount", "examples/shell", "examples/session", "examples/judge")
 RUN = re.compile(rb"^# +\./suites (explore[^<]*?) < ", re.M)
 
 

@@ -101,6 +101,7 @@ def tried(crate: str) -> dict[str, typing.Any]:
 
 PROGRAM, TRACE, MAY = "the program", "the program of trace", "the program of may"
 FORMS, EXPLORE, JUDGE = "the program of forms", "the program of explore", "the program of judge"
+SESSION = "the program of session"
 # What takes longest stands first, but for what tells at once that something is wrong.
 PARTS = (
     Part("what pages show", tool("tools/shown.py")),
@@ -122,6 +123,7 @@ PARTS = (
     Part(FORMS, tool("tools/choose.py"), program="forms"),
     Part(EXPLORE, tool("tools/choose.py"), program="explore"),
     Part(JUDGE, tool("tools/choose.py"), program="judge"),
+    Part(SESSION, tool("tools/choose.py"), program="session"),
     Part("tests of commands", **tried("command_tests")),
     Part("rows", tool("tests/checked-build.py"), [PROGRAM]),
     Part("the table of forms", tool("tests/form-table.py"), [PROGRAM]),
@@ -139,10 +141,11 @@ PARTS = (
         tool("tests/may-against-the-kernel.py", "--questions", "100", "--mounts", "--if-possible"),
         [MAY],
     ),
-    Part("the mount", tool("tests/mount.py"), [PROGRAM]),
-    Part("the mount against the kernel", tool("tests/mount-against-the-kernel.py"), [PROGRAM]),
-    Part("the shell, import and stories", tool("tests/shell.py"), [PROGRAM]),
-    Part("programs on the mount", tool("tests/mount-programs.py", "--well"), [PROGRAM]),
+    Part("the mount", tool("tests/mount.py"), [PROGRAM, SESSION]),
+    Part("the mount against the kernel", tool("tests/mount-against-the-kernel.py"), [PROGRAM, SESSION]),
+    Part("the shell, import and stories", tool("tests/shell.py"), [PROGRAM, SESSION]),
+    Part("programs on the mount", tool("tests/mount-programs.py", "--well"), [PROGRAM, SESSION]),
+    Part("sessions and their journals", tool("tests/session.py"), [PROGRAM, SESSION]),
     Part("what votes tells", tool("tests/votes.py"), [PROGRAM, TRACE]),
     Part("what votes tells of scripts", tool("tests/votes-left.py"), [PROGRAM, TRACE]),
     Part("pictures", tool("tests/drawn.py"), [TRACE]),
@@ -157,9 +160,10 @@ LONG = (
     Part("instructions", tool("tests/instructions.py")),
     Part("slow inputs", tool("tests/growth.py"), [PROGRAM, TRACE, MAY, FORMS, EXPLORE]),
     Part("races", tool("tests/races.py", "1")),
-    Part("the mount, long", tool("tests/mount-against-the-kernel.py", "--calls", "200000"), [PROGRAM]),
-    Part("programs on the mount, and servers that crash", tool("tests/mount-programs.py"), [PROGRAM]),
-    Part("faults of the mount", tool("tests/mount-faults.py"), [PROGRAM]),
+    Part("the mount, long", tool("tests/mount-against-the-kernel.py", "--calls", "200000"), [PROGRAM, SESSION]),
+    Part("programs on the mount, and servers that crash", tool("tests/mount-programs.py"), [PROGRAM, SESSION]),
+    Part("faults of the mount", tool("tests/mount-faults.py"), [PROGRAM, SESSION]),
+    Part("sessions that are killed", tool("tests/session.py", "--long"), [PROGRAM, SESSION]),
     Part("lies about runs", tool("tests/lies.py", "1000"), [TRACE]),
     Part(
         "refused allocations",
