@@ -45,6 +45,8 @@ OBEYED = (
     "servers 3\nagents 1\nvotes 1,1,1/2/2\nroot 1000 100 777\ncache 0 0 0\n"
     "begin 0 1000 100 0 read /a\x1b[31m\x07\nrun 0\n"
 )
+# Questions of a story that are answered so: sometimes, always and never.
+ASKED = ["--ask", "0.1 answered", "--ask", "0.1 decided or not 0.1 decided", "--ask", "0.1 stopped"]
 
 
 class Line(typing.NamedTuple):
@@ -90,7 +92,8 @@ def lines() -> typing.Iterator[Line]:
         yield from (Line("votes", text) for text in printed("votes", "--script", script))
     for script in stories("explore"):
         yield from (Line("explore", text, script) for text in printed("explore", script=script))
-    yield from (Line("explore", text, script) for text in printed("explore", "--worlds", "9", script=script))
+    for words in (["--worlds", "9"], ASKED, [*ASKED, "--worlds", "9"]):
+        yield from (Line("explore", text, script) for text in printed("explore", *words, script=script))
     for script in stories("serve"):
         yield from (Line("serve", text, script) for text in printed("serve", "--agents", "1", script=script))
     for name in sorted(glob.glob(os.path.join(played.TOP, "tests", "explored", "*.ways"))):

@@ -2,8 +2,7 @@
 """tools/page_words.py [--each]
 
 Counts the words of the pages that are written by hand: README.md, CONTRIBUTING.md and docs/, without the page of wrong
-bodies and without the tables of docs/PROVED.md, which are written from the sources. A word has a letter or a digit.
-With --each it tells them page by page. README is to be read in one sitting and all pages in an evening, so each has a
+bodies and without the tables of docs/PROVED.md. A word has a letter or a digit. With --each it tells them page by page. README is to be read in one sitting and all pages in an evening, so each has a
 bound; status 1 where one is passed.
 """
 import glob
@@ -16,13 +15,16 @@ import console
 TOP = os.path.realpath(os.path.join(os.path.dirname(os.path.abspath(__file__)), ".."))
 FRONT, MOST_IN_FRONT, MOST = "README.md", 1_800, 30_000
 WRITTEN = ("WRONG-BODIES.md",)
-TABLES = re.compile(r"<!-- (laws|public functions): written by .*?<!-- end of \1 -->", re.S)
+OF_TABLES = "PROVED.md"
+TABLE = re.compile(r"^\|.*\n", re.M)
 
 
 def words_of(path: str) -> int:
     """How many words a page has that are written by hand."""
     with open(path, encoding="utf-8") as file:
-        text = TABLES.sub("", file.read())
+        text = file.read()
+    if os.path.basename(path) == OF_TABLES:
+        text = TABLE.sub("", text)
     return sum(any(map(str.isalnum, word)) for word in text.split())
 
 

@@ -1,4 +1,4 @@
-"""What is told of the lines that tools print: `votes` and `may`. Each is known by its form.
+"""What is told of the lines that tools print: `votes`, `may` and `explore --ask`. Each is known by its form.
 
 The sentences about `votes` are those of its help where that has them.
 """
@@ -73,6 +73,24 @@ MAY: tuple[tuple[str, str], ...] = (
 )
 
 
+# A line of `explore --ask`, and what it says.
+ASKED: tuple[tuple[str, str], ...] = (
+    (
+        r"(?:never|always) so far: ",
+        "what is asked is so in none or in each of the ways that were found; not all was looked at, and another way may"
+        " be missing",
+    ),
+    (r"never: ", "what is asked is so in none of the ways in which the jobs may end, and all was looked at"),
+    (r"always: ", "what is asked is so in each of the ways in which the jobs may end, and all was looked at"),
+    (r"sometimes, in \d+ of \d+ ways: ", "what is asked is so in so many of all ways that were found"),
+    (
+        r" *the shortest: \./suites explore ",
+        "what prints the script that leads to the first way in which it is so; ways stand by the length of their"
+        " scripts",
+    ),
+)
+
+
 def filled(text: str) -> str:
     return textwrap.fill(text, WIDE, break_long_words=False, break_on_hyphens=False)
 
@@ -102,7 +120,15 @@ def of_may(text: str) -> str | None:
     return None
 
 
+def of_asked(text: str) -> str | None:
+    """What is told of a line of `explore --ask`; nothing of any other."""
+    for form, says in ASKED:
+        if re.match(form, text):
+            return filled(f"A line of `./suites explore --ask`: {says}. ./suites explore --help tells more.")
+    return None
+
+
 def of_tools(text: str) -> str | None:
     """What is told of a line that a tool printed, as it stands there; nothing of any other."""
-    tellers: tuple[typing.Callable[[str], str | None], ...] = (of_votes, of_may)
+    tellers: tuple[typing.Callable[[str], str | None], ...] = (of_asked, of_votes, of_may)
     return next((told for told in (teller(text) for teller in tellers) if told), None)

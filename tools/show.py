@@ -116,10 +116,12 @@ class Player:
             else:
                 yield line.decode("latin1").rstrip("\n")
         status = self.run.wait()
-        if status and sys.stderr.isatty():
+        if status < 0:
+            console.Teller().say(console.ended("trace", status))
+        elif status and sys.stderr.isatty():
             self.explain(status)
         if status:
-            sys.exit(status)
+            sys.exit(console.status_of(status))
 
     def explain(self, status: int) -> None:
         """Says on a terminal what is wrong."""

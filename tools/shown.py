@@ -30,7 +30,7 @@ HELP, OF_TOOLS = "help", ("tools.txt", "explore.txt")
 # What is shown of an output.
 CUT = re.compile(rb" \| (head|tail) -(\d+)$")
 # The commands of which no row can tell the output.
-TOOLS = re.compile(rb"\$ \./suites (?:explain|trace|draw|show|votes|may|--version)\b")
+TOOLS = re.compile(rb"\$ \./suites (?:(?:explain|trace|draw|show|votes|may|--version)\b|explore .*--ask)")
 # Stories of `explore`, and where what it tells of them is kept; tests/explored.py compares.
 STORIES, WAYS = "examples/explore", "tests/explored"
 RUN = re.compile(rb"^# +\./suites (explore[^<]*?) < ", re.M)
@@ -73,7 +73,7 @@ def commands(block: list[bytes]) -> typing.Iterator[tuple[str, str]]:
     """The commands of the program in a block, as words and the name of their input."""
     for line in block:
         match = re.match(r"(?:\$ )?\./suites (.*?) < (\S+)", line.decode())
-        if match and not match[1].startswith(("trace", "draw", "show", "explore --way")):
+        if match and not match[1].startswith(("trace", "draw", "show", "explore --way")) and "--ask" not in match[1]:
             yield match[1], match[2]
 
 

@@ -111,6 +111,7 @@ PARTS = (
     Part("table of public functions", tool("tools/proved_page.py", "--check")),
     Part("forms in pages and help", tool("tools/forms_page.py", "--check")),
     Part("words that need no build", tool("tests/wrapper.py")),
+    Part("how tools end", tool("tests/ends.py")),
     Part("type hints", tool("tests/hints.py")),
     Part("functions that call themselves", tool("tests/self-calls.py")),
     Part("tests of runs", **tried("run_tests")),
@@ -151,6 +152,7 @@ PARTS = (
 LONG = (
     Part("programs of tests and measurements", tool("tests/compiled.py")),
     Part("instructions", tool("tests/instructions.py")),
+    Part("slow inputs", tool("tests/growth.py"), [PROGRAM, TRACE, MAY, FORMS, EXPLORE]),
     Part("races", tool("tests/races.py", "1")),
     Part("the mount, long", tool("tests/mount-against-the-kernel.py", "--calls", "200000"), [PROGRAM]),
     Part("programs on the mount, and servers that crash", tool("tests/mount-programs.py"), [PROGRAM]),

@@ -6,6 +6,7 @@ import typing
 
 import happened
 import laid_out
+import printed
 
 LINE = "together"
 WAY = re.compile(r"way (\d+) in (\d+) of (\d+) ends$")
@@ -62,5 +63,7 @@ def of_line(text: str, script: str, name: str) -> typing.Iterator[str]:
             yield f"Agent {ended[1]} stopped before it had ended."
     elif ended:
         yield f"{name} has no such job below `{LINE}`. Was it changed?"
+    elif printed.of_asked(text):
+        yield f"It answers a question of the ways in which the {len(jobs)} jobs below `{LINE}` of {name} may end."
     else:
         yield f"It is told last of the {len(jobs)} jobs below `{LINE}` of {name}."

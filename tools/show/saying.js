@@ -103,10 +103,11 @@ const Saying = (() => {
     return parts ? `${front} In effect: ${parts}, at ${servers(job.prepared)}.` : front;
   }
 
-  function ofRequest(run, event, world) {
+  function ofRequest(run, place, world) {
+    const event = run.events[place];
     const { request, reply, server } = event;
     const agent = world.agents[event.agent];
-    const before = run.worlds.at(run.events.indexOf(event) - 1).agents[event.agent];
+    const before = run.worlds.at(place - 1).agents[event.agent];
     const job = agent.job || before.job;
     if (!request) return `Server ${server} has no room for what agent ${event.agent} asks.`;
     const path = request.suite === undefined ? "" : Model.pathOf(run.paths, request.suite);
@@ -157,7 +158,7 @@ const Saying = (() => {
     const event = run.events[place];
     const world = run.worlds.at(place);
     const told = { opening: () => "The service opens: each server has the root folder.", standing: () => "The script is played to its end.",
-      line: () => ofLine(run, event), request: () => ofRequest(run, event, world) }[event.kind]();
+      line: () => ofLine(run, event), request: () => ofRequest(run, place, world) }[event.kind]();
     const { end } = event;
     return end ? `${told} Job ${end.job} of agent ${end.agent} has ended: ${Model.endText(end.text)}.` : told;
   }

@@ -1,0 +1,5 @@
+//! Tests of sessions over an echo: what is heard, kept and told, in order.
+#![tactic(auto)]
+
+#[cfg(test)]
+mod echo;

@@ -1,0 +1,5 @@
+pub mod Told
+pub mod Lines
+pub mod Histories
+pub mod Shown
+pub mod code
