@@ -16,6 +16,7 @@ many     five servers and 300 requests, and 2,000 events: each step takes no lon
          time)
 """
 import argparse
+import dataclasses
 import json
 import os
 import re
@@ -65,7 +66,7 @@ NAMED = 'a"<img/src=x/onerror=alert(3)>'
 NODE = """
 const Model = require(process.argv[1]);
 const told = JSON.parse(require('fs').readFileSync(0, 'utf8'));
-const run = Model.read(told.events);
+const run = Model.read(told.events, told.before);
 const last = run.events[run.last], world = run.worlds.at(run.last);
 const wrong = [];
 last.servers.forEach((server, number) => {
@@ -175,7 +176,7 @@ def models(tally: Tally) -> None:
         return
     scripts = {**stories(), **{f"seed {seed}": scenario.Scenario(seed, 200).script() for seed in range(16)}}
     for name, script in scripts.items():
-        given = json.dumps({"events": show.events_of(script.encode()), "script": script.split("\n")})
+        given = json.dumps(dataclasses.asdict(show.Shown(show.events_of(script.encode()))))
         done = modelled(node, NODE, given)
         tally.holds(done.stdout.strip() == "[]", "model", name, done.stdout.strip() or done.stderr[-300:])
         parts(tally, node, name, script)
