@@ -151,6 +151,7 @@ PARTS = (
 LONG = (
     Part("programs of tests and measurements", tool("tests/compiled.py")),
     Part("instructions", tool("tests/instructions.py")),
+    Part("crates in another repository", tool("tests/taken.py")),
     Part("races", tool("tests/races.py", "1")),
     Part("the mount, long", tool("tests/mount-against-the-kernel.py", "--calls", "200000"), [PROGRAM]),
     Part("programs on the mount, and servers that crash", tool("tests/mount-programs.py"), [PROGRAM]),
