@@ -19,6 +19,7 @@ import played
 import shown_page
 from played import Tally
 
+import retold
 import scenario
 import show
 import trace
@@ -80,28 +81,12 @@ def scripts() -> Iterator[tuple[str, str]]:
         yield f"seed {seed}", scenario.Scenario(seed, 200).script()
 
 
-def replayed(events: list[dict]) -> list[dict]:
-    """What servers have at the end, by what is told of them in each event."""
-    servers = [{**one, "copies": {copy["suite"]: copy for copy in one["copies"]}} for one in events[0]["servers"]]
+def replayed(events: list[dict]) -> retold.Retold:
+    """What servers and agents have at the end, by what is told of them in each event."""
+    run = retold.Retold(events[0])
     for event in events[1:-1]:
-        at = event.get("at")
-        if at:
-            server = servers[at["server"]]
-            server["up"], server["locks"] = at["up"], at.get("locks", server["locks"])
-            server["copies"] = {**server["copies"], **{copy["suite"]: copy for copy in at.get("copies", ())}}
-            server["denials"] = server["denials"] + at.get("denials", [])
-    return [{**one, "copies": sorted(one["copies"].values(), key=lambda copy: copy["suite"])} for one in servers]
-
-
-def agents_replayed(events: list[dict]) -> list[dict]:
-    """What agents do and keep at the end, by what is told of them in each event."""
-    agents = [*events[0]["agents"]]
-    for event in events[1:-1]:
-        by = event.get("by")
-        if by:
-            before = {name: part for name, part in agents[by["agent"]].items() if name not in ("next", "of")}
-            agents[by["agent"]] = {**before, **by}
-    return agents
+        run.hear(event)
+    return run
 
 
 def letters(one: dict) -> dict[int, str]:
@@ -132,13 +117,13 @@ def talks(events: list[dict]) -> Iterator[tuple[dict, bool]]:
     anything does.
     """
     heard = {one["agent"]: Talk(one) for one in events[0]["agents"]}
-    agents = [*events[0]["agents"]]
+    run = retold.Retold(events[0])
     for event in events[1:-1]:
         by = event.get("by")
         if not by:
             continue
-        agents[by["agent"]] = {**agents[by["agent"]], **by}
-        own, talk = agents[by["agent"]], heard[by["agent"]]
+        run.hear(event)
+        own, talk = run.agents[by["agent"]], heard[by["agent"]]
         if event["kind"] == "request":
             talk.hear(event)
         if "end" in event or own["stage"] == "idle":
@@ -193,8 +178,9 @@ def main() -> int:
             said = schema.refused(event, schema.whole)
             tally.holds(said is None, name, "event", event.get("event"), said)
         tally.holds([event["event"] for event in events] == [*range(len(events))], name, "numbers of events")
-        tally.holds(replayed(events) == events[-1]["servers"], name, "what changed is not what there is at the end")
-        tally.holds(agents_replayed(events) == events[-1]["agents"], name, "agents by their changes")
+        run = replayed(events)
+        tally.holds(run.standing() == events[-1]["servers"], name, "what changed is not what there is at the end")
+        tally.holds(run.agents == events[-1]["agents"], name, "agents by their changes")
         for event, is_so in talks(events):
             tally.holds(is_so, name, "gathered otherwise than replies say", event)
         lines = trace.traced(script.encode())

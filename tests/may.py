@@ -10,6 +10,8 @@ something does.
 """
 from __future__ import annotations
 
+import contextlib
+import io
 import os
 import re
 import subprocess
@@ -20,9 +22,8 @@ import played
 from played import Tally
 
 import console
-from may import changes, everybody, lint, lists, mounts, people, program
+from may import changes, everybody, lint, lists, mounts, people, program, saying
 from may.people import Caller
-from may.ways import way
 
 LIST = "u::rw,u:1001:rw,g::r,m::r,o::-"
 MANY = ",".join(str(one) for one in range(1, 34))
@@ -200,28 +201,28 @@ def put_lists(many: str, twice: str) -> bool:
 
 def asks_of_changes(tally: Tally, callers: list[Caller], twice: str) -> None:
     """Who may read it, by what; and who gains and loses by a change."""
-    told = everybody.tell_who(callers, 4, twice, way(twice, 4))
+    told = everybody.tell_who(callers, 4, twice)
     wanted = [
         f"{twice}  r--  n0 (Linux lets root pass); n1001 by user:1001; n1002, n1004 by group:200",
         f"  denied at {twice}: n1003 by other::---",
     ]
     tally.holds(told == wanted, f"who: {told}")
     change = changes.Change(changes.read_entry("g:200", False), False, True)
-    told = changes.tell_change(callers, change, twice, way(twice, 4))
+    told = changes.tell_change(callers, change, twice)
     tally.holds(told[1:] == ["  loses r: n1002, n1004", "  loses x: n0"], f"without: {told}")
     change = changes.Change(changes.read_entry("u:1003:w", True), True, True)
-    told = changes.tell_change(callers, change, twice, way(twice, 4))
+    told = changes.tell_change(callers, change, twice)
     # root executes what anybody may, and the new mask lets nobody
     tally.holds(told[1:] == ["  gains w: n1003", "  loses x: n0"], f"with: {told}")
 
 
 def asks_of_lint(tally: Tally, callers: list[Caller], room: str) -> None:
     """What a lint of a folder finds, and what once nobody may search it."""
-    lint.accounts, kept = (lambda: callers), lint.accounts
+    people.accounts, kept = (lambda: callers), people.accounts
     found, _ = lint.lint(room)
     os.chmod(room, 0o700)
     stopped, _ = lint.lint(room)
-    lint.accounts = kept
+    people.accounts = kept
     many, twice = os.path.join(room, "many"), os.path.join(room, "twice")
     tally.holds(any(f"{many}: its list has 154 entries" in line for line in found), f"lint: {found[:3]}")
     tally.holds(any(f"{twice}: user:1001:r-- reaches nobody" in line for line in stopped), f"lint: {stopped[-3:]}")
@@ -255,13 +256,13 @@ def asks_of_lists(tally: Tally) -> None:
 
 def reads_mounts(tally: Tally) -> None:
     """Mounts, as /proc/self/mountinfo tells them."""
-    text = "\n".join(
+    text = b"\n".join(
         [
-            "22 27 0:21 / /proc rw,relatime - proc proc rw,hidepid=2",
-            r"30 27 0:5 / /a\040b ro,noexec,idmapped shared:1 - ext4 /dev/x rw",
-            "31 27 0:6 / /f rw - fuse.sshfs x rw,user_id=0",
-            "32 27 0:7 / /n rw - nfs4 x rw",
-            "33 27 0:8 / /t rw,nosymfollow - tmpfs x rw",
+            b"22 27 0:21 / /proc rw,relatime - proc proc rw,hidepid=2",
+            rb"30 27 0:5 / /a\040b ro,noexec,idmapped shared:1 - ext4 /dev/x rw",
+            b"31 27 0:6 / /f rw - fuse.sshfs x rw,user_id=0",
+            b"32 27 0:7 / /n rw - nfs4 x rw",
+            b"33 27 0:8 / /t rw,nosymfollow - tmpfs x rw",
         ]
     )
     found = mounts.read_mounts(text)
@@ -272,6 +273,33 @@ def reads_mounts(tally: Tally) -> None:
     )
     tally.holds(found[1].has("noexec") and found[1].has("ro") and found[4].has("nosymfollow"), "flags of mounts")
     tally.holds(people.caller_of("0", "5,6") == Caller("root", 0, 5, (6,)), "a caller by its number")
+
+
+class Terminal(io.StringIO):
+    def isatty(self) -> bool:
+        return True
+
+
+def says_how_far(tally: Tally) -> None:
+    """On a terminal it is said how far a walk is, from the third second on, and taken away before a line comes."""
+    terminal, lines = Terminal(), io.StringIO()
+    with contextlib.redirect_stderr(terminal), contextlib.redirect_stdout(lines):
+        sayer = saying.Sayer()
+        sayer.at(1)
+        early = terminal.getvalue()
+        sayer.next = 0
+        sayer.at(12_345)
+        sayer.line("found")
+    shown = terminal.getvalue()
+    tally.holds(early == "", f"it is said at once: {early!r}")
+    tally.holds("may is at work: 12,345 paths" in shown and shown.endswith("\r\033[K"), f"it is said: {shown!r}")
+    tally.holds(lines.getvalue() == "found\n", f"a line is another: {lines.getvalue()!r}")
+    lines_as_found = io.StringIO()
+    with contextlib.redirect_stderr(lines_as_found):
+        quiet = saying.Sayer()
+        quiet.next = 0
+        quiet.at(1)
+    tally.holds(lines_as_found.getvalue() == "", "it is said where there is no terminal")
 
 
 def plain(code: str) -> str:
@@ -303,6 +331,7 @@ def main() -> int:
     asks_of_names(tally)
     asks_of_lists(tally)
     reads_mounts(tally)
+    says_how_far(tally)
     shown_code_stands(tally)
     return tally.told("things")
 

@@ -6,7 +6,8 @@ what `trace` tells in lines. Without Chromium it prints "skipped: no chromium" a
 pictures of some pages in a folder. Status 1 where something differs.
 
 model    the world behind the last event, as the page's model comes to it (by `node`, where that is there), is the one
-         that the program tells at the end: also of random scripts
+         that the program tells at the end: also of random scripts. The worlds of a part of a run are those of the whole,
+         and a run of too many events is refused
 stories  each story of examples/play, stepped by keys to its end: servers, copies, locks, what agents gathered and
          keep, and what `play` prints
 hostile  what bytes hold, and names of users in a script, stays text
@@ -27,6 +28,8 @@ import browser
 import played
 from played import Tally
 
+import console
+import retold
 import scenario
 import show
 import trace
@@ -62,8 +65,8 @@ NAMED = 'a"<img/src=x/onerror=alert(3)>'
 NODE = """
 const Model = require(process.argv[1]);
 const told = JSON.parse(require('fs').readFileSync(0, 'utf8'));
-const run = Model.read(told.events, told.script);
-const last = run.events[run.last], world = run.worlds[run.last];
+const run = Model.read(told.events);
+const last = run.events[run.last], world = run.worlds.at(run.last);
 const wrong = [];
 last.servers.forEach((server, number) => {
   const own = world.servers[number];
@@ -82,6 +85,20 @@ last.agents.forEach((agent, number) => {
 });
 console.log(JSON.stringify(wrong));
 """
+# Whether the worlds of a part of a run, to its end, are those of the whole run.
+PARTED = """
+const Model = require(process.argv[1]);
+const told = JSON.parse(require('fs').readFileSync(0, 'utf8'));
+const whole = Model.read(told.whole), part = Model.read(told.part, told.before);
+const sorted = (key, value) => (value && typeof value === 'object' && !Array.isArray(value)
+  ? Object.fromEntries(Object.entries(value).sort()) : value);
+const same = (one, other) => JSON.stringify(one, sorted) === JSON.stringify(other, sorted);
+const wrong = [];
+for (let at = 0; at <= part.last; at += 1) {
+  if (!same(part.worlds.at(at), whole.worlds.at(at + whole.last - part.last))) wrong.push(at);
+}
+console.log(JSON.stringify(wrong));
+"""
 
 
 class Pages:
@@ -96,7 +113,7 @@ class Pages:
         self.count += 1
         path = os.path.join(self.folder, f"{self.count}.html")
         with open(path, "w", encoding="utf-8") as file:
-            size = file.write(show.page_of(script.encode(), events))
+            size = file.write(show.page_of(script.encode(), show.Shown(events)))
         self.driver.open(path)
         return size
 
@@ -132,13 +149,11 @@ def ended(lines: list[str]) -> list[dict]:
 
 def agents_at(events: list[dict], place: int) -> list[dict]:
     """What agents do and keep behind an event, as the page shows it, which puts a site's entries together."""
-    agents = [*events[0]["agents"]]
+    agents = retold.Retold(events[0])
     for event in events[1:place + 1]:
-        by = event.get("by")
-        if by:
-            agents[by["agent"]] = {**agents[by["agent"]], **by}
+        agents.hear(event)
     shown = []
-    for agent in agents:
+    for agent in agents.agents:
         sites = list(dict.fromkeys(one["site"] for one in agent["cache"]))
         cache = sorted(agent["cache"], key=lambda one: sites.index(one["site"]))
         shown.append({
@@ -161,9 +176,40 @@ def models(tally: Tally) -> None:
     scripts = {**stories(), **{f"seed {seed}": scenario.Scenario(seed, 200).script() for seed in range(16)}}
     for name, script in scripts.items():
         given = json.dumps({"events": show.events_of(script.encode()), "script": script.split("\n")})
-        words = [node, "-e", NODE, os.path.join(show.PARTS, "model.js")]
-        done = subprocess.run(words, input=given, capture_output=True, text=True, check=False)
+        done = modelled(node, NODE, given)
         tally.holds(done.stdout.strip() == "[]", "model", name, done.stdout.strip() or done.stderr[-300:])
+        parts(tally, node, name, script)
+
+
+def modelled(node: str, program: str, given: str) -> subprocess.CompletedProcess:
+    words = [node, "-e", program, os.path.join(show.PARTS, "model.js")]
+    return subprocess.run(words, input=given, capture_output=True, text=True, check=False)
+
+
+def parts(tally: Tally, node: str, name: str, script: str) -> None:
+    """The worlds of a part of a run, from a line in the middle of the script on."""
+    whole, middle = show.shown_of(script.encode(), 0, sys.maxsize), script.count("\n") * 2 // 3
+    part = show.shown_of(script.encode(), middle, sys.maxsize)
+    given = json.dumps({"whole": whole.events, "part": part.events, "before": part.before})
+    done = modelled(node, PARTED, given)
+    tally.holds(done.stdout.strip() == "[]", "part", name, middle, done.stdout.strip() or done.stderr[-300:])
+    tally.holds(len(part.events) < len(whole.events), "a part is shorter", name)
+    cut = show.shown_of(script.encode(), middle, middle)
+    tally.holds(cut.events == part.events[:len(cut.events)], "a part that ends early", name)
+    tally.holds(len(cut.events) < len(part.events), "it ends early", name)
+
+
+def refused(tally: Tally) -> None:
+    """A run of more events than a page shows."""
+    script = stories()["revocation.script"].encode()
+    count, most = len(show.events_of(script)), show.MOST_EVENTS
+    for show.MOST_EVENTS, is_refused in ((count, False), (count - 1, True)):
+        try:
+            told = str(len(show.shown_of(script, 0, sys.maxsize).events))
+        except console.Stop as why:
+            told = str(why)
+        tally.holds(told.endswith("--from 1 --to 100") == is_refused, "too many events", count, told)
+    show.MOST_EVENTS = most
 
 
 def whole(tally: Tally, pages: Pages, shots: str | None) -> None:
@@ -289,6 +335,7 @@ def main() -> int:
     given = read.parse_args()
     tally, path = Tally(most=20, width=600), browser.program()
     models(tally)
+    refused(tally)
     if path:
         driver = browser.Browser(path)
         try:

@@ -28,7 +28,7 @@ TOLD, PATIENCE = 10, 20
 
 def why_not_read() -> str | None:
     """Why standard input cannot be read, or is too long; nothing where neither shows."""
-    if sys.stdin is None:
+    if 0 in console.CLOSED:
         return "a read failed: standard input is closed"
     kind = os.fstat(0)
     if stat.S_ISREG(kind.st_mode) and kind.st_size > MOST_INPUT:
@@ -43,7 +43,7 @@ def why_not_read() -> str | None:
 
 def why_not_written() -> str | None:
     """Why nothing can be written to standard output; nothing where that does not show."""
-    if sys.stdout is None:
+    if 1 in console.CLOSED:
         return "a write failed: standard output is closed"
     poll = select.poll()
     poll.register(1, select.POLLOUT)

@@ -43,7 +43,7 @@ def record_of(kind: str, now: sources.Sources, kit: sources.Kit) -> dict[str, st
         "sources": now.claims if kind == "proved" else now.code,
         "proofs": now.all if kind == "proved" else None,
         "kit": kit.name,
-        "program": None if kind == "trial" else sources.sum_of(path_of(kind)),
+        "program": "which this kit does not hand out" if kind == "trial" else sources.sum_of(path_of(kind)),
     }
 
 

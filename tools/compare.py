@@ -42,7 +42,7 @@ def output(command: str, script: str) -> list[str]:
         [SUITES, command], input=script.encode("latin1"), stdout=subprocess.PIPE, stderr=subprocess.DEVNULL
     )
     if done.returncode != 0:
-        raise console.Stop(f"suites {command} ends with {done.returncode}: {done.stdout.decode('latin1').strip()}")
+        raise console.Stop(f"{console.ended('suites', done.returncode)}: {done.stdout.decode('latin1').strip()}")
     return done.stdout.decode("latin1").splitlines()
 
 

@@ -1,8 +1,9 @@
-"""What the tools that build the program say on standard error, how two builds wait for each other, and how a build is
-stopped.
+"""What the tools say on standard error, how two builds wait for each other, how a build is stopped, and with which
+status and sentence a tool ends.
 """
 import argparse
 import contextlib
+import errno
 import fcntl
 import os
 import shlex
@@ -12,8 +13,26 @@ import sys
 import time
 import typing
 
-STOPPED = 130
+NO_MEMORY, NO_STREAM, STOPPED = 4, 6, 130
 DAY = 24 * 60 * 60
+# What is wrong where a stream cannot be written, and where there is no memory.
+NOT_WRITTEN = (errno.EPIPE, errno.ENOSPC, errno.EIO, errno.EBADF, errno.EFBIG, errno.EDQUOT)
+# The standard streams that were closed as the tool began.
+CLOSED = set[int]()
+# A shell tells so a program that a signal ended: this and the number of the signal.
+BY_SIGNAL = 128
+# Why a signal ends a program, where that is known.
+WHY = {
+    signal.SIGKILL: "killed, as the system does where memory runs out",
+    signal.SIGSEGV: "a crash, which is an error in it: please tell it",
+    signal.SIGBUS: "a crash, which is an error in it, or a file that became shorter",
+    signal.SIGABRT: "it gave up, which is an error in it: please tell it",
+    signal.SIGXCPU: "it took all the processor time that it may",
+    signal.SIGTERM: "stopped",
+    signal.SIGINT: "stopped",
+    signal.SIGHUP: "stopped, since its terminal is gone",
+    signal.SIGPIPE: "nobody reads any more",
+}
 
 
 class Stop(Exception):
@@ -112,28 +131,86 @@ def tail(text: str, lines: int = 20) -> str:
     return "".join(text.splitlines(True)[-lines:])
 
 
+def ended(name: str, code: int) -> str:
+    """How a program ended, in words: by a status, or by a signal."""
+    number = -code if code < 0 else code - BY_SIGNAL
+    try:
+        found = signal.Signals(number) if code < 0 or number > 0 else None
+    except ValueError:
+        found = None
+    if found is None:
+        return f"the program {name} ended with status {code}"
+    why = f": {WHY[found]}" if found in WHY else ""
+    return f"the program {name} was ended by signal {number} ({found.name}){why}"
+
+
+def status_of(code: int) -> int:
+    """The status of a tool whose program ended so: of a signal as a shell tells it."""
+    return BY_SIGNAL - code if code < 0 else code
+
+
+def complete_streams() -> None:
+    """Gives each standard stream that is closed a file from which nothing can be read, or to which nothing can be
+    written: else the next file that is opened would be taken for it."""
+    for number, path in ((0, os.devnull), (1, "/dev/full"), (2, os.devnull)):
+        try:
+            os.fstat(number)
+        except OSError:
+            CLOSED.add(number)
+            seat = os.open(path, os.O_WRONLY)
+            if seat != number:
+                os.dup2(seat, number)
+                os.close(seat)
+    if 0 in CLOSED:
+        sys.stdin = os.fdopen(0, "r", closefd=False)
+    sys.stdout = sys.stdout or os.fdopen(1, "w", closefd=False)
+    sys.stderr = sys.stderr or os.fdopen(2, "w", closefd=False)
+
+
+def failed(error: OSError) -> int:
+    """Says what failed where the system said so, and the status of it."""
+    if error.filename or error.errno not in (*NOT_WRITTEN, errno.ENOMEM):
+        Teller().say(f"{error.strerror}: {error.filename}" if error.filename else str(error))
+        return 1
+    if error.errno == errno.ENOMEM:
+        Teller().say("out of memory")
+        return NO_MEMORY
+    # nobody reads any more, or it cannot be written: what is left to be written goes nowhere
+    os.dup2(os.open(os.devnull, os.O_WRONLY), 1)
+    if 0 in CLOSED and error.errno == errno.EBADF:
+        Teller().say("a read failed: standard input is closed")
+    elif 1 in CLOSED:
+        Teller().say("a write failed: standard output is closed")
+    elif error.errno != errno.EPIPE:
+        Teller().say(f"a write failed: {os.strerror(error.errno)}")
+    return NO_STREAM
+
+
 def run(main: typing.Callable[[], int], when_stopped: str) -> None:
     """Runs a tool: status 0, or what `main` answers; 1 with a sentence where it cannot do its work, 2 where its
-    words ask for nothing; 130 where it is stopped."""
+    words ask for nothing, 4 out of memory, 6 where a stream failed; 130 where it is stopped."""
+    complete_streams()
     for number in (signal.SIGTERM, signal.SIGHUP):
         signal.signal(number, signal.default_int_handler)
     try:
-        status = main()
-        if sys.stdout:
-            sys.stdout.flush()
+        try:
+            status = main()
+        except SystemExit as end:
+            status = end.code if isinstance(end.code, int) else int(bool(end.code))
+            if isinstance(end.code, str):
+                Teller().say(end.code)
+        sys.stdout.flush()
     except Stop as why:
         Teller().say(str(why))
         status = 1
     except Bad as why:
         Teller().say(str(why))
         status = 2
-    except BrokenPipeError:
-        # nobody reads any more: what is left to be written goes nowhere
-        os.dup2(os.open(os.devnull, os.O_WRONLY), sys.stdout.fileno())
-        status = 6
     except OSError as error:
-        Teller().say(f"{error.strerror}: {error.filename}" if error.filename else str(error))
-        status = 1
+        status = failed(error)
+    except MemoryError:
+        Teller().say("out of memory")
+        status = NO_MEMORY
     except KeyboardInterrupt:
         Teller().say(when_stopped)
         status = STOPPED

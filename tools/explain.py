@@ -43,7 +43,7 @@ CODE = re.compile(r"\b([SAVNGFUsavngfu](?:1[0-3]|[1-9]))\b")
 SPAN = r"`([^`]*)`"
 # The lines of an example, the last line that it prints, and what is told of that.
 EXAMPLE = re.compile(rf"({SPAN}(?:, {SPAN})*) prints {SPAN}(?: \({SPAN}\))?")
-STATUS = re.compile(r"(?:status |exit )?(\d)$")
+STATUS = re.compile(r"(?:status |exit )?(\d)$|(?:status |exit )(\d{2,3})$")
 FAULT = re.compile(r"fault (?:line (\d+): )?([SAVNG]\d+(?: A\d+)?(?: item \d+)?)(?: (.+))?$")
 EXPLORED = re.compile(r"(way) \d+ in \d+ of \d+ ends$|(?:not )?(all):? \d+ ways, \d+ worlds$|\d+\.\d+ -$")
 # What begins the line of an outcome: an agent and its job, or a job, and how many requests it took; or a transaction.
@@ -84,7 +84,7 @@ def codes_in(text: str) -> list[str]:
     """The parts of the page about a text, the whole before its parts, and about numbers in it."""
     status, front = STATUS.match(text), FRONT.match(text)
     if status:
-        return [f"status {status[1]}"]
+        return [f"status {status[1] or ('128' if int(status[2]) >= 128 else status[2])}"]
     explored = EXPLORED.match(text)
     if explored:
         return [explored[1] or explored[2] or "way"]

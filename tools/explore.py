@@ -9,6 +9,7 @@ import argparse
 import contextlib
 import os
 import re
+import resource
 import shlex
 import subprocess
 import sys
@@ -20,6 +21,7 @@ import typing
 import asked
 import beside
 import console
+import gate
 import trace
 
 HELP = os.path.join(beside.TOP, "help", "explore.txt")
@@ -39,6 +41,8 @@ AT_ONCE = ["--worlds", "1", "--stops", "255"]
 MOST_READ = (16 << 20) + 1
 # How often it is looked whether the program has ended, in seconds.
 PAUSE = 0.1
+# What is left to others of the memory that is free, in bytes.
+LEFT = 256 << 20
 # What the program says of how far it is, where it is asked to by this word.
 PROGRESS, LOOKED = "--progress", re.compile(rb"(\d+) worlds\n")
 
@@ -149,13 +153,23 @@ def watched(process: subprocess.Popen[bytes]) -> None:
         progress.end()
 
 
+def limit_memory() -> None:
+    """Lets this process take no more memory than is free: the program then says `not all`, before the system kills
+    it."""
+    most = max(gate.free() - LEFT, LEFT)
+    soft, hard = resource.getrlimit(resource.RLIMIT_AS)
+    limits = [one for one in (most, soft, hard) if one != resource.RLIM_INFINITY]
+    resource.setrlimit(resource.RLIMIT_AS, (min(limits), hard))
+
+
 def status_of(options: list[str], printed: typing.IO[bytes], script: typing.IO[bytes] | None = None) -> int:
     """Runs the program with these options on a script, or on standard input. It prints into a file. On a terminal it is
     watched.
     """
     is_watched = sys.stderr.isatty()
     words = [beside.program("explore"), *options, *([PROGRESS] if is_watched else [])]
-    process = subprocess.Popen(words, stdin=script, stdout=printed, stderr=subprocess.PIPE if is_watched else None)
+    errors = subprocess.PIPE if is_watched else None
+    process = subprocess.Popen(words, stdin=script, stdout=printed, stderr=errors, preexec_fn=limit_memory)
     try:
         if is_watched:
             watched(process)
@@ -229,10 +243,12 @@ def ended(given: argparse.Namespace, status: int, text: bytes) -> int:
     """Prints what the program printed, and on a terminal what its exit status means."""
     sys.stdout.buffer.write(text)
     sys.stdout.flush()
+    if status < 0:
+        console.Teller().say(console.ended("explore", status))
     told = advice(status, given, text.decode("latin1").rstrip("\n").rpartition("\n")[2])
     if told and (sys.stderr.isatty() or status == COMMAND_LINE):
         console.Teller().say(told)
-    return status
+    return console.status_of(status)
 
 
 def main() -> int:
@@ -243,11 +259,7 @@ def main() -> int:
         return 0
     if sys.stdin.isatty():
         console.Teller().say("reading from the terminal, up to its end (Ctrl-D at the start of a line)")
-    try:
-        return answer(given) if given.ask else run(given)
-    except BrokenPipeError:
-        os.dup2(os.open(os.devnull, os.O_WRONLY), sys.stdout.fileno())
-        return NO_STREAM
+    return answer(given) if given.ask else run(given)
 
 
 if __name__ == "__main__":

@@ -68,7 +68,7 @@ def asked(first: str, number: int, given: bytes) -> str:
     words = [beside.program("forms"), first, str(min(number, 2**64 - 1))]
     done = subprocess.run(words, input=given, stdout=subprocess.PIPE, env=beside.setting("forms"))
     if done.returncode != 0:
-        raise console.Stop(f"the program forms ended with status {done.returncode}")
+        raise console.Stop(console.ended("forms", done.returncode))
     return done.stdout.decode("latin1").removesuffix("\n")
 
 

@@ -156,7 +156,7 @@ def played(script: bytes, name: str) -> Played:
     done = subprocess.run([trace.program()], input=script, stdout=subprocess.PIPE, env=trace.ENV)
     text = done.stdout.decode("latin1")
     if done.returncode != 0:
-        raise console.Stop(f"{name} cannot be played: {text.strip() or f'status {done.returncode}'}")
+        raise console.Stop(f"{name} cannot be played: {text.strip() or console.ended('trace', done.returncode)}")
     return Played(script.decode("latin1"), text.split("\n")[:-1])
 
 

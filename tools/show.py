@@ -1,20 +1,22 @@
 #!/usr/bin/env python3
-"""./suites show [--open] < SCRIPT > run.html
+"""./suites show [--open] [--from LINE] [--to LINE] < SCRIPT > run.html
 
 Plays a script of events as `suites play` does, and writes a page on which the run can be watched: the requests and
 replies as a picture, what each server and agent has at the moment that is looked at, and the script. The page stands
 alone: it needs a browser, and neither a network nor these tools.
 
-    --open   writes the page into a new file, and opens that in a browser
+    --open        writes the page into a new file, and opens that in a browser
+    --from LINE   shows the run from this line of the script on
+    --to LINE     shows it to the end of this line. A page shows 60,000 events at most; of a longer run show a part
 
 On the page: the arrow keys, Home and End go through the run, PageUp and PageDown by its rows, `b` and `n` by its jobs,
 and space plays it. `p` is for who presents: large type, and nothing of what is still to come. A sentence says what
 happens at the moment. A click on an arrow goes there, one on a folded phase opens it, and one on a path shows the file
-through time. What has dots below it is explained to whoever
-points at it.
+through time. What has dots below it is explained to whoever points at it.
 """
 import argparse
 import base64
+import dataclasses
 import hashlib
 import json
 import os
@@ -23,10 +25,12 @@ import subprocess
 import sys
 import tempfile
 import webbrowser
+from collections.abc import Iterator
 
 import console
 import explain
 import quoted
+import retold
 import trace
 
 PARTS = os.path.join(trace.TOOLS, "show")
@@ -50,6 +54,13 @@ OWN = {
     "breaking": "A sweep breaks a lock of which nothing was prepared.",
     "in doubt": "The home of the transaction is down, and nobody else can tell how it ends: the lock stands till then.",
 }
+# So many events are shown on a page at most, and what is said of more.
+MOST_EVENTS = 60_000
+TOO_MANY = (
+    "this run has more than {:,} events, as many as a page shows, before the end of line {}: show a part of it, by lines of the"
+    " script, as with --from 1 --to 100"
+)
+LINE = re.compile(r'{"event":\d+,"line":(\d+),')
 FAULTY = 3
 CODES = [*(f"F{number}" for number in range(1, 13)), *(f"U{number}" for number in range(1, 8))]
 
@@ -68,22 +79,81 @@ def meanings() -> dict[str, str]:
     return {word: " ".join(text.split()) for word, text in {**known, **OWN}.items() if text}
 
 
-def events_of(script: bytes) -> list[str]:
-    """The events of a script, as the program `trace` tells them; ends the tool where the script has a fault."""
-    with tempfile.TemporaryFile() as given:
-        given.write(script)
-        given.seek(0)
+@dataclasses.dataclass
+class Shown:
+    """The events of a run, or of a part of one, as lines; and what a part has to know of what was before."""
+
+    events: list[str]
+    before: dict | None = None
+
+
+class Player:
+    """The program `trace`, which tells the events of a script one after another."""
+
+    def __init__(self, script: bytes) -> None:
+        self.given = tempfile.TemporaryFile()
+        self.given.write(script)
+        self.given.seek(0)
+        self.fault = ""
         words = [trace.program(), "--json"]
-        done = subprocess.run(words, stdin=given, stdout=subprocess.PIPE, env=trace.ENV, check=False)
-    text = done.stdout.decode("latin1")
-    if done.returncode != 0:
-        sys.stdout.write(text)
-        if sys.stderr.isatty() and done.returncode == FAULTY:
-            console.Teller().say(console.shows(text.strip()))
-        elif sys.stderr.isatty() and done.returncode in trace.EXPLAINED:
-            console.Teller().say(trace.EXPLAINED[done.returncode])
-        sys.exit(done.returncode)
-    return text.split("\n")[:-1]
+        self.run = subprocess.Popen(words, stdin=self.given, stdout=subprocess.PIPE, env=trace.ENV)
+
+    def __enter__(self) -> "Player":
+        return self
+
+    def __exit__(self, *_: object) -> None:
+        self.run.kill()
+        self.run.communicate()
+        self.given.close()
+
+    def lines(self) -> Iterator[str]:
+        """The events; ends the tool where the script has a fault."""
+        assert self.run.stdout
+        for line in self.run.stdout:
+            if not line.startswith(b"{"):
+                self.fault = line.decode("latin1")
+                sys.stdout.write(self.fault)
+            else:
+                yield line.decode("latin1").rstrip("\n")
+        status = self.run.wait()
+        if status < 0:
+            console.Teller().say(console.ended("trace", status))
+        elif status and sys.stderr.isatty():
+            self.explain(status)
+        if status:
+            sys.exit(console.status_of(status))
+
+    def explain(self, status: int) -> None:
+        """Says on a terminal what is wrong."""
+        if status == FAULTY:
+            console.Teller().say(console.shows(self.fault.strip()))
+        elif status in trace.EXPLAINED:
+            console.Teller().say(trace.EXPLAINED[status])
+
+
+def events_of(script: bytes) -> list[str]:
+    """All events of a script, as the program `trace` tells them; ends the tool where the script has a fault."""
+    with Player(script) as player:
+        return [*player.lines()]
+
+
+def shown_of(script: bytes, first: int, last: int) -> Shown:
+    """The events of lines of a script: all, where the first is 0."""
+    with Player(script) as player:
+        lines = player.lines()
+        opening = next(lines)
+        before, kept = retold.Part(json.loads(opening)), [opening]
+        for line in lines:
+            at = int(LINE.match(line)[1])
+            if at > last:
+                break
+            if at < first:
+                before.take(line)
+                continue
+            kept.append(line)
+            if len(kept) > MOST_EVENTS:
+                raise console.Stop(TOO_MANY.format(MOST_EVENTS, at))
+    return Shown([before.opening(), *kept[1:]], before.before()) if first > 1 else Shown(kept)
 
 
 def embedded(data: object) -> str:
@@ -102,12 +172,12 @@ def digest(text: str) -> str:
     return f"'sha256-{base64.b64encode(hashlib.sha256(text.encode()).digest()).decode()}'"
 
 
-def page_of(script: bytes, events: list[str]) -> str:
-    """The page of a run."""
+def page_of(script: bytes, shown: Shown) -> str:
+    """The page of a run, or of a part of one."""
     lines = script.decode("utf-8", "replace").split("\n")
     if lines[-1] == "":
         lines.pop()
-    data = {"script": [line.removesuffix("\r") for line in lines], "events": events, "meanings": meanings()}
+    data = {"script": [line.removesuffix("\r") for line in lines], **dataclasses.asdict(shown), "meanings": meanings()}
     parts = {name: part(file) for name, file in FILES.items()}
     styles = [digest(parts["STYLE"])]
     scripts = [digest(text) for name, text in parts.items() if name != "STYLE"]
@@ -127,6 +197,8 @@ def opened(page: str) -> None:
 def main() -> int:
     read = argparse.ArgumentParser(prog="./suites show", add_help=False)
     read.add_argument("--open", action="store_true")
+    read.add_argument("--from", dest="first", type=int, default=0)
+    read.add_argument("--to", dest="last", type=int, default=sys.maxsize)
     read.add_argument("-h", "--help", action="store_true")
     read.add_argument("file", nargs="?")
     given = read.parse_args()
@@ -136,7 +208,9 @@ def main() -> int:
     if given.file is not None:
         raise console.Bad(f"a script is read from standard input: {read.prog} < {quoted.plain(given.file)}")
     script = trace.script()
-    page = page_of(script, events_of(script))
+    if not 0 <= given.first <= given.last:
+        raise console.Bad("--from and --to are lines of the script, the first before the last")
+    page = page_of(script, shown_of(script, given.first, given.last))
     if given.open:
         opened(page)
     else:

@@ -141,7 +141,9 @@ class Run:
             console.Teller().say(console.shows(text.strip()))
         elif sys.stderr.isatty() and self.process.returncode in EXPLAINED:
             console.Teller().say(EXPLAINED[self.process.returncode])
-        sys.exit(self.process.returncode)
+        elif self.process.returncode < 0:
+            console.Teller().say(console.ended("trace", self.process.returncode))
+        sys.exit(console.status_of(self.process.returncode))
 
     def play(self) -> dict[int, str]:
         """Waits until the script is played to its end. Answers the paths that were met, by the numbers of what has
@@ -372,7 +374,7 @@ def number_of(suite: str | None, known: dict[int, str]) -> int | None:
 
 def script(agent: int | None = None) -> bytes:
     """The script that is read from standard input; ends the tool where it has no such agent."""
-    if sys.stdin is None:
+    if 0 in console.CLOSED:
         console.Teller().say("a read failed: standard input is closed")
         sys.exit(6)
     if sys.stdin.isatty() and sys.stderr.isatty():

@@ -35,10 +35,11 @@ LEVEL = "-O1"
 
 
 class Hidden(console.Stop):
-    """The kit shows no module, or one that its compiler does not take."""
+    """The kit shows no module, or lacks what makes a program of it. This alone is kept: whatever else fails is tried
+    again next time."""
 
-    def __init__(self) -> None:
-        super().__init__("this kit hands out no module of the program")
+    def __init__(self, what: str) -> None:
+        super().__init__(f"this kit has no {what}")
 
 
 def is_whole(module: bytes) -> bool:
@@ -64,8 +65,17 @@ def found(scratch: str) -> bytes | None:
 
 
 def module_into(folder: str, tick: typing.Callable[[], None]) -> str:
-    """Writes the program's module into this folder; `tick` is called while that lasts. Answers its path."""
-    scratch = os.path.join(folder, "scratch")
+    """Writes the program's module into this folder; `tick` is called while that lasts. Answers its path. A kit that
+    shows none shows none a second time: on a busy machine one may be missed."""
+    try:
+        return module_once(folder, "scratch", tick)
+    except Hidden:
+        return module_once(folder, "again", tick)
+
+
+def module_once(folder: str, name: str, tick: typing.Callable[[], None]) -> str:
+    """Looks for the module once."""
+    scratch = os.path.join(folder, name)
     os.mkdir(scratch)
     with tempfile.TemporaryFile() as log:
         trial = console.start(["rt", "try", "--", "--help"], FOLDER, log, env={**os.environ, "TMPDIR": scratch})
@@ -80,8 +90,10 @@ def module_into(folder: str, tick: typing.Callable[[], None]) -> str:
         if module is None:
             log.seek(0)
             said = log.read().decode("utf-8", "replace")
-            if "run=ended" in said:
-                raise Hidden
+            if trial.returncode == 0 and "run=ended" in said:
+                raise Hidden("module of the program")
+            if trial.returncode < 0:
+                raise console.Stop(f"{console.ended('rt', trial.returncode)}; the next time it is tried again")
             raise console.Stop("the sources do not compile:\n" + console.tail(said).rstrip())
     path = os.path.join(folder, MODULE)
     with open(path, "wb") as file:
@@ -92,6 +104,8 @@ def module_into(folder: str, tick: typing.Callable[[], None]) -> str:
 def kit() -> str:
     """The folder of the kit, whose first page `rt doc` names."""
     said = subprocess.run(["rt", "doc"], stdin=subprocess.DEVNULL, capture_output=True, text=True)
+    if said.returncode != 0 or not said.stdout.strip():
+        raise console.Stop(f"where the kit is, was not told: {console.ended('rt', said.returncode)}")
     return os.path.dirname(said.stdout.strip())
 
 
@@ -106,25 +120,30 @@ def libraries() -> list[str]:
 
 def done(words: list[str], folder: str, tick: typing.Callable[[], None]) -> None:
     """Runs a command in this folder, which has to end well; `tick` is called while it lasts."""
-    try:
-        with tempfile.TemporaryFile() as log:
-            process = console.start(words, folder, log)
-            try:
-                while process.poll() is None:
-                    tick()
-                    time.sleep(0.2)
-            finally:
-                console.stop(process)
-    except FileNotFoundError:
-        raise Hidden from None
+    if not os.path.exists(words[0]):
+        raise Hidden(words[0])
+    with tempfile.TemporaryFile() as log:
+        process = console.start(words, folder, log)
+        try:
+            while process.poll() is None:
+                tick()
+                time.sleep(0.2)
+        finally:
+            console.stop(process)
+        log.seek(0)
+        said = console.tail(log.read().decode("utf-8", "replace"))
     if process.returncode != 0:
-        raise Hidden
+        why = console.ended(os.path.basename(words[0]), process.returncode)
+        raise console.Stop(f"the checked build failed, and the next time it is tried again: {why}\n{said}".rstrip())
 
 
 def build(target: str, tick: typing.Callable[[], None]) -> None:
     """Builds the program to this file, with its checks at run time, and looks whether it runs."""
     home = kit()
     with tempfile.TemporaryDirectory(prefix="suites-") as folder:
+        lacking = next((path for path in libraries() if not os.path.exists(path)), None)
+        if lacking:
+            raise Hidden(lacking)
         module = module_into(folder, tick)
         made, program = os.path.join(folder, "module.o"), os.path.join(folder, sources.PROGRAM)
         done([clang(), LEVEL, "-fPIE", *CAREFUL, "-w", "-c", module, "-o", made], folder, tick)

@@ -4,6 +4,7 @@ import sys
 
 sys.path[0] = os.path.dirname(os.path.dirname(os.path.abspath(__file__)))
 
+import console  # noqa: E402
 from may import command  # noqa: E402
 
-sys.exit(command.main())
+console.run(command.main, "stopped")

@@ -2,10 +2,13 @@
 from __future__ import annotations
 
 import grp
+import os
 import pwd
-from typing import NamedTuple
+from typing import Iterable, Iterator, NamedTuple, Optional
 
-from may import everybody, linux
+from may import lists
+from may.crowd import Crowd, Seen
+from may.everybody import Reach, people
 from may.lists import (
     BITS,
     GROUP,
@@ -28,21 +31,32 @@ from may.lists import (
     quoted,
     union,
 )
-from may.people import Caller, likenesses, number
-from may.program import answers, question
-from may.ways import Place, Way
+from may.people import Caller, number, shortened
+from may.saying import SAYER
+from may.scripts import interpreters, ways_of
+from may.trees import Row, Tree
+from may.ways import EXECUTE, Place, Way, unread
 
 KINDS = {"u": USER, "user": USER, "g": GROUP, "group": GROUP, "m": MASK, "mask": MASK, "o": OTHER, "other": OTHER}
 # An entry that is about nobody by name.
 UNNAMED = {USER: USER_OBJ, GROUP: GROUP_OBJ, MASK: MASK, OTHER: OTHER}
+# The owner and the group of what is not made yet.
+NOBODY = 0xFFFFFFFF
+# With which modes programs make files and folders.
+NEW_FILE, NEW_FOLDER = 0o666, 0o777
 
 
 class Change(NamedTuple):
-    """An entry that is put in or taken out, and whether the mask is computed anew."""
+    """An entry that is put in or taken out, whether the mask is computed anew, and whether it is one of a folder's
+    default list."""
 
     entry: Entry
     is_put: bool
     computes: bool
+    is_default: bool = False
+
+    def is_in(self, entries: List) -> bool:
+        return find(entries, self.entry.tag, self.entry.id) is not None
 
     def of(self, entries: List) -> List:
         """The list with it, as setfacl makes it."""
@@ -69,27 +83,34 @@ def id_of(tag: int, name: str) -> int:
     except (KeyError, ValueError, UnicodeError):
         if name.isascii() and name.isdigit():
             return number(name)
-        raise Bad(f"there is no {'user' if tag == USER else 'group'} {quoted(name)}") from None
+        raise Bad(f"there is no {'user' if tag == USER else 'group'} {shortened(name)}") from None
 
 
 def read_entry(text: str, has_perms: bool) -> Entry:
     """An entry as setfacl takes it: `user:lisa:rw`, `g:200:r`, `m::rx`; to be taken out, without permissions."""
-    form = "user:lisa:rw" if has_perms else "user:lisa"
+    bad = Bad(f"{shortened(text)} is no entry: one is told as {'user:lisa:rw' if has_perms else 'user:lisa'}")
     words = text.split(":")
     if len(words) == 2 and has_perms and words[0] in KINDS and KINDS[words[0]] in (MASK, OTHER):
         words.insert(1, "")
     if not has_perms and len(words) == 1:
         words.append("")
     if words[0] not in KINDS or len(words) != (3 if has_perms else 2) or (has_perms and set(words[2]) - set("rwx-")):
-        raise Bad(f"{quoted(text)} is no entry: one is told as {form}")
+        raise bad
     tag = KINDS[words[0]]
     if words[1] and tag in (MASK, OTHER):
-        raise Bad(f"{quoted(text)} is no entry: one is told as {form}")
+        raise bad
     if not words[1]:
         tag = UNNAMED[tag]
     if not has_perms and tag in (USER_OBJ, GROUP_OBJ, OTHER):
         raise Bad(f"each list has {quoted(text)}: it cannot be taken out")
     return Entry(tag, id_of(tag, words[1]) if words[1] else 0, perms_of(words[2]) if has_perms else 0)
+
+
+def read_change(text: str, is_put: bool, computes: bool) -> Change:
+    """A change by its entry; with `d:` before it, one of a folder's default list."""
+    head, _, rest = text.partition(":")
+    is_default = head in ("d", "default") and bool(rest)
+    return Change(read_entry(rest if is_default else text, is_put), is_put, computes, is_default)
 
 
 def after(place: Place, entries: List) -> Place:
@@ -100,45 +121,198 @@ def after(place: Place, entries: List) -> Place:
     return place._replace(entries=entries, mode=place.mode & ~0o777 | bits[0] << 6 | bits[1] << 3 | bits[2])
 
 
-def granted_bits(callers: list[Caller], place: Place) -> list[int]:
-    """What each caller may, of a place alone."""
-    asked = [question(place, caller, bit) for caller in callers for _, bit in BITS]
-    given = iter(answers(asked))
-    return [sum(bit for _, bit in BITS if linux.of_place(place, caller, next(given), bit).grants) for caller in callers]
+class Changed:
+    """Which files have another list, by their device and number there."""
+
+    def __init__(self) -> None:
+        self.lists: dict[tuple[int, int], List] = {}
+
+    def add(self, place: Place, entries: List) -> None:
+        self.lists[place.device, place.inode] = entries
+
+    def place(self, place: Place) -> Place:
+        entries = None if place.is_link else self.lists.get((place.device, place.inode))
+        return place if entries is None else after(place, entries)
+
+    def way(self, found: Way) -> Way:
+        return found._replace(places=[self.place(one) for one in found.places])
+
+    def ways(self, found: Iterable[Way]) -> list[Way]:
+        return [self.way(one) for one in found]
 
 
-def stopped_at(firsts: list[Caller], places: list[Place]) -> set[int]:
-    """Which callers do not come to the last of some places."""
-    ends = everybody.ends(firsts, places[:-1]) if len(places) > 1 else []
-    unjudged = next(
-        (end.said.why for end in ends if end.said.grants is None), places[-1].mount.unjudged(places[-1].path)
+class Powers(NamedTuple):
+    """Who may read, write and execute something, those alone who come to it; and who comes to it."""
+
+    of_bit: dict[int, Seen]
+    to: Seen
+
+
+def powers(crowd: Crowd, to: Seen, place: Place, programs: list[Way]) -> Powers:
+    """What a crowd may of a place to which these come; a script's interpreters count too."""
+    crowd.ask((place, bit) for _, bit in BITS)
+    found = {bit: to.then(crowd.at(place, bit)) for _, bit in BITS}
+    if programs:
+        found[EXECUTE] = found[EXECUTE].then(crowd.through(programs))
+    return Powers(found, to)
+
+
+def moved(before: Powers, later: Powers) -> list[tuple[str, int]]:
+    """Who gains what and who loses what: words, and people."""
+    found: dict[tuple[str, int], int] = {}
+    everybody = 0
+    for bit in before.of_bit:
+        everybody |= before.of_bit[bit].may | later.of_bit[bit].may
+    for word, less, more in (("gains", before, later), ("loses", later, before)):
+        left = {bit: more.of_bit[bit].may & ~less.of_bit[bit].may for bit in more.of_bit}
+        for perms in range(1, 8):
+            who = everybody
+            for _, bit in BITS:
+                who &= left.get(bit, 0) if perms & bit else ~left.get(bit, 0)
+            if who:
+                found[word, perms] = who
+    return sorted((f"{word} {letters(perms).replace('-', '')}", who) for (word, perms), who in found.items())
+
+
+def unjudged_of(*given: Powers) -> Iterator[tuple[int, str]]:
+    """Of which permissions it is not judged who has them, and why."""
+    for powers_of in given:
+        for bit, seen in powers_of.of_bit.items():
+            if seen.unjudged:
+                yield bit, seen.why
+
+
+def effect(crowd: Crowd, ways: list[Way], entries: List) -> tuple[Powers, Powers]:
+    """What a crowd may of a file before and after a change of its list. A way may lead twice through what is
+    changed, and a script may be its own interpreter's."""
+    *before, place = ways[0].places
+    changed = Changed()
+    changed.add(place, entries)
+    later = changed.ways([ways[0]._replace(places=before), *ways[1:]])
+    return (
+        powers(crowd, crowd.along(before), place, ways[1:]),
+        powers(crowd, crowd.along(later[0].places), after(place, entries), later[1:]),
     )
-    if unjudged:
-        raise Unread(unjudged)
-    return {at for at, end in enumerate(ends) if not end.said.grants}
 
 
-def tell_change(callers: list[Caller], change: Change, path: str, found: Way) -> list[str]:
-    """Who gains and who loses what by a change of a file's list, a line each. A way may lead twice through the
-    folder that is changed."""
-    if found.end:
-        raise Unread(found.end)
-    place = found.places[-1]
-    changed = after(place, change.of(place.entries))
-    places = [after(one, changed.entries) if one.path == place.path else one for one in found.places]
-    parts = likenesses(callers, [*everybody.asked_of(found.places), (changed.owner, changed.group, changed.entries)])
-    firsts = [part[0] for part in parts]
-    before, later = stopped_at(firsts, found.places), stopped_at(firsts, places)
-    moved: dict[str, list[Caller]] = {}
-    for at, (part, old, new) in enumerate(zip(parts, granted_bits(firsts, place), granted_bits(firsts, changed))):
-        old, new = 0 if at in before else old, 0 if at in later else new
-        for word, perms in (("gains", new & ~old), ("loses", old & ~new)):
-            if perms:
-                moved.setdefault(f"{word} {letters(perms).replace('-', '')}", []).extend(part)
-    lines = [f"{quoted(path)}  {list_text(place.entries, name_of)}  would be  {list_text(changed.entries, name_of)}"]
-    lines += [f"  {what}: {everybody.names(part)}" for what, part in sorted(moved.items())]
-    lines += ["  nobody gains or loses"] * (not moved)
-    away = [one for at in sorted(before & later) for one in parts[at]]
-    lines += [f"  stopped on the way, and so left out: {everybody.names(away)}"] * bool(away and len(away) <= 20)
-    lines += [f"  stopped on the way, and so left out: {len(away)} users"] * (len(away) > 20)
+def tell_change(callers: list[Caller], change: Change, path: str) -> list[str]:
+    """Who gains and who loses what by a change of a file's list, a line each."""
+    ways, crowd = ways_of(path, EXECUTE), Crowd(callers)
+    if ways[0].end:
+        raise ways[0].end
+    place = ways[0].places[-1]
+    if change.is_default:
+        return tell_default(crowd, change, ways[0])
+    entries = change.of(place.entries)
+    before, later = effect(crowd, ways, entries)
+    lines = [f"{quoted(path)}  {list_text(place.entries, name_of)}  would be  {list_text(entries, name_of)}"]
+    lines += moved_lines(crowd, before, later)
+    away = crowd.every & ~(before.to.may | later.to.may)
+    count = bin(away).count("1")
+    told = people(crowd.chosen(away)) if count <= 20 else f"{count} users"
+    return lines + [f"  stopped on the way, and so left out: {told}"] * bool(away)
+
+
+def moved_lines(crowd: Crowd, before: Powers, later: Powers) -> list[str]:
+    """Who gains and who loses, a line each. Raises `Unread` where that is not judged."""
+    why = next((why for _, why in unjudged_of(before, later)), None)
+    if why:
+        raise Unread(why)
+    told = [f"  {what}: {people(crowd.chosen(who))}" for what, who in moved(before, later)]
+    return told or ["  nobody gains or loses"]
+
+
+# ---- what is made in a folder
+
+
+def umask() -> int:
+    now = os.umask(0o077)
+    os.umask(now)
+    return now
+
+
+def inherited(default: Optional[List], mode: int) -> List:
+    """The list of what is made with this mode in a folder with this default list, if it has one."""
+    if default is None:
+        return lists.of_mode(mode & ~umask())
+    limits = {USER_OBJ: mode >> 6, MASK: mode >> 3, OTHER: mode}
+    limits |= {} if find(default, MASK) else {GROUP_OBJ: mode >> 3}
+    return tuple(entry._replace(perms=entry.perms & limits.get(entry.tag, 7)) for entry in default)
+
+
+def new_place(folder: Place, default: Optional[List], is_folder: bool) -> Place:
+    """What somebody else makes in a folder."""
+    kind, mode = (0o040000, NEW_FOLDER) if is_folder else (0o100000, NEW_FILE)
+    group = folder.group if folder.mode & 0o2000 else NOBODY
+    made = Place(folder.path, 0, NOBODY, group, kind, (), folder.mount, 0, folder.device)
+    return after(made, inherited(default, mode))
+
+
+def tell_default(crowd: Crowd, change: Change, found: Way) -> list[str]:
+    """What a change of a folder's default list does to what will be made there."""
+    folder = found.places[-1]
+    if not folder.is_folder:
+        raise Bad("only a folder has a default list")
+    try:
+        now = lists.kept(folder.path, lists.DEFAULT)
+    except OSError as error:
+        raise unread(folder.path, error.errno) from None
+    base = tuple(entry for entry in folder.entries if entry.tag in (USER_OBJ, GROUP_OBJ, OTHER))
+    then = change.of(now if now is not None else base if change.is_put else ())
+    told = "none" if now is None else list_text(now, name_of)
+    lines = [f"{quoted(found.path)}  default list {told}  would be  {list_text(then, name_of)}"]
+    reach = crowd.along([*found.places[:-1], folder._replace(wanted=EXECUTE)])
+    for what, is_folder in (("file", False), ("folder", True)):
+        old, new = new_place(folder, now, is_folder), new_place(folder, then, is_folder)
+        made = f"  a new {what}  {list_text(old.entries, name_of)}  would be  {list_text(new.entries, name_of)}"
+        lines.append(made)
+        told_of = moved_lines(crowd, powers(crowd, reach, old, []), powers(crowd, reach, new, []))
+        lines += [f"  {line}" for line in told_of]
     return lines
+
+
+# ---- under a tree
+
+
+def programs_of(row: Row) -> list[Way]:
+    return interpreters(Way(row.path, [row.place])) if row.place.is_file else []
+
+
+def tell_change_under(callers: list[Caller], change: Change, top: str) -> Iterator[str]:
+    """Who gains and who loses what by a change of each list of a tree, a line a path; one is taken out where it is.
+    Last a sentence; raises `Unread` where something was not judged."""
+    tree, crowd, changed = Tree(top), Crowd(callers), Changed()
+    for part in tree.parts():
+        SAYER.at(len(tree.rows))
+        for row in (tree.rows[at] for at in part):
+            if row.target is None and (change.is_put or change.is_in(row.place.entries)):
+                changed.add(row.place, change.of(row.place.entries))
+    reach = Reach(crowd, tree)
+    later = Reach(crowd, tree)
+    later.above, later.to_top = (crowd.along(changed.way(one).places) for one in (tree.above, tree.to_top))
+    count, why = 0, list(tree.unread)
+    rows = [row._replace(place=changed.place(row.place)) for row in tree.rows]
+    for at, row in enumerate(tree.rows):
+        if at % 2000 == 0:
+            some = range(at, min(at + 2000, len(rows)))
+            reach.ask(some, (bit for _, bit in BITS))
+            crowd.ask((rows[one].place, bit) for one in some if rows[one].target is None for _, bit in BITS)
+            SAYER.at(at)
+        to = reach.add(at)
+        above = later.above if row.folder is None else later.within[row.folder]
+        is_folder = row.target is None and row.place.is_folder
+        later.within.append(above.then(crowd.at(rows[at].place, EXECUTE)) if is_folder else above)
+        then = later.to_top if row.folder is None else above
+        if row.target is not None:
+            continue
+        programs = programs_of(row)
+        old = powers(crowd, to, row.place, programs)
+        new = powers(crowd, then, rows[at].place, changed.ways(programs))
+        why += [text for _, text in unjudged_of(old, new)][:1]
+        told = [f"{what}: {people(crowd.chosen(who))}" for what, who in moved(old, new)]
+        if told:
+            count += 1
+            yield f"{quoted(row.path)}  {'; '.join(told)}"
+    yield f"lists that would change: {len(changed.lists):,} of {len(tree.rows):,}; paths where who may what: {count:,}"
+    if why:
+        raise Unread("\n".join(dict.fromkeys(why)))

@@ -1,8 +1,9 @@
 """./suites may [-v] [--groups GID[,GROUP..]] USER WANTED PATH..
        ./suites may [-v] [--groups GID[,GROUP..]] USER create|delete PATH..
        ./suites may [--groups GID[,GROUP..]] USER WANTED --under TREE [--denied] [-0]
-       ./suites may --who WANTED PATH..
-       ./suites may --without ENTRY | --with ENTRY  [--no-mask] PATH..
+       ./suites may --who WANTED|create|delete PATH..
+       ./suites may [-v] --who WANTED --under TREE
+       ./suites may --without ENTRY | --with ENTRY  [--no-mask] PATH.. | --under TREE
        ./suites may --lint TREE
 
 Tells whether a user may read, write or execute files of this machine, and if not, which entry of which list decides.
@@ -10,27 +11,37 @@ USER is a name or a number, WANTED letters of r, w and x. Each folder on the way
 those of the proved access check of acl(5): a line a folder, up to the first that denies, and last a sentence.
 
     create, delete  whether the user may make the name, or take it away: its folder decides
-    --under TREE    each path of a tree that the user may, by which entry; links are told and not followed
+    --under TREE    each path of a tree that the user may, by which entry; links in it are told and not followed
     --denied        those that the user may not
     -0              the paths alone, each ended by a byte 0, as `xargs -0` takes them
-    --who           everybody with an account here who may, by which entry, and who is stopped where
-    --without ENTRY who gains and who loses if the entry (user:lisa, g:200, m) went; nothing is changed
-    --with ENTRY    the same if it (user:lisa:rw, g:200:r, m::rx, o::) came, or took the place of the one there
+    --who           everybody with an account here who may, by which entry, and who is stopped where; with --under
+                    how many paths of a tree each may, and some of them (-v: all)
+    --without ENTRY who gains and who loses if the entry (user:lisa, g:200, m) went; nothing is changed. With --under
+                    the same of each list in a tree that has it
+    --with ENTRY    the same if it (user:lisa:rw, g:200:r, m::rx, o::) came, or took the place of the one there; with
+                    d: before it, of a folder's default list: what new files there will have
     --no-mask       the mask stays; else it is computed as setfacl does
-    --lint TREE     entries that do not do what they say, each with the command that would mend it
+    --lint TREE     what does not do what it says, with the command that would mend it, where that harms nobody
     -v              shows each list, with what its mask leaves of an entry
     --groups LIST   the user has these groups, its own first, and not those that the system gives
+    --              what stands behind it is no option
 
 Exit status: 0 all is granted, 1 something is denied or to be mended, 2 a bad command, 3 a path or a list cannot be read
-(run it as root) or is not judged here. --under, --who, --without and --with end with 0 where they could tell all.
+(run it as root) or is not judged here, 4 out of memory, 6 a write failed. --under, --who, --without and --with end with
+0 where they could tell all.
 
 What Linux does otherwise than lists say is told, and the status is that of Linux. Looked at beside lists:
   - a list with an empty mask, which Linux looks at for the owner alone; and root, whom Linux lets pass
   - mounts: ro, noexec, nodev, nosymfollow; immutable and append-only files; x of what is no file or folder
-  - links in sticky folders (fs.protected_symlinks); sticky folders, of `delete`; the interpreter of a script
+  - snapshots of btrfs that are read-only; sticky folders, of `delete`; interpreters of scripts, and theirs
+  - links that end a path and lie in a sticky folder (fs.protected_symlinks)
 Told as not judged: idmapped mounts, FUSE, NFS, SMB and other file systems whose servers decide, what is of processes or
-settings in /proc, all of /proc with hidepid, /sys and its kind, lists of more than 128 entries or with a user twice.
-Not looked at: capabilities of others than root, security modules, user namespaces, quotas, locks, ELF interpreters.
+settings in /proc, all of /proc with hidepid, /sys and its kind, which names are made in /proc, /dev/pts and their kind,
+subvolumes of btrfs that are taken away, lists of more than 128 entries or with a user twice, paths that grow beyond
+4,095 bytes through links.
+Not looked at: capabilities of others than root, root without capabilities, security modules, user namespaces, mounts of
+other namespaces, quotas, locks, swap files, ELF interpreters, binfmt_misc, rules of devices, and what is opened to be
+made where it is there already (fs.protected_regular, fs.protected_fifos).
 A path that does not begin with / is taken from the current folder, whose own path is looked at too. Names with
 line ends, quotes, backslashes or bytes that are no text are shown as `ls -Q` does.
 """
@@ -41,13 +52,17 @@ import errno
 import io
 import os
 import sys
-from typing import NoReturn
+from typing import Iterator, NoReturn, Optional
 
+import console
 from may import changes, everybody, lint, names, people, telling, under
 from may.lists import BITS, Bad, Unread, quoted
-from may.linux import WRITE
+from may.saying import SAYER
 from may.telling import BAD, DENIED, GRANTED, UNREAD, Judged
-from may.ways import way
+from may.trees import Tree
+from may.ways import WRITE
+
+VERBS = (names.CREATE, names.DELETE)
 
 
 class Parser(argparse.ArgumentParser):
@@ -57,13 +72,15 @@ class Parser(argparse.ArgumentParser):
 
 def wanted_of(word: str) -> int:
     if not word.strip("-") or set(word) - set("rwx-"):
-        raise Bad(f"what is wanted is told in letters of r, w and x, and not as {quoted(word)}")
+        raise Bad(f"what is wanted is told in letters of r, w and x, and not as {people.shortened(word)}")
     return sum(bit for letter, bit in BITS if letter in word)
 
 
 def read(words: list[str]) -> argparse.Namespace:
-    """The command line; what it asks for is `form`."""
+    """The command line; what it asks for is `form`. Behind `--` nothing is an option."""
+    place = words.index("--") if "--" in words else len(words)
     parser = Parser(add_help=False, allow_abbrev=False)
+    parser.add_argument("-h", "--help", action="store_true")
     for flag in ("-v", "--denied", "-0", "--no-mask"):
         parser.add_argument(flag, action="store_true", dest=flag.strip("-").replace("-", "_").replace("0", "zero"))
     parser.add_argument("--groups")
@@ -72,33 +89,46 @@ def read(words: list[str]) -> argparse.Namespace:
     for form in ("--who", "--without", "--with", "--lint"):
         forms.add_argument(form, dest=form.strip("-").replace("with", "with_") if form == "--with" else form.strip("-"))
     parser.add_argument("words", nargs="*")
-    given = parser.parse_args(words)
+    if {"-h", "--help"} & set(words[:place]):
+        return argparse.Namespace(help=True)
+    given = parser.parse_intermixed_args(words[:place])
+    given.words += words[place + 1 :]
     given.form = next(
         (form for form in ("who", "without", "with_", "lint") if getattr(given, form) is not None), "user"
     )
-    if given.form != "user" and (given.groups is not None or given.under is not None or given.denied or given.zero):
-        raise Bad("--groups, --under, --denied and -0 go with a user")
+    check(given)
+    return given
+
+
+def check(given: argparse.Namespace) -> None:
+    """Raises `Bad` where words do not go together."""
+    if given.form != "user" and (given.groups is not None or given.denied or given.zero):
+        raise Bad("--groups, --denied and -0 go with a user")
+    if given.form == "lint" and given.under is not None:
+        raise Bad("--lint takes one tree")
     if given.no_mask and given.form not in ("without", "with_"):
         raise Bad("--no-mask goes with --without and --with")
     if (given.denied or given.zero) and given.under is None:
         raise Bad("--denied and -0 go with --under")
-    return given
-
-
-def say(text: str, stream: str = "stdout") -> None:
-    """A line on standard output, or a sentence on standard error after all that stands before it."""
-    if stream == "stderr":
-        sys.stdout.flush()
-        print(f"suites: {text}", file=sys.stderr)
-    else:
-        print(text)
 
 
 def tell(told: Judged) -> int:
     for one in told.lines:
-        say(one)
-    say(told.last, "stderr" if told.status == UNREAD else "stdout")
+        SAYER.line(one)
+    (SAYER.error if told.status == UNREAD else SAYER.line)(told.last)
     return told.status
+
+
+def judged(given: argparse.Namespace, caller: people.Caller, wanted: int, paths: list[str]) -> Iterator[Judged]:
+    """What is told of each path."""
+    if not wanted:
+        yield from (names.judge_name(caller, given.words[1], path, given.v) for path in paths)
+        return
+    for path, told in zip(paths, telling.judge_all(caller, wanted, paths, given.v)):
+        if told.status == UNREAD and wanted & WRITE and told.last.endswith(os.strerror(errno.ENOENT)):
+            how = f"./suites may {quoted(given.words[0])} create {quoted(path)}"
+            told = told._replace(last=f"{told.last} (whether it may be made: {how})")
+        yield told
 
 
 def of_user(given: argparse.Namespace) -> int:
@@ -107,18 +137,10 @@ def of_user(given: argparse.Namespace) -> int:
         raise Bad("a user, what it wants and a path are told")
     user, verb, *paths = given.words
     caller, status = people.caller_of(user, given.groups), GRANTED
-    wanted = 0 if verb in (names.CREATE, names.DELETE) else wanted_of(verb)
-    for path in paths:
-        if wanted:
-            told = telling.judge(caller, wanted, path, given.v)
-            missing = told.status == UNREAD and wanted & WRITE and told.last.endswith(os.strerror(errno.ENOENT))
-            if missing:
-                told = told._replace(
-                    last=f"{told.last} (whether it may be made: ./suites may {user} create {quoted(path)})"
-                )
-        else:
-            told = names.judge_name(caller, verb, path, given.v)
+    wanted = 0 if verb in VERBS else wanted_of(verb)
+    for count, told in enumerate(judged(given, caller, wanted, paths)):
         status = max(status, tell(told))
+        SAYER.at(count)
     return status
 
 
@@ -127,45 +149,76 @@ def of_tree(given: argparse.Namespace) -> int:
     if len(given.words) != 2:
         raise Bad("a user and what it wants are told")
     caller, wanted = people.caller_of(given.words[0], given.groups), wanted_of(given.words[1])
-    tree = under.tree_of(given.under, wanted)
-    rows = under.rows_under(caller, wanted, given.under, tree)
-    for row in rows:
-        if given.zero:
-            if row.may is not None and row.may != given.denied:
-                sys.stdout.buffer.write(os.fsencode(row.path) + b"\0")
-        elif row.may is None or row.may != given.denied:
-            print(f"{quoted(row.path)}  {row.by}")
-    for why in tree.unread:
-        say(why, "stderr")
-    unjudged = sum(row.may is None and not row.by.startswith("a link to ") for row in rows)
-    if tree.unread or unjudged:
-        say(f"{len(tree.unread)} could not be read, {unjudged} are not judged", "stderr")
-    return UNREAD if tree.unread or unjudged else GRANTED
+    tree, unjudged = Tree(given.under), 0
+    asked = under.Under(caller, wanted, tree)
+    for part in tree.parts():
+        for row in asked.rows(part):
+            unjudged += row.may is None and not row.is_link
+            if given.zero and row.may is not None and row.may != given.denied:
+                SAYER.raw(os.fsencode(row.path) + b"\0")
+            elif not given.zero and (row.may is None or row.may != given.denied):
+                SAYER.line(f"{quoted(row.path)}  {row.by}")
+        SAYER.at(len(tree.rows))
+    return ended(tree.unread, unjudged)
+
+
+def ended(unread: list[str], unjudged: int) -> int:
+    """Tells what could not be told, and the status of it."""
+    for why in unread:
+        SAYER.error(why)
+    if unread or unjudged:
+        SAYER.error(f"{len(unread)} could not be read, {unjudged} are not judged")
+    return UNREAD if unread or unjudged else GRANTED
+
+
+def of_many(given: argparse.Namespace) -> int:
+    """Who may what under a tree, or who gains and loses there?"""
+    if given.words:
+        raise Bad("--under takes one tree")
+    callers = people.accounts()
+    change = change_of(given)
+    if change is None:
+        if given.who in VERBS:
+            raise Bad(f"--who {given.who} takes paths")
+        lines, unread = everybody.tell_who_under(callers, wanted_of(given.who), given.under, given.v)
+        for one in lines:
+            SAYER.line(one)
+        for why in unread:
+            SAYER.error(why)
+        return UNREAD if unread else GRANTED
+    if change.is_default:
+        raise Bad("entries with d: say what new files will be: without --under")
+    for one in changes.tell_change_under(callers, change, given.under):
+        SAYER.line(one)
+    return GRANTED
+
+
+def change_of(given: argparse.Namespace) -> Optional[changes.Change]:
+    if given.form == "who":
+        return None
+    is_put = given.form == "with_"
+    return changes.read_change(given.with_ if is_put else given.without, is_put, not given.no_mask)
 
 
 def of_paths(given: argparse.Namespace) -> int:
     """Who may, or who gains and loses by a change?"""
+    if given.under is not None:
+        return of_many(given)
     if not given.words:
         raise Bad("a path is told")
-    callers, status = people.accounts(), GRANTED
-    wanted = wanted_of(given.who) if given.form == "who" else 1
-    is_put = given.form == "with_"
-    change = None
-    if given.form != "who":
-        change = changes.Change(
-            changes.read_entry(given.with_ if is_put else given.without, is_put), is_put, not given.no_mask
-        )
+    callers, status, change = people.accounts(), GRANTED, change_of(given)
+    verb = given.who if given.who in VERBS else ""
+    wanted = 0 if change or verb else wanted_of(given.who)
     for path in given.words:
-        found = way(path, wanted)
         try:
             for one in (
-                changes.tell_change(callers, change, path, found)
+                changes.tell_change(callers, change, path)
                 if change
-                else everybody.tell_who(callers, wanted, path, found)
+                else everybody.tell_who(callers, wanted, path, verb)
             ):
-                say(one)
+                SAYER.line(one)
         except (Bad, Unread) as error:
-            say(str(error) if isinstance(error, Unread) else f"{quoted(path)}: {error}", "stderr")
+            SAYER.error(str(error) if isinstance(error, Unread) else f"{quoted(path)}: {error}")
             status = UNREAD
     return status
 
@@ -174,40 +227,48 @@ def of_lint(given: argparse.Namespace) -> int:
     """What under a tree is to be mended?"""
     if given.words:
         raise Bad("--lint takes one tree")
-    lines, unread = lint.lint(given.lint)
-    for one in lines:
-        say(one)
-    for why in unread:
-        say(why, "stderr")
-    return UNREAD if unread else DENIED if lines else GRANTED
+    found, status = lint.Lint(given.lint), GRANTED
+    for one in found.lines():
+        SAYER.line(one)
+        status = DENIED
+    return max(status, ended(found.tree.unread, 0))
+
+
+def answered(words: list[str]) -> int:
+    """Answers a command line; says the status."""
+    given = read(words)
+    if given.help:
+        print((__doc__ or "").strip())
+    elif given.form == "user":
+        return of_user(given) if given.under is None else of_tree(given)
+    else:
+        return of_lint(given) if given.form == "lint" else of_paths(given)
+    return GRANTED
+
+
+def run(words: list[str]) -> int:
+    try:
+        return answered(words)
+    except Bad as error:
+        SAYER.error(f"{error} (./suites may --help)")
+        return BAD
+    except Unread as error:
+        for line in str(error).split("\n"):
+            SAYER.error(line)
+        return UNREAD
+    except OSError as error:
+        if error.errno in (*console.NOT_WRITTEN, errno.ENOMEM) and not error.filename:
+            raise
+        named = f"{quoted(os.fsdecode(error.filename))}: " if error.filename else ""
+        SAYER.error(f"{named}{error.strerror}")
+        return UNREAD
 
 
 def main() -> int:
-    words = sys.argv[1:]
-    if "--help" in words or "-h" in words:
-        print((__doc__ or "").strip())
-        return GRANTED
     for stream in (sys.stdout, sys.stderr):
         if isinstance(stream, io.TextIOWrapper):
             stream.reconfigure(errors="backslashreplace")
     try:
-        given = read(words)
-        form = {"user": of_tree if given.under is not None else of_user, "lint": of_lint}.get(given.form, of_paths)
-        status = form(given)
-        sys.stdout.flush()
-        return status
-    except Bad as error:
-        print(f"suites: {error} (./suites may --help)", file=sys.stderr)
-        return BAD
-    except BrokenPipeError:
-        os.dup2(os.open(os.devnull, os.O_WRONLY), sys.stdout.fileno())
-        return UNREAD
-    except (Unread, OSError) as error:
-        sys.stdout.flush()
-        said = (
-            error
-            if isinstance(error, Unread) or not error.filename
-            else f"{quoted(os.fsdecode(error.filename))}: {error.strerror}"
-        )
-        print(f"suites: {said}", file=sys.stderr)
-        return UNREAD
+        return run(sys.argv[1:])
+    finally:
+        SAYER.clear()

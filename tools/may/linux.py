@@ -7,15 +7,12 @@ import stat
 from typing import NamedTuple, Optional
 
 from may import mounts
-from may.lists import Unread, letters, mask_of, quoted
+from may.lists import letters, mask_of
 from may.people import Caller
 from may.program import fault_in, is_granted
-from may.ways import Place
+from may.ways import EXECUTE, READ, WRITE, Place
 
-READ, WRITE, EXECUTE = 4, 2, 1
 KINDS = {stat.S_IFIFO: "a pipe", stat.S_IFSOCK: "a socket", stat.S_IFCHR: "a device", stat.S_IFBLK: "a device"}
-# A script's first line, as far as the kernel reads it.
-HEAD = 256
 
 
 class Said(NamedTuple):
@@ -36,14 +33,13 @@ def follows_all_links() -> bool:
 
 
 def of_link(place: Place, caller: Caller) -> Said:
-    """Whether a link is followed."""
+    """Whether a link is followed. In a sticky folder one of another is not, if it is the last name of a path."""
     if place.mount.has("nosymfollow"):
-        return Said(
-            False, f"{place.shown} is a link, and none is followed on {quoted(place.mount.point)} (nosymfollow)"
-        )
+        return Said(False, f"{place.shown} is a link, and none is followed on {place.mount.shown} (nosymfollow)")
     folder = place.folder
     if (
         folder is not None
+        and place.is_last
         and not follows_all_links()
         and folder.st_mode & stat.S_ISVTX
         and folder.st_mode & 0o002
@@ -54,21 +50,32 @@ def of_link(place: Place, caller: Caller) -> Said:
     return Said(True)
 
 
+def of_snapshot(place: Place) -> Optional[Said]:
+    """What a subvolume of btrfs that is read alone forbids."""
+    if place.mount.kind != "btrfs":
+        return None
+    folder = place.path if place.is_folder else os.path.dirname(place.path)
+    found = mounts.is_snapshot(place.device, folder)
+    if found is None:
+        return Said(None, f"{place.shown}: not judged here: whether it is in a snapshot that is read-only")
+    return Said(False, f"{place.shown} is in a snapshot that is read-only") if found else None
+
+
 def of_kind(place: Place, wanted: int) -> Optional[Said]:
     """What the kind of a file, its mount or its attributes forbid everybody."""
     kind = stat.S_IFMT(place.mode)
     is_plain = kind in (stat.S_IFREG, stat.S_IFDIR)
     if wanted & WRITE and is_plain and place.mount.has("ro"):
-        return Said(False, f"{quoted(place.mount.point)} is mounted read-only")
+        return Said(False, f"{place.mount.shown} is mounted read-only")
     if wanted & WRITE and place.attributes & mounts.IMMUTABLE:
         return Said(False, f"{place.shown} is immutable")
     if kind in (stat.S_IFCHR, stat.S_IFBLK) and wanted & (READ | WRITE) and place.mount.has("nodev"):
-        return Said(False, f"{place.shown} is a device, and {quoted(place.mount.point)} is mounted nodev")
+        return Said(False, f"{place.shown} is a device, and {place.mount.shown} is mounted nodev")
     if kind in KINDS and wanted & EXECUTE:
         return Said(False, f"{place.shown} is {KINDS[kind]}, and Linux executes files alone")
     if kind == stat.S_IFREG and wanted & EXECUTE and place.mount.has("noexec"):
-        return Said(False, f"{quoted(place.mount.point)} is mounted noexec")
-    return None
+        return Said(False, f"{place.mount.shown} is mounted noexec")
+    return of_snapshot(place) if wanted & WRITE and is_plain else None
 
 
 def by_list(place: Place, caller: Caller, wanted: int, answer: str) -> Said:
@@ -105,14 +112,3 @@ def of_place(place: Place, caller: Caller, answer: str, wanted: int = 0) -> Said
 def appended_only(place: Place, wanted: int) -> bool:
     """Whether what is granted is to write at the end alone."""
     return bool(wanted & WRITE and place.attributes & mounts.APPEND and not place.is_folder)
-
-
-def interpreter_of(path: str) -> Optional[str]:
-    """The program that a script names in its first line, if the file is a script."""
-    try:
-        with open(path, "rb") as file:
-            head = file.read(HEAD)
-    except OSError as error:
-        raise Unread(f"{quoted(path)}: {error.strerror}, so whether it is a script is not known") from None
-    words = head.split(b"\n", 1)[0][2:].split(None, 1) if head.startswith(b"#!") else []
-    return os.fsdecode(words[0]) if words else None

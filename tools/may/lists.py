@@ -5,6 +5,7 @@ import errno
 import grp
 import os
 import pwd
+import shlex
 import struct
 from typing import Callable, Iterable, NamedTuple, Optional
 
@@ -32,11 +33,19 @@ List = tuple[Entry, ...]
 
 
 class Unread(Exception):
-    """A path or a list that cannot be read."""
+    """A path or a list that cannot be read: why, and the number of the error where Linux gave one. Some of it is a
+    denial: Linux refuses whoever comes so far."""
+
+    def __init__(self, text: str, number: Optional[int] = None, denies: bool = False) -> None:
+        super().__init__(text)
+        self.number, self.denies = number, denies
 
 
 class Bad(Exception):
     """Words that ask for nothing."""
+
+
+SHORT = {7: "\\a", 8: "\\b", 9: "\\t", 10: "\\n", 11: "\\v", 12: "\\f", 13: "\\r", 34: '\\"', 92: "\\\\"}
 
 
 def quoted(name: str) -> str:
@@ -44,22 +53,20 @@ def quoted(name: str) -> str:
     backslash."""
     if name and name.isprintable() and not set(name) & set("\"\\"):
         return name
-    shown = []
-    for byte in os.fsencode(name):
-        letter = chr(byte)
-        short = {
-            "\n": "\\n",
-            "\t": "\\t",
-            "\r": "\\r",
-            "\a": "\\a",
-            "\b": "\\b",
-            "\f": "\\f",
-            "\v": "\\v",
-            '"': '\\"',
-            "\\": "\\\\",
-        }
-        shown.append(short.get(letter, letter if 32 <= byte < 127 else f"\\{byte:03o}"))
+    shown = (SHORT.get(byte, chr(byte) if 32 <= byte < 127 else f"\\{byte:03o}") for byte in os.fsencode(name))
     return f'"{"".join(shown)}"'
+
+
+def shell_quoted(name: str) -> str:
+    """A name as a shell takes it: in `$'..'` where it has what is not printed."""
+    if name.isprintable():
+        return shlex.quote(name)
+    shown = (
+        f"\\{letter}" if letter in "'\\" else letter
+        if letter.isprintable() else "".join(f"\\{byte:03o}" for byte in os.fsencode(letter))
+        for letter in name
+    )
+    return f"$'{''.join(shown)}'"
 
 
 def of_mode(mode: int) -> List:

@@ -5,18 +5,32 @@ from __future__ import annotations
 import errno
 import os
 import stat
-from typing import Optional
+from typing import NamedTuple, Optional
 
 from may import mounts
 from may.lists import Unread, quoted
 from may.linux import EXECUTE, WRITE
 from may.people import Caller
-from may.program import answers
-from may.telling import DENIED, GRANTED, UNREAD, Judged, judged, questions_of
-from may.ways import Place, parts_of, place_at, unread, way
+from may.telling import DENIED, GRANTED, UNREAD, Judged, answers_of, judged
+from may.ways import Place, Way, looked, parts_of, place_at, unread, way
 
 CREATE, DELETE = "create", "delete"
 MOST_NAME = 255
+NO_NAME = ("", ".", "..")
+
+
+class Target(NamedTuple):
+    """A name that is to be made or taken away: the path as it was told, the way to its folder, and what has the name
+    there, if anything has."""
+
+    path: str
+    way: Way
+    name: str
+    there: Optional[Place]
+
+    @property
+    def folder(self) -> Place:
+        return self.way.places[-1]
 
 
 def split(path: str) -> tuple[str, str]:
@@ -30,22 +44,44 @@ def there(folder: Place, name: str) -> Optional[Place]:
     """What has the name in a folder, if anything has it."""
     path = os.path.join(folder.path, name)
     try:
-        os.lstat(path)
-    except FileNotFoundError:
-        return None
-    except OSError as error:
-        raise unread(path, error) from None
+        looked(path)
+    except Unread as error:
+        if error.number == errno.ENOENT:
+            return None
+        raise
     return place_at(path, 0)
 
 
-def no_create(path: str, found: Optional[Place]) -> Optional[str]:
-    return f"{quoted(path)} is there already" if found else None
+def target_of(path: str) -> Target:
+    """What is to be made or taken away; raises `Unread` only where no user could."""
+    at, name = split(path)
+    found = way(at, WRITE | EXECUTE)
+    if found.end or name in NO_NAME:
+        return Target(path, found, name, None)
+    folder = found.places[-1]
+    if not folder.is_folder:
+        end = unread(folder.path, errno.ENOTDIR)
+        return Target(path, found._replace(places=found.places[:-1], end=end), name, None)
+    if len(os.fsencode(name)) > MOST_NAME:
+        end = Unread(f"{quoted(name[:40])}..: {os.strerror(errno.ENAMETOOLONG)}", errno.ENAMETOOLONG)
+        return Target(path, found._replace(end=end), name, None)
+    return Target(path, found, name, there(folder, name))
 
 
-def no_delete(caller: Caller, path: str, folder: Place, found: Optional[Place]) -> Optional[str]:
-    """Why a name may not be taken away although its folder lets."""
+def no_create(target: Target) -> Optional[str]:
+    """Why a name may not be made although its folder lets."""
+    is_there = target.there or target.name in NO_NAME
+    return f"{quoted(target.path)} is there already" if is_there else None
+
+
+def no_delete(target: Target, caller: Caller) -> Optional[str]:
+    """Why a name may not be taken away although its folder lets. Raises `Unread` where there is none, and where that is
+    not judged."""
+    found, folder, path = target.there, target.folder, target.path
+    if target.name in NO_NAME:
+        return f"{quoted(path)} names no name in a folder"
     if found is None:
-        raise Unread(f"{quoted(path)}: {os.strerror(errno.ENOENT)}")
+        raise unread(path, errno.ENOENT)
     if folder.attributes & mounts.APPEND:
         return f"{folder.shown} is append only"
     if folder.mode & stat.S_ISVTX and caller.uid not in (0, found.owner, folder.owner):
@@ -54,36 +90,47 @@ def no_delete(caller: Caller, path: str, folder: Place, found: Optional[Place]) 
         return f"{found.shown} is immutable"
     if found.attributes & mounts.APPEND:
         return f"{found.shown} is append only"
-    if found.path in mounts.points():
+    if path.endswith("/") and not found.is_folder:
+        raise unread(path, errno.ENOTDIR)
+    return no_folder(found)
+
+
+def no_folder(found: Place) -> Optional[str]:
+    """Why a folder, or what something is mounted on, may not be taken away by anybody."""
+    inside = found.mount.inside(found.path)
+    if found.path == found.mount.point or (found.mount.system, inside) in mounts.points():
         return f"{found.shown} is a place of a mount"
-    if found.is_folder and os.listdir(found.path):
-        return f"{found.shown} is a folder with names in it"
-    return None
+    if found.is_folder and found.mount.kind == "btrfs" and found.inode == mounts.TOP_OF_SUBVOLUME:
+        raise Unread(f"{found.shown}: not judged here: it is a subvolume of btrfs")
+    try:
+        is_full = found.is_folder and any(os.scandir(found.path))
+    except OSError as error:
+        raise unread(found.path, error.errno) from None
+    return f"{found.shown} is a folder with names in it" if is_full else None
+
+
+def no_name(target: Target, caller: Caller, verb: str) -> Optional[str]:
+    """Why a caller may not make or take away a name although the way to it lets pass; raises `Unread` where that is
+    not judged."""
+    other = target.folder.mount.keeps_no_names()
+    if other:
+        raise Unread(f"not judged here: {other}")
+    return no_create(target) if verb == CREATE else no_delete(target, caller)
 
 
 def judge_name(caller: Caller, verb: str, path: str, verbose: bool = False) -> Judged:
     """What is told of making a name or taking one away."""
+    told = Judged([], "", GRANTED)
     try:
-        at, name = split(path)
-        found = way(at, WRITE | EXECUTE)
-        told = judged(caller, WRITE | EXECUTE, at, verbose, found, answers(questions_of(found, caller)))
+        target = target_of(path)
+        told = judged(caller, WRITE | EXECUTE, verbose, target.way, answers_of([target.way], caller))
         if told.status == DENIED:
             return told._replace(last=told.last.replace(" may not wx: ", f" may not {verb} {quoted(path)}: ", 1))
         if told.status != GRANTED:
             return told
-        folder = found.places[-1]
-        if not folder.is_folder:
-            raise Unread(f"{folder.shown}: {os.strerror(errno.ENOTDIR)}")
-        if len(os.fsencode(name)) > MOST_NAME:
-            raise Unread(f"{quoted(name[:40])}..: {os.strerror(errno.ENAMETOOLONG)}")
-        one = folder if name in ("", ".", "..") else there(folder, name)
-        if verb == DELETE and one is folder:
-            return Judged(
-                told.lines, f"{caller.shown} may not {verb}: {quoted(path)} names no name in a folder", DENIED
-            )
-        no = no_create(path, one) if verb == CREATE else no_delete(caller, path, folder, one)
+        no = no_name(target, caller, verb)
     except (Unread, OSError) as error:
-        return Judged([], str(error) if isinstance(error, Unread) else str(unread(path, error)), UNREAD)
+        return Judged(told.lines, str(error) if isinstance(error, Unread) else str(unread(path, error.errno)), UNREAD)
     root = "; Linux lets root pass" if caller.uid == 0 else ""
     if no:
         return Judged(told.lines, f"{caller.shown} may not {verb}: {no}", DENIED)

@@ -8,7 +8,8 @@ from typing import Iterable, NamedTuple, Optional
 
 from may.lists import GROUP, USER, Bad, List, quoted
 
-MAX_ID = 0xFFFFFFFF
+# The number above it stands for nobody.
+MAX_ID, MOST_DIGITS = 0xFFFFFFFE, 10
 
 
 class Caller(NamedTuple):
@@ -27,10 +28,21 @@ class Caller(NamedTuple):
         return f"{quoted(self.name)} ({self.uid}; groups {', '.join(map(str, [self.gid, *self.groups]))})"
 
 
+def is_number(text: str) -> bool:
+    """Whether a text is the number of a user or a group."""
+    digits = text.lstrip("0") or text[-1:]
+    return text.isascii() and text.isdigit() and len(digits) <= MOST_DIGITS and int(digits) <= MAX_ID
+
+
 def number(text: str) -> int:
-    if not (text.isascii() and text.isdigit() and int(text) <= MAX_ID):
-        raise Bad(f"{quoted(text)} is no number of a user or a group")
-    return int(text)
+    if not is_number(text):
+        raise Bad(f"{shortened(text)} is no number of a user or a group")
+    return int(text.lstrip("0") or "0")
+
+
+def shortened(text: str) -> str:
+    """A word as a sentence shows it."""
+    return quoted(text) if len(text) <= 80 else f"{quoted(text[:40])}.. of {len(text):,} letters"
 
 
 def account_of(user: str) -> Optional[pwd.struct_passwd]:
@@ -40,7 +52,7 @@ def account_of(user: str) -> Optional[pwd.struct_passwd]:
     except (KeyError, ValueError, UnicodeError):
         pass
     try:
-        return pwd.getpwuid(int(user)) if user.isascii() and user.isdigit() else None
+        return pwd.getpwuid(number(user)) if is_number(user) else None
     except (KeyError, OverflowError):
         return None
 
@@ -49,15 +61,15 @@ def caller_of(user: str, groups: Optional[str]) -> Caller:
     """The user of a name or a number, with these groups, or with those that the system gives."""
     account = account_of(user)
     if account is None and not (user.isascii() and user.isdigit()):
-        raise Bad(f"there is no user {quoted(user)}")
-    name, uid = (account.pw_name, account.pw_uid) if account else (user, number(user))
+        raise Bad(f"there is no user {shortened(user)}")
+    name, uid = (account.pw_name, account.pw_uid) if account else (str(number(user)), number(user))
     if groups is not None:
         ids = [number(one) for one in groups.split(",")]
     elif account:
         ids = os.getgrouplist(account.pw_name, account.pw_gid)
         ids = [account.pw_gid, *(one for one in ids if one != account.pw_gid)]
     else:
-        raise Bad(f"user {user} has no account here, so tell its groups: --groups {user}")
+        raise Bad(f"user {uid} has no account here, so tell its groups: --groups {uid}")
     return Caller(name, uid, ids[0], tuple(ids[1:]))
 
 
@@ -76,8 +88,7 @@ def accounts() -> list[Caller]:
 
 def likenesses(callers: Iterable[Caller], named: Iterable[tuple[int, int, List]]) -> list[list[Caller]]:
     """Callers by what lists can tell of them: those of a part have the same answers at each of some files, of which
-    the owner, the
-    group and the list are given. The first of each part stands for it."""
+    the owner, the group and the list are given. The first of each part stands for it."""
     users, groups = {0}, set()
     for owner, group, entries in named:
         users |= {owner, *(entry.id for entry in entries if entry.tag == USER)}

@@ -8,6 +8,7 @@ import subprocess
 from typing import Iterable, NamedTuple
 
 import beside
+import console
 from may.lists import (
     GROUP,
     GROUP_OBJ,
@@ -31,6 +32,9 @@ MOST_GROUPS = 32
 # So many bytes of questions are asked at once; the program takes 16 MiB.
 MOST_BYTES = 15_000_000
 GRANTS = "granted"
+# What was answered to lines, of which so many are kept.
+KNOWN: dict[str, str] = {}
+MOST_KNOWN = 300_000
 
 
 class Question(NamedTuple):
@@ -44,8 +48,7 @@ class Question(NamedTuple):
 
     def line(self) -> str:
         """Its line. Groups that neither the list nor the file names decide nothing, and are left out where they are
-        more than the
-        program takes."""
+        more than the program takes."""
         groups = list(self.caller.groups)
         if len(groups) > MOST_GROUPS:
             named = {entry.id for entry in self.entries if entry.tag == GROUP} | {self.group}
@@ -87,7 +90,7 @@ def asked(lines: list[str]) -> dict[str, str]:
             told[left.pop(int(faulty[1]) - 1)] = f"fault {faulty[2]}"
             continue
         if done.returncode != 0 or len(given) != len(left):
-            raise Unread(f"the program `may` ended with status {done.returncode}: {' '.join(given[:1])}")
+            raise Unread(f"{console.ended('may', done.returncode)}: {' '.join(given[:1])}")
         told.update(zip(left, given))
         left = []
     return told
@@ -98,16 +101,19 @@ def answers(questions: Iterable[Question]) -> list[str]:
     given = list(questions)
     faults = {entries: fault(entries) for entries in {one.entries for one in given}}
     lines = [None if faults[one.entries] else one.line() for one in given]
-    told: dict[str, str] = {}
+    if len(KNOWN) > MOST_KNOWN:
+        KNOWN.clear()
+    told = {line: KNOWN[line] for line in lines if line in KNOWN}
     batch: list[str] = []
     size = 0
-    for line in dict.fromkeys(line for line in lines if line is not None):
+    for line in dict.fromkeys(line for line in lines if line is not None and line not in told):
         if size + len(line) >= MOST_BYTES:
             told.update(asked(batch))
             batch, size = [], 0
         batch.append(line)
         size += len(line) + 1
     told.update(asked(batch))
+    KNOWN.update(told)
     return [f"fault {faults[one.entries]}" if line is None else told[line] for one, line in zip(given, lines)]
 
 
@@ -131,8 +137,7 @@ def without_grants(entries: List, kept: Iterable[Entry] = ()) -> List:
 
 def granting(questions: list[Question]) -> list[Entry]:
     """Which entry grants each of some questions that are granted. The check names the entry of a denial: so the list
-    is asked without
-    any permission, and where a group's entry is named, with those of one group after the other."""
+    is asked without any permission, and where a group's entry is named, with those of one group after the other."""
     emptied = [one._replace(entries=without_grants(one.entries)) for one in questions]
     named = [decider(one.entries, answer) for one, answer in zip(questions, answers(emptied))]
     tries = [

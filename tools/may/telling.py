@@ -1,19 +1,19 @@
 """May this user? What is told of one path: a line a place, and a last sentence."""
 from __future__ import annotations
 
-import stat
-from typing import Iterable, Iterator, NamedTuple
+from typing import Iterator, NamedTuple
 
 from may import linux
-from may.lists import LIMITED, Unread, entry_text, letters, mask_of, name_of, quoted, who
-from may.linux import EXECUTE
+from may.lists import LIMITED, entry_text, letters, mask_of, name_of, quoted, who
 from may.people import Caller
-from may.program import Question, answers, decider, is_granted, question
-from may.ways import Place, Way, way
+from may.program import Question, answers, decider, fault_in, is_granted, question
+from may.scripts import ways_of
+from may.ways import Place, Way
 
 GRANTED, DENIED, BAD, UNREAD = 0, 1, 2, 3
-# Scripts whose interpreters are scripts: the kernel goes on so often.
-MOST_SCRIPTS = 4
+Answers = dict[Question, str]
+# So many paths are looked at before their questions are asked.
+AT_ONCE = 200
 
 
 class Judged(NamedTuple):
@@ -50,17 +50,16 @@ def said_of(place: Place, answer: str) -> str:
     return "granted" if is_granted(answer) else f"denied by {entry_text(decider(place.entries, answer), name_of)}"
 
 
-def lines_of(place: Place, answer: str, said: linux.Said, wide: int) -> str:
+def line_of(place: Place, answer: str, said: linux.Said, wide: int) -> str:
     """The line of a place: what its list says, and what Linux does where that is something else."""
     if place.is_link:
         return f"{place.shown:{wide}}  a link that is not followed"
-    if answer.startswith("fault "):
-        linux_says = "granted" if said.grants else "denied"
+    linux_says = "granted" if said.grants else "denied"
+    if fault_in(answer):
         return (
             f"{place.shown:{wide}}  {letters(place.wanted)}  its list is not judged ({linux_says} by Linux: {said.why})"
         )
-    differs = said.grants != is_granted(answer)
-    note = f" ({'granted' if said.grants else 'denied'} by Linux: {said.why})" if differs else ""
+    note = f" ({linux_says} by Linux: {said.why})" if said.grants != is_granted(answer) else ""
     return f"{place.shown:{wide}}  {letters(place.wanted)}  {said_of(place, answer)}{note}"
 
 
@@ -70,69 +69,74 @@ def denial(place: Place, answer: str, said: linux.Said) -> str:
         return why(place, answer)
     return (
         said.why
-        if said.why.startswith((place.shown, quoted(place.mount.point)))
+        if said.why.startswith((place.shown, place.mount.shown))
         else f"{place.shown} wants {letters(place.wanted)}, {said.why}"
     )
 
 
-def judged(caller: Caller, wanted: int, path: str, verbose: bool, found: Way, given: Iterable[str]) -> Judged:
-    """What is told of a path, where the places on the way and the answers of the program are known."""
+def judged(caller: Caller, wanted: int, verbose: bool, found: Way, told_of: Answers) -> Judged:
+    """What is told of a way, where the answers of the program are known."""
     places = [place for place in found.places if not place.is_link]
-    told_of = dict(zip(((place.path, place.wanted) for place in places), given))
     wide = max((len(place.shown) for place in places), default=0)
     told: list[str] = []
     for place in found.places:
-        answer = "" if place.is_link else told_of[place.path, place.wanted]
+        answer = "" if place.is_link else told_of[question(place, caller)]
         said = linux.of_place(place, caller, answer)
         if said.grants is None:
             return Judged(told, said.why, UNREAD)
         differs = not place.is_link and said.grants != is_granted(answer)
         shows = not place.is_link and (verbose or differs or place.path != "/" or len(places) == 1)
-        line = lines_of(place, answer, said, wide)
-        if (not said.grants or shows) and line not in told:
+        line = line_of(place, answer, said, wide) if shows or not said.grants else ""
+        if line and line not in told:
             told.append(line)
             told.extend(listed(place) if verbose and not place.is_link else ())
         if not said.grants:
             return Judged(told, f"{caller.shown} may not {short(wanted)}: {denial(place, answer, said)}", DENIED)
+    if found.end and found.end.denies:
+        return Judged(told, f"{caller.shown} may not {short(wanted)}: {found.end}", DENIED)
     if found.end:
-        return Judged(told, found.end, UNREAD)
-    return granted(caller, wanted, path, found.places[-1], told)
+        return Judged(told, str(found.end), UNREAD)
+    return granted(caller, wanted, found, told)
 
 
-def granted(caller: Caller, wanted: int, path: str, last: Place, told: list[str]) -> Judged:
+def granted(caller: Caller, wanted: int, found: Way, told: list[str]) -> Judged:
     """What is told where every place grants."""
     notes = "; Linux lets root pass" if caller.uid == 0 else ""
-    notes += "; but only at its end (append only)" if linux.appended_only(last, wanted) else ""
-    return Judged(told, f"{caller.shown} may {short(wanted)}: {quoted(path)}{notes}", GRANTED)
+    notes += "; but only at its end (append only)" if linux.appended_only(found.places[-1], wanted) else ""
+    return Judged(told, f"{caller.shown} may {short(wanted)}: {quoted(found.path)}{notes}", GRANTED)
 
 
 def questions_of(found: Way, caller: Caller) -> list[Question]:
     return [question(place, caller) for place in found.places if not place.is_link]
 
 
+def answers_of(ways: list[Way], caller: Caller) -> Answers:
+    asked = [one for found in ways for one in questions_of(found, caller)]
+    return dict(zip(asked, answers(asked)))
+
+
 def judge(caller: Caller, wanted: int, path: str, verbose: bool = False) -> Judged:
-    """What is told of a path; of a script also whether its interpreter may be executed."""
-    found = way(path, wanted)
-    told = judged(caller, wanted, path, verbose, found, answers(questions_of(found, caller)))
-    at = found.places[-1] if found.places else None
-    for _ in range(MOST_SCRIPTS):
-        if told.status != GRANTED or not wanted & EXECUTE or at is None or not stat.S_ISREG(at.mode):
-            return told
-        try:
-            name = linux.interpreter_of(at.path)
-        except Unread as error:
-            return told._replace(last=str(error), status=UNREAD)
-        if name is None:
-            return told
-        below = way(name, EXECUTE)
-        of_it = judged(caller, EXECUTE, name, verbose, below, answers(questions_of(below, caller)))
+    """What is told of a path; of a script also whether its interpreters may be executed."""
+    return judged_ways(caller, wanted, path, verbose, ways_of(path, wanted))
+
+
+def judge_all(caller: Caller, wanted: int, paths: list[str], verbose: bool) -> Iterator[Judged]:
+    """The same of many paths: what is to be known of some is asked at once."""
+    for begun in range(0, len(paths), AT_ONCE):
+        some = [(path, ways_of(path, wanted)) for path in paths[begun : begun + AT_ONCE]]
+        answers_of([found for _, ways in some for found in ways], caller)
+        yield from (judged_ways(caller, wanted, path, verbose, ways) for path, ways in some)
+
+
+def judged_ways(caller: Caller, wanted: int, path: str, verbose: bool, ways: list[Way]) -> Judged:
+    first, *others = ways
+    told_of = answers_of(ways, caller)
+    told = judged(caller, wanted, verbose, first, told_of)
+    for found in others if told.status == GRANTED else ():
+        of_it = judged(caller, linux.EXECUTE, verbose, found, told_of)
         if of_it.status != GRANTED:
-            last = (
-                of_it.last
-                if of_it.status == UNREAD
-                else f"{caller.shown} may not {short(wanted)}: {quoted(path)} is a script for "
-                f"{quoted(name)}; {of_it.last.partition(' may not x: ')[2]}"
-            )
-            return Judged(told.lines + of_it.lines, last, of_it.status)
-        at = below.places[-1]
+            last = of_it.last.partition(" may not x: ")[2] or of_it.last
+            script = "" if found.path == path else f"{quoted(path)} is a script for {quoted(found.path)}; "
+            denies = f"{caller.shown} may not {short(wanted)}: " if of_it.status == DENIED else ""
+            return Judged(told.lines + of_it.lines, f"{denies}{script}{last}", of_it.status)
     return told

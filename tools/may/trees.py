@@ -1,71 +1,97 @@
-"""What lies under a path: each file and folder, with the folder that it lies in. Links are not followed."""
+"""What lies under a path: each file and folder, with the folder that it lies in. Links below it are not followed; the
+path itself may be one."""
 from __future__ import annotations
 
 import os
 import stat
-from typing import NamedTuple, Optional
+from typing import Iterator, NamedTuple, Optional
 
-from may import lists, mounts
 from may.lists import Unread, quoted
-from may.ways import Place, place_at
+from may.ways import SEARCH, Place, Way, place_of, way
 
 
 class Row(NamedTuple):
-    """A file, a folder or a link of a tree, and the number of the row of its folder."""
+    """A file, a folder or a link of a tree: its path as it is told, the number of the row of its folder, and of a link
+    where it leads. `place.path` has no links."""
 
+    path: str
     place: Place
     folder: Optional[int]
     target: Optional[str] = None
 
 
-class Tree:
-    """The rows of a tree, each folder's after its own, and what could not be read, a sentence each."""
+def spelled(top: str, found: Way) -> str:
+    """How the top of a tree is told: without links, unless the way to it goes through some."""
+    goes_on = any(place.is_link for place in found.places) or ".." in top.split("/")
+    return (os.path.join(os.getcwd(), top).rstrip("/") or "/") if goes_on else found.places[-1].path
 
-    def __init__(self, top: str, has_attributes: bool) -> None:
+
+class Tree:
+    """The rows of a tree, each folder's after its own, what could not be read, a sentence each, and the way to it."""
+
+    def __init__(self, top: str) -> None:
         self.rows: list[Row] = []
         self.unread: list[str] = []
-        self.has_attributes = has_attributes
-        self.points = mounts.points()
-        first = place_at(os.path.abspath(top), 0)
-        self.rows.append(Row(first, None))
-        if first.is_folder:
-            self.fill()
+        self.way = way(top, SEARCH)
+        if self.way.end:
+            raise self.way.end
+        self.rows.append(Row(spelled(top, self.way), self.way.places[-1], None))
 
-    def fill(self) -> None:
+    @property
+    def to_top(self) -> Way:
+        """The way to the top, without it."""
+        return self.way._replace(places=self.way.places[:-1])
+
+    @property
+    def above(self) -> Way:
+        """The same as a part of the ways to what lies below: no link on it is the last name of these."""
+        return self.way._replace(places=[place._replace(is_last=False) for place in self.way.places[:-1]])
+
+    def fill(self) -> Iterator[int]:
+        """Reads the tree; answers how many rows there are, once each folder was read."""
         at = 0
         while at < len(self.rows):
             row = self.rows[at]
             if row.target is None and row.place.is_folder:
-                self.read(at, row.place)
+                self.read(at, row)
+                yield len(self.rows)
             at += 1
+        yield at
 
-    def read(self, at: int, folder: Place) -> None:
+    def parts(self, size: int = 2000) -> Iterator[range]:
+        """Reads the tree; answers its rows in parts of about this many, as they are found."""
+        begun = 0
+        for count in self.fill():
+            if count - begun >= size:
+                yield range(begun, count)
+                begun = count
+        yield range(begun, len(self.rows))
+
+    def whole(self) -> Tree:
+        for _ in self.fill():
+            pass
+        return self
+
+    def read(self, at: int, folder: Row) -> None:
         """Adds what a folder has, by name."""
         try:
-            with os.scandir(folder.path) as found:
-                for one in sorted(found, key=lambda one: one.name):
-                    self.add(at, folder, one)
+            names = sorted(os.listdir(folder.place.path))
         except OSError as error:
-            self.unread.append(f"{folder.shown}: {error.strerror}")
+            self.unread.append(f"{quoted(folder.path)}: {error.strerror}")
+            return
+        for name in names:
+            self.add(at, folder, name)
 
-    def add(self, at: int, folder: Place, one: os.DirEntry[str]) -> None:
-        path = one.path
+    def add(self, at: int, folder: Row, name: str) -> None:
+        path, told = os.path.join(folder.place.path, name), os.path.join(folder.path, name)
         try:
-            found = one.stat(follow_symlinks=False)
+            found = os.lstat(path)
             if stat.S_ISLNK(found.st_mode):
-                place = Place(path, 0, found.st_uid, found.st_gid, found.st_mode, (), folder.mount)
-                self.rows.append(Row(place, at, os.readlink(path)))
-            elif path in self.points:
-                self.rows.append(Row(place_at(path, 0), at))
+                place = Place(path, 0, found.st_uid, found.st_gid, found.st_mode, (), folder.place.mount)
+                self.rows.append(Row(told, place, at, os.readlink(path)))
             else:
-                attributes = mounts.looked_at(path)[0] if self.has_attributes else 0
-                entries = lists.of_file(path, found.st_mode)
-                self.rows.append(
-                    Row(
-                        Place(path, 0, found.st_uid, found.st_gid, found.st_mode, entries, folder.mount, attributes), at
-                    )
-                )
+                self.rows.append(Row(told, place_of(path, 0, found), at))
         except Unread as error:
             self.unread.append(str(error))
         except OSError as error:
-            self.unread.append(f"{quoted(path)}: {error.strerror}")
+            self.unread.append(f"{quoted(told)}: {error.strerror}")

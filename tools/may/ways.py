@@ -13,14 +13,15 @@ from may.mounts import Mount
 MOST_LINKS = 40
 # A path, with the byte that ends it, is shorter than this; so the kernel has it.
 MOST_BYTES = 4096
+READ, WRITE, EXECUTE = 4, 2, 1
 # Of a folder that is looked through.
-SEARCH = 1
+SEARCH = EXECUTE
 
 
 class Place(NamedTuple):
-    """A file, a folder or a link on the way: its path, what is wanted of it, its owner, group, mode and list, the
-    mount it lies on, its
-    attributes, and of a link the folder that it lies in."""
+    """A file, a folder or a link on the way: its path, without links, what is wanted of it, its owner, group, mode and
+    list, the mount it lies on, its attributes and device. Of a link also the folder that it lies in, and whether it
+    is the last name of the path."""
 
     path: str
     wanted: int
@@ -30,7 +31,10 @@ class Place(NamedTuple):
     entries: List
     mount: Mount = mounts.PLAIN
     attributes: int = 0
+    device: int = 0
+    inode: int = 0
     folder: Optional[os.stat_result] = None
+    is_last: bool = False
 
     @property
     def is_link(self) -> bool:
@@ -41,110 +45,125 @@ class Place(NamedTuple):
         return stat.S_ISDIR(self.mode)
 
     @property
+    def is_file(self) -> bool:
+        return stat.S_ISREG(self.mode)
+
+    @property
     def shown(self) -> str:
         return quoted(self.path)
 
 
-def unread(path: str, error: OSError) -> Unread:
-    return Unread(f"{quoted(path)}: {error.strerror}")
+def unread(path: str, number: Optional[int]) -> Unread:
+    return Unread(f"{quoted(path)}: {os.strerror(number or 0)}", number)
+
+
+def looked(path: str) -> os.stat_result:
+    """What is at a path, which has no links before its last name."""
+    try:
+        return os.lstat(path)
+    except OSError as error:
+        if error.errno == errno.ENAMETOOLONG and len(os.fsencode(path)) >= MOST_BYTES:
+            raise Unread(
+                f"not judged here: without links the path has more than 4,095 bytes: {quoted(path[:40])}.."
+            ) from None
+        raise unread(path, error.errno) from None
+
+
+def place_of(path: str, wanted: int, found: os.stat_result) -> Place:
+    """A file or a folder, as it was found at a path."""
+    try:
+        entries = lists.of_file(path, found.st_mode)
+    except OSError as error:
+        raise unread(path, error.errno) from None
+    attributes, number = mounts.looked_at(path)
+    mount = mounts.mount_of(path, number)
+    return Place(
+        path, wanted, found.st_uid, found.st_gid, found.st_mode, entries, mount, attributes, found.st_dev, found.st_ino
+    )
 
 
 def place_at(path: str, wanted: int) -> Place:
     """A file or a folder, as it is at a path."""
-    try:
-        found = os.lstat(path)
-        entries = lists.of_file(path, found.st_mode)
-    except OSError as error:
-        raise unread(path, error) from None
-    attributes, number = mounts.looked_at(path)
-    return Place(
-        path, wanted, found.st_uid, found.st_gid, found.st_mode, entries, mounts.mount_of(path, number), attributes
-    )
+    return place_of(path, wanted, looked(path))
 
 
-def link_at(path: str, found: os.stat_result, folder: str) -> Place:
+def link_at(path: str, found: os.stat_result, folder: str, is_last: bool) -> Place:
     """A link that is followed: nothing of its own list is wanted."""
-    _, number = mounts.looked_at(path)
-    entries = lists.of_mode(0o777)
+    mount = mounts.mount_of(path, mounts.looked_at(path)[1])
+    entries, beside = lists.of_mode(0o777), looked(folder)
     return Place(
-        path, 0, found.st_uid, found.st_gid, found.st_mode, entries, mounts.mount_of(path, number), 0, os.lstat(folder)
+        path, 0, found.st_uid, found.st_gid, found.st_mode, entries, mount, folder=beside, is_last=is_last
     )
+
+
+def names_in(path: str) -> list[str]:
+    return [part for part in path.split("/") if part]
 
 
 def parts_of(path: str) -> list[str]:
-    """The names of a path, with a last `.` where it has to be a folder."""
+    """The names of a path, from the first folder on."""
     if not path:
-        raise Unread('"": No such file or directory')
+        raise Unread('"": No such file or directory', errno.ENOENT)
     if len(os.fsencode(path)) >= MOST_BYTES:
-        raise Unread(f"{quoted(path[:40])}..: {os.strerror(errno.ENAMETOOLONG)}")
-    rest = [part for part in os.path.join(os.getcwd(), path).split("/") if part]
-    return rest + ["."] if path.endswith("/") else rest
+        raise Unread(f"{quoted(path[:40])}..: {os.strerror(errno.ENAMETOOLONG)}", errno.ENAMETOOLONG)
+    return names_in(os.path.join(os.getcwd(), path))
 
 
 def joined(at: str, part: str) -> str:
     return at if part == "." else os.path.dirname(at) if part == ".." else os.path.join(at, part)
 
 
-def links_too(at: str, below: str, found: os.stat_result) -> tuple[Place, str, list[str]]:
-    """A link as a place, from where its target goes on, and the names of that."""
-    place, target = link_at(below, found, at), os.readlink(below)
-    more = [one for one in target.split("/") if one]
-    return place, "/" if target.startswith("/") else at, more + ["."] * (target.endswith("/") and bool(more))
-
-
 def places_to(path: str, wanted: int) -> Iterator[Place]:
     """What Linux looks at on the way to a path, in its order: each folder wants x, and links are followed. Raises
-    `Unread`
-    where the way ends before."""
+    `Unread` where the way ends before."""
     rest, at, links = parts_of(path), "/", 0
-    if not rest:
-        yield place_at("/", wanted)
+    wants_folder = path.endswith("/")
     while rest:
         yield place_at(at, SEARCH)
         below = joined(at, rest.pop(0))
-        try:
-            found = os.lstat(below)
-            if stat.S_ISLNK(found.st_mode):
-                links += 1
-                if links > MOST_LINKS:
-                    raise OSError(errno.ELOOP, os.strerror(errno.ELOOP))
-                place, at, more = links_too(at, below, found)
-                yield place
-                rest[:0] = more
-                if not rest:
-                    yield place_at(at, wanted)
-                continue
-            if rest and not stat.S_ISDIR(found.st_mode):
-                raise OSError(errno.ENOTDIR, os.strerror(errno.ENOTDIR))
-        except OSError as error:
-            raise unread(below, error) from None
-        at = below
-        if not rest:
-            yield place_at(at, wanted)
+        found = looked(below)
+        if stat.S_ISLNK(found.st_mode):
+            links += 1
+            if links > MOST_LINKS:
+                raise unread(below, errno.ELOOP)
+            yield link_at(below, found, at, not rest)
+            target = os.readlink(below)
+            wants_folder |= not rest and target.endswith("/")
+            rest[:0] = names_in(target)
+            at = "/" if target.startswith("/") else at
+        elif rest and not stat.S_ISDIR(found.st_mode):
+            raise unread(below, errno.ENOTDIR)
+        else:
+            at = below
+    last = place_at(at, wanted)
+    if wants_folder and not last.is_folder:
+        raise unread(at, errno.ENOTDIR)
+    yield last
 
 
 class Way(NamedTuple):
-    """The places of a way, each once and the path's own last, and why it ends before the path, where it does."""
+    """The path that is gone to, the places of its way, each once and its own last, and why it ends before, where it
+    does."""
 
+    path: str
     places: list[Place]
-    end: Optional[str]
+    end: Optional[Unread] = None
 
 
 def way(path: str, wanted: int) -> Way:
     found: list[Place] = []
-    seen: set[tuple[str, int]] = set()
-    last: Optional[Place] = None
-    end = None
+    seen: set[tuple[str, int, bool]] = set()
+    last, end = None, None
     try:
         for last in places_to(path, wanted):
-            if (last.path, last.wanted) not in seen:
+            if (last.path, last.wanted, last.is_last) not in seen:
                 found.append(last)
-                seen.add((last.path, last.wanted))
+                seen.add((last.path, last.wanted, last.is_last))
     except Unread as error:
-        end = str(error)
+        end = error
     except OSError as error:
-        end = str(unread(path, error))
+        end = unread(path, error.errno)
     # a path may end where its way has been before
     if end is None and last is not None and found[-1] is not last:
         found.append(last)
-    return Way(found, end)
+    return Way(path, found, end)

@@ -22,8 +22,8 @@ const Drawing = (() => {
   class Picture {
     constructor(run, names, rows, onPick) {
       Object.assign(this, { run, names, rows, onPick, opened: new Set(), folds: true, here: 0 });
-      this.agents = run.worlds[0].agents.length;
-      this.servers = run.worlds[0].servers.length;
+      this.agents = run.events[0].agents.length;
+      this.servers = run.events[0].servers.length;
       this.measure();
       this.arrange();
     }
@@ -134,7 +134,7 @@ const Drawing = (() => {
       const group = element("g", { class: "row", transform: `translate(0 ${top})`, ...about });
       const isHere = place === this.placeOf(this.here);
       group.append(element("rect", { class: isHere ? "here" : "reach", x: 0, y: 0, width: this.width, height: ROW }));
-      this.run.worlds[row.event].servers.forEach((server, number) => {
+      this.run.worlds.at(row.event).servers.forEach((server, number) => {
         const box = { class: "down", x: this.serverAt(number) - 5, y: 0, width: 10, height: ROW };
         if (!server.up) group.append(element("rect", box));
       });

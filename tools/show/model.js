@@ -4,6 +4,8 @@
 
 const Model = (() => {
   const AGENTS = 64;
+  // Of so many events in a row the worlds are kept at once; of all others those behind each so many-th.
+  const STRETCH = 256;
 
   // ---- words
 
@@ -94,22 +96,56 @@ const Model = (() => {
     return { ...newest, [suite]: { prefix: Math.max(prefix, now.prefix), content: Math.max(content, now.content) } };
   }
 
-  function opening(event) {
+  // The world that a run, or a part of one, opens with. Of a part it is told besides what is in effect, what agents did for the
+  // jobs that they have, and how their last jobs ended.
+  function opening(event, before = { newest: {}, jobs: [], ends: [] }) {
     const servers = event.servers.map((server) => ({ ...server, copies: bySuite(server.copies) }));
     const agents = event.agents.map((agent) => ({ ...agent, job: null, end: null }));
-    let newest = {};
+    let { newest } = before;
     for (const server of event.servers) {
       for (const copy of server.copies) newest = raised(newest, copy.suite, copy.prefix, copy.content);
+    }
+    for (const end of before.ends) agents[end.agent].end = end;
+    for (const [begun, ...requests] of before.jobs) {
+      const job = begunBy(begun, begun.by.agent);
+      agents[begun.by.agent].job = requests.reduce((own, one) => heard(own, one.server, one.request, one.reply), job);
     }
     return { servers, agents, newest };
   }
 
   const replaced = (list, place, value) => list.map((own, at) => (at === place ? value : own));
 
+  // A list without some of its things, which are told in its order.
+  function without(list, gone, isSame) {
+    if (gone.length === 0) return list;
+    let at = 0;
+    return list.filter((one) => {
+      const goes = at < gone.length && isSame(one, gone[at]);
+      if (goes) at += 1;
+      return !goes;
+    });
+  }
+
+  const isSameLock = (lock, other) => lock.t === other.t && lock.suite === other.suite;
+  const isSameEntry = (one, other) => one.site === other.site && one.suite === other.suite;
+  const isBefore = (lock, other) => lock.t < other.t || (lock.t === other.t && lock.suite < other.suite);
+
+  // Locks with those that came, each in its place.
+  function withLocks(locks, came) {
+    const all = [];
+    let at = 0;
+    for (const lock of locks) {
+      for (; at < came.length && isBefore(came[at], lock); at += 1) all.push(came[at]);
+      all.push(lock);
+    }
+    return [...all, ...came.slice(at)];
+  }
+
   // What a server has once it is told what changed there.
   function changed(server, at) {
     const next = { ...server, up: at.up };
-    if (at.locks) next.locks = at.locks;
+    if (at.freed) next.locks = without(server.locks, at.freed, isSameLock);
+    if (at.locks) next.locks = withLocks(next.locks, at.locks);
     if (at.copies && at.copies.length) next.copies = { ...server.copies, ...bySuite(at.copies) };
     if (at.denials) next.denials = [...server.denials, ...at.denials];
     return next;
@@ -173,11 +209,44 @@ const Model = (() => {
       if (event.kind === "request") job = heard(job, event.server, event.request, event.reply);
       newest = inEffect(newest, job, event);
       // what is not told of an agent is as it was, but for what it asks next
-      const own = { next: undefined, of: undefined, ...event.by };
+      const { dropped = [], put = [], ...told } = event.by;
+      const kept = without(before.cache, [...dropped].reverse(), isSameEntry);
+      const own = { next: undefined, of: undefined, ...told, cache: put.length ? [...[...put].reverse(), ...kept] : kept };
       if (event.end) Object.assign(own, { job: null, end: event.end });
       agents = replaced(agents, event.by.agent, { ...before, job, ...own });
     }
     return { servers, agents, newest };
+  }
+
+  // The worlds behind the events of a run. Most are made again where they are asked for, since what a server or an agent has
+  // may be large.
+  class Worlds {
+    constructor(events, before) {
+      this.events = events;
+      this.starts = [opening(events[0], before)];
+      this.kept = { number: -1, worlds: [] };
+    }
+
+    // The world behind an event.
+    at(place) {
+      const number = Math.floor(place / STRETCH);
+      if (this.kept.number !== number) this.kept = { number, worlds: this.stretch(number) };
+      return this.kept.worlds[place - number * STRETCH];
+    }
+
+    // The worlds of a stretch, and the one with which the next stretch begins.
+    stretch(number) {
+      while (this.starts.length <= number) this.worldsFrom(this.starts.length - 1);
+      return this.worldsFrom(number);
+    }
+
+    worldsFrom(number) {
+      const worlds = [this.starts[number]];
+      const next = number * STRETCH + 1;
+      for (const event of this.events.slice(next, next + STRETCH)) worlds.push(after(worlds[worlds.length - 1], event));
+      if (worlds.length > STRETCH) this.starts[number + 1] = worlds.pop();
+      return worlds;
+    }
   }
 
   // In what a copy is behind what is in effect elsewhere.
@@ -369,7 +438,7 @@ const Model = (() => {
       const at = event.kind === "opening" ? event.servers : event.at && event.at.copies ? [event.at] : [];
       const told = at.flatMap((server) => server.copies.map((copy) => [server.server, copy]));
       for (const [server, copy] of told) {
-        const before = place === 0 ? null : run.worlds[place - 1].servers[server].copies[suite];
+        const before = place === 0 ? null : run.worlds.at(place - 1).servers[server].copies[suite];
         const isSame = before && before.prefix === copy.prefix && before.content === copy.content;
         if (copy.suite === suite && copy.kind !== "absent" && !isSame) life.push({ event: place, server, copy });
       }
@@ -379,11 +448,11 @@ const Model = (() => {
 
   // ---- a run
 
-  // The run that events tell, of a script in lines.
-  function read(lines) {
+  // The run, or the part of one, that events tell; of a part with what was before.
+  function read(lines, before) {
     const events = lines.map((line) => JSON.parse(line));
-    const worlds = [opening(events[0])];
-    for (const event of events.slice(1)) worlds.push(after(worlds[worlds.length - 1], event));
+    const was = before ? { ...before, jobs: before.jobs.map((told) => told.map((line) => JSON.parse(line))) } : undefined;
+    const worlds = new Worlds(events, was);
     const paths = pathsOf(events);
     return { events, worlds, paths, rows: rowsOf(events, paths, worlds), last: events.length - 1 };
   }

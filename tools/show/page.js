@@ -3,7 +3,7 @@
 
 const Page = (() => {
   const given = JSON.parse(document.getElementById("given").textContent);
-  const run = Model.read(given.events);
+  const run = Model.read(given.events, given.before);
   run.names = Saying.namesIn(given.script);
   const find = (name) => document.getElementById(name);
   const [slider, moment, says, world, script, hint, life] = ["slider", "moment", "says", "world", "script", "hint", "life"].map(find);

@@ -1,9 +1,7 @@
--- What agents do, what they gathered of suites, and what their caches keep, as JSON has it.
-use Rattle.std.specs.Prelude.{ℕ, zero, suc, if◌then◌else◌, List, [], ◌∷◌, ◌++◌, codes, is_some, Option, Some, None}
+-- What agents do, and what they gathered of suites, as JSON has it.
+use Rattle.std.specs.Prelude.{ℕ, zero, suc, if◌then◌else◌, List, [], ◌++◌, codes, is_some, Option, Some, None}
 use Rattle.suite_prefix.specs.declared.copies.Prefix.{Prefix}
 use Rattle.suite_collect.specs.Telling.{newest}
-use Rattle.weak_cache.specs.Entries.{Cache, keys_of}
-use Rattle.weak_cache.specs.Cache.{hint, version}
 use Rattle.txn_core.specs.declared.stage.Stage.{Stage}
 use Rattle.txn_core.specs.declared.stage.Stage.TheVariants as stage
 use Rattle.txn_core.specs.Suites.{ReadPoint, GatheredSuite, Suites, holds_exclusively, holds_lock}
@@ -64,24 +62,3 @@ suite_text servers one = member (codes "{\"suite\":") one.0 ++ told_text one.1 s
 
 abbrev pub suites_text : ℕ → Suites → List ℕ
 suites_text servers suites = codes "[" ++ listed (suite_text servers) suites ++ codes "]"
-
--- ---- what a cache keeps
-
--- the version of a prefix that is kept
-abbrev pub hint_text : Option Prefix → List ℕ
-hint_text None = []
-hint_text (Some prefix) = member (codes ",\"prefix\":") prefix.pver
-
--- and that of a content
-abbrev pub kept_text : Option ℕ → List ℕ
-kept_text None = []
-kept_text (Some dver) = member (codes ",\"content\":") dver
-
--- an entry, by its site and its suite
-abbrev pub entry_text : Cache → ℕ × ℕ → List ℕ
-entry_text cache key =
-    member (codes "{\"site\":") key.0 ++ member (codes ",\"suite\":") key.1
-    ++ hint_text (hint cache key.0 key.1) ++ kept_text (version cache key.0 key.1) ++ codes "}"
-
-abbrev pub cache_text : Cache → List ℕ
-cache_text cache = codes "[" ++ listed (entry_text cache) (keys_of cache) ++ codes "]"

@@ -1,7 +1,10 @@
 pub mod Strings
+pub mod Changes
 pub mod Copies
 pub mod Locks
 pub mod Replies
 pub mod Requests
 pub mod Servers
 pub mod Agents
+pub mod Entries
+pub mod code

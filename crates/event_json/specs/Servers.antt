@@ -1,8 +1,12 @@
 -- What servers have as JSON has it.
-use Rattle.std.specs.Prelude.{ℕ, List, ◌++◌, codes}
+use Rattle.std.specs.Prelude.{ℕ, Bool, List, ◌++◌, codes}
 use Rattle.file_ops.specs.declared.audit.AuditItem.{AuditItem}
 use Rattle.suite_script.specs.Texts.{denial_text}
-use Rattle.event_json.specs.Strings.{listed, member}
+use Rattle.event_json.specs.Strings.{listed, member, truth}
+
+-- the number of a server, and whether it is up
+abbrev pub up_text : ℕ → Bool → List ℕ
+up_text number up = member (codes "{\"server\":") number ++ codes ",\"up\":" ++ truth up
 
 -- a denial that a server recorded
 abbrev pub item_text : AuditItem → List ℕ

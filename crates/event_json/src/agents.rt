@@ -1,11 +1,10 @@
-//! What agents do, what they gathered of suites, and what their caches keep.
+//! What agents do, and what they gathered of suites.
 
 ghost use Rattle.std.specs.Prelude.{◌≡◌, ◌++◌, OnOk, Some, codes};
 ghost use Rattle.std.specs.List.{flat_map};
 ghost use Rattle.std.specs.Option.{option_copied};
-ghost use Rattle.event_json.specs.Agents.{cache_text, entry_text, first_text, held_letter, held_letters, held_text, hint_text, known_text, newest_text, stage_word, suite_text, suites_text, told_text, kept_text};
+ghost use Rattle.event_json.specs.Agents.{first_text, held_letter, held_letters, held_text, known_text, newest_text, stage_word, suite_text, suites_text, told_text};
 ghost use Rattle.event_json.specs.Strings.{listed};
-ghost use Rattle.weak_cache.specs.Entries.{keys_of};
 
 use crate::copies::push_votes_member;
 use crate::locks::mode_word;
@@ -14,7 +13,6 @@ use std::alloc::AllocError;
 use suite_collect::ReadPoint;
 use suite_prefix::SharedPrefix;
 use txn_core::{GatheredSuite, Stage};
-use weak_cache::{Entries, WeakCache};
 
 /// How far a job is, in a word.
 pub fn stage_word(stage: Stage) -> &'static [u8]
@@ -162,69 +160,4 @@ fn push_point(text: &mut Vec<u8>, point: &ReadPoint) -> Result<(), AllocError>
     push_member(text, b",\"prefix\":", point.prefix.pver)?;
     push_member(text, b",\"content\":", point.dver)?;
     push_member(text, b",\"source\":", u64::from(point.source))
-}
-
-/// What a cache keeps, the newest first.
-pub fn push_cache(text: &mut Vec<u8>, cache: &WeakCache) -> Result<(), AllocError>
-    ensures { OnOk result (text.new.items ≡ text.old.items ++ cache_text cache.now.entries) }
-{
-    text.extend_from_slice(b"[")?;
-    push_entries(text, cache)?;
-    text.extend_from_slice(b"]")
-}
-
-fn push_entries(text: &mut Vec<u8>, cache: &WeakCache) -> Result<(), AllocError>
-    ensures { OnOk result (text.new.items ≡ text.old.items ++ listed (entry_text cache.now.entries) (keys_of cache.now.entries)) }
-{
-    let mut entries = cache.entries();
-    let Some(first) = entries.next() else {
-        return Ok(());
-    };
-    push_entry(text, cache, first.0, first.1)?;
-    push_more_entries(text, cache, entries)
-}
-
-fn push_more_entries(
-    text: &mut Vec<u8>,
-    cache: &WeakCache,
-    entries: Entries<'_>,
-) -> Result<(), AllocError>
-    ensures { OnOk result (text.new.items ≡ text.old.items ++ flat_map (λ next. codes "," ++ entry_text cache.now.entries next) entries.entry) }
-{
-    for (site, suite) in entries {
-        text.extend_from_slice(b",")?;
-        push_entry(text, cache, site, suite)?;
-    }
-    Ok(())
-}
-
-/// What a site keeps of a suite.
-fn push_entry(text: &mut Vec<u8>, cache: &WeakCache, site: u8, suite: u64) -> Result<(), AllocError>
-    ensures { OnOk result (text.new.items ≡ text.old.items ++ entry_text cache.now.entries (site, suite)) }
-{
-    push_member(text, b"{\"site\":", u64::from(site))?;
-    push_member(text, b",\"suite\":", suite)?;
-    push_hint(text, cache.hint(site, suite))?;
-    push_kept(text, cache.version(site, suite))?;
-    text.extend_from_slice(b"}")
-}
-
-/// The version of a prefix, where there is one.
-fn push_hint(text: &mut Vec<u8>, prefix: Option<&SharedPrefix>) -> Result<(), AllocError>
-    ensures { OnOk result (text.new.items ≡ text.old.items ++ hint_text (option_copied prefix.entry)) }
-{
-    match prefix {
-        Some(prefix) => push_member(text, b",\"prefix\":", prefix.pver),
-        None => Ok(()),
-    }
-}
-
-/// The version of a content, where there is one.
-fn push_kept(text: &mut Vec<u8>, dver: Option<u64>) -> Result<(), AllocError>
-    ensures { OnOk result (text.new.items ≡ text.old.items ++ kept_text dver) }
-{
-    match dver {
-        Some(dver) => push_member(text, b",\"content\":", dver),
-        None => Ok(()),
-    }
 }

@@ -3,25 +3,30 @@
 //!
 //! **Promises.** Strings, copies, lists of locks and of denials, verdicts and decisions, requests and replies, what an
 //! agent gathered and what its cache keeps are exactly what their definitions give (`specs/`). A number is written as
-//! it is, however large. What changed at a server (`Before`), and all that a server has, is put together of these
-//! without a promise.
+//! it is, however large. Locks and entries of a cache that are told as changes are those that went and those that
+//! came: what stayed is the rest of both lists (`specs/Changes.antt`). That a change is told as small as it can be is
+//! not promised. What changed at a server (`Before`), and all that a server has, is put together of these without a
+//! promise, but for its number and whether it is up.
 //!
 //! **The caller owes** nothing.
 //!
-//! **Files**: `strings`, `copies`, `locks`, `requests`, `replies`, `servers`, `agents`. **Definitions** (`specs/`):
-//! `Strings`, `Copies`, `Locks`, `Requests`, `Replies`, `Servers`, `Agents`.
+//! **Files**: `strings`, `copies`, `locks`, `requests`, `replies`, `servers`, `agents`, `entries` (of caches).
+//! **Definitions** (`specs/`): `Strings`, `Changes`, `Copies`, `Locks`, `Requests`, `Replies`, `Servers`, `Agents`,
+//! `Entries`.
 #![tactic(auto)]
 
 mod agents;
 mod copies;
+mod entries;
 mod locks;
 mod replies;
 mod requests;
 mod servers;
 mod strings;
 
-pub use agents::{push_cache, push_gathered, stage_word};
+pub use agents::{push_gathered, stage_word};
 pub use copies::push_copy;
+pub use entries::{Kept, kept_in, push_cache, push_cache_change};
 pub use locks::push_locks;
 pub use replies::{push_reply, push_verdict};
 pub use requests::{asked_word, push_request};

@@ -2,11 +2,11 @@
 
 ghost use Rattle.std.specs.Prelude.{◌≡◌, ◌++◌, OnOk, codes};
 ghost use Rattle.std.specs.List.{flat_map};
-ghost use Rattle.event_json.specs.Servers.{denials_text, item_text};
+ghost use Rattle.event_json.specs.Servers.{denials_text, item_text, up_text};
 ghost use Rattle.event_json.specs.Strings.{listed};
 
 use crate::copies::push_copy;
-use crate::locks::push_locks;
+use crate::locks::{push_changed_locks, push_locks};
 use crate::strings::{push_member, truth};
 use file_ops::AuditItem;
 use rep_core::{Lock, Request, Server};
@@ -39,8 +39,8 @@ impl Before {
         Ok(())
     }
 
-    /// What the server has after a request of what it had not before, or had otherwise: all locks, where they changed,
-    /// the copies that a Finish left, and denials that came.
+    /// What the server has after a request of what it had not before, or had otherwise: the locks that went and those that
+    /// came, the copies that a Finish left, and denials that came.
     pub fn push_changes(
         &self,
         alloc: Global,
@@ -50,10 +50,7 @@ impl Before {
     ) -> Result<(), AllocError> {
         push_up(text, self.number, server)?;
         let locks = server.locks()?;
-        if locks != self.locks {
-            text.extend_from_slice(b",\"locks\":")?;
-            push_locks(text, &locks)?;
-        }
+        push_changed_locks(alloc, text, self.locks.as_slice(), locks.as_slice())?;
         if let Request::Finish { t, .. } = request {
             text.extend_from_slice(b",\"copies\":[")?;
             self.push_left(alloc, text, server, *t)?;
@@ -116,7 +113,9 @@ pub fn push_server(
 }
 
 /// The number of a server, and whether it is up.
-fn push_up(text: &mut Vec<u8>, number: u8, server: &Server) -> Result<(), AllocError> {
+fn push_up(text: &mut Vec<u8>, number: u8, server: &Server) -> Result<(), AllocError>
+    ensures { OnOk result (text.new.items ≡ text.old.items ++ up_text number server.now.state.up) }
+{
     push_member(text, b"{\"server\":", u64::from(number))?;
     text.extend_from_slice(b",\"up\":")?;
     text.extend_from_slice(truth(server.is_up()))

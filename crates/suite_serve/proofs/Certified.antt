@@ -1,5 +1,5 @@
 -- What was certified is what came of a script's jobs.
-use Rattle.std.proofs.Common.{◌≡◌, ◌∙◌, ap, arith, refl, sym, subst, ℕ, ◌+◌, List, [], ◌∷◌, length, map}
+use Rattle.std.proofs.Common.{◌≡◌, ◌∙◌, ap, arith, refl, sym, subst, ℕ, ◌+◌, List, [], ◌∷◌, length, map, None}
 use Rattle.txn_core.specs.declared.job.Job.{Job}
 use Rattle.agent_pool.specs.Pools.{begun_by}
 use Rattle.agent_pool.specs.Transcripts.{Played}
@@ -7,6 +7,8 @@ use Rattle.server_lock.specs.declared.item.Item.{Item}
 use Rattle.run_certify.specs.declared.entry.Entry.{Entry}
 use Rattle.run_certify.specs.Certified.{IsCertified}
 use Rattle.run_certify.specs.Promised.{CertifiedIsPromised}
+use Rattle.law_certified.specs.Histories.{TellsOfTime}
+use Rattle.server_lock.specs.Counts.{made_by}
 use Rattle.agent_pool.specs.declared.outcome.JobOutcome.{JobOutcome}
 use Rattle.agent_pool.specs.declared.pool_context.NamedJob.{NamedJob}
 use Rattle.suite_serve.specs.Scripts.{Plan}
@@ -28,9 +30,10 @@ named_long number [] = refl
 named_long number (job ∷ jobs) = let e = named_long (number + 1) jobs in omega arith
 
 pub is_served : (plan : Plan) (came : Came) (histories : List (List Item)) (transcripts : List (List Entry)) (jobs : List NamedJob) (worked : Worked)
-    → IsCertified plan.settings histories transcripts → CertifiedIsPromised plan.settings histories transcripts → jobs ≡ named_from 0 plan.jobs → transcripts ≡ transcripts_of worked.agents.items → AreDone jobs plan.alone worked
+    → IsCertified plan.settings histories transcripts → CertifiedIsPromised plan.settings histories transcripts → TellsOfTime plan.settings histories transcripts
+    → made_by None histories ≡ 0 → jobs ≡ named_from 0 plan.jobs → transcripts ≡ transcripts_of worked.agents.items → AreDone jobs plan.alone worked
     → came ≡ came_of transcripts worked.outcomes.items (items_in histories) → IsServed plan came
-is_served plan came histories transcripts jobs worked certified promised named told done is =
+is_served plan came histories transcripts jobs worked certified promised time quiet named told done is =
     let players = worked.agents.items in
     let outcomes = worked.outcomes.items in
     let ended : HaveEnded players (named_from 0 plan.jobs) outcomes = subst (λ (js : List NamedJob). HaveEnded players js outcomes) named done.each in
@@ -43,6 +46,8 @@ is_served plan came histories transcripts jobs worked certified promised named t
       transcripts = transcripts;
       certified = certified;
       promised = promised;
+      time = time;
+      quiet = quiet;
       each =
           subst (λ (all : Came). AreJobEnds transcripts 0 plan.jobs all.ends) (sym is)
           (subst (λ (ts : List (List Entry)). AreJobEnds ts 0 plan.jobs (map (end_in ts) outcomes)) (sym told) each);

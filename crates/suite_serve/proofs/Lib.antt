@@ -8,4 +8,5 @@ mod Pooled
 mod Ended
 mod Counted
 mod Written
+mod Quiet
 mod Certified

@@ -9,6 +9,8 @@ use Rattle.run_certify.specs.declared.entry.Entry.{Entry}
 use Rattle.run_certify.specs.declared.entry.Entry.TheVariants.{Begun, Asked, Ended}
 use Rattle.run_certify.specs.Certified.{IsCertified}
 use Rattle.run_certify.specs.Promised.{CertifiedIsPromised}
+use Rattle.law_certified.specs.Histories.{TellsOfTime}
+use Rattle.server_lock.specs.Counts.{made_by}
 use Rattle.agent_pool.specs.declared.outcome.JobOutcome.{JobOutcome}
 use Rattle.agent_pool.specs.Endings.{end_at}
 use Rattle.agent_pool.specs.Transcripts.{AreAsks, begins}
@@ -124,16 +126,19 @@ begun_in (entries ∷ later) = begins entries + begun_in later
 
 -- What came of a script's jobs is what came of them in one run of servers and agents, which opens with the script's settings: each job ended so in what
 -- the agents did, those above `together` as the first jobs of agent 0, in their order, and served before all others; each agent did its jobs in their
--- order; and so many requests were served.
+-- order; each was begun once, and nothing else; the operator did nothing; and so many requests were served. Of that run holds all that is promised of a run,
+-- at each of its moments, and what its histories tell of time.
 pub record IsServed (plan : Plan) (came : Came) : Type 0 where
   pub histories : List (List Item)
   pub transcripts : List (List Entry)
   pub certified : IsCertified plan.settings histories transcripts
   pub promised : CertifiedIsPromised plan.settings histories transcripts
+  pub time : TellsOfTime plan.settings histories transcripts
   pub each : AreJobEnds transcripts 0 plan.jobs came.ends
   pub apart : AreApart came.ends
   pub alone : AreFirst plan.alone came.ends
   pub before : AreBefore plan.alone came.ends transcripts
   pub order : AreInOrder came.ends
   pub once : begun_in transcripts ≡ length plan.jobs
+  pub quiet : made_by None histories ≡ 0
   pub steps : came.steps ≡ items_in histories

@@ -7,7 +7,9 @@
 //! jobs above `together` are the first that agent 0 began, in their order, and each agent began its jobs in theirs.
 //! Those above ended before any other had asked anything: what a server served for them stands before what it served
 //! for the others (`AreBefore`). No two lines are of one agent and count. So a line cannot be another job's,
-//! and nothing is printed that was not certified.
+//! and nothing is printed that was not certified. As many jobs were begun as the script has, and the operator did
+//! nothing. What is promised of a run holds of this one at each of its moments (`CertifiedIsPromised`), and its
+//! histories tell whose decision came first (`TellsOfTime`).
 //!
 //! A fault of the pool but Memory, of closing, or of certifying prints `mismatch` and no outcome. No clause says
 //! that threads do anything at once, that a call returns, or which of two jobs below `together` comes first.

@@ -1,7 +1,9 @@
 //! The jobs of a script, carried out by agents in threads on servers under locks, and certified.
 
-ghost use Rattle.std.specs.Prelude.{◌≡◌, ◌++◌, ◌∷◌, [], IfOk, OnOk, Ok};
+ghost use Rattle.std.specs.Prelude.{◌≡◌, ◌++◌, ◌∷◌, [], IfOk, None, OnOk, Ok};
 ghost use Rattle.agent_pool.specs.Transcripts.{first_player, players_from};
+ghost use Rattle.law_certified.specs.Histories.{TellsOfTime};
+ghost use Rattle.server_lock.specs.Counts.{passes_by};
 ghost use Rattle.server_lock.specs.Passes.{passes_of};
 ghost use Rattle.run_certify.specs.Certified.{IsCertified};
 ghost use Rattle.run_certify.specs.Promised.{CertifiedIsPromised};
@@ -12,6 +14,7 @@ ghost use Rattle.suite_serve.specs.code.Working.{AreDone, FollowsAll, named_from
 use crate::script::JobScript;
 use crate::served::{Served, items_in};
 use agent_pool::{JobOutcome, NamedJob, Player, Pool, PoolFault, first_players, run_pool};
+use law_certified::promise;
 use run_certify::{CertifyFault, KeptJob, Transcripts, certify};
 use server_lock::{Histories, OpenGate, Pass, Servers};
 use std::alloc::{AllocError, Global};
@@ -61,7 +64,7 @@ pub fn serve<R: Threads + Wait + Sync>(
     Ok(Served::new(transcripts, outcomes, steps))
 }
 
-/// Certifies that this is one run.
+/// Certifies that this is one run. What is promised of it, and what its histories tell of time, comes with that.
 fn judge(
     alloc: Global,
     settings: &Settings,
@@ -70,8 +73,10 @@ fn judge(
 ) -> Result<(), CertifyFault>
     ensures certified { OnOk result (IsCertified settings.now histories.now transcripts.now) }
     ensures promised { OnOk result (CertifiedIsPromised settings.now histories.now transcripts.now) }
+    ensures time { OnOk result (TellsOfTime settings.now histories.now transcripts.now) }
 {
     certify(alloc, settings, histories, transcripts)?;
+    promise(settings, histories, transcripts);
     Ok(())
 }
 
@@ -113,7 +118,8 @@ fn work<R: Threads + Wait + Sync>(
     alone: usize,
 ) -> Result<Worked, CertifyFault>
     requires { opened.passes.items ≡ passes_of opened.servers.now.agents }
-    ensures { IfOk result (λ worked. AreDone jobs.items alone worked) }
+    ensures done { IfOk result (λ worked. AreDone jobs.items alone worked) }
+    ensures quiet { IfOk result (λ worked. passes_by None worked.passes.items ≡ passes_by None opened.entry.passes.items) }
 {
     let Opened { servers, passes } = opened;
     let (first, others) = first_and_others(alloc, servers.settings())?;

@@ -1,28 +1,49 @@
 //! What agents do, what they gathered, and what their caches keep, as JSON.
 
-use event_json::{asked_word, push_cache, push_gathered, stage_word};
+use event_json::{
+    Kept, asked_word, kept_in, push_cache, push_cache_change, push_gathered, stage_word,
+};
 use rep_core::Request;
 use script_text::push_number;
 use std::alloc::{AllocError, Global};
 use txn_core::Agent;
 
-/// What was told last of an agent: what it gathered, and what its cache keeps.
+/// What was told last of an agent: what it gathered, and what its cache keeps, the oldest first.
 #[derive(Drop)]
-pub(crate) struct AgentTexts {
+pub(crate) struct AgentTold {
     gathered: Vec<u8>,
-    cache: Vec<u8>,
+    cache: Vec<Kept>,
 }
 
-impl AgentTexts {
+impl AgentTold {
     /// Nothing yet.
-    pub(crate) fn new(alloc: Global) -> AgentTexts {
-        AgentTexts {
+    pub(crate) fn new(alloc: Global) -> AgentTold {
+        AgentTold {
             gathered: Vec::new(alloc),
             cache: Vec::new(alloc),
         }
     }
 
-    /// What an agent gathered, and what its cache keeps, each where it was told otherwise before.
+    /// All that an agent gathered, and all that its cache keeps.
+    pub(crate) fn push_all(
+        &mut self,
+        alloc: Global,
+        text: &mut Vec<u8>,
+        agent: &Agent,
+        servers: u8,
+    ) -> Result<(), AllocError> {
+        self.gathered.clear();
+        push_gathered(&mut self.gathered, agent.gathered(), servers)?;
+        text.extend_from_slice(b",\"gathered\":")?;
+        text.extend_from_slice(self.gathered.as_slice())?;
+        self.cache = kept_in(alloc, agent.cache())?;
+        text.extend_from_slice(b",\"cache\":")?;
+        push_cache(text, self.cache.as_slice())?;
+        self.cache.reverse();
+        Ok(())
+    }
+
+    /// What an agent gathered, where it was told otherwise before, and what changed in its cache since it was told.
     pub(crate) fn push_changes(
         &mut self,
         alloc: Global,
@@ -32,26 +53,17 @@ impl AgentTexts {
     ) -> Result<(), AllocError> {
         let mut gathered = Vec::new(alloc);
         push_gathered(&mut gathered, agent.gathered(), servers)?;
-        push_changed(text, b",\"gathered\":", &mut self.gathered, gathered)?;
-        let mut cache = Vec::new(alloc);
-        push_cache(&mut cache, agent.cache())?;
-        push_changed(text, b",\"cache\":", &mut self.cache, cache)
+        if self.gathered != gathered {
+            text.extend_from_slice(b",\"gathered\":")?;
+            text.extend_from_slice(gathered.as_slice())?;
+            self.gathered = gathered;
+        }
+        let mut cache = kept_in(alloc, agent.cache())?;
+        cache.reverse();
+        push_cache_change(alloc, text, self.cache.as_slice(), cache.as_slice())?;
+        self.cache = cache;
+        Ok(())
     }
-}
-
-/// A member, where it was otherwise before.
-fn push_changed(
-    text: &mut Vec<u8>,
-    before: &[u8],
-    last: &mut Vec<u8>,
-    now: Vec<u8>,
-) -> Result<(), AllocError> {
-    if *last != now {
-        text.extend_from_slice(before)?;
-        text.extend_from_slice(now.as_slice())?;
-        *last = now;
-    }
-    Ok(())
 }
 
 /// The number of an agent, how many jobs it began, how far its job is, and what it asks next of which server, where it

@@ -1,6 +1,6 @@
 //! What happens, as objects of JSON, one a line.
 
-use crate::agents::{AgentTexts, push_agent};
+use crate::agents::{AgentTold, push_agent};
 use event_json::{Before, push_denials, push_reply, push_request, push_server, push_string};
 use file_ops::AuditItem;
 use rep_core::Request;
@@ -9,6 +9,9 @@ use script_text::push_number;
 use std::alloc::{AllocError, Global};
 use suite_play::push_ending;
 use txn_core::Agent;
+
+/// The form of the events, by its number. It rises where who reads the form before would read events wrong.
+const FORM: &[u8] = b",\"form\":2";
 
 /// How far a run is told: how many events, and what was told last of what changes.
 #[derive(Drop)]
@@ -19,7 +22,7 @@ pub(crate) struct Events {
     before: Before,
     asked: Request,
     servers: u8,
-    told: Vec<AgentTexts>,
+    told: Vec<AgentTold>,
 }
 
 impl Events {
@@ -63,7 +66,9 @@ impl Events {
         servers: u8,
     ) -> Result<(), AllocError> {
         self.servers = servers;
-        self.tell_all(text, world, (agents, servers), b"opening")
+        self.begin(text, b"opening")?;
+        text.extend_from_slice(FORM)?;
+        self.tell_all(text, world, agents, servers)
     }
 
     /// Tells what agents and servers have behind the last line.
@@ -74,17 +79,17 @@ impl Events {
         agents: u8,
         servers: u8,
     ) -> Result<(), AllocError> {
-        self.tell_all(text, world, (agents, servers), b"standing")
+        self.begin(text, b"standing")?;
+        self.tell_all(text, world, agents, servers)
     }
 
     fn tell_all(
         &mut self,
         text: &mut Vec<u8>,
         world: &World,
-        (agents, servers): (u8, u8),
-        kind: &[u8],
+        agents: u8,
+        servers: u8,
     ) -> Result<(), AllocError> {
-        self.begin(text, kind)?;
         let mut before: &[u8] = b",\"servers\":[";
         for number in 0..servers {
             if let Some(server) = world.server(number) {
@@ -96,10 +101,9 @@ impl Events {
         self.told.clear();
         before = b"],\"agents\":[";
         for number in 0..agents {
-            self.told.push(AgentTexts::new(self.alloc))?;
             if let Some(agent) = world.agent(number) {
                 text.extend_from_slice(before)?;
-                self.push_by(text, number, agent)?;
+                self.push_whole(text, number, agent)?;
                 before = b",";
             }
         }
@@ -220,6 +224,20 @@ impl Events {
             }
             None => Ok(()),
         }
+    }
+
+    /// All of an agent, who is told of for the first time, or for the last.
+    fn push_whole(
+        &mut self,
+        text: &mut Vec<u8>,
+        number: u8,
+        agent: &Agent,
+    ) -> Result<(), AllocError> {
+        push_agent(text, number, agent, &mut self.asked)?;
+        let mut told = AgentTold::new(self.alloc);
+        told.push_all(self.alloc, text, agent, self.servers)?;
+        self.told.push(told)?;
+        text.extend_from_slice(b"}")
     }
 
     fn push_by(&mut self, text: &mut Vec<u8>, number: u8, agent: &Agent) -> Result<(), AllocError> {

@@ -1,11 +1,14 @@
-use Rattle.std.proofs.Common.{◌∙◌, ap, subst}
+use Rattle.std.proofs.Common.{◌≡◌, ◌∙◌, ap, subst, [], ◌∷◌, None}
 use Rattle.suite_prefix.specs.SettingsRules.{Opening}
 use Rattle.server_lock.specs.Closed.{AreOf}
+use Rattle.server_lock.specs.Counts.{passes_by}
+use Rattle.server_lock.specs.Passes.{new_pass}
 use Rattle.suite_serve.specs.Scripts.{Plan}
 use Rattle.suite_serve.specs.Served.{IsServed}
 use Rattle.suite_serve.specs.code.Working.{AreDone}
 use Rattle.suite_serve.proofs.Certified.{came_of, is_served}
 use Rattle.suite_serve.proofs.Counted.{few_items}
+use Rattle.suite_serve.proofs.Quiet.{none_made, operators}
 use Rattle.suite_serve.proofs.serving.serve.Goals as goal
 
 pub returns : goal.returns
@@ -14,10 +17,13 @@ returns g c =
     let worked = c.in_ok-agents.field-0 in
     let transcripts = c.in_ok-transcripts.transcripts in
     let jobs = c.in_ok-jobs.jobs.items in
-    let done : AreDone jobs plan.alone worked = c.in_ok-agents.ensures in
+    let done : AreDone jobs plan.alone worked = c.in_ok-agents.ensures.done in
+    let held : passes_by None worked.passes.items ≡ new_pass None ∷ [] = c.in_ok-agents.ensures.quiet ∙ ap (passes_by None) c.in_ok-servers.ensures.passes ∙ operators plan.settings.agents in
+    let quiet = none_made c.in-Ok.histories worked.passes.items held (c.in-Ok.ensures.counted None) in
     let told = c.new.ensures ∙ ap (came_of transcripts worked.outcomes.items) c.items_in-steps.ensures in
     subst (λ (p : Plan). IsServed p c.new.result) c.script.view_is
-    (is_served plan c.new.result c.in-Ok.histories transcripts jobs worked c.in_ok-judge.ensures.certified c.in_ok-judge.ensures.promised c.in_ok-jobs.ensures c.in_ok-transcripts.ensures done told)
+    (is_served plan c.new.result c.in-Ok.histories transcripts jobs worked c.in_ok-judge.ensures.certified c.in_ok-judge.ensures.promised c.in_ok-judge.ensures.time
+    quiet c.in_ok-jobs.ensures c.in_ok-transcripts.ensures done told)
 
 pub items_in-steps-requires : goal.items_in-steps-requires
 items_in-steps-requires g c =

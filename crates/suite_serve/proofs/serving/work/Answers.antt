@@ -1,4 +1,4 @@
-use Rattle.std.proofs.Common.{◌≡◌, ◌∙◌, ap, ap₂, arith, refl, sym, subst, List, [], ◌∷◌, ◌++◌, length, min, Result}
+use Rattle.std.proofs.Common.{◌≡◌, ◌∙◌, ap, ap₂, arith, refl, sym, subst, List, [], ◌∷◌, ◌++◌, length, min, None, Result}
 use Rattle.std.specs.Prelude.{IfOk}
 use Rattle.std.proofs.lemmas.List.{take-append-drop}
 use Rattle.agent_pool.specs.declared.fault.PoolFault.{PoolFault}
@@ -13,10 +13,11 @@ use Rattle.std.specs.List.{AllZip}
 use Rattle.suite_serve.specs.code.Working.{FollowsAll}
 use Rattle.suite_serve.proofs.Followed.{ready_followers}
 use Rattle.suite_serve.proofs.Pooled.{all_ready, both_done}
+use Rattle.suite_serve.proofs.Quiet.{no_operator}
 use Rattle.suite_serve.proofs.serving.work.Goals as goal
 
-pub returns : goal.returns
-returns g c =
+pub returns-clause-done : goal.returns-clause-done
+returns-clause-done g c =
     let given = c.args.opened.servers.now in
     let jobs = c.args.jobs.items in
     let first = c.in_ok-agents.field-0 in
@@ -43,6 +44,20 @@ returns g c =
     (subst (λ (ps : List Played). AllZip (FollowsAll ps) c.in_ok-first.others.items c.in_ok-others.others.items) c.deref.ensures.value c.in_ok-others.ensures)
     (subst (λ (ps : List Played). IsPoolOf below ps first.passes.items second) c.in_ok-agents-2.ensures two)
     refl c.in_ok-outcomes.ensures
+
+pub returns-clause-quiet : goal.returns-clause-quiet
+returns-clause-quiet g c =
+    let first = c.in_ok-agents.field-0 in
+    let second = c.in_ok-agents-3.field-0 in
+    let above = c.split_at.result.0.now in
+    let below = c.split_at.result.1.now in
+    let one : IsPoolOf above c.in_ok-first.first.items c.args.opened.passes.items first = subst
+    (λ (r : Result Pool PoolFault). IfOk r (λ (pool : Pool). IsPoolOf above c.in_ok-first.first.items c.args.opened.passes.items pool)) c.in_ok-agents.ensures
+    c.run_pool.ensures.pool in
+    let two : IsPoolOf below c.in_ok-agents-2.agents.items first.passes.items second = subst
+    (λ (r : Result Pool PoolFault). IfOk r (λ (pool : Pool). IsPoolOf below c.in_ok-agents-2.agents.items first.passes.items pool)) c.in_ok-agents-3.ensures
+    c.run_pool-2.ensures.pool in
+    two.others None (no_operator c.in_ok-agents-2.agents.items) ∙ one.others None (no_operator c.in_ok-first.first.items)
 
 pub run_pool-requires-clause-ready : goal.run_pool-requires-clause-ready
 run_pool-requires-clause-ready g c κs within =

@@ -1,0 +1,2 @@
+mod Parting
+pub mod Changing

@@ -1,0 +1,9 @@
+use Rattle.std.proofs.Common.{◌≡◌, ◌++◌, drop, codes}
+use Rattle.std.specs.List.{flat_map}
+use Rattle.event_json.specs.Entries.{entry_text}
+use Rattle.event_json.proofs.entries.push_more_entries.Given as goal
+
+abbrev pub invariant-loop-kept : goal.invariant-loop-kept
+invariant-loop-kept l =
+    l.text.items ++ flat_map (λ next. codes "," ++ entry_text next) (drop l.kept-index l.all)
+    ≡ l.fn.text.items ++ flat_map (λ next. codes "," ++ entry_text next) l.all

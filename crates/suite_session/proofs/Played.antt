@@ -1,0 +1,167 @@
+-- Line by line a session below its header prints what `play` prints.
+use Rattle.std.proofs.Common.{◌≡◌, ◌∙◌, ℕ, ◌+◌, Bool, true, false, ◌&&◌, ◌||◌, List, [], ◌∷◌, ◌++◌, codes, is_some, if◌then◌else◌, Result, Ok, Err, refl, sym, ap, subst}
+use Rattle.std.proofs.lemmas.Bool.{false≢true}
+use Rattle.std.proofs.lemmas.Slice.Eq.{bytes_eq-Decides}
+use Rattle.std.specs.Str.{bytes_eq}
+use Rattle.acl_text.specs.Tables.{Tables}
+use Rattle.run_core.specs.Opened.{Opened}
+use Rattle.script_desk.specs.Doing.{Passes, asked, below, headed, next_in, said, text_in}
+use Rattle.script_desk.specs.declared.desk.ScriptDesk.{ScriptDesk}
+use Rattle.script_text.specs.Words.{words}
+use Rattle.suite_play.specs.Commands.{is_command}
+use Rattle.suite_play.specs.Headers.{is_known}
+use Rattle.suite_play.specs.Playing.{all_lines, played}
+use Rattle.suite_play.specs.declared.command.Command.{Command}
+use Rattle.suite_script.specs.Scripts.{followed, group_line, is_group, is_skipped, is_user, later_line, lines_from, misplaced, name_line, named_line, own_line, owns_in, user_line, with_own}
+use Rattle.suite_script.specs.Words.{Word}
+use Rattle.suite_script.specs.declared.fault.LineFault.{LineFault}
+use Rattle.suite_script.specs.declared.fault.ScriptFault.{ScriptFault}
+use Rattle.suite_script.specs.declared.line.Line.{Line}
+use Rattle.suite_session.specs.Played.{LinesBelowArePlayed, language_below, told_for}
+use Rattle.suite_session.specs.Promised.{ways}
+use Rattle.suite_session.specs.Services.{after_own, asks, head_of, heads, own_of, told}
+use Rattle.suite_session.specs.declared.open_service.OpenService.{OpenService}
+use Rattle.suite_session.specs.declared.play_service.PlayService.{PlayService}
+use Rattle.suite_session.specs.declared.play_service.PlayService.TheVariants as service
+use Rattle.txn_core.specs.Agents.{fixed_of}
+
+-- ---- words that begin lines of another kind
+
+at_equal : (P : Word → Bool) (first word : Word) → P first ≡ true → P word ≡ false → (is : Bool) → bytes_eq first word ≡ is → bytes_eq first word ≡ false
+at_equal P first word holds fails false same = same
+at_equal P first word holds fails true same = absurd (false≢true (sym (subst (λ (text : Word). P text ≡ false) (sym ((bytes_eq-Decides first word).0 same)) fails) ∙ holds))
+
+other_word : (P : Word → Bool) (first word : Word) → P first ≡ true → P word ≡ false → bytes_eq first word ≡ false
+other_word P first word holds fails = at_equal P first word holds fails (bytes_eq first word) refl
+
+no_head : (is_fresh same : Bool) → same ≡ false → (is_fresh && same) ≡ false
+no_head true same is = is
+no_head false same is = refl
+
+-- neither a line of the header, nor one that asks
+record IsBelow (open_service : OpenService) (first : Word) : Type 0 where
+  heads : heads (service.Open open_service) first ≡ false
+  asks : asks first ≡ false
+
+below_by : (P : Word → Bool) (open_service : OpenService) (first : Word) → P first ≡ true → P (codes "old") ≡ false → P (codes "row") ≡ false → P (codes "content") ≡ false → IsBelow open_service first
+below_by P open_service first holds old row content = record {
+  heads = no_head open_service.is_fresh (bytes_eq first (codes "old")) (other_word P first (codes "old") holds old);
+  asks = rw (other_word P first (codes "row") holds row, other_word P first (codes "content") holds content) refl;
+}
+
+command_below : (open_service : OpenService) (first : Word) → is_command first ≡ true → IsBelow open_service first
+command_below open_service first is = below_by is_command open_service first is refl refl refl
+
+-- a name that a line gives, whether a command came before or not
+record GivesName (open_service : OpenService) (names : Tables) (first : Word) (later : List Word) (given : Tables) : Type 0 where
+  is_below : IsBelow open_service first
+  anywhere : name_line is_known false names first later ≡ Ok given
+
+name_given : (open_service : OpenService) (names : Tables) (first : Word) (later : List Word) (given : Tables) (user group : Bool) → is_user first ≡ user → is_group first ≡ group
+    → (if user then user_line names later else if group then group_line names later else Err (misplaced is_known first)) ≡ Ok given
+    → IsBelow open_service first
+name_given open_service names first later given true group first_is is_other is = below_by is_user open_service first first_is refl refl refl
+name_given open_service names first later given false true first_is is_other is = below_by is_group open_service first is_other refl refl refl
+name_given open_service names first later given false false first_is is_other is = absurd cc
+
+gives_name : (open_service : OpenService) (names : Tables) (first : Word) (later : List Word) (given : Tables) (begun : Bool) → name_line is_known begun names first later ≡ Ok given → GivesName open_service names first later given
+gives_name open_service names first later given true is = absurd cc
+gives_name open_service names first later given false is = record {
+  is_below = name_given open_service names first later given (is_user first) (is_group first) refl refl is;
+  anywhere = is;
+}
+
+-- ---- a line
+
+same_owns : (a b : List Command) → ◌≡◌ {A = Result (List Command) ScriptFault} (Ok a) (Ok b) → a ≡ b
+same_owns a b is = cc
+
+same_tables : (a b : Tables) → ◌≡◌ {A = Result Tables LineFault} (Ok a) (Ok b) → a ≡ b
+same_tables a b is = cc
+
+no_tables : (fault : LineFault) (given : Tables) → ◌≡◌ {A = Result Tables LineFault} (Err fault) (Ok given) → ⊥
+no_tables fault given is = cc
+
+-- what follows a command, where nothing has a fault
+record GoesOn (command : Command) (later : Result (List Command) ScriptFault) (owns : List Command) : Type 0 where
+  rest : List Command
+  is : later ≡ Ok rest
+  all : owns ≡ command ∷ rest
+
+goes_on : (command : Command) (later : Result (List Command) ScriptFault) (owns : List Command) → with_own command later ≡ Ok owns → GoesOn command later owns
+goes_on command (Ok rest) owns is = record { rest = rest; is = refl; all = sym (same_owns (command ∷ rest) owns is) }
+goes_on command (Err fault) owns is = absurd cc
+
+abbrev desk_of : Tables → OpenService → ScriptDesk PlayService
+desk_of names open_service = record { names = names; service = service.Open open_service }
+
+abbrev printed : OpenService → List Command → List ℕ
+printed open_service owns = all_lines (fixed_of open_service.world.given) open_service.world.world owns
+
+-- lines are played, from any desk on
+abbrev ArePlayed : List (List ℕ) → Type 0
+ArePlayed lines =
+    (names : Tables) (open_service : OpenService) (begun : Bool) (number : ℕ) (owns : List Command)
+    → owns_in (language_below open_service) begun names (lines_from number lines) ≡ Ok owns → told_for (desk_of names open_service) number lines ≡ printed open_service owns
+
+command_played : (more : List (List ℕ)) → ArePlayed more → (names : Tables) (open_service : OpenService) (number : ℕ) (command : Command) (owns : List Command)
+    → GoesOn command (owns_in (language_below open_service) true names (lines_from (number + 1) more)) owns
+    → ways.line (service.Open open_service) command ++ told_for (record { names = names; service = ways.after (service.Open open_service) command }) (number + 1) more ≡ printed open_service owns
+command_played more played_on names open_service number command owns goes =
+    ap (λ text. ways.line (service.Open open_service) command ++ text) (played_on names (after_own open_service command) true (number + 1) goes.rest goes.is)
+    ∙ ap (printed open_service) (sym goes.all)
+
+line_played : (more : List (List ℕ)) → ArePlayed more → (names : Tables) (open_service : OpenService) (begun : Bool) (number : ℕ) (owns : List Command)
+    (head : Result PlayService LineFault) (answer : Result (List ℕ) LineFault) (own : Result Command LineFault) (named anywhere : Result Tables LineFault) (first : Word) (heads_it asks_it command : Bool)
+    → heads (service.Open open_service) first ≡ heads_it → asks first ≡ asks_it
+    → (command ≡ true → IsBelow open_service first)
+    → ((given : Tables) → named ≡ Ok given → IsBelow open_service first × (anywhere ≡ Ok given))
+    → followed number (if command then own_line own else named_line named) (λ known. owns_in (language_below open_service) begun known (lines_from (number + 1) more))
+    (owns_in (language_below open_service) true names (lines_from (number + 1) more)) ≡ Ok owns
+    → let desk = desk_of names open_service in
+    let does = if heads_it then headed desk head else if asks_it then asked answer else below ways desk (if command then own_line own else named_line anywhere) in
+    text_in number does ++ told_for (next_in desk does) (number + 1) more ≡ printed open_service owns
+line_played more played_on names open_service begun number owns head answer own named anywhere first true asks_it true is_head is_asked commands gives is =
+    absurd (false≢true (sym (commands refl).heads ∙ is_head))
+line_played more played_on names open_service begun number owns head answer own named anywhere first false true true is_head is_asked commands gives is =
+    absurd (false≢true (sym (commands refl).asks ∙ is_asked))
+line_played more played_on names open_service begun number owns head answer (Ok command) named anywhere first false false true is_head is_asked commands gives is =
+    command_played more played_on names open_service number command owns (goes_on command (owns_in (language_below open_service) true names (lines_from (number + 1) more)) owns is)
+line_played more played_on names open_service begun number owns head answer (Err fault) named anywhere first false false true is_head is_asked commands gives is = absurd cc
+line_played more played_on names open_service begun number owns head answer own (Ok given) anywhere first true asks_it false is_head is_asked commands gives is =
+    absurd (false≢true (sym (gives given refl).0.heads ∙ is_head))
+line_played more played_on names open_service begun number owns head answer own (Ok given) anywhere first false true false is_head is_asked commands gives is =
+    absurd (false≢true (sym (gives given refl).0.asks ∙ is_asked))
+line_played more played_on names open_service begun number owns head answer own (Ok given) (Ok known) first false false false is_head is_asked commands gives is =
+    let same : known ≡ given = same_tables known given (gives given refl).1 in
+    ap (λ (known : Tables). told_for (desk_of known (record open_service { is_fresh = false })) (number + 1) more) same
+    ∙ played_on given (record open_service { is_fresh = false }) begun (number + 1) owns is
+line_played more played_on names open_service begun number owns head answer own (Ok given) (Err fault) first false false false is_head is_asked commands gives is =
+    absurd (no_tables fault given (gives given refl).1)
+line_played more played_on names open_service begun number owns head answer own (Err fault) anywhere first heads_it asks_it false is_head is_asked commands gives is = absurd cc
+
+words_played : (more : List (List ℕ)) → ArePlayed more → (names : Tables) (open_service : OpenService) (begun : Bool) (number : ℕ) (owns : List Command) (line : List Word)
+    → followed number (later_line (language_below open_service) begun names line) (λ known. owns_in (language_below open_service) begun known (lines_from (number + 1) more))
+    (owns_in (language_below open_service) true names (lines_from (number + 1) more)) ≡ Ok owns
+    → let desk = desk_of names open_service in text_in number (said ways desk line) ++ told_for (next_in desk (said ways desk line)) (number + 1) more ≡ printed open_service owns
+words_played more played_on names open_service begun number owns [] is = absurd cc
+words_played more played_on names open_service begun number owns (first ∷ later) is =
+    line_played more played_on names open_service begun number owns (head_of (service.Open open_service) first later) (told (service.Open open_service) first later)
+    (own_of (service.Open open_service) names first later) (name_line is_known begun names first later) (name_line is_known false names first later) first
+    (heads (service.Open open_service) first) (asks first) (is_command first) refl refl (command_below open_service first)
+    (λ given named. let gives = gives_name open_service names first later given begun named in (gives.is_below, gives.anywhere)) is
+
+one_played : (line : List ℕ) (more : List (List ℕ)) → ArePlayed more → (names : Tables) (open_service : OpenService) (begun : Bool) (number : ℕ) (owns : List Command) (skipped : Bool)
+    → owns_in (language_below open_service) begun names (if skipped then lines_from (number + 1) more else record { number = number; words = words line } ∷ lines_from (number + 1) more) ≡ Ok owns
+    → let desk = desk_of names open_service in
+    let does = if skipped then Passes [] else said ways desk (words line) in
+    text_in number does ++ told_for (next_in desk does) (number + 1) more ≡ printed open_service owns
+one_played line more played_on names open_service begun number owns true is = played_on names open_service begun (number + 1) owns is
+one_played line more played_on names open_service begun number owns false is = words_played more played_on names open_service begun number owns (words line) is
+
+are_played : (lines : List (List ℕ)) → ArePlayed lines
+are_played [] names open_service begun number owns is = ap (printed open_service) (same_owns [] owns is)
+are_played (line ∷ more) names open_service begun number owns is = one_played line more (are_played more) names open_service begun number owns (is_skipped line) is
+
+pub lines_below_are_played : LinesBelowArePlayed
+lines_below_are_played names open_service begun number lines owns is = are_played lines names open_service begun number owns is

@@ -1,0 +1,9 @@
+-- a long word is read byte by byte, and is then the question's spelling
+use Rattle.std.proofs.Common.{arith, rules, refl}
+use Rattle.std.proofs.lemmas.Slice.Eq.{text_from_reads}
+use Rattle.suite_session.specs.Questions.{spelling}
+use Rattle.suite_session.specs.declared.question.Question.TheVariants as question
+use Rattle.suite_session.proofs.question.Question.of.Goals as goal
+
+pub returns-in-content : goal.returns-in-content
+returns-in-content c = rw (text_from_reads c.args.word.now (spelling question.Content) (omega arith) (search rules)) refl

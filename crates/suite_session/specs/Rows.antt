@@ -1,0 +1,129 @@
+-- What stands at a path, as the newest of all stored copies have it, of servers that are down too.
+use Rattle.std.specs.Prelude.{ℕ, zero, suc, nat_lt, if◌then◌else◌, List, [], ◌∷◌, ◌++◌, codes, decimal, length, Option, Some, None}
+use Rattle.std.specs.Ordering.{nat_cmp}
+use Rattle.acl_text.specs.Writing.{short_text}
+use Rattle.file_ops.specs.Paths.{names_of}
+use Rattle.file_ops.specs.Rows.{root}
+use Rattle.rep_core.specs.State.{State}
+use Rattle.run_core.specs.Worlds.{World, server_at}
+use Rattle.sorted_map.specs.SortedMap.{get}
+use Rattle.suite_content.specs.Folders.{number_of}
+use Rattle.suite_content.specs.declared.content.Content.{Content}
+use Rattle.suite_content.specs.declared.content.Content.TheVariants.{Bytes, Names}
+use Rattle.suite_prefix.specs.declared.copies.Prefix.{Prefix}
+use Rattle.suite_prefix.specs.declared.copies.PrefixKind.{PrefixKind}
+use Rattle.suite_prefix.specs.declared.copies.PrefixKind.TheVariants as kind
+use Rattle.suite_prefix.specs.declared.copies.Replica.{Replica}
+use Rattle.suite_script.specs.Faults.{line_feed}
+use Rattle.suite_script.specs.Texts.{bytes_text}
+use Rattle.suite_script.specs.Votes.{votes_text}
+use Rattle.suite_session.specs.declared.shown.Shown.{Shown}
+use Rattle.suite_session.specs.declared.side.Side.{Side}
+use Rattle.suite_session.specs.declared.side.Side.TheVariants as side
+
+-- ---- the newest copy
+
+-- the version of one side of a copy: of its prefix, or of its content
+abbrev pub version_of : Side → Replica → ℕ
+version_of side.Prefix copy = copy.prefix.pver
+version_of side.Content copy = copy.dver
+
+-- the copy of a suite at a server, where it has one
+abbrev pub stored_by : Option State → ℕ → Option Replica
+stored_by (Some st) suite = get nat_cmp st.store.copies suite
+stored_by None suite = None
+
+-- the newer of two copies, and the first where they are as new
+abbrev pub newer : Side → Option Replica → Option Replica → Option Replica
+newer one None other = other
+newer one (Some copy) None = Some copy
+newer one (Some copy) (Some other) = if nat_lt (version_of one copy) (version_of one other) then Some other else Some copy
+
+-- the newest copy of a suite at the first so many servers
+unfoldable pub newest : Side → World → ℕ → ℕ → Option Replica
+newest one world suite zero = None
+newest one world suite (suc count) = newer one (newest one world suite count) (stored_by (server_at world count) suite)
+
+-- ---- the way
+
+-- the suite of a name in a folder, as the newest content has it
+abbrev pub child_of : Content → List ℕ → Option ℕ
+child_of (Names names) name = number_of names name
+child_of (Bytes bytes) name = None
+
+abbrev pub child_in : Option Replica → List ℕ → Option ℕ
+child_in (Some copy) name = child_of copy.content name
+child_in None name = None
+
+abbrev pub found_on : Option ℕ → (ℕ → Option ℕ) → Option ℕ
+found_on (Some suite) later = later suite
+found_on None later = None
+
+-- the suite to which names lead from a folder, over the first so many servers
+abbrev pub found : World → ℕ → ℕ → List (List ℕ) → Option ℕ
+found world count suite [] = Some suite
+found world count suite (name ∷ names) = found_on (child_in (newest side.Content world suite count) name) (λ next. found world count next names)
+
+abbrev pub found_at : World → ℕ → Option (List (List ℕ)) → Option ℕ
+found_at world count (Some names) = found world count root names
+found_at world count None = None
+
+-- ---- what stands there: a suite with its newest prefix and its newest content
+
+-- what was never made is nothing
+abbrev pub unless_absent : PrefixKind → Shown → Option Shown
+unless_absent kind.Absent shown = None
+unless_absent kind.File shown = Some shown
+unless_absent kind.Folder shown = Some shown
+
+abbrev pub shown_by : ℕ → Option Replica → Option Replica → Option Shown
+shown_by suite (Some head) (Some body) = unless_absent head.prefix.kind (record { suite = suite; prefix = head.prefix; dver = body.dver; content = body.content })
+shown_by suite head body = None
+
+abbrev pub shown_for : World → ℕ → Option ℕ → Option Shown
+shown_for world count (Some suite) = shown_by suite (newest side.Prefix world suite count) (newest side.Content world suite count)
+shown_for world count None = None
+
+-- what stands at a path; at a text that is none nothing does
+abbrev pub shown_at : World → ℕ → List ℕ → Option Shown
+shown_at world count text = shown_for world count (found_at world count (names_of text))
+
+-- ---- how it is told
+
+abbrev pub kind_text : Content → List ℕ
+kind_text (Bytes bytes) = codes " file"
+kind_text (Names names) = codes " folder"
+
+-- how many bytes a file has, and a folder names
+abbrev pub size_of : Content → ℕ
+size_of (Bytes bytes) = length bytes
+size_of (Names names) = length names
+
+abbrev pub owner_text : Shown → List ℕ
+owner_text shown =
+    kind_text shown.content ++ codes " suite " ++ decimal shown.suite ++ codes " owner " ++ decimal shown.prefix.owner ++ codes " group " ++ decimal shown.prefix.group
+
+abbrev pub lists_text : Shown → List ℕ
+lists_text shown = codes " acl " ++ short_text shown.prefix.acl ++ codes " votes " ++ votes_text shown.prefix.votes
+
+abbrev pub versions_text : Shown → List ℕ
+versions_text shown = codes " size " ++ decimal (size_of shown.content) ++ codes " prefix " ++ decimal shown.prefix.pver ++ codes " content " ++ decimal shown.dver
+
+abbrev pub shown_text : Option Shown → List ℕ
+shown_text None = codes " nothing"
+shown_text (Some shown) = owner_text shown ++ lists_text shown ++ versions_text shown
+
+abbrev pub row_line : List ℕ → Option Shown → List ℕ
+row_line text shown = codes "row " ++ text ++ shown_text shown ++ line_feed
+
+-- the bytes of a file
+abbrev pub content_text : Content → List ℕ
+content_text (Bytes bytes) = codes " " ++ bytes_text bytes
+content_text (Names names) = codes " nothing"
+
+abbrev pub bytes_shown : Option Shown → List ℕ
+bytes_shown None = codes " nothing"
+bytes_shown (Some shown) = content_text shown.content
+
+abbrev pub content_line : List ℕ → Option Shown → List ℕ
+content_line text shown = codes "content " ++ text ++ bytes_shown shown ++ line_feed

@@ -1,0 +1,39 @@
+//! A session over the language of `play`: what each of its lines means.
+//!
+//! A session begins with no header. Its lines are given one after the other as `play` has them, and from then on there
+//! is a world. Users and groups may be named anywhere below the header.
+//!
+//! **Promises.** `first_desk` is a `script_desk::ScriptDesk` of which no line was read. What a line of the header
+//! leaves is said by the definitions of `suite_play`, line by line (`specs/Headings.antt`); a line below the header
+//! prints what `play` prints for it, and leaves the world that `play` has after it (`specs/Services.antt`).
+//!
+//! At each moment the world of a session is that of its events so far, so all is promised of it that is promised of a run
+//! (`session_is_promised`). Lines below the header are told what `play` prints for them (`lines_below_are_played`).
+//!
+//! `row PATH` tells what stands at a path, and `content PATH` the bytes of the file there, as the newest of all stored
+//! copies have it (`specs/Rows.antt`), without an access check: they are for whoever looks after the servers, and
+//! change nothing. What a transaction prepared and its home has decided is seen once it is finished at a server.
+//!
+//! **The caller owes** nothing. Names are looked up by fixed keys, since no text is there from which keys could come.
+//!
+//! **Files**: `heading` (a header so far), `open_service` (a world below a header), `play_service`, `question`
+//! (lines that ask), `newest` (the newest copies of a suite), `side`, `shown` (what stands at a path), `laws`,
+//! `start`.
+//! **Definitions** (`specs/`): `Headings`, `Services`, `Questions`, `Rows`, `Promised`, `Played`.
+#![tactic(auto)]
+
+mod heading;
+mod laws;
+mod newest;
+mod open_service;
+mod play_service;
+mod question;
+mod shown;
+mod side;
+mod start;
+
+pub use heading::Heading;
+pub use laws::{lines_below_are_played, session_is_promised};
+pub use open_service::OpenService;
+pub use play_service::PlayService;
+pub use start::first_desk;

@@ -1,0 +1,218 @@
+#!/usr/bin/env python3
+"""tests/ends.py
+
+Looks how `./suites` and its tools end where something ends them: a program that a signal ends, a stream that is closed
+or cannot be written, no memory, a stop, and a checked build of which a step is killed, fails or is lacking. All is
+played in a copy of the repository, with small scripts in place of the programs and of the kit. Prints each end that is
+another; status 1 where one is.
+"""
+from __future__ import annotations
+
+import contextlib
+import os
+import pty
+import select
+import signal
+import subprocess
+import sys
+import tempfile
+import time
+import typing
+
+import played
+import wrapper
+
+import sources
+
+# In place of a program: it ends by the signal of this number.
+KILLED = "#!/bin/sh\ncat > /dev/null\nkill -{0} $$\n"
+SCRIPT = b"servers 1\nagents 1\nvotes 1/1/1\nroot 1 1 777\ncache 0 0 0\nbegin 0 1 1 0 list /\nrun 0\n"
+# In place of explore: tells how much memory it may have, in KiB.
+LIMITED = "#!/bin/sh\ncat > /dev/null\necho \"limit $(ulimit -v)\"\n"
+# In place of a program that is at work.
+SLEEPS = "#!/bin/sh\necho $$ > {0}\nexec sleep 60\n"
+# In place of the kit: what it compiles is a module of one empty block.
+KIT = """#!/bin/sh
+case $1 in
+version) echo 'kit logic {2}' ;;
+doc) echo "{0}/START-HERE.md" ;;
+try)
+    mkdir -p "$TMPDIR/a"
+    {1}
+    echo run=ended ;;
+esac
+"""
+MODULE = """printf 'BC\\300\\336\\0\\0\\0\\0\\003\\0\\0\\0suites::main' > "$TMPDIR/a/module.bc.part"
+    mv "$TMPDIR/a/module.bc.part" "$TMPDIR/a/module.bc"
+    sleep 5"""
+
+
+def write(path: str, text: str) -> None:
+    os.makedirs(os.path.dirname(path), exist_ok=True)
+    with open(path, "w", encoding="utf-8") as file:
+        file.write(text)
+    os.chmod(path, 0o755)
+
+
+def asked(copy: wrapper.Copy, words: str, **how: typing.Any) -> subprocess.CompletedProcess[bytes]:
+    """What comes of a line of a shell at the top of the copy."""
+    return subprocess.run(["sh", "-c", words], cwd=copy.top, capture_output=True, input=SCRIPT, **how)
+
+
+def holds(copy: wrapper.Copy, words: str, status: int, told: str, **how: typing.Any) -> None:
+    """A line of a shell has this status, and standard error this sentence and no other but that of a checked build."""
+    done = asked(copy, words, **how)
+    lines = [line for line in done.stderr.decode("latin1").splitlines() if not line.startswith("suites: checked build")]
+    copy.holds(
+        done.returncode == status and any(told in line for line in lines) and "Traceback" not in "\n".join(lines),
+        f"{words}: {done.returncode}, and not {status} with {told!r}: {lines}",
+    )
+
+
+def by_signals(copy: wrapper.Copy) -> None:
+    """A program that a signal ends is told, and the status is that of a shell."""
+    for name, number, why, words in (
+        ("suites", 9, "9: killed, as the system does where memory runs out", "./suites table"),
+        ("suites", 11, "11: a crash", "./suites table"),
+        ("trace", 9, "9 (SIGKILL): killed, as the system does where memory runs out", "./suites trace"),
+        ("trace", 6, "6 (SIGABRT)", "./suites show"),
+        ("explore", 11, "11 (SIGSEGV): a crash", "./suites explore"),
+    ):
+        copy.build(name, KILLED.format(number))
+        holds(copy, words, 128 + number, f"was ended by signal {why}")
+    copy.build("forms", KILLED.format(9))
+    holds(copy, "./suites explain 'fault line 1: S1' -", 1, "signal 9")
+    copy.build("may", KILLED.format(11))
+    holds(copy, "./suites may --groups 1 1 r /", 3, "signal 11")
+    for status in (129, 137, 245):
+        done = asked(copy, f"./suites explain 'status {status}'")
+        copy.holds(done.returncode == 0 and b"signal" in done.stdout, f"status {status} is not explained: {done}")
+
+
+def by_streams(copy: wrapper.Copy) -> None:
+    """Streams that are closed, and those that cannot be written."""
+    copy.build("explore", "#!/bin/sh\ncat > /dev/null\necho 'all 0 ways, 0 worlds'\n")
+    copy.build("trace", "#!/bin/sh\ncat > /dev/null || exit 6\necho '> line'\n")
+    copy.build("may", "#!/bin/sh\nwhile read -r line; do echo granted; done\n")
+    for words in ("explore", "votes 1/1/1", "explain U1", "votes --help", "may --help", "may 0 r /", "trace"):
+        holds(copy, f"./suites {words} > /dev/full", 6, "a write failed: No space left on device")
+        holds(copy, f"./suites {words} >&-", 6, "a write failed: standard output is closed")
+    holds(copy, "./suites trace <&-", 6, "a read failed: standard input is closed")
+    holds(copy, "./suites explain x - <&-", 6, "a read failed: standard input is closed")
+    done = asked(copy, "./suites may 0 r / 2>&-")
+    copy.holds((done.returncode, done.stderr) == (0, b""), f"a closed standard error: {done}")
+    done = asked(copy, "./suites may 0 r / <&- >&- 2>&-")
+    copy.holds((done.returncode, done.stdout) == (6, b""), f"all streams closed: {done}")
+
+
+def by_memory(copy: wrapper.Copy) -> None:
+    """No memory is told, and `explore` may have what is free."""
+    code = "import console; console.run(lambda: len(bytearray(1 << 46)), 'stopped')"
+    done = subprocess.run([sys.executable, "-c", code], cwd=os.path.join(copy.top, "tools"), capture_output=True)
+    copy.holds((done.returncode, done.stderr) == (4, b"suites: out of memory\n"), f"no memory: {done}")
+    copy.build("explore", LIMITED)
+    with open("/proc/meminfo", encoding="ascii") as file:
+        most = next(int(line.split()[1]) for line in file if line.startswith("MemTotal"))
+    found = asked(copy, "./suites explore").stdout.split()
+    copy.holds(found[:1] == [b"limit"] and found[1].isdigit() and int(found[1]) <= most, f"explore may have {found}")
+    found = asked(copy, "ulimit -v 3000000; ./suites explore").stdout.split()
+    copy.holds(found == [b"limit", b"3000000"], f"explore keeps no limit that is less: {found}")
+
+
+def by_settings(copy: wrapper.Copy) -> None:
+    """What the environment asks of Python changes nothing."""
+    for setting in ({"PYTHONSAFEPATH": "1"}, {"PYTHONOPTIMIZE": "2"}):
+        for words in ("votes --help", "may --help", "explain U1"):
+            plain = asked(copy, f"./suites {words}")
+            other = asked(copy, f"./suites {words}", env={**os.environ, **setting})
+            same = (plain.returncode, plain.stdout) == (other.returncode, other.stdout)
+            copy.holds(same and plain.stdout, f"{words} with {setting}: {other}")
+
+
+def is_there(process: int) -> bool:
+    with contextlib.suppress(OSError):
+        with open(f"/proc/{process}/stat", encoding="ascii") as file:
+            return file.read().rpartition(") ")[2][0] != "Z"
+    return False
+
+
+def until(is_so: typing.Callable[[], object]) -> bool:
+    """Waits until something is so; answers whether it became so."""
+    for _ in range(600):
+        if is_so():
+            return True
+        time.sleep(0.1)
+    return False
+
+
+def by_stops(copy: wrapper.Copy) -> None:
+    """A stop of `./suites` stops the program."""
+    kept = os.path.join(copy.top, "process")
+    copy.build("suites", SLEEPS.format(kept))
+    for on_terminal in (False, True):
+        for number in (signal.SIGTERM, signal.SIGINT):
+            with contextlib.suppress(FileNotFoundError):
+                os.unlink(kept)
+            leader, end = pty.openpty()
+            given = os.open(os.path.join(copy.top, "two"), os.O_RDONLY | os.O_CREAT)
+            process = subprocess.Popen(
+                ["./suites", "play"], cwd=copy.top, stdin=given, stdout=subprocess.DEVNULL,
+                stderr=end if on_terminal else subprocess.DEVNULL, start_new_session=True,
+            )  # fmt: skip
+            begun = until(lambda: os.path.exists(kept) and os.path.getsize(kept))
+            with open(kept, encoding="ascii") as file:
+                child = int(file.read())
+            process.send_signal(number)
+            status, is_stopped = process.wait(30), until(lambda: not is_there(child))
+            about = f"{number.name} {'on a terminal' if on_terminal else ''}"
+            copy.holds(begun and is_stopped and status == 128 + number, f"{about}: {status}, stopped: {is_stopped}")
+            os.close(given)
+            os.close(end)
+            while select.select([leader], [], [], 0)[0]:
+                with contextlib.suppress(OSError):
+                    if os.read(leader, 4096):
+                        continue
+                break
+            os.close(leader)
+
+
+def kept(copy: wrapper.Copy) -> list[str]:
+    out = os.path.join(copy.top, "out")
+    return [name for name in os.listdir(out) if name in ("trial.json", "checked.json")] if os.path.isdir(out) else []
+
+
+def by_builds(copy: wrapper.Copy) -> None:
+    """Of a build only that is kept that the kit lacks; a step that is killed or fails is tried again."""
+    kit, before = os.path.join(os.path.dirname(copy.top), "kit"), os.environ["PATH"]
+    for name in ("START-HERE.md", "c/libos_c.a", "c/liblibc_c.a", "bin/rattle-link"):
+        write(os.path.join(kit, name), "")
+    env = {**os.environ, "PATH": f"{kit}/path:{before}"}
+    clang = os.path.join(kit, "toolchain", "bin", "clang")
+    write(os.path.join(kit, "path", "rt"), KIT.format(kit, MODULE, sources.KIT_LOGIC))
+    for name in ("trial.json", "checked.json", "choice.sh"):
+        with contextlib.suppress(FileNotFoundError):
+            os.unlink(os.path.join(copy.top, "out", name))
+    for text, told in ((KILLED.format(9), "signal 9"), ("#!/bin/sh\necho no room; exit 1\n", "status 1")):
+        write(clang, text)
+        holds(copy, "python3 tools/choose.py", 1, told, env=env)
+        copy.holds(kept(copy) == [], f"{told} is kept: {kept(copy)}")
+    write(os.path.join(kit, "path", "rt"), KIT.format(kit, "kill -9 $$", sources.KIT_LOGIC))
+    holds(copy, "python3 tools/choose.py", 1, "signal 9", env=env)
+    copy.holds(kept(copy) == [], "a killed rt is kept")
+    write(os.path.join(kit, "path", "rt"), KIT.format(kit, MODULE, sources.KIT_LOGIC))
+    os.unlink(clang)
+    done = asked(copy, "python3 tools/choose.py", env=env)
+    is_kept = done.stdout == b"trial tools/trial.py\n" and kept(copy) == ["trial.json"]
+    copy.holds(is_kept, f"a kit without clang: {done}")
+
+
+def main() -> int:
+    with tempfile.TemporaryDirectory(prefix="suites-") as room:
+        copy = wrapper.Copy(room)
+        for part in (by_signals, by_streams, by_memory, by_settings, by_stops, by_builds):
+            part(copy)
+    return copy.told("ends")
+
+
+if __name__ == "__main__":
+    sys.exit(main())
