@@ -1,4 +1,4 @@
-//! Tests of sessions over an echo: what is heard, kept and told, in order.
+//! Tests of sessions over an echo (`echo`): what is heard, kept and told, in order.
 #![tactic(auto)]
 
 #[cfg(test)]
