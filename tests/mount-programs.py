@@ -57,8 +57,8 @@ SCRIPTS = {
     "diff": """mkdir a; seq 9 > a/x; cp -r a b; echo 10 >> b/x
         diff -r a b || diff -u a/x b/x > p || patch -s a/x p; rm p; cat a/x; diff -r a b""",
     "getfacl": """mkdir -p a/b; echo x > a/f; setfacl -m u:1234:rw,g:4321:r a/f; setfacl -d -m u:1234:rwx a
-        echo y > a/b/n; echo z > a/g; getfacl -nR a > l; setfacl -R -b a; getfacl -nR a; setfacl --restore=l
-        getfacl -nR a; cat a/f a/g""",
+        echo y > a/b/n; echo z > a/g; getfacl -nR a > l; setfacl -R -b a; getfacl -n a a/b a/f a/g; setfacl --restore=l
+        getfacl -n a a/b a/b/n a/f a/g; cat a/f a/g; rm l""",
     "append": """for i in $(seq 40); do echo $i >> x; done; (for i in $(seq 20); do echo a$i >> y; done) &
         (for i in $(seq 20); do echo b$i >> y; done); wait; cat x; sort y; rm y""",
 }
@@ -75,7 +75,7 @@ def run(script: str, folder: str) -> tuple[int, str]:
     done = subprocess.run(
         ["sh", "-ec", f"umask 022; {script.replace('ROWS', str(ROWS))}"], cwd=folder, stdin=subprocess.DEVNULL,
         stdout=subprocess.PIPE, stderr=subprocess.STDOUT,
-        env={"PATH": os.environ["PATH"], "HOME": folder, "LC_ALL": "C"},
+        env={"PATH": os.environ["PATH"], "HOME": "/tmp", "LC_ALL": "C"},
     )
     return done.returncode, done.stdout.decode("utf-8", "replace")
 

@@ -4,7 +4,8 @@
 Looks whether all that README.md, docs/SCRIPTS.md and examples/ show is played by the gate.
 
 Each file of examples/ has to be the input of a row of crates/rows/stdin, and one of examples/explore have its ways in
-tests/explored; each script, command and output that the two pages show has to be that of a row, and an output that of
+tests/explored (tests/shell.py plays those of the mount and the shell, tests/judged.py looks at those of
+examples/judge); each script, command and output that the two pages show has to be that of a row, and an output that of
 the script or the command before it; behind `| head -N` or `| tail -N` stand so many lines of it. Each text of help/
 but that of the tools has to be what a row of help prints: with --help-texts it is written from that row. The picture
 and what is shown of `./suites trace` have to be those of the trace which the program of crates/trace is to print of
@@ -26,13 +27,15 @@ import votes
 TOP = os.path.join(os.path.dirname(os.path.abspath(__file__)), "..")
 PICTURE, STORY = "docs/revocation.svg", "examples/play/revocation.script"
 PAGES = ("README.md", "docs/SCRIPTS.md")
-HELP, OF_TOOLS = "help", ("tools.txt", "explore.txt")
+HELP, OF_TOOLS = "help", ("tools.txt", "explore.txt", "judge.txt")
 # What is shown of an output.
 CUT = re.compile(rb" \| (head|tail) -(\d+)$")
 # The commands of which no row can tell the output.
 TOOLS = re.compile(rb"\$ \./suites (?:(?:explain|trace|draw|show|votes|may|--version)\b|explore .*--ask)")
 # Stories of `explore`, and where what it tells of them is kept; tests/explored.py compares.
 STORIES, WAYS = "examples/explore", "tests/explored"
+# Stories that tests/shell.py plays, and histories, which tests/judged.py looks at.
+PLAYED = ("examples/mount", "examples/shell", "examples/judge")
 RUN = re.compile(rb"^# +\./suites (explore[^<]*?) < ", re.M)
 
 
@@ -162,7 +165,7 @@ def main() -> int:
     inputs = {given for _, given, _ in known}
     for folder, _, names in sorted(os.walk(os.path.join(TOP, "examples"))):
         for name in sorted(os.path.relpath(os.path.join(folder, name), TOP) for name in names):
-            if content(name) not in inputs:
+            if content(name) not in inputs and not name.startswith(PLAYED):
                 wrong.append(f"{name} is the input of no row")
     for page in PAGES:
         wrong += differing(page, known)

@@ -100,7 +100,7 @@ def tried(crate: str) -> dict[str, typing.Any]:
 
 
 PROGRAM, TRACE, MAY = "the program", "the program of trace", "the program of may"
-FORMS, EXPLORE = "the program of forms", "the program of explore"
+FORMS, EXPLORE, JUDGE = "the program of forms", "the program of explore", "the program of judge"
 # What takes longest stands first, but for what tells at once that something is wrong.
 PARTS = (
     Part("what pages show", tool("tools/shown.py")),
@@ -121,6 +121,7 @@ PARTS = (
     Part(MAY, tool("tools/choose.py"), program="may"),
     Part(FORMS, tool("tools/choose.py"), program="forms"),
     Part(EXPLORE, tool("tools/choose.py"), program="explore"),
+    Part(JUDGE, tool("tools/choose.py"), program="judge"),
     Part("tests of commands", **tried("command_tests")),
     Part("rows", tool("tests/checked-build.py"), [PROGRAM]),
     Part("the table of forms", tool("tests/form-table.py"), [PROGRAM]),
@@ -131,6 +132,7 @@ PARTS = (
     Part("what explain says of every line", tool("tests/every_line.py"), [PROGRAM, TRACE, FORMS, EXPLORE, MAY]),
     Part("what explain says of damaged scripts", tool("tests/damaged-scripts.py", "--cases", "1000"), [PROGRAM, FORMS]),
     Part("command lines of documents", tool("tests/typed.py"), [PROGRAM, TRACE, FORMS, EXPLORE]),
+    Part("verdicts on histories", tool("tests/judged.py"), [JUDGE]),
     Part("answers of may", tool("tests/may.py"), [MAY]),
     Part(
         "may against the kernel",
@@ -139,6 +141,7 @@ PARTS = (
     ),
     Part("the mount", tool("tests/mount.py"), [PROGRAM]),
     Part("the mount against the kernel", tool("tests/mount-against-the-kernel.py"), [PROGRAM]),
+    Part("the shell, import and stories", tool("tests/shell.py"), [PROGRAM]),
     Part("programs on the mount", tool("tests/mount-programs.py", "--well"), [PROGRAM]),
     Part("what votes tells", tool("tests/votes.py"), [PROGRAM, TRACE]),
     Part("what votes tells of scripts", tool("tests/votes-left.py"), [PROGRAM, TRACE]),

@@ -302,5 +302,9 @@ class Calls:
         return b""
 
     def statfs(self, request: Request) -> bytes:
-        free = self.tree.free()
-        return kernel.STATUS.pack(PLACES, free, free, PLACES, free, rows.LONGEST, LONGEST_NAME, rows.LONGEST, 0)
+        """Room: where it is not known there are no numbers of inodes, as other file systems have it."""
+        known = self.tree.free()
+        free, most = (PLACES, 0) if known is None else (known, PLACES)
+        return kernel.STATUS.pack(
+            PLACES, free, free, most, min(free, most), rows.LONGEST, LONGEST_NAME, rows.LONGEST, 0
+        )

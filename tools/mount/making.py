@@ -12,13 +12,12 @@ import tempfile
 from collections.abc import Iterator, Sequence
 from typing import NamedTuple
 
-from mount import rows, talking
+from mount import beginning, rows, talking
 from mount.lists import Lists
 from mount.talking import Session, User
 
 OPEN = {True: "777", False: "666"}
 OPEN_LIST = "u::rwx,g::rwx,o::rwx"
-HEADER = 5
 
 
 class Thing(NamedTuple):
@@ -81,25 +80,16 @@ def looked_at(session: Session) -> list[Thing]:
     return things
 
 
-def ending(lines: Sequence[str], servers: int) -> list[str]:
-    """What a journal says of servers that are down, at its end."""
-    down: set[str] = set()
-    for line in lines:
-        words = line.split()
-        if words[:1] == ["crash"]:
-            down.add(words[1])
-        elif words[:1] == ["return"]:
-            down.discard(words[1])
-    return [f"crash {server}" for server in sorted(down, key=int) if int(server) < servers]
-
-
 def shortened(command: Sequence[str], journal: str) -> int:
     """Puts a script that makes the same tree in place of a journal; answers how many things that has. `command` holds a
     session over a journal whose name stands behind it. The session of this journal has been closed.
     """
     with open(journal, encoding="utf-8", errors="replace") as file:
         lines = file.read().splitlines()
-    header, names = lines[:HEADER], [one for one in lines[HEADER:] if re.match(r"\s*(user|group|old)\s", one)]
+    front = [one for one in lines[:beginning.HEADER] if one.startswith("#")]
+    lines = [one for one in lines if not one.startswith("#")]
+    header, below = lines[: beginning.HEADER], lines[beginning.HEADER :]
+    names = [one for one in below if re.match(r"\s*(user|group|old)\s", one)]
     servers = int(header[0].split()[1])
     with tempfile.TemporaryDirectory(prefix=".suites-", dir=os.path.dirname(journal)) as room:
         copy, short = os.path.join(room, "copy"), os.path.join(room, "short")
@@ -114,8 +104,8 @@ def shortened(command: Sequence[str], journal: str) -> int:
         votes = header[2].split()[1]
         whole = [one._replace(votes=None if one.votes == votes else one.votes) for one in things]
         with open(short, "w", encoding="utf-8") as file:
-            for line in [*header, *names, *making(whole), *ending(lines, servers)]:
-                file.write(line + "\n")
+            ending = [f"crash {one}" for one in sorted(beginning.servers_down(lines))]
+            file.writelines(f"{line}\n" for line in [*front, *header, *names, *making(whole), *ending])
             file.flush()
             os.fsync(file.fileno())
         check(command, short, os.path.join(room, "check"), things)

@@ -9,27 +9,11 @@ import shlex
 import console
 from console import Stop
 
-from mount import calls, kernel, making, rows, words
+from mount import beginning, calls, kernel, making, rows
 from mount.talking import Ended, Session
 from mount.tree import Tree
 
-# A header has so many lines.
-HEADER = 5
 WANTED = "mount needs fuse3, on Debian: apt-get install -y fuse3"
-
-
-def lines_of(path: str) -> list[str]:
-    """The first whole lines of a journal, as many as a header has."""
-    try:
-        with open(path, encoding="utf-8", errors="replace") as file:
-            lines = [line for _, line in zip(range(HEADER), file)]
-    except FileNotFoundError:
-        return []
-    return [line.rstrip("\n") for line in lines if line.endswith("\n")]
-
-
-def has_header(script: list[str]) -> bool:
-    return any(line.split()[:1] == ["servers"] for line in script)
 
 
 class Mounted:
@@ -38,39 +22,8 @@ class Mounted:
     def __init__(self, given: argparse.Namespace) -> None:
         self.given = given
         self.journal = os.path.abspath(given.journal) if given.journal else None
-        self.session = self.begin()
+        self.session, _ = beginning.begin(given)
         self.tree = Tree(self.session)
-
-    def command(self) -> list[str]:
-        # whoever calls fsync has the journal synced, and nobody else waits for it
-        journal = ["--journal", self.journal, "--no-sync"] if self.journal else []
-        return [*shlex.split(self.given.session), "--marks", *journal]
-
-    def begin(self) -> Session:
-        """The session, with its header and what a script says."""
-        kept, header = lines_of(self.journal) if self.journal else [], words.header(self.given)
-        told = {"servers": self.given.servers, "votes": self.given.votes, "root": self.given.root}
-        for old, new in zip(kept, header):
-            word = new.split(" ")[0]
-            if told.get(word) is not None and old != new:
-                raise Stop(f"{self.given.journal} begins with `{old}`: --{word} is another")
-        script: list[str] = []
-        if self.given.script and not kept:
-            with open(self.given.script, encoding="utf-8") as file:
-                script = file.read().splitlines()
-        session = Session(self.command())
-        first = [] if has_header(script) else header[len(kept) :]
-        try:
-            for number, line in enumerate([*first, *script, "run 0"] if script else first, 1 - len(first)):
-                for answer in session.tell(line)[0]:
-                    if answer.startswith("fault "):
-                        where = f"line {number} of {self.given.script}" if number > 0 else f"`{line}`"
-                        raise Stop(f"{where}: {answer.split(': ')[-1]} (./suites explain tells what it means)")
-            session.tell("# mounted")
-        except Ended:
-            said = f", and told: {'; '.join(session.heard)}" if session.heard else ""
-            raise Stop(f"the session did not begin: its status is {session.child.wait()}{said}") from None
-        return session
 
     def sync(self) -> None:
         """What was answered is kept by the disk."""
@@ -94,7 +47,7 @@ class Mounted:
             told = f"compact {things} files and folders, {before} to {os.path.getsize(self.journal)} bytes"
         except (making.Told, OSError) as why:
             told = f"fault compact: {why}"
-        self.session = tree.session = Session(self.command())
+        self.session = tree.session = beginning.opened(self.given)
         held = {inode: node for inode, node in tree.nodes.nodes.items() if not node.is_gone}
         found = zip(held, map(rows.row_of, self.session.tell(*(f"row {node.path}" for node in held.values()))))
         tree.nodes.compacted({inode: row for inode, row in found if row is not None})

@@ -272,7 +272,7 @@ class Tree(Data):
         if outcome.kind == "undecided" or outcome.kind == "denied" and not is_denied_there:
             raise outcome.failure()
 
-    def free(self) -> int:
-        """How many things more each server can take."""
+    def free(self) -> int | None:
+        """How many things more each server can take; none where the session does not tell."""
         taken = [int(found[1]) for line in self.session.tell("room")[0] if (found := TAKEN.search(line))]
-        return PLACES - max(taken, default=0)
+        return PLACES - max(taken) if taken else None

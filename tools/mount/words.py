@@ -46,6 +46,8 @@ import re
 
 TOP = os.path.realpath(os.path.join(os.path.dirname(os.path.abspath(__file__)), "..", ".."))
 SERVERS = 3
+# The session of these sources.
+SESSION = os.path.join(TOP, "suites") + " session"
 
 
 def read(words: list[str]) -> argparse.Namespace:
@@ -60,7 +62,7 @@ def read(words: list[str]) -> argparse.Namespace:
     for name in ("--read-only", "--allow-other", "--foreground"):
         parser.add_argument(name, action="store_true")
     # the command of another session, for tests
-    parser.add_argument("--session", default=os.path.join(TOP, "suites") + " session")
+    parser.add_argument("--session", default=SESSION)
     parser.add_argument("folder", metavar="DIR")
     parser.add_argument("lines", metavar="LINE", nargs="*")
     given = parser.parse_args(words)

@@ -7,8 +7,9 @@
 //! leaves is said by the definitions of `suite_play`, line by line (`specs/Headings.antt`); a line below the header
 //! prints what `play` prints for it, and leaves the world that `play` has after it (`specs/Services.antt`).
 //!
-//! At each moment the world of a session is that of its events so far, so all is promised of it that is promised of a run
-//! (`session_is_promised`). Lines below the header are told what `play` prints for them (`lines_below_are_played`).
+//! At each moment the world of a session is that of its events so far, so all is promised of it that is promised of
+//! a run (`session_is_promised`). Lines below the header are told what `play` prints for them
+//! (`lines_below_are_played`).
 //!
 //! `row PATH` tells what stands at a path, and `content PATH` the bytes of the file there, as the newest of all stored
 //! copies have it (`specs/Rows.antt`), without an access check: they are for whoever looks after the servers, and
