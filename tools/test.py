@@ -158,6 +158,7 @@ PARTS = (
 LONG = (
     Part("programs of tests and measurements", tool("tests/compiled.py")),
     Part("instructions", tool("tests/instructions.py")),
+    Part("crates in another repository", tool("tests/taken.py")),
     Part("slow inputs", tool("tests/growth.py"), [PROGRAM, TRACE, MAY, FORMS, EXPLORE]),
     Part("races", tool("tests/races.py", "1")),
     Part("the mount, long", tool("tests/mount-against-the-kernel.py", "--calls", "200000"), [PROGRAM, SESSION]),
