@@ -6,8 +6,8 @@ what `trace` tells in lines. Without Chromium it prints "skipped: no chromium" a
 pictures of some pages in a folder. Status 1 where something differs.
 
 model    the world behind the last event, as the page's model comes to it (by `node`, where that is there), is the one
-         that the program tells at the end: also of random scripts. The worlds of a part of a run are those of the whole,
-         and a run of too many events is refused
+         that the program tells at the end: also of random scripts. The worlds of a part of a run are those of the
+         whole, and a run of too many events is refused
 stories  each story of examples/play, stepped by keys to its end: servers, copies, locks, what agents gathered and
          keep, and what `play` prints
 hostile  what bytes hold, and names of users in a script, stays text

@@ -59,7 +59,8 @@ def tried(tally: played.Tally, program: Program, folder: str) -> None:
         file.write(source(program.name))
     with open(os.path.join(folder, "crates.txt"), "a", encoding="utf-8") as file:
         file.write(f"{program.name}: {program.direct}\n")
-    done = subprocess.run(["rt", "try"], cwd=crate, stdin=subprocess.DEVNULL, capture_output=True, text=True, check=False)
+    given = subprocess.DEVNULL
+    done = subprocess.run(["rt", "try"], cwd=crate, stdin=given, capture_output=True, text=True, check=False)
     tally.holds(program.printed in done.stdout, program.name, done.stdout[-600:], done.stderr[-1500:])
     tally.holds(take(folder, program.direct).stdout == "all of them are there\n", program.name, "taken twice")
     with open(os.path.join(folder, "crates", "vote_core", "src", "lib.rt"), "a", encoding="utf-8") as file:

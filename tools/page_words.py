@@ -2,8 +2,8 @@
 """tools/page_words.py [--each]
 
 Counts the words of the pages that are written by hand: README.md, CONTRIBUTING.md and docs/, without the page of wrong
-bodies and without the tables of docs/PROVED.md. A word has a letter or a digit. With --each it tells them page by page. README is to be read in one sitting and all pages in an evening, so each has a
-bound; status 1 where one is passed.
+bodies and without the tables of docs/PROVED.md. A word has a letter or a digit. With --each it tells them page by page.
+README is to be read in one sitting and all pages in an evening, so each has a bound; status 1 where one is passed.
 """
 import glob
 import os

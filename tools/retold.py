@@ -66,8 +66,8 @@ class Retold:
 
 
 class Part(Retold):
-    """A part of a run, from a moment on: what was told before it is taken in, and comes to an opening of its own, and to what
-    a page of the part has to know besides (`before`).
+    """A part of a run, from a moment on: what was told before it is taken in, and comes to an opening of its own, and
+    to what a page of the part has to know besides (`before`).
     """
 
     def __init__(self, opening: dict) -> None:

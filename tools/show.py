@@ -57,8 +57,8 @@ OWN = {
 # So many events are shown on a page at most, and what is said of more.
 MOST_EVENTS = 60_000
 TOO_MANY = (
-    "this run has more than {:,} events, as many as a page shows, before the end of line {}: show a part of it, by lines of the"
-    " script, as with --from 1 --to 100"
+    "this run has more than {:,} events, as many as a page shows, before the end of line {}: show a part of it, by"
+    " lines of the script, as with --from 1 --to 100"
 )
 LINE = re.compile(r'{"event":\d+,"line":(\d+),')
 FAULTY = 3
