@@ -1,5 +1,8 @@
 //! The command line: what is asked for.
 
+ghost use Rattle.std.specs.Prelude.{◌≡◌};
+ghost use Rattle.explore.specs.Words.{first_wish, large, small, with_bound, with_option, with_way};
+
 use script_text::read_number;
 use std::env::{Env, FillError};
 
@@ -64,16 +67,19 @@ pub(crate) fn read_words<R: Env>(rt: &R) -> Wanted {
             Ok(length) => number.get(..length).unwrap_or(b""),
             Err(_) => return Wanted::Nothing,
         };
-        if !takes(&mut wish, option, given) {
-            return Wanted::Nothing;
-        }
+        wish = match with_option(wish, option, given) {
+            Some(wish) => wish,
+            None => return Wanted::Nothing,
+        };
         place += 2;
     }
     Wanted::Nothing
 }
 
 /// All ways, where nothing crashes and nobody stops.
-fn first_wish() -> Wish {
+fn first_wish() -> Wish
+    ensures { result ≡ first_wish }
+{
     Wish {
         bounds: Bounds {
             crashes: 0,
@@ -97,39 +103,73 @@ fn stands_alone(option: &[u8], is_brief: &mut bool, tells_progress: &mut bool) -
     true
 }
 
-/// Takes an option with its number; tells whether it is one.
-fn takes(wish: &mut Wish, option: &[u8], given: &[u8]) -> bool {
-    let bounds = &mut wish.bounds;
-    match option {
-        b"--crashes" => takes_small(&mut bounds.crashes, given),
-        b"--returns" => takes_small(&mut bounds.returns, given),
-        b"--forgets" => takes_small(&mut bounds.forgets, given),
-        b"--stops" => takes_small(&mut bounds.stops, given),
-        b"--worlds" => match read_number(given, u64::from(u32::MAX)) {
-            Some(number) => {
-                bounds.worlds = number as u32;
-                true
-            }
-            None => false,
-        },
-        b"--way" => match read_number(given, u64::from(u32::MAX)) {
-            Some(number) if number > 0 => {
-                wish.way = Some(number as u32);
-                true
-            }
-            _ => false,
-        },
-        _ => false,
+/// What is asked for with an option and its number, where it is one that has this number.
+fn with_option(wish: Wish, option: &[u8], given: &[u8]) -> Option<Wish>
+    ensures { result ≡ with_option wish option.now given.now }
+{
+    if option == b"--way".as_slice() {
+        return with_way(wish, given);
+    }
+    let bounds = with_bound(wish.bounds, option, given)?;
+    Some(Wish {
+        bounds,
+        is_brief: wish.is_brief,
+        way: wish.way,
+    })
+}
+
+/// The script that leads to a way, counted from 1, is asked for.
+fn with_way(wish: Wish, given: &[u8]) -> Option<Wish>
+    ensures { result ≡ with_way wish given.now }
+{
+    let number = large(given)?;
+    if number == 0 {
+        return None;
+    }
+    Some(Wish {
+        bounds: wish.bounds,
+        is_brief: wish.is_brief,
+        way: Some(number),
+    })
+}
+
+/// Bounds with the one that an option tells.
+fn with_bound(bounds: Bounds, option: &[u8], given: &[u8]) -> Option<Bounds>
+    ensures { result ≡ with_bound bounds option.now given.now }
+{
+    let mut bounds = bounds;
+    if option == b"--crashes".as_slice() {
+        bounds.crashes = small(given)?;
+    } else if option == b"--returns".as_slice() {
+        bounds.returns = small(given)?;
+    } else if option == b"--forgets".as_slice() {
+        bounds.forgets = small(given)?;
+    } else if option == b"--stops".as_slice() {
+        bounds.stops = small(given)?;
+    } else if option == b"--worlds".as_slice() {
+        bounds.worlds = large(given)?;
+    } else {
+        return None;
+    }
+    Some(bounds)
+}
+
+/// A number up to 255.
+fn small(given: &[u8]) -> Option<u8>
+    ensures { result ≡ small given.now }
+{
+    match read_number(given, u64::from(u8::MAX)) {
+        Some(number) => Some(number as u8),
+        None => None,
     }
 }
 
-/// Takes a number up to 255; tells whether it is one.
-fn takes_small(place: &mut u8, given: &[u8]) -> bool {
-    match read_number(given, u64::from(u8::MAX)) {
-        Some(number) => {
-            *place = number as u8;
-            true
-        }
-        None => false,
+/// A number of 32 bits.
+fn large(given: &[u8]) -> Option<u32>
+    ensures { result ≡ large given.now }
+{
+    match read_number(given, u64::from(u32::MAX)) {
+        Some(number) => Some(number as u32),
+        None => None,
     }
 }
