@@ -1,0 +1,10 @@
+pub mod Searching
+pub mod Replies
+pub mod Places
+pub mod Deadlines
+pub mod Reading
+pub mod Standing
+pub mod Ending
+pub mod Cutting
+pub mod Layers
+pub mod Sorted

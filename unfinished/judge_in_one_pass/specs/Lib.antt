@@ -1,0 +1,10 @@
+pub mod Orders
+pub mod Searches
+pub mod Histories
+pub mod Fronts
+pub mod Plans
+pub mod Deadlines
+pub mod Placing
+pub mod Reads
+pub mod Going
+pub mod Verdicts

@@ -1,0 +1,38 @@
+//! A judge of concurrent histories against the plain table: it knows nothing of servers and agents.
+//!
+//! A history is a list of calls: who called for what and when, and what was told of it and when, or nothing: such a
+//! call was carried out or not. A call's number is its place in the list, and the number of its transaction. Times
+//! are any numbers; one call precedes another where it was told at a time before the other was called. The numbers of
+//! what was made are not compared.
+//!
+//! **Promises.** `judge` gives an order of the calls that keeps time, in which each that was told was told what the
+//! plain table answers, from an opening table on (`specs/Histories.antt`); or a time: there is an order for what was
+//! told before it, none for what was told up to it, and none at all (`specs/Verdicts.antt`). It gives up only where
+//! memory is refused. What holds of orders in general stands in `specs/Orders.antt`.
+//!
+//! The search keeps what it has placed so far, and goes on from each: by one call that changes nothing wherever it is
+//! right, where one fits; else by each call that fits. What changes nothing in one state alone is not placed early:
+//! later it may change something. Two that have placed the same calls and come to the same rows are one.
+//!
+//! **The caller owes** fewer than 2^60 calls, and an opening table without a file or folder of a number that a call
+//! of the history would make. A table that was just opened has none.
+//!
+//! **Files**: `history`, `fits` (whether what was told fits), `trying` (a call on a copy of a table), `placed`,
+//! `search`, `front` (what was told before a time), `verdict`. **Definitions** (`specs/`): `Orders`, `Histories`,
+//! `Fronts`, `Verdicts`; of the search `Searches`, `Reads`, `Deadlines`, `Placing`, `Going`.
+#![tactic(auto)]
+
+mod deadline;
+mod fits;
+mod front;
+mod history;
+mod placed;
+mod plan;
+mod quiet;
+mod search;
+mod trying;
+mod verdict;
+
+pub use history::{Call, Ops, Seen, Told};
+pub use search::order_of;
+pub use verdict::{Verdict, judge};
