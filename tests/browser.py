@@ -14,7 +14,7 @@ from typing import Any
 NAMES = ("chromium", "chromium-browser", "google-chrome")
 # How long an answer of the browser may take, and how much of it is read at once.
 PATIENCE, PIECE = 60, 1 << 16
-KEYS = {"ArrowRight": 39, "ArrowLeft": 37, "Home": 36, "End": 35, " ": 32, "Tab": 9, "Escape": 27}
+KEYS = {"Enter": 13, "ArrowRight": 39, "ArrowLeft": 37, "Home": 36, "End": 35, " ": 32, "Tab": 9, "Escape": 27}
 
 
 def program() -> str | None:
@@ -108,7 +108,8 @@ class Browser:
             self.faults.append(f"a dialog: {about['message']}")
 
     def open(self, path: str) -> None:
-        self.ask("Page.navigate", {"url": f"file://{path}"})
+        """Opens a file, or an address."""
+        self.ask("Page.navigate", {"url": path if "://" in path else f"file://{path}"})
         while self.value("document.readyState") != "complete":
             time.sleep(0.02)
 
@@ -127,11 +128,16 @@ class Browser:
 
     def press(self, key: str, times: int = 1) -> None:
         how = {"key": key, "code": "Space" if key == " " else key, "windowsVirtualKeyCode": KEYS[key]}
-        how |= {"text": " "} if key == " " else {}
+        how |= {"text": {" ": " ", "Enter": "\r"}[key]} if key in (" ", "Enter") else {}
         for place in range(times):
             self.tell("Input.dispatchKeyEvent", {"type": "keyDown", **how})
             told = self.ask if place % 16 == 15 or place == times - 1 else self.tell
             told("Input.dispatchKeyEvent", {"type": "keyUp", **how})
+
+    def type(self, selector: str, text: str) -> None:
+        """Types a text into a field, in place of what stands there."""
+        self.value(f"(() => {{ const e = document.querySelector({json.dumps(selector)}); e.focus(); e.select(); }})()")
+        self.ask("Input.insertText", {"text": text})
 
     def click(self, selector: str) -> None:
         """Clicks the middle of an element."""

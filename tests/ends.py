@@ -30,7 +30,20 @@ SCRIPT = b"servers 1\nagents 1\nvotes 1/1/1\nroot 1 1 777\ncache 0 0 0\nbegin 0 
 # In place of explore: tells how much memory it may have, in KiB.
 LIMITED = "#!/bin/sh\ncat > /dev/null\necho \"limit $(ulimit -v)\"\n"
 # In place of a program that is at work.
-SLEEPS = "#!/bin/sh\necho $$ > {0}\nexec sleep 60\n"
+SLEEPS = "#!/bin/sh\necho $$ > {0}\nexec sleep 600\n"
+# In place of a session: one that answers each line, one that is killed at once, and one whose answer has no end.
+ANSWERS = """#!/bin/sh
+number=0
+while read -r line; do number=$((number + 1)); echo "= $number"; done
+"""
+DIES, ENDLESS = "#!/bin/sh\nread -r line\nkill -9 $$\n", "#!/bin/sh\nread -r line\nexec cat /dev/zero\n"
+# In place of `explore`, and of `trace`, for a page of a way.
+ONE_WAY = "#!/bin/sh\ncat > /dev/null\necho 'way 1 in 1 of 1 ends\n0.0 answered set\nall 1 ways, 2 worlds'\n"
+OPENING = '{"event":0,"line":0,"kind":"opening","form":2,"servers":[],"agents":[]}'
+EVENTS = f"#!/bin/sh\ncat > /dev/null || exit 6\necho '{OPENING}'\necho '{OPENING}'\n"
+# The commands that talk to a session, or stand beside those that are looked at first; `dump` talks to one at its end.
+TALKING = ("shell", "show --live", "dump", "mount --foreground room")
+HELPED = ("mount", "shell", "import", "dump", "session", "judge", "explore", "show", "show --live")
 # In place of the kit: what it compiles is a module of one empty block.
 KIT = """#!/bin/sh
 case $1 in
@@ -80,6 +93,15 @@ def by_signals(copy: wrapper.Copy) -> None:
     ):
         copy.build(name, KILLED.format(number))
         holds(copy, words, 128 + number, f"was ended by signal {why}")
+    copy.build("session", DIES)
+    for words in ("shell", "show --live", "dump", *mounts(copy)):
+        holds(copy, f"./suites {words}", 1, "the program session was ended by signal 9 (SIGKILL): killed")
+    done = asked(copy, "./suites session")
+    copy.holds(done.returncode == 137, f"a session that is killed: {done}")
+    copy.build("explore", KILLED.format(11))
+    holds(copy, "./suites explore --page", 139, "was ended by signal 11 (SIGSEGV): a crash")
+    copy.build("judge", KILLED.format(9))
+    holds(copy, "./suites judge", 137, "was ended by signal 9")
     copy.build("forms", KILLED.format(9))
     holds(copy, "./suites explain 'fault line 1: S1' -", 1, "signal 9")
     copy.build("may", KILLED.format(11))
@@ -87,6 +109,27 @@ def by_signals(copy: wrapper.Copy) -> None:
     for status in (129, 137, 245):
         done = asked(copy, f"./suites explain 'status {status}'")
         copy.holds(done.returncode == 0 and b"signal" in done.stdout, f"status {status} is not explained: {done}")
+
+
+def mounts(copy: wrapper.Copy) -> list[str]:
+    """The words of a mount, where there can be one."""
+    os.makedirs(os.path.join(copy.top, "room"), exist_ok=True)
+    return [words for words in TALKING if words.startswith("mount") and os.path.exists("/dev/fuse")]
+
+
+def by_streams_of_sessions(copy: wrapper.Copy) -> None:
+    """The same of what talks to a session, of a page of ways, and of all that tells its help."""
+    for name, text in (("session", ANSWERS), ("explore", ONE_WAY), ("trace", EVENTS), ("judge", EVENTS)):
+        copy.build(name, text)
+    helps = [f"{one} --help" for one in HELPED]
+    for words in ("shell", "show --live", "import tools", "explore --page", "judge", *helps):
+        holds(copy, f"./suites {words} > /dev/full", 6, "a write failed: No space left on device")
+        holds(copy, f"./suites {words} >&-", 6, "a write failed: standard output is closed")
+    for words in ("shell", "dump", "explore --page", "judge"):
+        holds(copy, f"./suites {words} <&-", 6, "a read failed: standard input is closed")
+    for words in ("shell", "import tools"):
+        done = asked(copy, f"./suites {words} 2>&-")
+        copy.holds((done.returncode, done.stderr) == (0, b""), f"{words} with a closed standard error: {done}")
 
 
 def by_streams(copy: wrapper.Copy) -> None:
@@ -110,6 +153,9 @@ def by_memory(copy: wrapper.Copy) -> None:
     code = "import console; console.run(lambda: len(bytearray(1 << 46)), 'stopped')"
     done = subprocess.run([sys.executable, "-c", code], cwd=os.path.join(copy.top, "tools"), capture_output=True)
     copy.holds((done.returncode, done.stderr) == (4, b"suites: out of memory\n"), f"no memory: {done}")
+    copy.build("session", ENDLESS)
+    for words in ("shell", "dump", "show --live", *mounts(copy)):
+        holds(copy, f"ulimit -v 150000; exec ./suites {words}", 4, "out of memory")
     copy.build("explore", LIMITED)
     with open("/proc/meminfo", encoding="ascii") as file:
         most = next(int(line.split()[1]) for line in file if line.startswith("MemTotal"))
@@ -121,9 +167,9 @@ def by_memory(copy: wrapper.Copy) -> None:
 
 def by_settings(copy: wrapper.Copy) -> None:
     """What the environment asks of Python changes nothing."""
-    for setting in ({"PYTHONSAFEPATH": "1"}, {"PYTHONOPTIMIZE": "2"}):
-        for words in ("votes --help", "may --help", "explain U1"):
-            plain = asked(copy, f"./suites {words}")
+    for words in ("votes --help", "may --help", "explain U1", "import tools", *(f"{one} --help" for one in HELPED)):
+        plain = asked(copy, f"./suites {words}")
+        for setting in ({"PYTHONSAFEPATH": "1"}, {"PYTHONOPTIMIZE": "2"}):
             other = asked(copy, f"./suites {words}", env={**os.environ, **setting})
             same = (plain.returncode, plain.stdout) == (other.returncode, other.stdout)
             copy.holds(same and plain.stdout, f"{words} with {setting}: {other}")
@@ -145,6 +191,27 @@ def until(is_so: typing.Callable[[], object]) -> bool:
     return False
 
 
+def by_stops_of_sessions(copy: wrapper.Copy) -> None:
+    """A stop of what talks to a session stops that too, though it has not answered."""
+    kept = os.path.join(copy.top, "process")
+    copy.build("session", SLEEPS.format(kept))
+    for words in ("shell", "show --live", *mounts(copy)):
+        with contextlib.suppress(FileNotFoundError):
+            os.unlink(kept)
+        process = subprocess.Popen(
+            ["./suites", *words.split()], cwd=copy.top, stdin=subprocess.PIPE, stdout=subprocess.DEVNULL,
+            stderr=subprocess.PIPE, start_new_session=True,
+        )  # fmt: skip
+        until(lambda: os.path.exists(kept) and os.path.getsize(kept))
+        with open(kept, encoding="ascii") as file:
+            child = int(file.read())
+        process.send_signal(signal.SIGTERM)
+        is_stopped = until(lambda: not is_there(child))
+        _, told = process.communicate(timeout=120)
+        is_told = process.returncode == 130 and b"stopped" in told and b"Traceback" not in told
+        copy.holds(is_told and is_stopped, f"{words}: {process.returncode} {told!r}, stopped: {is_stopped}")
+
+
 def by_stops(copy: wrapper.Copy) -> None:
     """A stop of `./suites` stops the program."""
     kept = os.path.join(copy.top, "process")
@@ -163,7 +230,7 @@ def by_stops(copy: wrapper.Copy) -> None:
             with open(kept, encoding="ascii") as file:
                 child = int(file.read())
             process.send_signal(number)
-            status, is_stopped = process.wait(30), until(lambda: not is_there(child))
+            status, is_stopped = process.wait(120), until(lambda: not is_there(child))
             about = f"{number.name} {'on a terminal' if on_terminal else ''}"
             copy.holds(begun and is_stopped and status == 128 + number, f"{about}: {status}, stopped: {is_stopped}")
             os.close(given)
@@ -209,7 +276,10 @@ def by_builds(copy: wrapper.Copy) -> None:
 def main() -> int:
     with tempfile.TemporaryDirectory(prefix="suites-") as room:
         copy = wrapper.Copy(room)
-        for part in (by_signals, by_streams, by_memory, by_settings, by_stops, by_builds):
+        for part in (
+            by_signals, by_streams, by_streams_of_sessions, by_memory, by_settings, by_stops, by_stops_of_sessions,
+            by_builds,
+        ):
             part(copy)
     return copy.told("ends")
 

@@ -4,7 +4,8 @@
 Holds docs/events.schema.json against what `./suites trace --json` prints of all stories, of the scripts of
 tests/drawn.py, and of random ones. What servers and agents had by the changes that each event tells has to be what the
 program tells at the end, an agent has to have gathered the locks that replies gave, and all that `trace` tells in lines
-has to be told in the objects too. Status 1 where something differs.
+has to be told in the objects too. Without what is told in full besides, an event has to be the program's; the jobs
+that begin have to be those of the trace, and so have the paths. Status 1 where something differs.
 """
 import json
 import os
@@ -19,12 +20,16 @@ import played
 import shown_page
 from played import Tally
 
+import happened
 import retold
 import scenario
 import show
+import told_in_full
 import trace
 
 SCHEMA = os.path.join(played.TOP, "docs", "events.schema.json")
+# Words of an ending beside its parts.
+WORDS = ("op", "suite", "wants", "by", "got", "of", "server", "holder")
 TYPES = {"object": dict, "array": list, "string": str, "integer": int, "boolean": bool}
 
 
@@ -168,13 +173,68 @@ def lines_in(lines: list[str]) -> Iterator[str]:
             yield "nothing" if line.startswith("  nothing") else line
 
 
+def bare(event: dict) -> dict:
+    """An event without what is told in full besides."""
+    own = {name: part for name, part in event.items() if name not in ("begun", "paths")}
+    if "end" in own:
+        own["end"] = {name: own["end"][name] for name in ("agent", "job", "requests", "text")}
+    for lists in (own.get("at", {}), own.get("audit", {}), *own.get("servers", ())):
+        if "denials" in lists:
+            lists["denials"] = [{name: one[name] for name in ("t", "uid", "denied")} for one in lists["denials"]]
+    return own
+
+
+def said_again(end: dict) -> str:
+    """How a job ended, by the parts that are told."""
+    parts = [str(part) for name, part in end.items() if name not in ("agent", "job", "requests", "text", "how")]
+    return " ".join([end["how"], *parts]) if end["how"] != "answered" else f"answered {'; '.join(end['replies'])}"
+
+
+def begun_by(run: happened.Played, job: happened.Job) -> dict[str, Any]:
+    """A job as an event tells it."""
+    words, told = job.words, {"agent": job.agent, "job": job.count}
+    if words[0] == "sweep":
+        return {**told, "sweeps": int(words[2])}
+    groups = [int(gid) for gid in words[3].split(",")]
+    whose = {"home": run.home(job), "user": int(words[2]), "groups": groups, "site": int(words[4])}
+    return {**told, "t": job.t, **whose, "operations": job.operations}
+
+
+def in_full(tally: Tally, name: str, events: list[dict], script: str, lines: list[str]) -> None:
+    """Holds what is told in full against the trace: jobs that begin, ends, and paths."""
+    run = happened.Played(script, lines)
+    begun = [event["begun"] for event in events if "begun" in event]
+    wanted = [begun_by(run, job) for job in sorted(run.jobs.values(), key=lambda job: job.begun)]
+    tally.holds(begun == wanted, name, "jobs that begin", [one for one in begun if one not in wanted][:2])
+    for event in events:
+        end = event.get("end")
+        if end:
+            text = [word for word in end["text"].split() if word not in WORDS or end["how"] == "answered"]
+            tally.holds(said_again(end) == " ".join(text), name, "an end in full", end)
+    paths = {int(suite): path for event in events for suite, path in event.get("paths", {}).items()}
+    tally.holds({0: "/", **paths} == trace.paths(lines), name, "paths", paths, trace.paths(lines))
+
+
+def typed(tally: Tally) -> None:
+    """What the command prints is what is looked at here, and of a fault its line."""
+    script = next(iter(shown_page.stories().values())).encode()
+    words, fuller = [os.path.join(played.TOP, "suites"), "trace", "--json"], told_in_full.Fuller()
+    for given, status in ((script, 0), (script + b"none\n", 3)):
+        done = subprocess.run(words, input=given, capture_output=True, check=False)
+        lines = [line.encode() + b"\n" for line in show.events_of(script)] if status == 0 else []
+        wanted = b"".join(map(fuller.of, lines)) or f"fault line {script.count(10) + 1}: S1\n".encode()
+        tally.holds((done.returncode, done.stdout) == (status, wanted), "the command", done.returncode, done.stdout)
+
+
 def main() -> int:
     tally = Tally(most=20, width=600)
     with open(SCHEMA, encoding="utf-8") as file:
         schema = Schema(json.load(file))
     for name, script in scripts():
-        events = [json.loads(line) for line in show.events_of(script.encode())]
-        for event in events:
+        bare_lines, fuller = show.events_of(script.encode()), told_in_full.Fuller()
+        events = [json.loads(fuller.of(line.encode())) for line in bare_lines]
+        for line, event in zip(bare_lines, events):
+            tally.holds(bare(json.loads(json.dumps(event))) == json.loads(line), name, "another event", line)
             said = schema.refused(event, schema.whole)
             tally.holds(said is None, name, "event", event.get("event"), said)
         tally.holds([event["event"] for event in events] == [*range(len(events))], name, "numbers of events")
@@ -184,11 +244,13 @@ def main() -> int:
         for event, is_so in talks(events):
             tally.holds(is_so, name, "gathered otherwise than replies say", event)
         lines = trace.traced(script.encode())
+        in_full(tally, name, events, script, lines)
         for own, told in zip([*lines_of(events), None], [*lines_in(lines), None]):
             tally.holds(own == told, name, "told otherwise", own, told)
     for words in (["--json", "x"], ["--json", ""], ["x", "--json"]):
         done = subprocess.run([trace.program(), *words], stdin=subprocess.DEVNULL, capture_output=True, check=False)
         tally.holds((done.returncode, done.stdout) == (2, b"fault command line\n"), "words", words, done)
+    typed(tally)
     return tally.told("looked at")
 
 

@@ -3,16 +3,18 @@
 
 Asks `./suites explain` about every kind of line that a command or a tool prints. The lines are those of all rows
 (crates/rows/stdin), of the traces and the votes of all stories, of the ways in tests/explored, of `votes` and `may` by
-many words; of those that differ in numbers, paths and lists alone one is asked about. Of each something has to be said,
-and of those of a story also with its script behind. What is said has to name no file that is to be filled in where one
-is known. Words that stand slanted in documents have to be known, and words that no terminal may obey have to be shown
-escaped. With --told each kind is printed. Prints what differs; status 1 where something does.
+many words, of `judge`, `session`, `shell`, `dump` and `import` by their stories and a tree, and what these say on
+standard error; of those that differ in numbers, paths and lists alone one is asked about. Of each something has to be
+said, and of those of a story also with its script behind. What is said has to name no file that is to be filled in
+where one is known. Words that stand slanted in documents have to be known, and words that no terminal may obey have to
+be shown escaped. With --told each kind is printed. Prints what differs; status 1 where something does.
 """
 import glob
 import os
 import re
 import subprocess
 import sys
+import tempfile
 import typing
 
 import played
@@ -20,10 +22,9 @@ import played
 import console
 import explain
 import quoted
-import worded
 
 # So many kinds of lines at least are printed; fewer were found by mistake.
-FEWEST = 200
+FEWEST = 400
 VOTES = ("1,1,1/2/2", "2,1,1/2/3", "1,0,0/1/1", "1,1,1/1/3", "1,1,1,1,1/3/3", "-,1/1/1", "1,1/1/2")
 OF = (("--of", "5", "--lose-read", "2", "--lose-write", "1"), ("--of", "3"))
 SHADOW = "/etc/shadow"
@@ -38,9 +39,25 @@ MAY = (
     ("nobody", "delete", "/etc/hostname"),
     ("nobody", "r", "--under", "/etc/apt"),
 )
+# What is asked of a session behind its story.
+QUESTIONS = "row /\nrow /none\nrow a\ncontent /\ncontent /kept\ncopies /kept\ncopies /none\nlocks\nroom\nbegin 0 1\n"
+# Words that are wrong somewhere, of which tools say so. (`votes` has what `explain` says of votes.)
+WRONG = (
+    ("play", "x"),
+    ("serve", "--agents", "99"),
+    ("explain", "nothing that is printed"),
+    ("may", "nobody", "q", "/"),
+    ("explore", "--way", "0"),
+    ("judge", "x"),
+    ("trace", "--suite", "none"),
+    ("tabel",),
+)
+# What files of the stories have, which is told as it is.
+BYTES = ("the plan",)
 SLANTED = re.compile(r"(?<!\*)\*([a-z][a-z -]*[a-z])\*(?!\*)")
-# Pages whose slanted words are to be known.
-PAGES = ("README.md", "docs/SCRIPTS.md", "docs/WORDS.md", "docs/HEADLINE.md", "docs/FAULTS.md", "docs/EVENTS.md")
+# Slanted words are to be known of all pages but that of measurements, where one names a column.
+PAGES = ("README.md", "docs")
+UNKNOWN = ("PERFORMANCE.md",)
 OBEYED = (
     "servers 3\nagents 1\nvotes 1,1,1/2/2\nroot 1000 100 777\ncache 0 0 0\n"
     "begin 0 1000 100 0 read /a\x1b[31m\x07\nrun 0\n"
@@ -63,19 +80,61 @@ def kind(text: str) -> str:
     text = re.sub(r"(?<![\w.])/[\w./-]*", "PATH", text)
     text = re.sub(r"\b(read|given) (?:[0-9a-f]{2,}|-)(?=;|$)", r"\1 HEX", text)
     text = re.sub(r"list [\w.,-]+", "list NAMES", text)
+    text = re.sub(r"^(content PATH) (?:[0-9a-f]{2})+$", r"\1 HEX", text)
     text = re.sub(r"\d+(\.\d+)?(e-\d+)?", "N", text)
     return re.sub(r"(?:\{N(?:,N)*\} ?)+", "SETS", re.sub(r"(?:N[ ,])+N", "NS", text))
 
 
-def printed(*words: str, script: str = "") -> typing.Iterator[str]:
-    """What `./suites` prints."""
+def printed(*words: str, script: str = "", behind: str = "", says: bool = False) -> typing.Iterator[str]:
+    """What `./suites` prints of a script with more lines behind it; and what it says on standard error."""
     with open(script or os.devnull, "rb") as given:
-        done = subprocess.run(["./suites", *words], cwd=played.TOP, stdin=given, capture_output=True, check=False)
-    yield from (line for line in done.stdout.decode("latin1").splitlines() if line.strip())
+        text = given.read() + behind.encode()
+    done = subprocess.run(["./suites", *words], cwd=played.TOP, input=text, capture_output=True, check=False)
+    told = done.stdout + (done.stderr if says else b"")
+    yield from (line for line in told.decode("latin1").splitlines() if line.strip())
 
 
-def stories(folder: str) -> list[str]:
-    return sorted(glob.glob(os.path.join(played.TOP, "examples", folder, "*.script")))
+def stories(folder: str, ending: str = "script") -> list[str]:
+    return sorted(glob.glob(os.path.join(played.TOP, "examples", folder, f"*.{ending}")))
+
+
+def of_sessions() -> typing.Iterator[Line]:
+    """The lines of sessions: marked, answers to questions, of the shell, and of what makes a tree again."""
+    for script in stories("session"):
+        answers = [*printed("session", "--marks", script=script, behind=QUESTIONS)]
+        yield from (Line("session", text) for text in answers)
+        # what the story itself has: its lines stand above the questions
+        with open(script, encoding="utf-8") as file:
+            last = answers.index(f"= {len(file.read().splitlines())}")
+        yield from (Line("session", text, script) for text in answers[: last + 1] if text.startswith("= "))
+    for script in stories("play"):
+        yield from (Line("dump", text) for text in printed("dump", script=script, says=True))
+    for story in stories("shell", "shell"):
+        behind = "ls -l\nservers\nvotes /plan\nraw locks\nnone\nas nobody-here\ncat\ncrash 0\ncrash 1\ncat /plan\n"
+        told = printed("shell", script=story, behind=behind, says=True)
+        yield from (Line("shell", text) for text in told if text not in BYTES)
+    with tempfile.TemporaryDirectory(prefix="suites-") as folder:
+        with open(os.path.join(folder, "plan"), "w", encoding="utf-8") as file:
+            file.write("the plan")
+        os.symlink("plan", os.path.join(folder, "link"))
+        os.mkdir(os.path.join(folder, "a b"))
+        os.chmod(os.path.join(folder, "plan"), 0o4644)
+        yield from (Line("import", text) for text in printed("import", folder, says=True))
+
+
+def of_histories() -> typing.Iterator[Line]:
+    """The lines of `judge`, and of the histories that it reads."""
+    for history in stories("judge", "history"):
+        for option in ("", "--order", "--small"):
+            told = [*printed("judge", *filter(None, [option]), script=history)]
+            # a smaller history and a script have lines of their own
+            yield from (Line("judge", text, history) for text in told[:1] if not option)
+            yield from (Line("judge", text) for text in told)
+        with open(history, encoding="utf-8") as file:
+            lines = [line for line in file.read().splitlines() if not line.startswith("#")]
+        yield from (Line("judge", text, history) for text in lines if text.startswith(("call", "ret")))
+    for text in printed("judge", behind="root 1 1 755\ncall 1 1 1 read\n", says=True):
+        yield Line("judge", text)
 
 
 def lines() -> typing.Iterator[Line]:
@@ -99,8 +158,12 @@ def lines() -> typing.Iterator[Line]:
     for name in sorted(glob.glob(os.path.join(played.TOP, "tests", "explored", "*.ways"))):
         with open(name, encoding="utf-8") as file:
             yield from (Line("explore", line.rstrip("\n")) for line in file)
+    yield from of_sessions()
+    yield from of_histories()
     for asked in [*((one,) for one in VOTES), *OF]:
         yield from (Line("votes", text) for text in printed("votes", *asked))
+    for asked in WRONG:
+        yield from (Line(asked[0], text) for text in printed(*asked, says=True))
     for asked in MAY:
         yield from (Line("may", text) for text in printed("may", *asked))
 
@@ -128,14 +191,15 @@ def wrong_with(line: Line) -> str:
 
 def unknown_words() -> typing.Iterator[str]:
     """Slanted words of documents of which `explain` knows nothing."""
-    known = set(worded.words())
-    known |= {f"{word}s" for word in known}
     for page in PAGES:
         path = os.path.join(played.TOP, page)
-        for name in [path] if os.path.isfile(path) else sorted(glob.glob(os.path.join(path, "*"))):
+        for name in [path] if os.path.isfile(path) else sorted(glob.glob(os.path.join(path, "*.md"))):
+            if os.path.basename(name) in UNKNOWN:
+                continue
             with open(name, encoding="utf-8") as file:
                 words = {word for word in SLANTED.findall(file.read()) if len(word.split()) <= 3}
-            yield from (f"{page}: {word} is slanted, and explain does not know it" for word in sorted(words - known))
+            unknown, of = sorted(word for word in words if not explain.explained(word)), os.path.basename(name)
+            yield from (f"{of}: {word} is slanted, and explain does not know it" for word in unknown)
 
 
 def obeyed(tally: played.Tally) -> None:

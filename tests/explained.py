@@ -36,9 +36,9 @@ HEADERS: dict[str, list[str]] = {
 }
 HEADERS = {**HEADERS, **{f"whole {name}": [] for name in HEADERS}}
 # What stands in a command line of the page for something of the reader's, and what is put there.
-SCRIPT = "examples/play/quorum-lost.script"
+SCRIPT, EXPLORED = "examples/play/quorum-lost.script", "examples/explore/revocation.script"
 PUT = {
-    "--way K < SCRIPT": "--way 1 < examples/explore/revocation.script",
+    "--way K < SCRIPT": f"--way 1 < {EXPLORED}",
     "SCRIPT": SCRIPT,
     "FILE": SCRIPT,
     "LIST": "examples/acl/getfacl.txt",
@@ -239,24 +239,30 @@ def read_or_nothing(terminal: typing.IO[bytes]) -> str:
         return ""
 
 
+def on_terminal(words: list[str], path: str, folder: str) -> str:
+    """What a terminal is told of a file that is read."""
+    terminal, end = os.openpty()
+    with open(path, "rb") as file:
+        given: dict[str, typing.Any] = {"stdin": file, "stdout": subprocess.DEVNULL, "stderr": end, "cwd": folder}
+        subprocess.run([os.path.join(TOP, "suites"), *words], check=False, **given)
+    os.close(end)
+    with open(terminal, "rb", buffering=0) as said_there:
+        return "".join(iter(lambda: read_or_nothing(said_there), ""))
+
+
 def told_on_terminal() -> typing.Iterator[str]:
-    """What differs where a fault is found on a terminal: the command that `./suites` names has to show it."""
+    """What differs where a fault is found on a terminal: the command that `./suites` names has to show it; of a script
+    of `explore` it has to be told so.
+    """
+    for command in ("play", "trace", "draw", "show"):
+        said = on_terminal([command], os.path.join(TOP, EXPLORED), TOP)
+        if f"explore --way 1 < {EXPLORED}" not in said.replace("'", ""):
+            yield f"{command} says of {EXPLORED}: {said}"
     with tempfile.TemporaryDirectory(prefix="suites-") as folder:
         for name, command, text, told in ON_TERMINAL:
             with open(os.path.join(folder, name), "w", encoding="utf-8") as file:
                 file.write(text)
-            terminal, end = os.openpty()
-            with open(os.path.join(folder, name), "rb") as file:
-                subprocess.run(
-                    [os.path.join(TOP, "suites"), command],
-                    stdin=file,
-                    stdout=subprocess.DEVNULL,
-                    stderr=end,
-                    cwd=folder,
-                )
-            os.close(end)
-            with open(terminal, "rb", buffering=0) as said_there:
-                said = "".join(iter(lambda: read_or_nothing(said_there), ""))
+            said = on_terminal([command], os.path.join(folder, name), folder)
             found = re.search(r"\./suites (explain 'fault .*) shows it", said)
             shown = (
                 found

@@ -183,6 +183,24 @@ def has_empty_mask(path: str) -> bool:
     return any(tag == 16 and bits == 0 for tag, bits, _ in struct.iter_unpack("<HHI", value[4:]))
 
 
+def is_of_two(path: str, found: os.stat_result, user: tuple[int, int, tuple[int, ...]], wanted: int) -> bool:
+    """Whether entries of a user's groups grant together what is wanted, and none of them alone."""
+    try:
+        value = os.getxattr(path, ACCESS)
+    except OSError:
+        return False
+    entries = [*struct.iter_unpack("<HHI", value[4:])]
+    groups, mask = (user[1], *user[2]), next((bits for tag, bits, _ in entries if tag == 16), 7)
+    if user[0] == found.st_uid or any(tag == 2 and who == user[0] for tag, _, who in entries):
+        return False
+    is_own = found.st_gid in groups
+    own = [bits & mask for tag, bits, who in entries if tag == 8 and who in groups or tag == 4 and is_own]
+    together = 0
+    for bits in own:
+        together |= bits
+    return together & wanted == wanted and not any(bits & wanted == wanted for bits in own)
+
+
 class Facts:
     """What the tree of this Linux has on the way of a call before it is made: as root sees it."""
 
@@ -198,10 +216,12 @@ class Facts:
         try:
             found = os.stat(self.target)
         except OSError:
-            self.is_folder, self.is_own = False, False
+            self.is_folder, self.is_own, self.is_of_two = False, False, False
             return
         self.is_folder = stat.S_ISDIR(found.st_mode)
         self.is_own = found.st_uid == user[0] and found.st_gid in (user[1], *user[2])
+        wanted = {"update": 6, "access": call[2]}.get(call[0], 0) if len(call) > 2 else 0
+        self.is_of_two = wanted != 0 and is_of_two(self.target, found, user, wanted)
 
 
 # What docs/MOUNT.md tells that Linux does otherwise: the calls, what the mount answers, and when.
@@ -209,6 +229,9 @@ RULES = {
     "an empty mask": lambda facts, ours, theirs: facts.has_empty_mask,
     "a list is not told to whom it does not let read": lambda facts, ours, theirs: (
         facts.call[0] in ("getacl", "getdefault") and ours == "EACCES"
+    ),
+    "what is wanted at once is asked one after the other": lambda facts, ours, theirs: (
+        facts.is_of_two and ours.startswith("=") and theirs in ("EACCES", "= False")
     ),
     "EISDIR and ENOTDIR come before EACCES": lambda facts, ours, theirs: (
         (facts.call[0], ours, theirs) in (("unlink", "EISDIR", "EACCES"), ("rmdir", "ENOTDIR", "EACCES"))
@@ -221,7 +244,7 @@ RULES = {
         facts.call[0] == "access" and not facts.is_folder and facts.call[2] & 1
     ),
     "of two errors of a rename another may come first": lambda facts, ours, theirs: (
-        facts.call[0] == "rename" and theirs == "EACCES" and ours in ("ENOENT", "ENOTDIR")
+        facts.call[0] == "rename" and theirs == "EACCES" and ours in ("ENOENT", "ENOTDIR", "EISDIR")
     ),
     "one's own files alone are renamed": lambda facts, ours, theirs: (
         facts.call[0] == "rename" and ours == "EXDEV" and (facts.is_folder or not facts.is_own)

@@ -3,8 +3,8 @@
 
 Mounts sessions and looks at what the mount itself does: that it decides nothing (over a session that grants all,
 everybody may all; over one that denies all, nobody may anything), umask and default lists, what an open file sees, each
-error of its table, lines of control and who may give them, and how it ends. Prints what differs; status 1 where
-something does.
+error of its table, lines of control and who may give them, that nothing is recorded as denied of a call that is
+answered, and how it ends. Prints what differs; status 1 where something does.
 """
 from __future__ import annotations
 
@@ -268,6 +268,27 @@ def is_controlled(tally: played.Tally) -> None:
         tally.holds(got(f"{top}/a") == b"x", "a lock that is gone is in the way")
 
 
+def records_denials(tally: played.Tally) -> None:
+    """A server records what was denied, and nothing of a call that is answered."""
+    with Mounted("--root", "0:0:711") as mount:
+        top = mount.top
+        put(f"{top}/f", b"", mode=0o600)
+        os.mkdir(f"{top}/d", 0o700)
+        put(f"{top}/d/f", b"", mode=0o600)
+
+        def denials() -> int:
+            return sum(int(mount.control(f"audit {server}").split()[2]) for server in range(3))
+
+        for name in ("f", "d"):
+            tally.holds(as_user(STRANGER, lambda: os.stat(f"{top}/{name}")) == "", f"{name} is not told of")
+        tally.holds(as_user(STRANGER, lambda: os.stat(f"{top}/no")) == "ENOENT", "what is not there")
+        tally.holds(denials() == 0, f"what is answered is recorded as denied: {denials()}")
+        for does in (lambda: os.stat(f"{top}/d/f"), lambda: got(f"{top}/f")):
+            before = denials()
+            tally.holds(as_user(STRANGER, does) == "EACCES", "what is denied is answered")
+            tally.holds(denials() > before, "what is denied is not recorded")
+
+
 def ends(tally: played.Tally) -> None:
     """umount, a signal, a session that dies, and a mount whose program was killed."""
     with Mounted() as mount:
@@ -312,6 +333,7 @@ def main() -> int:
     sees_what_is_written(tally)
     answers_errors(tally)
     is_controlled(tally)
+    records_denials(tally)
     ends(tally)
     return tally.told("answers of the mount")
 

@@ -1,19 +1,24 @@
 #!/usr/bin/env python3
 """tests/shell.py
 
-Plays the stories of `./suites shell` and of the mount and holds what they print against what is written here; what
+Plays the stories of `./suites shell` and of the mount and holds what they print against what is written here; the shell
+on a terminal (words, paths and users are completed, lines are kept, Ctrl-C and Ctrl-D, colours there alone); what
 setfacl makes of lists against setfacl; and scripts of `./suites import`: the tree that one makes is read again from a
 mount, and the script of that is the same. What a mount needs and is not here is told, and that part is skipped. Prints
 what differs; status 1 where something does.
 """
 from __future__ import annotations
 
+import contextlib
 import os
+import pty
 import random
+import select
 import shutil
 import subprocess
 import sys
 import tempfile
+import time
 
 import mounted
 import played
@@ -21,6 +26,7 @@ from mount import lists
 from shell import changing
 
 SHELL, IMPORT = (os.path.join(played.TOP, "tools", *one) for one in (("shell",), ("mount", "importing.py")))
+SESSION = [mounted.SESSION] if mounted.SESSION else [mounted.SUITES, "session"]
 STORY = os.path.join(played.TOP, "examples", "shell", "revocation.shell")
 MOUNTED = os.path.join(played.TOP, "examples", "mount", "revocation.sh")
 # What is answered in the story of the shell, behind its lines.
@@ -56,10 +62,87 @@ MISTAKES = {
 }
 
 
+# What is typed on a terminal, and what is to be shown of it before the next is typed.
+TAB, CTRL_C, CTRL_D, UP, RED = "\t", "\x03", "\x04", "\x1b[A", "\x1b[31m"
+TYPED = (
+    ("user quirin 1001\n", "> "), (f"mkd{TAB}", "mkdir "), ("/folder 777\n", "root> "),
+    (f"put /fo{TAB}", "/folder"), ("/one hello\n", "root> "), (f"cat /folder/o{TAB}\n", "hello"),
+    (f"cat folder/o{TAB}\n", "hello"), (f"as quir{TAB}", "as quirin"), ("\n", "quirin> "),
+    (f"setfacl -m u:quir{TAB}", "u:quirin"), (f":r /folder/o{TAB}\n", f"{RED}Permission denied"),
+    ("why\n", "nobody else may do that"), ("", "quirin> "), (f"rm /folder/one{CTRL_C}", "^C"),
+    ("cat /folder/one\n", "hello"),
+    (f"cra{TAB}1\n", "quirin> "), ("servers\n", "server 1 down"), ("cat /nothing\n", f"{RED}No such file or folder"),
+)
+
+
+class Terminal:
+    """A shell on a terminal of its own."""
+
+    def __init__(self, room: str, *words: str) -> None:
+        self.shown = ""
+        self.child, self.leader = pty.fork()
+        if self.child == 0:
+            env = {**os.environ, "XDG_STATE_HOME": room, "TERM": "xterm", "INPUTRC": "/dev/null", "COLUMNS": "200"}
+            os.execve(sys.executable, [sys.executable, SHELL, *own_session(), *words], env)
+
+    def shows(self, text: str) -> bool:
+        """Whether a text is shown behind what was looked for before."""
+        end = time.monotonic() + 60
+        while text not in self.shown and time.monotonic() < end:
+            if select.select([self.leader], [], [], 1)[0]:
+                try:
+                    self.shown += os.read(self.leader, 4096).decode("utf-8", "replace")
+                except OSError:
+                    break
+        is_shown = text in self.shown
+        self.shown = self.shown.partition(text)[2] if is_shown else self.shown
+        return is_shown
+
+    def type(self, text: str) -> None:
+        os.write(self.leader, text.encode())
+
+    def ended(self) -> int:
+        """The status with which it ends by itself, soon."""
+        with contextlib.suppress(OSError):
+            while select.select([self.leader], [], [], 60)[0] and os.read(self.leader, 4096):
+                pass
+        os.close(self.leader)
+        return os.waitstatus_to_exitcode(os.waitpid(self.child, 0)[1])
+
+
+def own_session() -> list[str]:
+    return ["--session", mounted.SESSION] if mounted.SESSION else []
+
+
+def on_terminals(tally: played.Tally) -> None:
+    with tempfile.TemporaryDirectory(prefix="suites-") as room:
+        terminal = Terminal(room, "--root", "0:0:777")
+        tally.holds(terminal.shows("root> "), "a terminal is asked", terminal.shown)
+        for typed, wanted in TYPED:
+            terminal.type(typed)
+            tally.holds(terminal.shows(wanted), repr(typed), repr(terminal.shown))
+        terminal.type(CTRL_D)
+        tally.holds(terminal.ended() == 0, "Ctrl-D ends it")
+        again = Terminal(room)
+        again.shows("root> ")
+        again.type(UP)
+        tally.holds(again.shows("cat /nothing"), "what was typed is kept", repr(again.shown))
+        again.type(UP)
+        tally.holds(again.shows("servers"), "and what was typed before", repr(again.shown))
+        again.type(CTRL_C)
+        # what is typed with it goes with it
+        again.shows("^C")
+        again.type("quit\n")
+        tally.holds(again.ended() == 0, "quit ends it")
+    env = {**os.environ, "TERM": "xterm"}
+    done = subprocess.run([sys.executable, SHELL, *own_session()], input=b"cat /no\n", capture_output=True, env=env)
+    told = b"root> cat /no\nNo such file or folder (refused F4 op 1)\n"
+    tally.holds((done.stdout, done.stderr) == (told, b""), "no terminal", done.stdout, done.stderr)
+
+
 def shell(story: str, *words: str) -> list[str]:
-    session = ["--session", mounted.SESSION] if mounted.SESSION else []
     done = subprocess.run(
-        [sys.executable, SHELL, *session, *words], input=story, stdout=subprocess.PIPE, stderr=subprocess.STDOUT,
+        [sys.executable, SHELL, *own_session(), *words], input=story, stdout=subprocess.PIPE, stderr=subprocess.STDOUT,
         text=True,
     )
     return done.stdout.splitlines()
@@ -82,6 +165,10 @@ def tells_stories(tally: played.Tally) -> None:
         tally.holds(is_there, "a journal is gone on with", told)
         told = shell("as root:0\ncat /d/f\n", "--script", f"{room}/script")
         tally.holds("hello" in told, "a script that was saved is played", told)
+        shell(f"as root:0\nput /f hello\nuser late 7\nrow /f\nsave {room}/late\n")
+        with open(f"{room}/late", "rb") as file:
+            done = subprocess.run([played.program(), "play"], stdin=file, stdout=subprocess.PIPE)
+        tally.holds(done.stdout == b"0.0 10 answered made 1; wrote\n", "a saved script, with a late name", done.stdout)
 
 
 def changes_lists(tally: played.Tally) -> None:
@@ -121,6 +208,16 @@ def imported(folder: str, *words: str) -> tuple[int, str, str]:
     return done.returncode, done.stdout, done.stderr
 
 
+def dumped(room: str, script: str) -> str:
+    """The short script of the journal of a session that was given a script."""
+    journal, short = os.path.join(room, "journal"), os.path.join(room, "short")
+    with open(script, "rb") as file:
+        subprocess.run([*SESSION, "--journal", journal], stdin=file, stdout=subprocess.DEVNULL, check=True)
+    with open(journal, "rb") as file, open(short, "wb") as made:
+        subprocess.run([mounted.SUITES, "dump"], stdin=file, stdout=made, check=True)
+    return short
+
+
 def reads_trees(tally: played.Tally) -> None:
     with tempfile.TemporaryDirectory(prefix="suites-", dir=mounted.PLACE) as room:
         top = os.path.join(room, "t")
@@ -140,6 +237,8 @@ def reads_trees(tally: played.Tally) -> None:
         with mounted.Mounted("--script", script) as mount:
             status, again, told = imported(mount.top)
             tally.holds((status, again) == (0, first), "a tree, mounted and read again", told)
+        with mounted.Mounted("--script", dumped(room, script)) as mount:
+            tally.holds(imported(mount.top) == (0, first, ""), "a tree in a journal, dumped, mounted and read again")
         os.symlink("a", f"{top}/link")
         os.mkfifo(f"{top}/pipe")
         os.mkdir(f"{top}/a name")
@@ -154,8 +253,9 @@ def reads_trees(tally: played.Tally) -> None:
 def main() -> int:
     tally = played.Tally(width=2000)
     changes_lists(tally)
+    on_terminals(tally)
+    tells_stories(tally)
     if not mounted.skipped():
-        tells_stories(tally)
         reads_trees(tally)
         if shutil.which("setpriv") and shutil.which("setfacl"):
             done = subprocess.run([MOUNTED], stdout=subprocess.PIPE, stderr=subprocess.STDOUT, text=True)

@@ -2,11 +2,12 @@
 """tests/taken.py
 
 Takes crates by tools/take.py into folders of their own, builds two programs over them there by `rt try`, unproved, and
-holds what they print against what is to be expected by the rules of the service; and looks whether docs/LIBRARY.md
-shows these programs. A crate that is there and is another one has to be refused. Prints what differs; status 1 where
-something does.
+holds what they print against what is to be expected by the rules of the service. The first is made as docs/LIBRARY.md
+says, by its command lines, and the page has to show what it prints, and to name the second. A crate that is there and
+is another one has to be refused. Prints what differs; status 1 where something does.
 """
 import os
+import re
 import subprocess
 import sys
 import tempfile
@@ -26,16 +27,16 @@ class Program(typing.NamedTuple):
     printed: str
 
 
-TAKEN = (
-    # the mask takes writing from user 1001; two of four votes read, and three write
-    Program("access_and_votes", "acl_core acl_text vote_core", 4, "Denied(Mask)\nread true write false\n"),
-    # with server 2 down the other two make the quorum; the file is operation 1 of transaction 0
-    Program(
-        "a_run",
-        "acl_core file_ops run_core suite_content suite_prefix txn_core vote_core",
-        13,
-        "server 0 has it: true\nserver 1 has it: true\nserver 2 has it: false\n",
-    ),
+# The folder of another repository in the command lines of the page.
+MINE = "../mine"
+# the mask takes writing from user 1001; two of four votes read, and three write
+ASKS = Program("access_and_votes", "acl_core acl_text vote_core", 4, "Denied(Mask)\nread true write false\n")
+# with server 2 down the other two make the quorum; the file is operation 1 of transaction 0
+PLAYS = Program(
+    "a_run",
+    "acl_core file_ops run_core suite_content suite_prefix txn_core vote_core",
+    13,
+    "server 0 has it: true\nserver 1 has it: true\nserver 2 has it: false\n",
 )
 
 
@@ -68,14 +69,26 @@ def tried(tally: played.Tally, program: Program, folder: str) -> None:
     tally.holds(take(folder, program.direct).returncode == 1, program.name, "another crate is taken for this one")
 
 
+def as_told(tally: played.Tally, program: Program, page: str, folder: str) -> None:
+    """Types the command lines of the page, and looks at what the program prints, and whether the page shows that."""
+    blocks = [re.sub(r"^    ", "", block, flags=re.M) for block in re.findall(r"(?:^    .*\n)+", page, re.M)]
+    lines = next((block for block in blocks if "take.py" in block), "")
+    tally.holds(f"tests/programs/{program.name}.rt.txt" in lines, "docs/LIBRARY.md does not take", program.name)
+    tally.holds(program.printed in blocks, "docs/LIBRARY.md does not show what is printed:", program.printed)
+    words, given = ["sh", "-ec", lines.replace(MINE, folder)], subprocess.DEVNULL
+    done = subprocess.run(words, cwd=played.TOP, stdin=given, capture_output=True, text=True, check=False)
+    tally.holds(done.stdout.startswith(f"{program.taken} crates taken: "), program.name, done.stdout, done.stderr)
+    tally.holds(program.printed in done.stdout, program.name, done.stdout[-600:], done.stderr[-1500:])
+
+
 def main() -> int:
     tally = played.Tally(width=2000)
     with open(os.path.join(played.TOP, "docs", "LIBRARY.md"), encoding="utf-8") as file:
         page = file.read()
-    for program in TAKEN:
-        tally.holds(f"tests/programs/{program.name}.rt.txt" in page, "docs/LIBRARY.md does not name", program.name)
-        with tempfile.TemporaryDirectory(prefix="suites-") as folder:
-            tried(tally, program, folder)
+    tally.holds(f"tests/programs/{PLAYS.name}.rt.txt" in page, "docs/LIBRARY.md does not name", PLAYS.name)
+    with tempfile.TemporaryDirectory(prefix="suites-") as folder:
+        as_told(tally, ASKS, page, os.path.join(folder, "mine"))
+        tried(tally, PLAYS, os.path.join(folder, "other"))
     return tally.told("things")
 
 

@@ -48,7 +48,8 @@ def program(name: str) -> str:
         choice = kind, path
     kind, path = choice
     if kind == "checked":
-        text = f"checked build of {name}, not proved yet; ./suites --prove {name} proves and builds it"
+        word = "" if name == "suites" else f" {name}"
+        text = f"checked build of {name}, not proved yet; ./suites --prove{word} proves and builds it"
         if sys.stderr.isatty():
             console.Teller().say(text)
         else:

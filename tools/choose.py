@@ -29,7 +29,7 @@ PROGRAMS = {
 }
 STOPPED = "stopped; there is no checked build yet"
 # The programs beside it that tools use.
-BESIDE = ("trace", "explore", "may", "forms")
+BESIDE = ("trace", "explore", "may", "forms", "judge", "session")
 CHANGES = os.path.join(sources.TOP, "CHANGELOG.md")
 
 

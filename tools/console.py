@@ -5,6 +5,7 @@ import argparse
 import contextlib
 import errno
 import fcntl
+import itertools
 import os
 import shlex
 import signal
@@ -119,7 +120,21 @@ def shows(fault: str) -> str:
     if not os.path.isfile(name):
         return f"./suites explain {shlex.quote(fault)} tells what it means"
     named = ascii(os.path.relpath(name))[1:-1] if not os.path.relpath(name).isprintable() else os.path.relpath(name)
+    if is_of_explore(fault, name):
+        return f"it is a script of explore: ./suites explore --way 1 < {shlex.quote(named)} prints one for play"
     return f"./suites explain {shlex.quote(fault)} {shlex.quote(named)} shows it"
+
+
+def is_of_explore(fault: str, path: str) -> bool:
+    """Whether the line that has this fault is `together`, which a script of `explore` has where one of `play` has
+    none.
+    """
+    number = fault.removeprefix("fault line ").partition(":")[0]
+    if not number.isdigit():
+        return False
+    with open(path, "rb") as file:
+        line = next(itertools.islice(file, int(number) - 1, None), b"")
+    return line.split() == [b"together"]
 
 
 def words(text: str) -> argparse.ArgumentParser:

@@ -55,7 +55,7 @@ def asked(lines: Iterable[str], questions: Iterable[str]) -> list[str]:
     words = [beside.program("session"), "--marks"]
     done = subprocess.run(words, input=text.encode("latin1"), stdout=subprocess.PIPE)
     if done.returncode not in (0, 3):
-        raise console.Stop(f"the session ended with status {done.returncode}")
+        raise console.Stop(console.ended("session", done.returncode))
     answers, answer = list[str](), list[str]()
     for line in done.stdout.decode("latin1").splitlines():
         if line == f"= {len(answers) + 1}":

@@ -32,6 +32,7 @@ import forms
 import happened
 import in_script
 import laid_out
+import of_history
 import printed
 import quoted
 import ways_told
@@ -45,11 +46,16 @@ SPAN = r"`([^`]*)`"
 EXAMPLE = re.compile(rf"({SPAN}(?:, {SPAN})*) prints {SPAN}(?: \({SPAN}\))?")
 STATUS = re.compile(r"(?:status |exit )?(\d)$|(?:status |exit )(\d{2,3})$")
 FAULT = re.compile(r"fault (?:line (\d+): )?([SAVNG]\d+(?: A\d+)?(?: item \d+)?)(?: (.+))?$")
-EXPLORED = re.compile(r"(way) \d+ in \d+ of \d+ ends$|(?:not )?(all):? \d+ ways, \d+ worlds$|\d+\.\d+ -$")
+EXPLORED = re.compile(
+    r"way \d+(?: in \d+ of \d+ ends|: \d+ (?:worlds at the end|runs), \d+ of them so)$"
+    r"|(?:(?:not )?all|sampled):? \d+ ways, \d+ (?:worlds|runs)$|\d+\.\d+ -$|decided(?: \d+\.\d+)*$"
+)
 # What begins the line of an outcome: an agent and its job, or a job, and how many requests it took; or a transaction.
 # An outcome of `explore` tells no requests.
 # What a session tells besides what its lines print.
 SPOKEN = re.compile(r"= (?:restored \d+ lines|\d+)$|(?:row|content|copies|locks?|room) ")
+VOTES = re.compile(r"(?:\d+,|-,)*\d+/\d+/\d+$")
+MARKED = re.compile(r"= (\d+)$")
 FRONT = re.compile(r"(?:(\d+)\.(\d+)(?: (\d+))?|(\d+) (\d+)|(\d+)) (?=answered|denied|refused|undecided|swept)")
 # The number of what was made, or of a transaction.
 NUMBERED = re.compile(r"\b(?:(made) ([1-9]\d*)|(?:holder|t) (\d+))\b")
@@ -59,6 +65,9 @@ REPLIES = ("made", "wrote", "read", "list", "dropped", "acl", "votes", "set")
 # The part of the page about a line that begins with a word, where it is not called by that word.
 PARTS = {**dict.fromkeys(REPLIES, "answered"), "t": "audit", "denied": "F3"}
 WHOLE = ("answered", "swept", "audit", "refused", "undecided", "certified", "mismatch", "trace", "transaction")
+# What stands in front of a sentence on standard error, and what is told of one of which nothing else is told.
+SAYS = "suites: "
+OF_ITSELF = "A sentence of `./suites` or of one of its tools, on standard error, which says itself what it means."
 FAULTS = ("fault command line", "fault memory", "fault word", "fault journal")
 
 
@@ -89,7 +98,7 @@ def codes_in(text: str) -> list[str]:
         return [f"status {status[1] or ('128' if int(status[2]) >= 128 else status[2])}"]
     explored = EXPLORED.match(text)
     if explored:
-        return [explored[1] or explored[2] or "way"]
+        return ["all" if " ways, " in text else "way"]
     if SPOKEN.match(text):
         return ["session"]
     if TRACED.match(text) or ENTRY.match(text):
@@ -170,14 +179,24 @@ def about(lines: list[str], text: str) -> list[str]:
 def explained(text: str) -> str:
     """What there is to say of a text: the page's part, or what its words say; or nothing."""
     as_printed, text = text, " ".join(text.split())
+    if text.startswith(SAYS) and not printed.of_making(text):
+        return explained(text.removeprefix(SAYS)) or OF_ITSELF
     line = worded.own_line(text) if text else None
     # a line of a trace begins with the line of the script
     line = line or (worded.own_line(text[2:]) if text.startswith("> ") and text[2:] else None)
     if line:
         return line
+    word = worded.one_word(text)
+    if word and " " in text:
+        return word
+    if VOTES.match(text):
+        return filled(f"{worded.meant('VOTES', text)}.")
+    inner = printed.within(text)
+    if inner:
+        return f"A sentence of `./suites shell`, with the session's own words behind it.\n\n{explained(inner)}"
     of_tool = printed.of_tools(as_printed.rstrip()) if not EXPLORED.match(text) and not TRACED.match(text) else None
-    if of_tool:
-        return of_tool
+    if of_tool or text.startswith("#"):
+        return of_tool or "A comment, which says nothing to the program."
     parts = {code: (group, more, lines) for group, more, code, lines in page()}
     told = []
     for code in codes_in(text):
@@ -192,7 +211,6 @@ def explained(text: str) -> str:
             ]
             told += [shown(more), ""] if more else []
     worked = worked_out(text) if told else []
-    word = worded.one_word(text) if " " not in text else None
     return "\n".join([*([word, ""] if word else []), *worked, *([""] if worked else []), *told]).rstrip()
 
 
@@ -206,8 +224,12 @@ def of_file(fault: re.Match[str], path: str, language: str | None) -> str:
     """The line of a script or the item of a list that has a fault, what is wrong with it, and what the code means."""
     name, given = read_file(path)
     text, code = given.decode("latin1"), fault[2]
-    if fault[1]:
+    if fault[1] and of_history.is_history(text):
+        told, is_found = of_history.of_fault(text, name, int(fault[1]), code), True
+    elif fault[1]:
         told, is_found = laid_out.of_script(name, text, int(fault[1]), code, language)
+        hints = list(ways_told.of_together(text, int(fault[1]), quoted.plain(name)))
+        told += ["", *hints] if hints else []
     else:
         told, is_found = laid_out.of_list(name, text, code)
     told = [line if line.startswith("    ") else filled(line) for line in told]
@@ -234,12 +256,26 @@ def read_file(path: str) -> tuple[str, bytes]:
         return path, file.read()
 
 
+def of_session(marked: re.Match[str], script: str, name: str) -> str:
+    """What is told of the mark behind what a session printed for a line of its script."""
+    lines = laid_out.lines_of(script)
+    number = int(marked[1])
+    if not 0 < number <= len(lines):
+        return f"{name} has {len(lines)} lines. Was it changed?"
+    return f"What is printed for line {number} of {name} ends here: {quoted.plain(lines[number - 1])}"
+
+
 def of_printed(text: str, path: str, language: str | None) -> str:
     """What happened behind a line that was printed of a script: what stands in the script, and for `play` how it came
     to it.
     """
     name, given = read_file(path)
     script, shown = given.decode("latin1"), quoted.plain(name)
+    if of_history.is_history(script):
+        return "\n".join(filled(line) for line in of_history.of_line(" ".join(text.split()), script, shown))
+    marked = MARKED.match(text)
+    if marked or printed.of_session(text):
+        return filled(of_session(marked, script, shown)) if marked else ""
     kind = language or fitting.in_script(script, 1)[0].command
     if ways_told.is_explored(script) and (kind == "play" or EXPLORED.match(text)):
         told = list(ways_told.of_line(text, script, shown))
@@ -277,7 +313,10 @@ def answer(words: list[str]) -> str:
         return with_name(told, path)
     told = explained(text)
     if not told:
-        raise console.Stop(f"nothing that is printed is called so: {quoted.plain(text)} (docs/FAULTS.md has all codes)")
+        near = quoted.nearest(text, worded.words())
+        like = f"; near {'are' if len(near) > 1 else 'is'} {quoted.either(near, 'and')}" if near else ""
+        said = f"nothing that is printed is called so: {quoted.plain(text)}{like} (docs/FAULTS.md has all codes)"
+        raise console.Stop(said)
     if fault and fault[1]:
         line = f"Line {fault[1]} of the script, counted from 1 with empty lines and comments."
         line += " With the name of the script behind it this command shows what is wrong there."

@@ -72,10 +72,13 @@ def read(words: list[str]) -> argparse.Namespace:
     for option in NUMBERS:
         parser.add_argument(option, type=number_of(option))
     parser.add_argument("--ask", type=asked.read, action="append")
+    parser.add_argument("--page", action="store_true")
     parser.add_argument("files", nargs="*")
     given = parser.parse_args(words)
     if given.ask and (given.brief or given.way is not None):
         raise console.Bad("--ask is asked of all ways as they are, without --brief and --way (./suites explore --help)")
+    if given.page and given.way is not None:
+        raise console.Bad("a page has all ways: it is asked for without --way (./suites explore --help)")
     if given.files and not given.help:
         name = shlex.quote(given.files[0])
         raise console.Bad(f"a script is read from standard input: ./suites explore < {name}")
@@ -222,6 +225,32 @@ def answer(given: argparse.Namespace) -> int:
     return ended(given, status, said.encode("latin1") + head + last[2].removeprefix(head))
 
 
+def page(given: argparse.Namespace) -> int:
+    """Prints a page of the ways, each with a run that leads to it."""
+    import ways_page
+
+    with tempfile.TemporaryFile() as script:
+        script.write(sys.stdin.buffer.read(MOST_READ))
+
+        def told(options: list[str]) -> tuple[int, bytes]:
+            status, printed = told_of(options, script)
+            with printed:
+                return status, printed.read()
+
+        def leads(way: int) -> bytes:
+            status, text = told([*words_of(given), "--way", str(way)])
+            if status not in (DONE, NOT_ALL):
+                raise console.Stop(f"the run of way {way} is not told: status {status}")
+            return text
+
+        status, text = told(words_of(given))
+        if status not in (DONE, NOT_ALL):
+            return ended(given, status, text)
+        made = ways_page.page_of(text.decode("latin1"), given.ask or [], leads, lambda way: command_of(given, way))
+    sys.stdout.buffer.write(made.encode())
+    return status
+
+
 def command_of(given: argparse.Namespace, way: int) -> str:
     """What prints the script that leads to a way."""
     name = "SCRIPT"
@@ -259,6 +288,8 @@ def main() -> int:
         return 0
     if sys.stdin.isatty():
         console.Teller().say("reading from the terminal, up to its end (Ctrl-D at the start of a line)")
+    if given.page:
+        return page(given)
     return answer(given) if given.ask else run(given)
 
 

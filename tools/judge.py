@@ -188,7 +188,9 @@ def run(given: argparse.Namespace) -> int:
     sys.stdout.flush()
     if status == FAULTY and sys.stderr.isatty():
         console.Teller().say(f"./suites explain {shlex.quote(first)} tells what it means")
-    return status
+    if status < 0:
+        console.Teller().say(console.ended("judge", status))
+    return console.status_of(status)
 
 
 def main() -> int:

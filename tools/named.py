@@ -6,9 +6,9 @@ have in backquotes, these have to be found: a name with an underscore, somewhere
 examples/ (also as that of a file there); `Type::name`, both in one file of some crate's src/; the name of a source
 file, in any folder; and a path that ends in one, at the top, in docs/ or in a crate. A heading that is named behind a
 document, as README.md, "Scripts", has to stand there, and so has one that a link goes to. The counts of lines in
-tables of definitions have to be right. A crate's page is at most 60 lines and 120 characters wide, and names each
-module and each file of specs/. What is not found is told, and the status is 1. It takes a second, and the gate begins
-with it.
+tables of definitions have to be right, and their sums. A crate's page is at most 60 lines and 120 characters wide, and
+names each module and each file of specs/. What is not found is told, and the status is 1. It takes a second, and the
+gate begins with it.
 """
 import glob
 import os
@@ -31,6 +31,9 @@ FILE = re.compile(r"[\w-]+\.(?:rt|antt)")
 REFERENCE = re.compile(r'([\w/-]+\.md)`?, ("[^"]+"(?:(?: and|,) "[^"]+")*)')
 # A row of a table of definitions: how many lines they take, without imports, comments and blank lines, and their file.
 COUNTED = re.compile(r"\| (\d+) \| `([\w/]+\.antt)` \|")
+SUMMED, IN_ALL = re.compile(r"\| \*\*(\d+)\*\* \| \| \*\*(.*)\*\* \|"), "in all"
+# The sums are told once more here, behind each claim.
+TOLD_AGAIN, SUM_AGAIN = os.path.join("docs", "BELIEVE.md"), re.compile(r"\| ([\d,]+) lines")
 NO_LINE = re.compile(r" *(--|(pub )?use |$)")
 LINK = re.compile(r"\]\(([\w./-]*)#([\w-]+)\)")
 # The page of a crate, its modules, and files of definitions that it need not name.
@@ -121,7 +124,7 @@ def page_faults(path: str) -> typing.Iterator[str]:
     page = lines_of(path)
     if len(page) > MOST_LINES:
         yield f"the page has {len(page)} lines"
-    if any(len(line) + 4 > WIDEST for line in page):
+    if any(len(line) > WIDEST for line in page):
         yield "the page has a line that is too long"
     told = {word for _, text in quoted(path) for word in re.findall(r"\w+", text)}
     crate = os.path.dirname(os.path.dirname(path))
@@ -140,6 +143,37 @@ def counts_told(path: str) -> typing.Iterator[tuple[int, str]]:
             there = sum(not NO_LINE.match(each) for each in content(file).rstrip("\n").split("\n"))
             if there != int(row[1]):
                 yield number, f"{row[2]} has {there} lines of definitions, and not {row[1]}"
+
+
+def sums_told(path: str) -> typing.Iterator[tuple[int, str, int, int]]:
+    """The sums of lines that tables of a document tell: the line, of what, how many, and how many the rows have."""
+    whole, part, begun = 0, 0, list[tuple[int, str, int]]()
+    for number, line in enumerate([*content(path).split("\n"), ""], 1):
+        row, told = COUNTED.match(line), SUMMED.match(line)
+        if row:
+            whole, part = whole + int(row[1]), part + int(row[1])
+        elif begun:
+            yield *begun.pop(), part
+        if told and told[2] == IN_ALL:
+            yield number, IN_ALL, int(told[1]), whole
+        elif told:
+            begun.append((number, told[2], int(told[1])))
+        if not row:
+            part, whole = 0, whole if line.startswith("|") else 0
+
+
+def wrong_sums() -> typing.Iterator[tuple[str, int, str]]:
+    """The sums of lines that documents tell and that are others, where they stand."""
+    every = {path: [*sums_told(path)] for path in documents()}
+    for path, sums in every.items():
+        for number, of, told, there in sums:
+            if told != there:
+                yield os.path.relpath(path, TOP), number, f"{of}: {told} lines, and the rows have {there}"
+    known = {told for sums in every.values() for _, of, told, _ in sums if of == IN_ALL}
+    for number, line in enumerate(content(os.path.join(TOP, TOLD_AGAIN)).split("\n"), 1):
+        again = SUM_AGAIN.search(line)
+        if again and int(again[1].replace(",", "")) not in known:
+            yield TOLD_AGAIN, number, f"no table has {again[1]} lines"
 
 
 def main() -> int:
@@ -165,6 +199,9 @@ def main() -> int:
         for number, what in counts_told(path):
             lost += 1
             print(f"{os.path.relpath(path, TOP)}:{number}: {what}")
+    for name, number, what in wrong_sums():
+        lost += 1
+        print(f"{name}:{number}: {what}")
     for path in pages():
         for what in page_faults(path):
             lost += 1

@@ -1,12 +1,13 @@
 #!/usr/bin/env python3
-"""tools/record.py FOLDER [--through FOLDER] [--calls N] [--readers N] [--seed N] [--opens] > HISTORY
+"""tools/record.py FOLDER [--through FOLDER | --nfs URL] [--calls N] [--readers N] [--seed N] [--opens] > HISTORY
 
 Makes calls on files of a real folder as several users at once, and prints what they were told as a history for
 `./suites judge`. The owner (1000) sets lists and writes in FOLDER; readers (1001 and 2000 in turn) read there, or
 through another folder that shows the same files, as a mount of it. A read is an open and a read; with --opens it is an
 open alone, of which `answered` says that it was let. When a call began and when it ended is noted by one clock of the
 machine, which all processes share. The files are made in FOLDER, and left there. Needs root, and a file system with
-POSIX access lists.
+POSIX access lists. With --nfs all calls go to the NFS server that exports FOLDER by this URL, and the owner sets modes
+in place of lists.
 """
 import argparse
 import errno
@@ -18,6 +19,7 @@ import tempfile
 import time
 import typing
 
+import by_nfs
 import console
 
 OWNER, GROUP, READERS, THEIR_GROUP = 1000, 100, (1001, 2000), 300
@@ -83,6 +85,45 @@ def becomes(uid: int, gid: int) -> None:
     os.setresuid(uid, uid, uid)
 
 
+def set_mode(share: by_nfs.Share, name: str, others: int) -> str:
+    share.set_mode(name, 0o600 | others)
+    return " set"
+
+
+def write_there(share: by_nfs.Share, name: str, value: int) -> str:
+    share.write(name, value.to_bytes(WIDTH, "big"))
+    return " wrote"
+
+
+def read_there(share: by_nfs.Share, name: str, only_opens: bool) -> str:
+    found = share.read(name, 0 if only_opens else WIDTH)
+    return "" if only_opens else f" read {found.hex() or '-'}"
+
+
+def owner_there(url: str, calls: int, chosen: random.Random) -> typing.Iterator[Noted]:
+    """The owner's calls to a server."""
+    becomes(OWNER, GROUP)
+    share, who = by_nfs.Share(url), f"{OWNER} {GROUP}"
+    for value in range(1, calls + 1):
+        name, others = f"f{chosen.randrange(FILES)}", 4 * chosen.randrange(2)
+        if chosen.random() < 0.5:
+            asks = f"{who} setacl /{name} u::rw,g::-,o::{'r' if others else '-'}"
+            yield noted(0, asks, lambda: set_mode(share, name, others))
+        else:
+            asks = f"{who} write /{name} {value:0{2 * WIDTH}x}"
+            yield noted(0, asks, lambda: write_there(share, name, value))
+
+
+def reader_there(url: str, client: int, calls: int, only_opens: bool, chosen: random.Random) -> typing.Iterator[Noted]:
+    """The calls of a reader to a server."""
+    uid = READERS[client % len(READERS)]
+    becomes(uid, THEIR_GROUP)
+    share = by_nfs.Share(url)
+    for _ in range(calls):
+        name = f"f{chosen.randrange(FILES)}"
+        yield noted(client, f"{uid} {THEIR_GROUP} read /{name}", lambda: read_there(share, name, only_opens))
+
+
 def owner(folder: str, calls: int, chosen: random.Random) -> typing.Iterator[Noted]:
     """The owner's calls, of the client 0."""
     becomes(OWNER, GROUP)
@@ -106,18 +147,32 @@ def reader(folder: str, client: int, calls: int, only_opens: bool, chosen: rando
         yield noted(client, f"{uid} {THEIR_GROUP} read /{name}", lambda: read(path, only_opens))
 
 
-def opening(folder: str) -> list[str]:
-    """Makes the files; the lines that tell what stood there before."""
-    lines = [f"root {OWNER} {GROUP} 755"]
-    for name in (f"f{number}" for number in range(FILES)):
-        path = os.path.join(folder, name)
-        with open(path, "wb") as file:
-            file.write(bytes(WIDTH))
+def make_file(path: str, has_lists: bool) -> None:
+    """A file of the owner that only the owner may read; who makes it is the owner, or root."""
+    with open(path, "wb") as file:
+        file.write(bytes(WIDTH))
+    if os.geteuid() == 0:
         os.chown(path, OWNER, GROUP)
+    os.chmod(path, 0o600)
+    if has_lists:
         set_list(path, 0, 0)
-        who = f"{OWNER} {GROUP}"
-        lines += [f"do {who} file /{name} {list_text(0, 0)}", f"do {who} write /{name} {'00' * WIDTH}"]
-    return lines
+
+
+def opening(folder: str, has_lists: bool) -> list[str]:
+    """Makes the files, as the owner where the folder is the owner's; the lines that tell what stood there before."""
+    names = [f"f{number}" for number in range(FILES)]
+    child = os.fork()
+    if not child:
+        if os.stat(folder).st_uid == OWNER:
+            becomes(OWNER, GROUP)
+        for name in names:
+            make_file(os.path.join(folder, name), has_lists)
+        os._exit(0)
+    if os.waitpid(child, 0)[1]:
+        raise console.Stop("the files could not be made")
+    first, who = list_text(0, 0) if has_lists else "600", f"{OWNER} {GROUP}"
+    made = ((f"do {who} file /{name} {first}", f"do {who} write /{name} {'00' * WIDTH}") for name in names)
+    return [f"root {OWNER} {GROUP} 755", *(line for lines in made for line in lines)]
 
 
 def in_process(calls: typing.Iterator[Noted], path: str, begins: float) -> int:
@@ -136,17 +191,24 @@ def in_process(calls: typing.Iterator[Noted], path: str, begins: float) -> int:
         os._exit(status)
 
 
+def calls_of(given: argparse.Namespace, client: int, chosen: random.Random) -> typing.Iterator[Noted]:
+    """The calls of a client: the first one is the owner."""
+    if given.nfs and client == 0:
+        return owner_there(given.nfs, given.calls, chosen)
+    if given.nfs:
+        return reader_there(given.nfs, client, given.calls, given.opens, chosen)
+    if client == 0:
+        return owner(given.folder, given.calls, chosen)
+    return reader(given.through or given.folder, client, given.calls, given.opens, chosen)
+
+
 def recorded(given: argparse.Namespace) -> list[Noted]:
     """All calls of all processes."""
     begins, children = time.monotonic() + 0.3, list[int]()
     with tempfile.TemporaryDirectory() as kept:
         for client in range(given.readers + 1):
             chosen = random.Random(given.seed * 1000 + client)
-            calls = (
-                owner(given.folder, given.calls, chosen)
-                if client == 0
-                else reader(given.through or given.folder, client, given.calls, given.opens, chosen)
-            )
+            calls = calls_of(given, client, chosen)
             children.append(in_process(calls, os.path.join(kept, str(client)), begins))
         if any(os.waitpid(child, 0)[1] for child in children):
             raise console.Stop("a process that made calls has failed")
@@ -170,7 +232,9 @@ def lines_of(calls: list[Noted]) -> list[str]:
 def main() -> int:
     read_words = argparse.ArgumentParser(description=__doc__, formatter_class=argparse.RawDescriptionHelpFormatter)
     read_words.add_argument("folder")
-    read_words.add_argument("--through")
+    where = read_words.add_mutually_exclusive_group()
+    where.add_argument("--through")
+    where.add_argument("--nfs")
     read_words.add_argument("--calls", type=int, default=500)
     read_words.add_argument("--readers", type=int, default=2)
     read_words.add_argument("--seed", type=int, default=1)
@@ -178,7 +242,7 @@ def main() -> int:
     given = read_words.parse_args()
     if os.geteuid() != 0:
         raise console.Stop("this needs root, which makes the calls of other users")
-    lines = opening(given.folder)
+    lines = opening(given.folder, not given.nfs)
     calls = recorded(given)
     sys.stdout.write("\n".join([*lines, *lines_of(calls), ""]))
     return 0

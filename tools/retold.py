@@ -3,6 +3,11 @@ import json
 from collections.abc import Iterable
 
 
+# An object of JSON in a line, without a look at what stands around it.
+READ = json.JSONDecoder().raw_decode
+NEVER = {"prefix": 0, "content": 0}
+
+
 def lock_place(lock: dict) -> tuple[int, int]:
     return lock["t"], lock["suite"]
 
@@ -41,20 +46,26 @@ class Retold:
 
     def changed(self, at: dict) -> None:
         server = self.servers[at["server"]]
-        server["up"] = at["up"]
+        server["up"], locks = at["up"], server["locks"]
         for lock in at.get("freed", ()):
-            del server["locks"][lock_place(lock)]
-        server["locks"].update((lock_place(lock), lock) for lock in at.get("locks", ()))
-        server["copies"].update((copy["suite"], copy) for copy in at.get("copies", ()))
+            del locks[lock_place(lock)]
+        for lock in at.get("locks", ()):
+            locks[lock_place(lock)] = lock
+        for copy in at.get("copies", ()):
+            server["copies"][copy["suite"]] = copy
         server["denials"].extend(at.get("denials", ()))
 
     def acted(self, by: dict) -> None:
-        number, cache = by["agent"], self.caches[by["agent"]]
-        before = {name: part for name, part in self.bare[number].items() if name not in ("next", "of")}
-        self.bare[number] = {**before, **{name: part for name, part in by.items() if name not in ("dropped", "put")}}
-        for entry in by.get("dropped", ()):
-            del cache[entry_place(entry)]
-        cache.update((entry_place(entry), entry) for entry in by.get("put", ()))
+        own = self.bare[by["agent"]]
+        # what it asks next is told each time; of all else what changed
+        own.pop("next", None)
+        own.pop("of", None)
+        own.update(by)
+        if "dropped" in own or "put" in own:
+            cache = self.caches[by["agent"]]
+            for entry in own.pop("dropped", ()):
+                del cache[entry_place(entry)]
+            cache.update((entry_place(entry), entry) for entry in own.pop("put", ()))
 
     def standing(self) -> list[dict]:
         """The servers as `standing` tells them."""
@@ -82,21 +93,24 @@ class Part(Retold):
 
     def take(self, line: str) -> None:
         """Takes in an event, as a line."""
-        event = json.loads(line)
-        begun = self.begun_by(event)
+        event, _ = READ(line)
+        begun, is_request = self.begun_by(event), event["kind"] == "request"
         self.hear(event)
         self.last = event
-        self.raise_all(event.get("at", {}).get("copies", ()))
-        if event["kind"] == "request":
+        if "at" in event:
+            self.raise_all(event["at"].get("copies", ()))
+        if is_request:
             self.hear_reply(event)
-        number = event.get("by", {}).get("agent")
-        if begun:
-            self.jobs[number] = [line]
-        elif event["kind"] == "request" and number in self.jobs:
-            self.jobs[number].append(line)
+        if "by" not in event:
+            return
+        number = event["by"]["agent"]
         if "end" in event:
             self.jobs.pop(number, None)
             self.ends[number] = event["end"]
+        elif begun:
+            self.jobs[number] = [line]
+        elif is_request and number in self.jobs:
+            self.jobs[number].append(line)
 
     def begun_by(self, event: dict) -> bool:
         """Whether a job begins."""
@@ -105,17 +119,18 @@ class Part(Retold):
 
     def hear_reply(self, event: dict) -> None:
         """What was prepared is in effect from a decision on."""
-        asked, reply = event.get("request", {}), event["reply"]
-        if asked.get("asks") == "prepare":
-            self.parts[event["agent"]] = [part for part in asked["parts"] if part["takes"] != "nothing"]
-        if asked.get("asks") == "decide" and reply.get("verdict", "").startswith("answered"):
+        asked = event.get("request", {}).get("asks")
+        if asked == "prepare":
+            self.parts[event["agent"]] = [part for part in event["request"]["parts"] if part["takes"] != "nothing"]
+        elif asked == "decide" and event["reply"].get("verdict", "").startswith("answered"):
             self.raise_all(self.parts.get(event["agent"], ()))
 
     def raise_all(self, copies: Iterable[dict]) -> None:
         for copy in copies:
-            now = self.newest.get(copy["suite"], {"prefix": 0, "content": 0})
-            most = {version: max(number, copy.get(version, 0)) for version, number in now.items()}
-            if most != now:
+            now = self.newest.get(copy["suite"], NEVER)
+            prefix, content = copy["prefix"], copy.get("content", 0)
+            if prefix > now["prefix"] or content > now["content"]:
+                most = {"prefix": max(prefix, now["prefix"]), "content": max(content, now["content"])}
                 self.newest[copy["suite"]] = most
 
     def opening(self) -> str:

@@ -1,5 +1,6 @@
 #!/usr/bin/env python3
 """./suites show [--open] [--from LINE] [--to LINE] < SCRIPT > run.html
+./suites show --live [--open] [--journal FILE] [--script FILE] [--servers N] [--agents N] [--votes V] [--root U:G:MODE]
 
 Plays a script of events as `suites play` does, and writes a page on which the run can be watched: the requests and
 replies as a picture, what each server and agent has at the moment that is looked at, and the script. The page stands
@@ -8,6 +9,11 @@ alone: it needs a browser, and neither a network nor these tools.
     --open        writes the page into a new file, and opens that in a browser
     --from LINE   shows the run from this line of the script on
     --to LINE     shows it to the end of this line. A page shows 60,000 events at most; of a longer run show a part
+    --live        serves the page of a session, and prints its address: what comes next is clicked on the page, as a
+                  step of an agent, a crash, a new job, and is a line of the session. The address is one of this machine
+                  alone and has a random token. The session is as `./suites mount --help` has it: of 3 servers and 2
+                  agents where nothing is told, kept in a journal, begun by a script. The script so far can be saved
+                  there. Ctrl-C ends it
 
 On the page: the arrow keys, Home and End go through the run, PageUp and PageDown by its rows, `b` and `n` by its jobs,
 and space plays it. `p` is for who presents: large type, and nothing of what is still to come. A sentence says what
@@ -24,6 +30,7 @@ import re
 import subprocess
 import sys
 import tempfile
+import typing
 import webbrowser
 from collections.abc import Iterator
 
@@ -85,6 +92,17 @@ class Shown:
 
     events: list[str]
     before: dict | None = None
+
+
+class Besides(typing.NamedTuple):
+    """What a page has besides its run: a script of its own, the name of its data, and these; and whether it asks for
+    more.
+    """
+
+    file: str
+    name: str
+    data: dict
+    asks: bool = False
 
 
 class Player:
@@ -172,8 +190,8 @@ def digest(text: str) -> str:
     return f"'sha256-{base64.b64encode(hashlib.sha256(text.encode()).digest()).decode()}'"
 
 
-def page_of(script: bytes, shown: Shown) -> str:
-    """The page of a run, or of a part of one."""
+def page_of(script: bytes, shown: Shown, besides: Besides | None = None) -> str:
+    """The page of a run, or of a part of one, and what it has besides."""
     lines = script.decode("utf-8", "replace").split("\n")
     if lines[-1] == "":
         lines.pop()
@@ -181,6 +199,12 @@ def page_of(script: bytes, shown: Shown) -> str:
     parts = {name: part(file) for name, file in FILES.items()}
     styles = [digest(parts["STYLE"])]
     scripts = [digest(text) for name, text in parts.items() if name != "STYLE"]
+    parts |= {"MORE": "", "CONNECT": ""}
+    if besides:
+        data[besides.name], text = besides.data, part(besides.file)
+        scripts.append(digest(text))
+        parts["MORE"] = f"<script>{text}</script>\n"
+        parts["CONNECT"] = "; connect-src 'self'" if besides.asks else ""
     parts |= {"DATA": embedded(data), "STYLES": " ".join(styles), "SCRIPTS": " ".join(scripts)}
     return re.sub(r"@([A-Z]+)@", lambda found: parts[found[1]], part("page.html"))
 
@@ -194,13 +218,30 @@ def opened(page: str) -> None:
         raise console.Stop("no browser is found here: open the file with one")
 
 
+def served(read: argparse.ArgumentParser) -> int:
+    """The page of a session."""
+    import live
+
+    read.add_argument("--live", action="store_true")
+    live.options(read)
+    given = read.parse_args()
+    if given.help:
+        print(__doc__.strip())
+        return 0
+    if given.file is not None or given.first or given.last != sys.maxsize:
+        raise console.Bad("a page of a session has neither --from nor --to; a script is told by --script FILE")
+    return live.main(given)
+
+
 def main() -> int:
-    read = argparse.ArgumentParser(prog="./suites show", add_help=False)
+    read = argparse.ArgumentParser(prog="./suites show", add_help=False, allow_abbrev=False)
     read.add_argument("--open", action="store_true")
     read.add_argument("--from", dest="first", type=int, default=0)
     read.add_argument("--to", dest="last", type=int, default=sys.maxsize)
     read.add_argument("-h", "--help", action="store_true")
     read.add_argument("file", nargs="?")
+    if "--live" in sys.argv[1:]:
+        return served(read)
     given = read.parse_args()
     if given.help:
         print(__doc__.strip())

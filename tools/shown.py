@@ -8,10 +8,10 @@ tests/explored (tests/shell.py plays those of the mount and the shell, tests/ses
 tests/judged.py looks at those of examples/judge); each script, command and output that the two pages show has to be
 that of a row, and an output that of the script or the command before it; behind `| head -N` or `| tail -N` stand so
 many lines of it. Each text of help/ but that of the tools has to be what a row of help prints: with --help-texts it
-is written from that row. The picture and what is shown of `./suites trace` have to be those of the trace which the
-program of crates/trace is to print of the same script (its stdin and stdout). What differs is told, and the status is
-1. The rows themselves are played by the program of crates/rows, and commands of tools, with what the pages show of
-them, by tests/typed.py.
+is written from that row. The end of the mount's story in README.md has to stand in its test. The picture and what is
+shown of `./suites trace` have to be those of the trace which the program of crates/trace is to print of the same script
+(its stdin and stdout). What differs is told, and the status is 1. The rows themselves are played by the program of
+crates/rows, and commands of tools, with what the pages show of them, by tests/typed.py.
 """
 import os
 import re
@@ -35,6 +35,8 @@ CUT = re.compile(rb" \| (head|tail) -(\d+)$")
 TOOLS = re.compile(rb"\$ \./suites (?:(?:explain|trace|draw|show|votes|may|--version)\b|explore .*--ask)")
 # Stories of `explore`, and where what it tells of them is kept; tests/explored.py compares.
 STORIES, WAYS = "examples/explore", "tests/explored"
+# A story of the mount that README shows the end of, between these marks, and where what it prints is held.
+FENCED, HELD = re.compile(rb"^```\n(\$ (?:.*\n)+?)```$", re.M), "tests/shell.py"
 # Stories that tests/shell.py and tests/session.py play, and histories, which tests/judged.py looks at.
 PLAYED = ("examples/mount", "examples/shell", "examples/session", "examples/judge")
 RUN = re.compile(rb"^# +\./suites (explore[^<]*?) < ", re.M)
@@ -174,6 +176,8 @@ def main() -> int:
         wrong.append(f"crates/trace/stdin is not {STORY}")
     if content(PICTURE).decode() != draw.picture_of(lines_of_trace()):
         wrong.append(f"{PICTURE} is not that of crates/trace/stdout: ./suites draw < {STORY} > {PICTURE} makes it anew")
+    if not any(story in content(HELD) for story in FENCED.findall(content("README.md"))):
+        wrong.append(f"README.md shows another end of the mount's story than {HELD} holds")
     if f"`{sources.KIT_LOGIC}`".encode() not in content("README.md"):
         wrong.append("README.md names another kit than tools/sources.py")
     for line in wrong:

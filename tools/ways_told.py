@@ -9,7 +9,8 @@ import laid_out
 import printed
 
 LINE = "together"
-WAY = re.compile(r"way (\d+) in (\d+) of (\d+) ends$")
+WAY = re.compile(r"way (\d+)(?: in \d+ of \d+ ends|: \d+ (?:worlds at the end|runs), \d+ of them so)$")
+DECIDED = re.compile(r"decided((?: \d+\.\d+)*)$")
 ENDED = re.compile(r"(\d+)\.(\d+) (.*)")
 BEGINS = ("begin", "sweep")
 
@@ -40,6 +41,17 @@ def jobs_of(script: str, name: str) -> dict[tuple[int, int], tuple[int, list[str
     return found
 
 
+def of_together(script: str, number: int, name: str) -> typing.Iterator[str]:
+    """What is told where a command of other scripts refuses the line of a script of `explore`."""
+    lines = laid_out.lines_of(script)
+    if is_explored(script) and lines[number - 1 : number] and lines[number - 1].split() == [LINE]:
+        yield (
+            f"With this line it is a script of `explore`: `./suites explore < {name}` tells the ways in which the jobs"
+            f" below it may end, and `./suites explore --way K < {name}` prints a script that leads to one, for"
+            " `./suites play`, `trace`, `draw` and `show`."
+        )
+
+
 def about(number: int, words: list[str]) -> str:
     if words[0] == "sweep":
         return f"line {number}, a sweep of server {words[2]}"
@@ -63,6 +75,8 @@ def of_line(text: str, script: str, name: str) -> typing.Iterator[str]:
             yield f"Agent {ended[1]} stopped before it had ended."
     elif ended:
         yield f"{name} has no such job below `{LINE}`. Was it changed?"
+    elif DECIDED.match(text):
+        yield "In the script that leads to this way the jobs were decided in this order."
     elif printed.of_asked(text):
         yield f"It answers a question of the ways in which the {len(jobs)} jobs below `{LINE}` of {name} may end."
     else:

@@ -1,6 +1,7 @@
 """What a line of a script says, word by word, as its reader wrote it; and what the words of this service mean.
 
-The sentences are those of the table of forms and of docs/WORDS.md, so that each stands once.
+The sentences are those of the table of forms, of docs/WORDS.md, and of the field's words in docs/ARCHITECTURE.md, so
+that each stands once.
 """
 import itertools
 import os
@@ -33,6 +34,19 @@ def words() -> dict[str, str]:
     for row in rows:
         for word in SLANTED.findall(row[2]):
             found.setdefault(word.lower(), f"{upright(row[1])}: {upright(row[2])}")
+    for word, told in of_field().items():
+        found.setdefault(word, told)
+    return found
+
+
+def of_field() -> dict[str, str]:
+    """The words of the code and those of the field, each with the other."""
+    table = text_of("docs", "ARCHITECTURE.md").partition("| Here | In the field |\n")[2].partition("\n\n")[0]
+    found: dict[str, str] = {}
+    for row in filter(None, map(ROW.match, table.split("\n"))):
+        here, field = row[1].replace("`", ""), row[2]
+        for word in re.split(r"[;,] ", f"{here}; {field}"):
+            found.setdefault(re.sub(r"^(?:an?|the|its) ", "", word), f"{here}; in the field: {field}")
     return found
 
 

@@ -80,8 +80,8 @@ class Calls:
             return call(request)
         except Ended:
             if not self.is_told:
-                status = self.tree.session.child.wait()
-                print(f"suites: the session has ended (status {status}): all calls are answered EIO", file=sys.stderr)
+                why = self.tree.session.ended()
+                print(f"suites: the session has ended, and all calls are answered EIO: {why}", file=sys.stderr)
             self.is_told = True
             raise OSError(errno.EIO, "the session has ended") from None
 

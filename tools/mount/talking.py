@@ -6,12 +6,16 @@ import subprocess
 from collections.abc import Sequence
 from typing import NamedTuple
 
+import console
+
 # How often a transaction is tried whose home is down, or that met another's lock: each time it has another home.
 TRIES = 8
 # Ends for which a transaction is begun again.
 AGAIN = ("U2", "U3", "U5")
 # The agent that carries out the calls of the mount. The other one is free for lines of control.
 AGENT = 0
+# So many seconds a session may take to end.
+PATIENCE = 30
 # So many bytes go into any empty pipe without anybody reading: lines that are no longer together are given at once.
 PIPE = 4096
 # What comes of a refusal, of an undecided end and of a fault of the line.
@@ -156,11 +160,18 @@ class Session:
                 break
         return outcome, told
 
-    def close(self) -> None:
-        """Ends the session, which has answered all."""
+    def ended(self) -> str:
+        """How it has ended, in words."""
+        return console.ended("session", self.child.wait())
+
+    def close(self, patience: float = PATIENCE) -> None:
+        """Ends the session, which has answered all; one that goes on all the same is stopped."""
         for stream in (self.child.stdin, self.child.stdout):
             try:
                 stream.close()
             except OSError:
                 pass
-        self.child.wait()
+        try:
+            self.child.wait(patience)
+        except subprocess.TimeoutExpired:
+            console.stop(self.child)

@@ -10,7 +10,7 @@ from mount import lists, rows
 from mount.data import Data
 from mount.kernel import Attributes
 from mount.nodes import Node
-from mount.talking import User
+from mount.talking import Outcome, User
 
 NAME, TAKEN = re.compile(rb"[A-Za-z0-9._-]+"), re.compile(r"\btaken (\d+)")
 # A name has so many bytes at most, a server so many places, and a name that is asked for where any would do.
@@ -53,13 +53,27 @@ class Tree(Data):
         )
 
     def lookup(self, user: User, parent: int, name: bytes) -> Node:
-        """A name in a folder, if its user may come to it: whoever may not see its list comes to it all the same."""
-        path = joined(self.folder(parent), name)
-        outcome, told = self.session.job(user, f"getacl {path}", f"row {path}")
+        """A name in a folder, if its user may search the way to it. That is asked of a name that is not there: what is
+        there would be asked whether it may be read, and a denial be recorded of a call that is answered.
+        """
+        folder = self.folder(parent)
+        path = joined(folder, name)
+        outcome, is_searched, told = self.searched(user, joined(folder, ANY.encode()), f"row {path}")
         row = rows.row_of(told[0])
-        if row is None or outcome.kind != "answered" and outcome.suite() != row.number:
-            raise outcome.failure() if outcome.kind != "answered" else OSError(errno.ENOENT, path)
+        if not is_searched and outcome.code() != "F4":
+            raise outcome.failure()
+        if row is None:
+            raise OSError(errno.ENOENT, path)
         return self.nodes.found(path, row)
+
+    def searched(self, user: User, any_name: str, *questions: str) -> tuple[Outcome, bool, list[list[str]]]:
+        """How it ends that a user asks for a name; whether that was answered, or denied by what is there itself and by
+        no folder; and what is told of more lines.
+        """
+        outcome, told = self.session.job(user, f"getacl {any_name}", f"row {any_name}", *questions)
+        row = rows.row_of(told[0])
+        is_denied_there = row is not None and outcome.suite() == row.number
+        return outcome, outcome.kind == "answered" or is_denied_there, told[1:]
 
     def folder(self, inode: int) -> str:
         node = self.nodes.node(inode)
@@ -265,11 +279,9 @@ class Tree(Data):
             raise outcome.failure()
 
     def may_search(self, user: User, any_name: str) -> None:
-        """Whether a user may search the folder that a name stands in: what is there may deny it, and no folder."""
-        outcome, told = self.session.job(user, f"getacl {any_name}", f"row {any_name}")
-        row = rows.row_of(told[0])
-        is_denied_there = row is not None and outcome.suite() == row.number
-        if outcome.kind == "undecided" or outcome.kind == "denied" and not is_denied_there:
+        """Whether a user may search the folder that a name stands in."""
+        outcome, is_searched, _ = self.searched(user, any_name)
+        if not is_searched and outcome.kind != "refused":
             raise outcome.failure()
 
     def free(self) -> int | None:

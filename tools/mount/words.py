@@ -15,8 +15,8 @@ transaction by that user, with all its groups; the session decides it, and nothi
     --allow-other    others than who mounts may come to it too
     --foreground     stays in the foreground
     --control        gives the session of the mount at DIR lines, and prints what it tells: `crash 1`, `return 1`,
-                     `sweep 0 1`, `row /a`, `copies /a`, `locks`, `room`, `audit 0`, `compact`. Only root and who
-                     mounted may. Agent 0 is the mount's own, agent 1 is free.
+                     `sweep 0 1`, `row /a`, `audit 0`, `compact`. Only root and who mounted may. Agent 0 is the mount's
+                     own, agent 1 is free.
 
 What calls are answered:
     EACCES        denied by a list (F3)               ENOENT     no such name (F4)
@@ -44,8 +44,10 @@ import argparse
 import os
 import re
 
+from console import Bad
+
 TOP = os.path.realpath(os.path.join(os.path.dirname(os.path.abspath(__file__)), "..", ".."))
-SERVERS = 3
+SERVERS, AGENTS = 3, 2
 # The session of these sources.
 SESSION = os.path.join(TOP, "suites") + " session"
 
@@ -70,11 +72,19 @@ def read(words: list[str]) -> argparse.Namespace:
         parser.error("--control DIR has lines behind it")
     if given.lines and not given.control:
         parser.error("one folder is told")
-    if given.root is not None and not re.fullmatch(r"\d+:\d+:[0-7]{3}", given.root):
-        parser.error("--root is UID:GID:MODE, as 0:0:755")
-    if given.servers is not None and not 1 <= given.servers <= 32:
-        parser.error("there are 1 to 32 servers")
+    check(given)
     return given
+
+
+def check(given: argparse.Namespace) -> None:
+    """Ends the tool where an option of a session is none."""
+    agents = getattr(given, "agents", None)
+    if given.root is not None and not re.fullmatch(r"\d+:\d+:[0-7]{3}", given.root):
+        raise Bad("--root is UID:GID:MODE, as 0:0:755")
+    if given.servers is not None and not 1 <= given.servers <= 32:
+        raise Bad("there are 1 to 32 servers")
+    if agents is not None and not 1 <= agents <= 64:
+        raise Bad("there are 1 to 64 agents")
 
 
 def header(given: argparse.Namespace) -> list[str]:
@@ -82,7 +92,8 @@ def header(given: argparse.Namespace) -> list[str]:
     servers = given.servers or SERVERS
     votes = given.votes or f"{','.join(['1'] * servers)}/{(servers + 1) // 2}/{servers // 2 + 1}"
     root = given.root or f"{os.getuid()}:{os.getgid()}:755"
+    agents = getattr(given, "agents", None) or AGENTS
     return [
-        f"servers {servers}", "agents 2", f"votes {votes}", f"root {root.replace(':', ' ')}",
+        f"servers {servers}", f"agents {agents}", f"votes {votes}", f"root {root.replace(':', ' ')}",
         "cache 16777216 16777216 4096",
     ]

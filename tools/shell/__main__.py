@@ -12,7 +12,7 @@ story, and each is printed before its answer.
     getfacl PATH            setfacl -m ENTRY,.. PATH   -x ENTRY,.. PATH   -b PATH   with -d, of the default list
     votes PATH [VOTES]      tells votes, or sets them
     crash S, return S       a server stops, or is back; sweep S, audit S, servers
-    row PATH, copies PATH   what the session has of it, without an access check
+    row PATH                what the session has of it, without an access check
     why                     explains the last answer
     raw LINE                a line of the session
     save FILE               keeps the script so far

@@ -35,6 +35,8 @@ class Shell(cmd.Cmd):
         self.names: dict[str, dict[str, int]] = {"user": {}, "group": {}}
         self.me, self.user = "root", User(0, (0,))
         self.seen, self.last, self.use_rawinput = {"/"}, "", self.is_terminal
+        # whether a word is being carried out, of which the session has yet to answer
+        self.is_busy = False
         for line in script:
             self.note(line)
 
@@ -48,15 +50,16 @@ class Shell(cmd.Cmd):
         print(f"{RED}{text}{PLAIN}" if is_wrong and sys.stdout.isatty() else text, flush=True)
 
     def note(self, line: str) -> None:
-        """Learns a name that a line gives."""
+        """Learns a name that a line gives, and the paths that it has."""
         told = line.split()
         if len(told) == 3 and told[0] in self.names and told[2].isdigit():
             self.names[told[0]][told[1]] = int(told[2])
+        self.seen |= {word for word in told if word.startswith("/")}
 
     def tell(self, line: str) -> list[str]:
         """Gives a line; one that is not faulty belongs to the script so far."""
         told = self.session.tell(line)[0]
-        if not any(one.startswith("fault ") for one in told):
+        if beginning.is_kept(line) and not any(one.startswith("fault ") for one in told):
             self.lines.append(line)
             self.note(line)
         self.last = told[-1] if told else self.last
@@ -88,15 +91,18 @@ class Shell(cmd.Cmd):
             print(f"{self.me}> {line}" if line.strip() and not line.startswith("#") else line, flush=True)
         if line.startswith("#"):
             return False
+        self.is_busy, is_over = True, False
         try:
-            return bool(super().onecmd(line))
+            is_over = bool(super().onecmd(line))
         except Bad as why:
             self.say(str(why), True)
         except ValueError as why:
             self.say(f"that is not understood: {why}", True)
         except OSError as why:
             self.say(f"{why.filename or 'it'}: {why.strerror}", True)
-        return False
+        # a stop within leaves it as it is
+        self.is_busy = False
+        return is_over
 
     def emptyline(self) -> bool:
         return False
@@ -104,8 +110,41 @@ class Shell(cmd.Cmd):
     def default(self, line: str) -> None:
         raise Bad(f"there is no word '{line.split()[0]}'; help tells all")
 
+    # what a word that is begun may become
+
+    def completenames(self, text: str, *_: object) -> list[str]:
+        words = (name.removeprefix("do_") for name in self.get_names() if name.startswith("do_"))
+        return [f"{word} " for word in words if word.startswith(text) and word != "EOF"]
+
     def completedefault(self, text: str, line: str, begin: int, end: int) -> list[str]:  # type: ignore[override]
-        return sorted(path for path in self.seen if path.startswith(text))
+        """A path that was told of, with its first / or without."""
+        lead = "" if text.startswith("/") else "/"
+        return sorted(path.removeprefix(lead) for path in self.seen if path.startswith(lead + text))
+
+    def named(self, kind: str) -> set[str]:
+        """All names of users or of groups, of the script and of this machine."""
+        machine = [one.pw_name for one in pwd.getpwall()] if kind == "user" else [one.gr_name for one in grp.getgrall()]
+        return {*self.names[kind], *machine}
+
+    def complete_as(self, text: str, line: str, begin: int, end: int) -> list[str]:
+        return sorted(name for name in self.named("user") if name.startswith(text))
+
+    def complete_setfacl(self, text: str, line: str, begin: int, end: int) -> list[str]:
+        """An option; behind -m and -x an entry; else a path."""
+        before = line[:begin].split()
+        if before[-1] in ("-m", "-x"):
+            front, colon, name = text.rpartition(":")
+            kind = {"u": "user", "g": "group"}.get(front.rpartition(",")[2])
+            names = sorted(self.named(kind)) if kind else []
+            return [f"{front}:{one}" for one in names if one.startswith(name)]
+        if before[-1] in ("setfacl", "-d") and not text.startswith("/"):
+            return [f"{one} " for one in ("-m", "-x", "-b", "-d") if one.startswith(text) and one not in before]
+        return self.completedefault(text, line, begin, end)
+
+    def complete_server(self, text: str, line: str, begin: int, end: int) -> list[str]:
+        return [str(one) for one in self.servers() if str(one).startswith(text)]
+
+    complete_crash = complete_return = complete_sweep = complete_audit = complete_server
 
     def path(self, word: str) -> str:
         path = "/" + word.strip("/")
@@ -248,17 +287,16 @@ class Shell(cmd.Cmd):
     def do_row(self, text: str) -> None:
         self.of_session(f"row {text}")
 
-    def do_copies(self, text: str) -> None:
-        self.of_session(f"copies {text}")
-
     def do_sweep(self, text: str) -> None:
         self.shown([*self.tell(f"sweep 0 {text}"), *self.tell("run 0")])
 
+    def servers(self) -> range:
+        return range(next(int(line.split()[1]) for line in self.lines if line.split()[:1] == ["servers"]))
+
     def do_servers(self, text: str) -> None:
         """Which are up, by the script so far."""
-        count = next(int(line.split()[1]) for line in self.lines if line.startswith("servers "))
         down = beginning.servers_down(self.lines)
-        for server in range(count):
+        for server in self.servers():
             self.say(f"server {server} {'down' if str(server) in down else 'up'}")
 
     def do_raw(self, text: str) -> None:
@@ -266,11 +304,14 @@ class Shell(cmd.Cmd):
 
     # what came of it
 
+    def script(self) -> str:
+        return "".join(f"{line}\n" for line in beginning.as_played(self.lines))
+
     def do_why(self, text: str) -> None:
         if not self.last:
             raise Bad("nothing was answered yet")
         with tempfile.NamedTemporaryFile("w", suffix=".script", encoding="utf-8") as file:
-            file.write("".join(f"{line}\n" for line in self.lines))
+            file.write(self.script())
             file.flush()
             explain = [os.path.join(words.TOP, "suites"), "explain", self.last, file.name]
             subprocess.run(explain, stdin=subprocess.DEVNULL)
@@ -278,12 +319,12 @@ class Shell(cmd.Cmd):
     def do_save(self, text: str) -> None:
         (name,) = self.given(text, 1, 1, "save FILE")
         with open(name, "w", encoding="utf-8") as file:
-            file.write("".join(f"{line}\n" for line in self.lines))
+            file.write(self.script())
 
     def do_help(self, arg: str) -> None:
         import shell.__main__ as door
 
-        self.say((door.__doc__ or "").split("\n\n", 2)[2].strip())
+        self.say((door.__doc__ or "").split("\n\n", 2)[2].strip("\n"))
 
     def do_quit(self, text: str) -> bool:
         return True
@@ -292,6 +333,19 @@ class Shell(cmd.Cmd):
         if self.is_terminal:
             print()
         return True
+
+
+    def loop(self) -> None:
+        """Reads words until the end. Ctrl-C takes away what is typed, and stops the shell where a word is at work."""
+        if self.is_terminal:
+            self.say("help tells all words")
+        while True:
+            try:
+                return self.cmdloop()
+            except KeyboardInterrupt:
+                if self.is_busy or not self.is_terminal:
+                    raise
+                print("^C", flush=True)
 
 
 WRONG = {
@@ -310,10 +364,14 @@ def speak(given: argparse.Namespace) -> int:
             readline.read_history_file(HISTORY)
         readline.set_completer_delims(" ")
     try:
-        shell.cmdloop("help tells all words" if shell.is_terminal else None)
+        shell.loop()
     except Ended:
-        shell.say("the session has ended", True)
+        shell.say(f"the session has ended: {session.ended()}", True)
         return 1
+    except BaseException:
+        # a line may not be answered yet
+        session.close(0)
+        raise
     finally:
         if shell.is_terminal:
             with contextlib.suppress(OSError):

@@ -28,6 +28,12 @@ const Drawing = (() => {
       this.arrange();
     }
 
+    // The run went on.
+    take(run) {
+      this.run = run;
+      this.arrange();
+    }
+
     // Where the lines stand, for the room that there is.
     measure() {
       const room = Math.max(420, this.rows.parentElement.clientWidth - 14);
@@ -56,7 +62,7 @@ const Drawing = (() => {
     arrange() {
       this.shown = this.run.rows.flatMap((row) => {
         if (row.kind !== "group") return [row];
-        if (this.folds !== this.opened.has(row)) return [row];
+        if (this.folds !== this.opened.has(row.event)) return [row];
         return row.rows.map((own) => ({ ...own, within: row }));
       });
       this.rowOf = new Map();
@@ -70,7 +76,7 @@ const Drawing = (() => {
 
     // Opens a folded phase, or closes it.
     turn(row) {
-      if (!this.opened.delete(row)) this.opened.add(row);
+      if (!this.opened.delete(row.event)) this.opened.add(row.event);
       this.arrange();
     }
 

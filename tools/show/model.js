@@ -234,6 +234,14 @@ const Model = (() => {
       return this.kept.worlds[place - number * STRETCH];
     }
 
+    // The worlds of events of which the first, so many, are these.
+    grown(events, kept) {
+      const next = new Worlds(events);
+      const starts = this.starts.slice(0, Math.ceil(kept / STRETCH));
+      if (starts.length) next.starts = starts;
+      return next;
+    }
+
     // The worlds of a stretch, and the one with which the next stretch begins.
     stretch(number) {
       while (this.starts.length <= number) this.worldsFrom(this.starts.length - 1);
@@ -452,13 +460,22 @@ const Model = (() => {
   function read(lines, before) {
     const events = lines.map((line) => JSON.parse(line));
     const was = before ? { ...before, jobs: before.jobs.map((told) => told.map((line) => JSON.parse(line))) } : undefined;
-    const worlds = new Worlds(events, was);
+    return runOf(events, new Worlds(events, was));
+  }
+
+  function runOf(events, worlds) {
     const paths = pathsOf(events);
     return { events, worlds, paths, rows: rowsOf(events, paths, worlds), last: events.length - 1 };
   }
 
+  // A run that went on: its first events, so many, and behind them others.
+  function grown(run, kept, lines) {
+    const events = [...run.events.slice(0, kept), ...lines.map((line) => JSON.parse(line))];
+    return runOf(events, run.worlds.grown(events, kept));
+  }
+
   return {
-    read, behind, holdersOf, votesOf, barOf, listFrom, staleEntry, isInDoubt, lifeOf, pathOf, askedWords, repliedWords, shortList,
+    read, grown, behind, holdersOf, votesOf, barOf, listFrom, staleEntry, isInDoubt, lifeOf, pathOf, askedWords, repliedWords, shortList,
     shownBytes, endText, lineOf, safe,
   };
 })();

@@ -3,12 +3,14 @@
 
 const Page = (() => {
   const given = JSON.parse(document.getElementById("given").textContent);
-  const run = Model.read(given.events, given.before);
+  let run = Model.read(given.events, given.before);
   run.names = Saying.namesIn(given.script);
   const find = (name) => document.getElementById(name);
   const [slider, moment, says, world, script, hint, life] = ["slider", "moment", "says", "world", "script", "hint", "life"].map(find);
   let here = 0;
   let timer = null;
+  // What a page of a session puts on the cards of servers and agents.
+  let addsTo = null;
 
   // An element with these children, of which texts stand as they are.
   function make(name, attributes = {}, ...children) {
@@ -166,6 +168,7 @@ const Page = (() => {
     const kept = focusIn(world);
     world.replaceChildren(...acting, make("h2", {}, "servers"), make("div", { class: "cards" }, ...servers),
       make("h2", {}, acting.length ? "other agents" : "agents"), make("div", { class: "cards" }, ...agents));
+    if (addsTo) addsTo(world, state, here === run.last);
     kept();
   }
 
@@ -218,6 +221,9 @@ const Page = (() => {
 
   function buildScript() {
     const told = new Map();
+    firstOf.clear();
+    lineParts.length = toldParts.length = 0;
+    script.replaceChildren();
     run.events.forEach((event, place) => {
       if (!firstOf.has(event.line)) firstOf.set(event.line, place);
       const parts = printed(event).map(([text, kind]) => toldPart(place, text, kind));
@@ -333,7 +339,8 @@ const Page = (() => {
   };
 
   function onKey(event) {
-    const isOwn = event.target.closest(event.key === " " ? "select, dialog, button, input, .row" : "select, dialog");
+    const typed = "select, dialog, input:not([type=range]):not([type=checkbox])";
+    const isOwn = event.target.closest(event.key === " " ? "select, dialog, button, input, .row" : typed);
     if (Object.hasOwn(KEYS, event.key) && !isOwn && !event.ctrlKey && !event.metaKey && !event.altKey) {
       event.preventDefault();
       KEYS[event.key]();
@@ -352,6 +359,23 @@ const Page = (() => {
   }
 
   const picture = new Drawing.Picture(run, find("names"), find("rows"), pick);
+
+  // The run went on: so many of its events stand, and behind them are these, which this script comes to. It is shown as it is now.
+  function goOn(kept, lines, text) {
+    given.script = text;
+    run = Model.grown(run, kept, lines);
+    run.names = Saying.namesIn(text);
+    slider.max = run.last;
+    buildScript();
+    picture.take(run);
+    go(run.last);
+  }
+
+  // From now on this is put on the cards, each time they are made.
+  function adds(act) {
+    addsTo = act;
+    showWorld();
+  }
 
   function begin() {
     slider.max = run.last;
@@ -386,5 +410,5 @@ const Page = (() => {
   }
 
   begin();
-  return { run, go, at: () => here };
+  return { given, make, explained, adds, go, goOn, at: () => here, get run() { return run; } };
 })();

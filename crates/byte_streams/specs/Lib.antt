@@ -2,3 +2,4 @@ pub mod Streams
 pub mod Whole
 pub mod Endings
 pub mod Programs
+pub mod Words

@@ -6,6 +6,7 @@
 //!
 //! **Promises.** `read_all` gives all bytes of a stream, or says why not (`IsWhole`, `Explains`). `write_all` adds
 //! a text whole, or fails with one failure more (`Adds`). A system read that a signal broke off is made again.
+//! `read_wanted` answers what words ask for, where they are told (`wanted_by`).
 //! `finish`, `finish_line`, `lack_memory` and `tell_unread` end a program: its last line, and its exit status
 //! (`specs/Endings.antt`, `specs/Programs.antt`).
 //!
@@ -13,7 +14,7 @@
 //!
 //! **Files**: `traits`, `memory` (streams of tests, where a given call can fail), `system`, `reading`, `writing`,
 //! `ending`, `wanted` (the words of a program that takes none but `--help`). **Definitions** (`specs/`): `Streams`,
-//! `Whole`, `Endings`, `Programs` (a program's two streams, before and after).
+//! `Whole`, `Endings`, `Programs` (a program's two streams, before and after), `Words`.
 #![tactic(auto)]
 
 mod ending;
@@ -31,5 +32,5 @@ pub use memory::{MemoryIn, MemoryOut};
 pub use reading::{ReadError, read_all};
 pub use system::{SystemIn, SystemOut};
 pub use traits::{ByteIn, ByteOut, ReadFailed, WriteFailed};
-pub use wanted::{Wanted, read_wanted};
+pub use wanted::{MemoryWords, SystemWords, Wanted, Words, read_wanted};
 pub use writing::write_all;

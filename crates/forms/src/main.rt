@@ -64,8 +64,8 @@ mod whose;
 mod word;
 
 use byte_streams::{
-    ByteIn, ByteOut, COMMAND_LINE, DONE, MAX_INPUT, SystemIn, SystemOut, Wanted, finish,
-    lack_memory, read_all, read_wanted, tell_unread,
+    ByteIn, ByteOut, COMMAND_LINE, DONE, MAX_INPUT, SystemIn, SystemOut, SystemWords, Wanted,
+    finish, lack_memory, read_all, read_wanted, tell_unread,
 };
 use finding::found_in;
 use lists::found_in_list;
@@ -109,7 +109,7 @@ enum Question {
 
 fn main(rt: HostRuntime) -> ExitCode {
     let mut writer = SystemOut::new(io::writer(&rt));
-    let status = match read_wanted(&rt) {
+    let status = match read_wanted(&SystemWords::new(&rt)) {
         Wanted::Work => match table(rt.alloc()) {
             Ok(text) => finish(&mut writer, &text, DONE),
             Err(_) => lack_memory(&mut writer),

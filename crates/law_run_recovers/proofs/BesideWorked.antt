@@ -1,41 +1,12 @@
 -- Two users go side by side, by computation.
-use Rattle.law_run_recovers.proofs.Vocabulary.{◌≡◌, ◌⊎◌, inl, inr, ⊎_elim, ℕ, Bool, true, false, List, [], ◌∷◌, ◌++◌, Some, refl, sym, ap, subst, ◌∙◌, ◌&&◌, not, AllByRecursion, list_all, false≢true, and_parts, same_Some, LockMode}
-use Rattle.law_run_recovers.proofs.Vocabulary.{Action, Op, None, Job, Transaction, Sweep, fixed_of, owner, a, Event, Begin, Step, Crash, Return, Forget, Lack, World, opening, step, after, run, GivesValidVotes, EventGivesValidVotes}
+use Rattle.law_run_recovers.proofs.Vocabulary.{◌≡◌, ◌⊎◌, inl, inr, ⊎_elim, ℕ, Bool, true, false, List, [], ◌∷◌, ◌++◌, Some, refl, sym, ap, subst, ◌∙◌, ◌&&◌, not, list_all, false≢true, and_parts, same_Some, LockMode}
+use Rattle.law_run_recovers.proofs.Vocabulary.{Job, Transaction, fixed_of, owner, a, Event, Begin, Step, World, opening, step, after, run, EventGivesValidVotes}
 use Rattle.law_run_recovers.proofs.Vocabulary.{CanBe, with_caches, some_run_revokes, begins_job, clash, Begun, its_asks, spoils, two_made, two_write, SomeRunsGoSideBySide, b, puts, asks_for, is_running}
-use Rattle.file_ops.specs.declared.operation.Action.TheVariants as action
 use Rattle.law_run_recovers.proofs.AmongCourse.{head_or, tail_or}
 use Rattle.law_run_recovers.proofs.Keeps.{after_append}
+use Rattle.law_run_recovers.proofs.ValidEvents.{all_by, event_sets_none, valid_event}
 
 -- ---- they can be
-
-abbrev sets_none : Action → Bool
-sets_none (action.Make kind init None) = true
-sets_none (action.Make kind init (Some votes)) = false
-sets_none (action.SetVotes votes) = false
-sets_none _ = true
-
-valid_action : (one : Action) → sets_none one ≡ true → GivesValidVotes one
-valid_action (action.Make kind init None) is = tt
-valid_action (action.Make kind init (Some votes)) is = absurd (false≢true is)
-valid_action (action.SetVotes votes) is = absurd (false≢true is)
-valid_action _ is = tt
-
-pub all_by : {X : Type 0} (P : X → Type 0) (p : X → Bool) → ((x : X) → p x ≡ true → P x) → (xs : List X) → list_all p xs ≡ true → AllByRecursion P xs
-all_by P p each [] is = tt
-all_by P p each (x ∷ xs) is = let parts = and_parts (p x) (list_all p xs) is in (each x parts.0, all_by P p each xs parts.1)
-
-abbrev pub event_sets_none : Event → Bool
-event_sets_none (Begin number (Transaction caller site ops)) = list_all (λ (op : Op). sets_none op.action) ops
-event_sets_none _ = true
-
-pub valid_event : (event : Event) → event_sets_none event ≡ true → EventGivesValidVotes event
-valid_event (Begin number (Transaction caller site ops)) is = all_by (λ (op : Op). GivesValidVotes op.action) (λ op. sets_none op.action) (λ op. valid_action op.action) ops is
-valid_event (Begin number (Sweep server)) is = tt
-valid_event (Step number) is = tt
-valid_event (Crash server) is = tt
-valid_event (Return server) is = tt
-valid_event (Forget number site) is = tt
-valid_event (Lack number why) is = tt
 
 they_can : CanBe with_caches (two_made ++ two_write)
 they_can = record { accepted = some_run_revokes.can_be.accepted; c0 = some_run_revokes.can_be.c0; votes = all_by EventGivesValidVotes event_sets_none valid_event (two_made ++ two_write) refl }

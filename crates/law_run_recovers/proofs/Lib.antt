@@ -89,6 +89,7 @@ pub mod BesideNext
 pub mod BesideSides
 pub mod BesideFree
 pub mod BesideLaws
+pub mod ValidEvents
 pub mod BesideWorked
 pub mod MeetCount
 pub mod MeetCalm
@@ -109,3 +110,4 @@ pub mod MeetBarred
 pub mod MeetWants
 pub mod MeetLaw
 pub mod MeetWorked
+pub mod LawsWorked

@@ -4,7 +4,8 @@ use Rattle.law_run_recovers.proofs.Vocabulary.{Transaction, fixed_of, owner, a, 
 use Rattle.law_run_recovers.proofs.Vocabulary.{some_run_revokes, Begun, spoils, two_made, turns, puts, HasFirstVotes, VotesNeverMovedOf, two_meet, SomeRunsMeet}
 use Rattle.file_ops.specs.Rows as rows
 use Rattle.law_run_recovers.proofs.AmongCourse.{head_or, tail_or}
-use Rattle.law_run_recovers.proofs.BesideWorked.{all_by, event_sets_none, valid_event, none_spoils_it, is_step, none_begins}
+use Rattle.law_run_recovers.proofs.BesideWorked.{none_spoils_it, is_step, none_begins}
+use Rattle.law_run_recovers.proofs.ValidEvents.{all_by, event_sets_none, valid_event}
 use Rattle.law_run_recovers.proofs.Keeps.{after_append}
 use Rattle.law_run_recovers.proofs.MeetCount.{Same}
 

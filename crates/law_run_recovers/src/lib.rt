@@ -43,8 +43,8 @@
 //!
 //! **Files**: `lib`, `meeting`, `promises`, `told`. **Definitions** (`specs/`): `Standing`, `Alone`, `Demands`,
 //! `InTime`, `Laws`, `Sweeping`, `Promises`, `Worked`, `Near`, `Unmet`, `OpenDemands`, `Local`, `Among`, `Told`,
-//! `Beside`, `BesideWorked`, `Meets`, `MeetsWorked`, `Histories`, `Blocking`, `Contending`. The proofs follow a
-//! transaction over its agent's steps (`proofs/Stands.antt`, `Asking.antt`; at each moment `AmongCourse.antt`,
+//! `Beside`, `BesideWorked`, `Meets`, `MeetsWorked`, `Histories`, `Blocking`, `Contending`, `LawsWorked`. The proofs follow
+//! a transaction over its agent's steps (`proofs/Stands.antt`, `Asking.antt`; at each moment `AmongCourse.antt`,
 //! `AmongStep.antt`, `AmongEnds.antt`, of which what goes alone is a case, `AloneLaws.antt`, `Tries.antt`; where two
 //! meet `MeetCourse.antt`, `MeetReach.antt`, `MeetLaw.antt`) and a sweep by its list (`Sweeps.antt`, `Swept.antt`,
 //! `Rounds.antt`).
@@ -65,6 +65,7 @@ ghost use Rattle.law_run_recovers.specs.Sweeping.{SweepsLeaveDoubts, SweepsKeepE
 ghost use Rattle.law_run_recovers.specs.Worked.{SomeRunsRecover};
 ghost use Rattle.law_run_recovers.specs.Blocking.{BlockedByDoubts, SomeServerBlocks, OneCrashBlocks};
 ghost use Rattle.law_run_recovers.specs.Contending.{SomeRunsStarve};
+ghost use Rattle.law_run_recovers.specs.LawsWorked.{SomeRunsShowTheLaws};
 
 pub use meeting::{one_that_meets_is_decided, some_runs_meet};
 pub use promises::{promise, what_can_be_is_available};
@@ -221,8 +222,8 @@ pub fn decided_where_votes_are()
 {}
 
 /// A law: where one server served the Finish of a transaction before a request of another that is none, as its Decide, the
-/// first was decided before the second. With a lock round each request of a server, before is so by the clock. It does
-/// nothing.
+/// first was decided before the second, if that was decided. With a lock round each request of a server, before is so by
+/// the clock. It does nothing.
 pub fn finished_before_at_server()
     ensures { FinishedBeforeAtServer }
 {}
@@ -303,6 +304,12 @@ pub fn some_runs_recover()
 /// or sweeps: so it is not promised that one of such is decided. It does nothing.
 pub fn some_runs_starve()
     ensures { SomeRunsStarve }
+{}
+
+/// A law: runs of one that nobody meets while another is at work, and of one that goes among locks and is told of one; and
+/// sweeps that leave a doubt, which blocks a file. It does nothing.
+pub fn some_runs_show_the_laws()
+    ensures { SomeRunsShowTheLaws }
 {}
 
 /// A law: a run in which two users go side by side, each with a file of its own, step by step in turn; both are answered. It

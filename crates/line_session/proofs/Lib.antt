@@ -4,3 +4,4 @@ pub mod Saying
 pub mod Midway
 pub mod Loop
 pub mod Restoring
+pub mod Cutting

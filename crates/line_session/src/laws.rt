@@ -1,5 +1,6 @@
 //! What holds of sessions.
 
+ghost use Rattle.line_session.specs.Lines.{LinesAreCut};
 ghost use Rattle.line_session.specs.Restored.{DoneIsRun, JournalRestores};
 
 use crate::desk::Desk;
@@ -14,4 +15,9 @@ pub fn journal_restores<D: Desk>()
 /// nothing.
 pub fn done_is_run<D: Desk>()
     ensures { DoneIsRun D.kind D.text D.next }
+{}
+
+/// A law: the lines that a session hears are those of the text, as of one that is read whole. It does nothing.
+pub fn lines_are_cut()
+    ensures { LinesAreCut }
 {}

@@ -7,7 +7,8 @@
 //! out and one that could not be kept are told, and the session goes on (`Came`).
 //!
 //! A session over the lines that another one kept restores its desk: `journal_restores` says so of every front of what
-//! was kept, and `done_is_run` of a session that ended with status 0.
+//! was kept, and `done_is_run` of a session that ended with status 0. `Replay` hears no byte behind so many. The lines
+//! that are heard are those of a text that is read whole (`lines_are_cut`).
 //!
 //! **The caller owes** nothing.
 //!
@@ -34,7 +35,7 @@ mod talk;
 pub use begun_line::MAX_LINE;
 pub use desk::Desk;
 pub use journal::Journal;
-pub use laws::{done_is_run, journal_restores};
+pub use laws::{done_is_run, journal_restores, lines_are_cut};
 pub use line_kind::LineKind;
 pub use memory::{MemoryTalk, MemoryTurn};
 pub use replay::Replay;

@@ -42,10 +42,16 @@ impl<I: ByteIn + Drop> Talk for Replay<I> {
         false
     }
 
-    fn hear(&mut self, buffer: &mut [u8]) -> Result<usize, ReadFailed> {
-        let most = usize::try_from(self.left)
-            .unwrap_or(usize::MAX)
-            .min(buffer.len());
+    fn hear(&mut self, buffer: &mut [u8]) -> Result<usize, ReadFailed>
+        requires { 0 < length buffer.old }
+        ensures fits { IfOk result (λ count. count ≤ length buffer.old) }
+        ensures heard { IfOk result (λ count. Adds None (Heard (take count buffer.new)) None) }
+        ensures failed { OnErr result (Stays None None) }
+        ensures same { false ≡ false }
+        ensures within { IfOk result (λ count. self.new.left + count ≡ self.old.left) }
+    {
+        let left = usize::try_from(self.left).unwrap_or(usize::MAX);
+        let most = left.min(buffer.len());
         if most == 0 {
             return Ok(0);
         }

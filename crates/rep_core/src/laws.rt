@@ -85,10 +85,10 @@ pub fn again_at_once()
     ensures { AgainAtOnce }
 {}
 
-/// A law: so it is later, whatever was asked in between, of a Decide or a Resolve that was told a verdict; of a Prepare
-/// that was told Prepared, until its transaction is finished there; of a Finish, until its transaction polls there; and
-/// of a Poll or an Upgrade that was told Held, and a Fetch that was given a content, until a lock of its transaction is
-/// taken there. It does nothing.
+/// A law: so it is later, where the server is up then, whatever was asked in between, of a Decide or a Resolve that was
+/// told a verdict; of a Prepare that was told Prepared, until its transaction is finished there; of a Finish, until its
+/// transaction polls there; and of a Poll or an Upgrade that was told Held, and a Fetch that was given a content, until
+/// a lock of its transaction is taken there. It does nothing.
 pub fn again_later()
     ensures { AgainLater }
 {}

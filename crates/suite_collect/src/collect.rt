@@ -1,8 +1,7 @@
 //! The collector.
 
 ghost use Rattle.std.specs.FinSet.{contains};
-ghost use Rattle.std.specs.Prelude.{◌≡◌, ℕ, ◌<◌, unwrap_or, option_map, is_some, true, IsTrue, IfOk, IfSome, IfErr, OnOk, OnErr};
-ghost use Rattle.std.specs.Option.{option_copied};
+ghost use Rattle.std.specs.Prelude.{◌≡◌, ℕ, ◌<◌, option_map, is_some, true, IsTrue, IfOk, IfSome, IfErr, OnOk, OnErr};
 ghost use Rattle.vote_core.specs.Validity.{IsValid};
 ghost use Rattle.suite_collect.specs.code.CollectFields.{tally_of, widening_of};
 ghost use Rattle.suite_collect.specs.code.Adding.{IsAdded};
@@ -18,9 +17,10 @@ use crate::heard::Heard;
 use crate::hearing::Hearing;
 use crate::log::Log;
 use crate::members::{members_of, votes_with};
+use crate::newest::{newer_in, newer_of, newest_of, show};
 use crate::next::{Members, Next};
 use crate::read_point::ReadPoint;
-use crate::told::{Said, Saying, Spoken, Told};
+use crate::told::{Saying, Spoken, Told};
 use crate::widening::Widening;
 use rep_core::Reply;
 use std::alloc::AllocError;
@@ -462,34 +462,6 @@ impl Collect {
     }
 }
 
-/// The newest prefix.
-fn newest_of<'a>(newer: &'a Option<SharedPrefix>, start: &'a SharedPrefix) -> &'a SharedPrefix
-    ensures { result.now ≡ unwrap_or newer.now start.now }
-{
-    match newer {
-        Some(prefix) => prefix,
-        None => start,
-    }
-}
-
-/// The newer of a prefix and what a server says.
-fn newer_of<'a>(newest: &'a SharedPrefix, last: Saying<'a>) -> &'a SharedPrefix
-    ensures { result.now ≡ telling.newer newest.now (said_of last.entry.what) }
-{
-    newer_in(newest, last).unwrap_or(newest)
-}
-
-/// The prefix that a server shows, where it is newer than the newest so far.
-fn newer_in<'a>(newest: &SharedPrefix, last: Saying<'a>) -> Option<&'a SharedPrefix>
-    ensures newer { unwrap_or (option_copied result) newest.now ≡ telling.newer newest.now (said_of last.entry.what) }
-    ensures held { is_some result ≡ true → is_held (said_of last.entry.what) ≡ true }
-{
-    match last.what {
-        Spoken::Held { prefix, .. } if prefix.pver > newest.pver => Some(prefix),
-        _ => None,
-    }
-}
-
 /// Puts what is told behind what was told before: since the widening, where there is one.
 #[inline(always)]
 fn add(told: &mut Heard, widening: &mut Option<Widening>, last: Saying<'_>)
@@ -502,18 +474,5 @@ fn add(told: &mut Heard, widening: &mut Option<Widening>, last: Saying<'_>)
             widening.since = widening.since.and(&last);
         }
         None => told.add(last),
-    }
-}
-
-/// Keeps the prefix that a server showed, where it is newer than the newest so far.
-#[inline(always)]
-fn show(newer: &mut Option<SharedPrefix>, start: &SharedPrefix, said: Said)
-    ensures { unwrap_or newer.new start.now ≡ telling.newer (unwrap_or newer.old start.now) said }
-{
-    let newest = newest_of(newer, start).pver;
-    if let Said::Held { prefix, .. } = said {
-        if prefix.pver > newest {
-            *newer = Some(prefix);
-        }
     }
 }

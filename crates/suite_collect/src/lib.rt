@@ -33,8 +33,8 @@
 //! The code keeps sets of servers, versions, the newest prefix, and what is due, and no list but for proofs (`log`,
 //! which has no bytes).
 //!
-//! **Files**: `told`, `log`, `heard`, `members`, `widening`, `next`, `coming`, `hearing`, `read_point`, `due`,
-//! `collect`, `laws`.
+//! **Files**: `told`, `log`, `heard`, `members`, `newest`, `widening`, `next`, `coming`, `hearing`, `read_point`,
+//! `due`, `collect`, `laws`.
 //!
 //! **Definitions** (`specs/`): `Telling`, `Collecting`, `Answering`, `Laws`.
 #![tactic(auto)]
@@ -47,6 +47,7 @@ mod hearing;
 mod laws;
 mod log;
 mod members;
+mod newest;
 mod next;
 mod read_point;
 mod told;

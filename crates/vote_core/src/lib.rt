@@ -6,8 +6,8 @@
 //!
 //! **Promises.** `Votes` are valid by their type. `Votes::new` refuses others by the first of seven faults
 //! (`specs/Validity.antt`). So quorums meet in a server with a vote: a read and a write
-//! (`Votes::reads_meet_writes`), and two writes (`Votes::writes_meet`). That two writes meet is this project's own
-//! rule; the other is Gifford's. Nothing here takes memory.
+//! (`Votes::reads_meet_writes`), and two writes (`Votes::writes_meet`). The first rule is Gifford's; the second, 2w > N,
+//! is Bernstein's, Hadzilacos's and Goodman's (1987). Nothing here takes memory.
 //!
 //! **The caller owes** valid votes to `Votes::known`, and servers below `MAX_SERVERS` to `ServerSet::insert`, as
 //! each server of `Votes::reps` is. No crate above counts votes: it keeps a `ServerSet` and asks `is_read` or

@@ -1,0 +1,77 @@
+-- Runs that the laws of who is unmet and among locks are about, and those of sweeps that leave a doubt, by computation.
+use Rattle.std.specs.Prelude.{◌≡◌, ℕ, true, false, List, [], ◌∷◌, ◌++◌}
+use Rattle.vote_core.specs.Quorums.{Configuration}
+use Rattle.suite_prefix.specs.declared.lock_mode.LockMode.TheVariants.{Exclusive}
+use Rattle.file_ops.specs.declared.answer.Answer.TheVariants as answer
+use Rattle.txn_core.specs.declared.ending.Ending.TheVariants.{Answered, Undecided}
+use Rattle.txn_core.specs.declared.ending.Cause.TheVariants.{Busy}
+use Rattle.txn_core.specs.declared.job.Job.TheVariants.{Transaction}
+use Rattle.txn_core.specs.Runs.{owner, a}
+use Rattle.run_core.specs.declared.event.Event.{Event}
+use Rattle.run_core.specs.declared.event.Event.TheVariants.{Begin}
+use Rattle.run_core.specs.Worlds.{Actor}
+use Rattle.run_core.specs.Runs.{run}
+use Rattle.law_runs.specs.Worked.{two_agents, so_many}
+use Rattle.law_run_alone.specs.Undisturbed.{all_up}
+use Rattle.law_run_recovers.specs.Standing.{is_up}
+use Rattle.law_run_recovers.specs.Sweeping.{sweeps, SweepsAlone}
+use Rattle.law_run_recovers.specs.Unmet.{GoesUnmet}
+use Rattle.law_run_recovers.specs.Among.{GoesAmongLocks}
+use Rattle.law_run_recovers.specs.OpenDemands.{Want}
+use Rattle.law_run_recovers.specs.Blocking.{SweepsAll, can_have}
+use Rattle.law_run_recovers.specs.BesideWorked.{turns}
+use Rattle.law_run_recovers.specs.Contending.{one_server, b, puts, both_made}
+use Rattle.law_run_recovers.specs.Worked.{endings_in, stopped, in_the_dark}
+
+-- ---- nobody meets it, and another is at work beside
+
+-- Another writes `/b`, and has locked it. Then both take steps in turn.
+abbrev pub b_locked : List Event
+b_locked = both_made ++ Begin 1 (Transaction owner 0 (puts b 1 ∷ [])) ∷ so_many 3 1
+
+pub record IsMetByNobody : Type 0 where
+  pub actor : Actor
+  pub goes : GoesUnmet one_server b_locked (turns 6) 0 64 owner 0 (puts a 0 ∷ []) actor
+  pub ends : endings_in one_server (b_locked ++ Begin 0 (Transaction owner 0 (puts a 0 ∷ [])) ∷ turns 6) ≡
+      (0, Answered (answer.Made 1 ∷ answer.Made 2 ∷ [])) ∷ (1, Answered (answer.Wrote ∷ [])) ∷ (64, Answered (answer.Wrote ∷ [])) ∷ []
+
+-- ---- it goes among locks, one of which is in its way
+
+-- Another has locked `/a`, and stops for good.
+abbrev pub a_locked : List Event
+a_locked = both_made ++ Begin 1 (Transaction owner 0 (puts a 1 ∷ [])) ∷ so_many 3 1
+
+pub record IsAmongLocks : Type 0 where
+  pub actor : Actor
+  pub goes : GoesAmongLocks one_server a_locked (so_many 6 0) 0 64 owner 0 (puts a 0 ∷ []) actor
+  pub ends : endings_in one_server (a_locked ++ Begin 0 (Transaction owner 0 (puts a 0 ∷ [])) ∷ so_many 6 0) ≡
+      (0, Answered (answer.Made 1 ∷ answer.Made 2 ∷ [])) ∷ (64, Undecided (Busy 0 1)) ∷ []
+
+-- ---- a sweep leaves a doubt, which blocks the file
+
+-- the write of an agent that stopped, prepared at servers 0 and 2; its home, server 1, has crashed
+abbrev pub sweep_up : List (ℕ × List Event)
+sweep_up = (0, so_many 2 1) ∷ (2, so_many 1 1) ∷ []
+
+abbrev pub wants_a : Configuration → Want
+wants_a votes = record { suite = 1; mode = Exclusive; votes = votes }
+
+abbrev pub at_the_first : Configuration
+at_the_first = record { reps = (0, 1) ∷ []; r = 1; w = 1 }
+
+pub record DoubtsAreLeft : Type 0 where
+  pub sweeps_one : SweepsAlone two_agents in_the_dark (so_many 2 1) 1 1 0
+  pub sweeps_all : SweepsAll two_agents in_the_dark 1 sweep_up
+  -- two of three votes are needed; one server is down, and one has a lock in doubt
+  pub cannot : can_have two_agents (in_the_dark ++ sweeps 1 sweep_up) 129 (wants_a two_agents.c0) ≡ false
+  -- and of votes that only server 0 has too few are open, though that is up
+  pub all_were_up : all_up (run two_agents stopped) ≡ true
+  pub is_up_still : is_up (run two_agents in_the_dark) 0 ≡ true
+  pub cannot_either : can_have two_agents (in_the_dark ++ sweeps 1 sweep_up) 129 (wants_a at_the_first) ≡ false
+
+-- ---- all of them
+
+pub record SomeRunsShowTheLaws : Type 0 where
+  pub unmet : IsMetByNobody
+  pub among : IsAmongLocks
+  pub doubts : DoubtsAreLeft

@@ -1,0 +1,183 @@
+#!/usr/bin/env python3
+"""tests/ways_shown.py [--shots FOLDER]
+
+Holds the page of all ways (`./suites explore --page`): each way that the program tells stands on it, on a branch whose
+lines are those of the way; in a headless Chromium a click on it shows a run that ends so, the one of `--way K`; a
+question is answered as by `--ask`, and marks just the ways in which it is so; the order of decisions is that of the
+run; and what does not fit on a page is told with what is to be typed. Prints what differs; status 1 where something
+does. Without Chromium the page alone is looked at.
+"""
+from __future__ import annotations
+
+import argparse
+import json
+import os
+import re
+import subprocess
+import sys
+import tempfile
+import typing
+
+import browser
+import played
+from played import Tally
+from shown_page import SEEN
+
+import asked
+import show
+import ways_page
+
+EXPLORE = [sys.executable, os.path.join(played.TOP, "tools", "explore.py")]
+STORIES = os.path.join(played.TOP, "examples", "explore")
+# Stories with their options, and questions.
+SHOWN: tuple[tuple[str, list[str], list[str]], ...] = (
+    ("revocation.script", [], ["0.1 answered set and 1.0 answered", "1.0 stopped", "0.1 answered or 1.0 answered"]),
+    ("writer-stops.script", [], []),
+    ("read-after-revocation.script", ["--crashes", "1", "--returns", "1"], []),
+)
+GIVEN = re.compile(r'<script type="application/json" id="given">(.*?)</script>', re.S)
+ENDED = re.compile(r"(\d+\.\d+) \d+ (.*)")
+# Of each way: the lines on its branch, from the root of the tree on, and whether it is marked.
+TREE = """[...document.querySelectorAll('[data-way]')].map((way) => {
+  const lines = [];
+  for (let part = way.parentElement; part.id !== 'ways'; part = part.parentElement) {
+    const own = [...part.children].filter((one) => one.className === 'ending').map((one) => one.textContent);
+    if (part.tagName === 'LI') lines.unshift(own);
+  }
+  return { number: Number(way.dataset.way), lines: lines.flat(), asked: way.classList.contains('asked') };
+})"""
+
+
+def explored(words: list[str], script: bytes) -> str:
+    done = subprocess.run([*EXPLORE, *words], input=script, stdout=subprocess.PIPE, stderr=subprocess.DEVNULL)
+    return done.stdout.decode()
+
+
+def ways_in(told: str) -> dict[int, list[str]]:
+    """The lines of each way by its number, as the program tells them."""
+    ways = dict[int, list[str]]()
+    for line in told.splitlines():
+        if line.startswith("way "):
+            own = ways[int(line.split()[1])] = []
+        elif re.match(r"\d", line):
+            own.append(line)
+    return ways
+
+
+def data_in(page: str) -> dict[str, typing.Any]:
+    return json.loads(GIVEN.search(page)[1])
+
+
+def texts(line: str) -> str:
+    """A line without what a page tells besides: bytes that are a text."""
+    return re.sub(r" “[^”]*”", "", line)
+
+
+def runs(tally: Tally, name: str, words: list[str], script: bytes, data: dict[str, typing.Any]) -> None:
+    """The run of each way is that of its script, and ends so."""
+    for way in data["ways"]["ways"]:
+        number = way["number"]
+        leads = explored([*words, "--way", str(number)], script)
+        tally.holds("\n".join([*way["script"], ""]) == leads, name, number, "the script of a way")
+        events = [*data["events"][: way["shared"]], *way["events"]]
+        tally.holds(events == show.events_of(leads.encode()), name, number, "the events of a way")
+        text = subprocess.run([played.program(), "play"], input=leads.encode(), stdout=subprocess.PIPE).stdout.decode()
+        ends = {found[1]: found[2] for found in map(ENDED.match, text.splitlines()) if found}
+        mine = [line.split(" ", 1) for line in way["lines"]]
+        tally.holds(all(ends.get(job, "-") == end for job, end in mine), name, number, "how a run ends", ends, mine)
+        decided = [json.loads(line) for line in events if '"asks":"decide"' in line and '"verdict"' in line]
+        jobs = [f"{one['request']['t'] % 64}.{one['request']['t'] // 64}" for one in decided]
+        wanted = [job for job in dict.fromkeys(jobs) if job in dict(mine)]
+        is_right = way["decided"] == wanted and all(job in wanted for job, end in mine if end.startswith("answered"))
+        tally.holds(is_right, name, number, "the order of decisions", way["decided"], wanted)
+
+
+def clicked(tally: Tally, driver: browser.Browser, name: str, ways: dict[int, list[str]], answers: int) -> None:
+    tree = driver.value(TREE)
+    tally.holds({one["number"]: [*map(texts, one["lines"])] for one in tree} == ways, name, "the tree", tree[:3])
+    for number, lines in ways.items():
+        driver.click(f"[data-way='{number}'] button")
+        tally.holds(driver.value("Ways.here()") == number, name, number, "a way is shown")
+        driver.press("End")
+        told = [ENDED.match(line) for line in driver.value(SEEN)["told"]]
+        ends = {found[1]: found[2] for found in told if found}
+        is_so = all(ends.get(line.split()[0], "-") == line.split(" ", 1)[1] for line in lines)
+        tally.holds(is_so, name, number, "the run of a way", ends, lines)
+    for place in range(answers):
+        driver.click(f"#answers li:nth-child({place + 1}) button")
+        text = driver.value(f"document.querySelector('#answers li:nth-child({place + 1})').innerText")
+        question = asked.read(text.partition(": ")[2])
+        marked = [one["number"] for one in driver.value(TREE) if one["asked"]]
+        wanted = [one for one, lines in ways.items()
+                  if question.holds(next(asked.ways_in([f"way {one} x", *lines])))]
+        tally.holds(sorted(marked) == wanted, name, text, "what is marked", marked, wanted)
+
+
+def pages(tally: Tally, driver: browser.Browser | None, folder: str, shots: str | None) -> None:
+    for name, options, questions in SHOWN:
+        with open(os.path.join(STORIES, name), "rb") as file:
+            script = file.read()
+        asks = [word for question in questions for word in ("--ask", question)]
+        page, told = explored([*options, "--page", *asks], script), explored(options, script)
+        data, ways = data_in(page), ways_in(told)
+        tally.holds({one["number"]: one["lines"] for one in data["ways"]["ways"]} == ways, name, "the ways")
+        tally.holds(data["ways"]["last"] == told.splitlines()[-1], name, "how many there are", data["ways"]["last"])
+        answered = explored([*options, *asks], script).splitlines() if asks else []
+        wanted = [line for line in answered if re.match("never|always|sometimes", line)]
+        tally.holds([one["text"] for one in data["ways"]["answers"]] == wanted, name, "the answers", wanted)
+        tally.holds(not asks or len({one["kind"] for one in data["ways"]["answers"]}) == 3, name, "all answers", wanted)
+        if len(ways) < 10:
+            runs(tally, name, options, script, data)
+        if driver:
+            path = os.path.join(folder, f"{name}.html")
+            with open(path, "w", encoding="utf-8") as file:
+                file.write(page)
+            driver.open(path)
+            clicked(tally, driver, name, ways, len(wanted))
+            if shots:
+                driver.shot(os.path.join(shots, f"ways-{name}.png"))
+
+
+def large(tally: Tally) -> None:
+    """Of more ways than a page has runs of, the others are told with what is typed."""
+    with open(os.path.join(STORIES, "revocation.script"), "rb") as file:
+        script = file.read()
+    told, most = explored([], script), ways_page.MOST_RUNS
+
+    def leads(way: int) -> bytes:
+        return explored(["--way", str(way)], script).encode()
+
+    ways_page.MOST_RUNS = 2
+    data = data_in(ways_page.page_of(told, [], leads, lambda way: f"see {way}"))["ways"]["ways"]
+    tally.holds(["events" in one for one in data] == [True, True, False, False, False, False], "runs on a page")
+    tally.holds([one.get("command") for one in data[2:]] == [f"see {way}" for way in (3, 4, 5, 6)], "what is typed")
+    ways_page.MOST_RUNS = most
+    for words in (["--page", "--way", "1"], ["--page", "--ask", "7.0 answered"]):
+        done = subprocess.run([*EXPLORE, *words], input=script, capture_output=True)
+        tally.holds(done.returncode == 2 and not done.stdout, words, done.returncode)
+    done = subprocess.run([*EXPLORE, "--page"], input=script + b"nonsense\n", capture_output=True)
+    tally.holds((done.returncode, done.stdout[:6]) == (3, b"fault "), "a fault", done.returncode, done.stdout[:50])
+
+
+def main() -> int:
+    read = argparse.ArgumentParser()
+    read.add_argument("--shots")
+    given = read.parse_args()
+    tally, path = Tally(most=20, width=600), browser.program()
+    driver = browser.Browser(path) if path else None
+    try:
+        with tempfile.TemporaryDirectory() as folder:
+            pages(tally, driver, folder, given.shots)
+        if driver:
+            tally.holds(not driver.faults, "the console has faults", driver.faults[:3])
+    finally:
+        if driver:
+            driver.close()
+    large(tally)
+    if not path:
+        print("skipped: no chromium")
+    return tally.told("looked at")
+
+
+if __name__ == "__main__":
+    sys.exit(main())
