@@ -69,9 +69,10 @@ TYPED = (
     (f"put /fo{TAB}", "/folder"), ("/one hello\n", "root> "), (f"cat /folder/o{TAB}\n", "hello"),
     (f"cat folder/o{TAB}\n", "hello"), (f"as quir{TAB}", "as quirin"), ("\n", "quirin> "),
     (f"setfacl -m u:quir{TAB}", "u:quirin"), (f":r /folder/o{TAB}\n", f"{RED}Permission denied"),
-    ("why\n", "nobody else may do that"), ("", "quirin> "), (f"rm /folder/one{CTRL_C}", "^C"),
-    ("cat /folder/one\n", "hello"),
+    ("why\n", "nobody else may do that"), ("", "quirin> "), ("rm /folder/one", "rm /folder/one"), (CTRL_C, "^C"),
+    ("", "quirin> "), ("cat /folder/one\n", "hello"), ("", "quirin> "),
     (f"cra{TAB}1\n", "quirin> "), ("servers\n", "server 1 down"), ("cat /nothing\n", f"{RED}No such file or folder"),
+    ("", "quirin> "),
 )
 
 
@@ -99,6 +100,13 @@ class Terminal:
         return is_shown
 
     def type(self, text: str) -> None:
+        """Types a text once the shell sleeps: a signal that comes between its prompt and its sleep would be seen late."""
+        end = time.monotonic() + 60
+        while time.monotonic() < end:
+            with open(f"/proc/{self.child}/stat", encoding="utf-8") as file:
+                if file.read().rpartition(")")[2].split()[0] == "S":
+                    break
+            time.sleep(0.01)
         os.write(self.leader, text.encode())
 
     def ended(self) -> int:
@@ -132,6 +140,7 @@ def on_terminals(tally: played.Tally) -> None:
         again.type(CTRL_C)
         # what is typed with it goes with it
         again.shows("^C")
+        again.shows("root> ")
         again.type("quit\n")
         tally.holds(again.ended() == 0, "quit ends it")
     env = {**os.environ, "TERM": "xterm"}
