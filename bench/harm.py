@@ -29,9 +29,9 @@ import twice
 import unproved
 from twice import CRATES, Edit
 
-import compare
+from compare import compare
+from wrong_bodies import wrong_bodies
 import explored
-import wrong_bodies
 
 PROGRAMS = ("explore", "trace", "suites")
 # What is compared of a way.

@@ -7,7 +7,7 @@ import typing
 
 import measure
 
-import wrong_bodies
+from wrong_bodies import wrong_bodies
 
 CRATES = ("run_core", "txn_core", "suite_collect", "rep_core", "file_exec", "weak_cache")
 FUNCTION = re.compile(r"^( *)(?:pub(?:\([\w: ]+\))? )?(?:const )?(?:unsafe )?fn (\w+)")

@@ -22,7 +22,7 @@ import explored
 import played
 from played import Tally
 
-import console
+from common import console
 
 TOOL = os.path.join(played.TOP, "tools", "explore.py")
 STORY = os.path.join(explored.STORIES, "revocation.script")

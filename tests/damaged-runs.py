@@ -24,7 +24,7 @@ from concurrent.futures import ThreadPoolExecutor
 import played
 import reading
 
-import console
+from common import console
 
 HERE = os.path.dirname(os.path.abspath(__file__))
 # Looks at each so many-th byte alone, where the variable says so.

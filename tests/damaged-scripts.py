@@ -26,11 +26,10 @@ import typing
 
 import played
 
-import beside
-import explain
-import forms
-import scenario
-from laid_out import WORD
+from common import forms, programs
+from compare import scenario
+from explain import explain
+from explain.faults import WORD
 
 FIRSTS = {command: list(forms.lines_of(command, "own")) for command in forms.COMMANDS}
 VERBS = list(forms.OPERATIONS)
@@ -354,7 +353,7 @@ def unnamed(damage: Damage, said: str) -> list[str | tuple[str, ...]]:
 
 def tried(program: str, path: str, damage: Damage) -> tuple[str, str]:
     """What comes of a damage: `none` where the program finds no fault in that line; and what `explain` says."""
-    programs = Programs(program, beside.program("forms"), damage.command)
+    programs = Programs(program, programs.program("forms"), damage.command)
     printed, differing = programs.fault_of(damage.lines), programs.differing(damage.lines)
     if differing:
         return "nothing found", differing

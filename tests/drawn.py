@@ -28,10 +28,9 @@ import xml.etree.ElementTree as etree
 import played
 from played import Tally
 
-import console
-import draw
-import scenario
-import trace
+from common import console
+from compare import scenario
+from trace import draw, trace
 
 DRAW = os.path.join(played.TOP, "tools", "draw.py")
 STORIES = os.path.join(played.TOP, "examples", "play")

@@ -22,7 +22,7 @@ import typing
 import played
 import wrapper
 
-import sources
+from front import sources
 
 # In place of a program: it ends by the signal of this number.
 KILLED = "#!/bin/sh\ncat > /dev/null\nkill -{0} $$\n"

@@ -19,13 +19,10 @@ import typing
 
 import played
 
-import console
-import after
-import explain
-import forms
-import happened
-import reasons
-import scenario
+from common import console, forms
+from compare import scenario
+from explain import explain, play_lines, reasons
+from front import remarks
 
 TOP = played.TOP
 
@@ -306,9 +303,9 @@ def told_of_runs(program: str) -> tuple[int, list[str]]:
         done = subprocess.run(
             [program, "play"], input=script.encode("latin1"), stdout=subprocess.PIPE, stderr=subprocess.DEVNULL
         )
-        run = happened.played(script.encode("latin1"), "the script")
+        run = play_lines.played(script.encode("latin1"), "the script")
         for line in dict.fromkeys(done.stdout.decode("latin1").splitlines()):
-            said, count = " ".join(happened.of_run(run, line, script, "the script")), count + 1
+            said, count = " ".join(play_lines.of_run(run, line, script, "the script")), count + 1
             found = re.search(
                 r"Its list was then (\S+), its owner user (\d+), and its group (\d+)\. User (\d+) of groups (\S+) ",
                 said,
@@ -358,9 +355,9 @@ def silent_lines(program: str) -> tuple[int, list[str]]:
         done = subprocess.run(
             [program, "play"], input=script.encode("latin1"), stdout=subprocess.PIPE, stderr=subprocess.DEVNULL
         )
-        said = list(after.silent(after.lines_of(script), done.stdout.decode("latin1")))
+        said = list(remarks.silent(remarks.lines_of(script), done.stdout.decode("latin1")))
         found = {int(number) for number in re.findall(r"line (\d+) did nothing", "\n".join(said))}
-        run = happened.played(script.encode("latin1"), "the script")
+        run = play_lines.played(script.encode("latin1"), "the script")
         left = {
             f"agent {agent} has a job that has not ended (line {job.number}); run {agent} ends it"
             for agent, job in run.busy.items()

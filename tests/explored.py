@@ -29,10 +29,8 @@ import typing
 import played
 from played import Tally
 
-import beside
-import compare
-import console
-import scenario
+from common import console, programs
+from compare import compare, scenario
 
 KEPT = os.path.join(played.TOP, "tests", "explored")
 STORIES = os.path.join(played.TOP, "examples", "explore")
@@ -183,7 +181,7 @@ def compare_progress(program: str, tally: Tally) -> None:
 
 def compare_kept(every: int) -> int:
     """Compares with the kept ways, and plays the scripts of ways."""
-    program, suites, tally = beside.program("explore"), played.program(None), Tally()
+    program, suites, tally = programs.program("explore"), played.program(None), Tally()
     for name, words, text in kept():
         with open(os.path.join(KEPT, f"{name}.ways"), encoding="utf-8") as file:
             wanted = file.read()
@@ -238,7 +236,7 @@ class Explorable(scenario.Scenario):
 
 def compare_random(given: argparse.Namespace) -> int:
     """Compares with the other program for random scripts."""
-    program, tally, seed, count = beside.program("explore"), Tally(), given.first, 0
+    program, tally, seed, count = programs.program("explore"), Tally(), given.first, 0
     while count < given.scripts:
         script, words = Explorable(seed).whole()
         seed += 1

@@ -15,7 +15,7 @@ import typing
 
 import played
 
-import forms
+from common import forms
 
 # A word that fits in each place, whatever fits in the others.
 SAMPLES = {**{name: place.sample for name, place in forms.PLACES.items()}, "OPERATIONS": "read /a"}

@@ -30,7 +30,7 @@ import spoken
 from played import Tally
 from shown_page import SEEN
 
-import show
+from show import show
 
 DOOR = [sys.executable, os.path.join(played.TOP, "tools", "show.py"), "--live"]
 OWN = ["--root", "1000:100:755"]

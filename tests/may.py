@@ -21,7 +21,7 @@ import tempfile
 import played
 from played import Tally
 
-import console
+from common import console
 from may import changes, everybody, lint, lists, mounts, people, program, saying
 from may.people import Caller
 

@@ -22,9 +22,8 @@ import time
 
 import played
 
-import console  # noqa: E402
-import sources  # noqa: E402
-import trial  # noqa: E402
+from common import console
+from front import sources, trial
 
 AGENTS = (2, 4, 8, 16, 32, 64)
 SCRIPTS = ("files", "sweepers", "revocation")

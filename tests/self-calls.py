@@ -14,8 +14,8 @@ import typing
 import played
 from played import Tally
 
-import console
-import sources
+from common import console
+from front import sources
 
 # The functions that may call themselves: by crate, type (where it has one) and name, with why they are not deep.
 MAY = {

@@ -31,8 +31,8 @@ import spoken
 from played import Tally
 from spoken import HEAD, HEADER, Talk, ran, text_of
 
-import beside
-import dump
+from common import programs
+from session import dump
 
 STORY = (
     *HEADER,

@@ -29,11 +29,10 @@ import browser
 import played
 from played import Tally
 
-import console
-import retold
-import scenario
-import show
-import trace
+from common import console
+from compare import scenario
+from show import show
+from trace import states, trace
 
 STORIES = os.path.join(played.TOP, "examples", "play")
 HEADER = ["servers 3", "agents 2", "votes 1,1,1/2/2", "root 1000 100 777", "cache 4096 4096 16"]
@@ -150,7 +149,7 @@ def ended(lines: list[str]) -> list[dict]:
 
 def agents_at(events: list[dict], place: int) -> list[dict]:
     """What agents do and keep behind an event, as the page shows it, which puts a site's entries together."""
-    agents = retold.Retold(events[0])
+    agents = states.Retold(events[0])
     for event in events[1:place + 1]:
         agents.hear(event)
     shown = []

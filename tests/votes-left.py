@@ -23,9 +23,8 @@ import tempfile
 import played
 import voted
 
-import shapes
-import trace
-import votes
+from trace import trace
+from votes import shapes, votes
 
 OPENING = (
     "servers 4\nagents {}\nvotes 1,1,1/2/2\nroot 1000 100 777\ncache 0 0 0\nbegin 0 1000 100 0 file /a 644\nrun 0\n"

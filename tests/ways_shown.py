@@ -23,9 +23,8 @@ import played
 from played import Tally
 from shown_page import SEEN
 
-import asked
-import show
-import ways_page
+from explore import questions
+from show import show, ways_page
 
 EXPLORE = [sys.executable, os.path.join(played.TOP, "tools", "explore.py")]
 STORIES = os.path.join(played.TOP, "examples", "explore")
@@ -106,10 +105,10 @@ def clicked(tally: Tally, driver: browser.Browser, name: str, ways: dict[int, li
     for place in range(answers):
         driver.click(f"#answers li:nth-child({place + 1}) button")
         text = driver.value(f"document.querySelector('#answers li:nth-child({place + 1})').innerText")
-        question = asked.read(text.partition(": ")[2])
+        question = questions.read(text.partition(": ")[2])
         marked = [one["number"] for one in driver.value(TREE) if one["asked"]]
         wanted = [one for one, lines in ways.items()
-                  if question.holds(next(asked.ways_in([f"way {one} x", *lines])))]
+                  if question.holds(next(questions.ways_in([f"way {one} x", *lines])))]
         tally.holds(sorted(marked) == wanted, name, text, "what is marked", marked, wanted)
 
 

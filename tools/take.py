@@ -12,7 +12,7 @@ import shutil
 import sys
 import typing
 
-import console
+from common import console
 
 TOP = os.path.dirname(os.path.dirname(os.path.abspath(__file__)))
 PARTS = ("src", "specs", "proofs")

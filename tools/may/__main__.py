@@ -4,7 +4,7 @@ import sys
 
 sys.path[0] = os.path.dirname(os.path.dirname(os.path.abspath(__file__)))
 
-import console  # noqa: E402
+from common import console
 from may import command  # noqa: E402
 
 console.run(command.main, "stopped")

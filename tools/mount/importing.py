@@ -20,7 +20,7 @@ import sys
 
 sys.path[0] = os.path.dirname(os.path.dirname(os.path.abspath(__file__)))
 
-import console  # noqa: E402
+from common import console
 from mount import lists, making, rows, words  # noqa: E402
 from mount.making import Thing  # noqa: E402
 

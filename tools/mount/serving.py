@@ -6,8 +6,8 @@ import errno
 import os
 import shlex
 
-import console
-from console import Stop
+from common import console
+from common.console import Stop
 
 from mount import beginning, calls, kernel, making, rows
 from mount.talking import Ended, Session

@@ -44,7 +44,7 @@ import argparse
 import os
 import re
 
-from console import Bad
+from common.console import Bad
 
 TOP = os.path.realpath(os.path.join(os.path.dirname(os.path.abspath(__file__)), "..", ".."))
 SERVERS, AGENTS = 3, 2
