@@ -26,7 +26,7 @@ import typing
 
 import played
 
-from common import forms, programs
+from common import built, forms
 from compare import scenario
 from explain import explain
 from explain.faults import WORD
@@ -353,7 +353,7 @@ def unnamed(damage: Damage, said: str) -> list[str | tuple[str, ...]]:
 
 def tried(program: str, path: str, damage: Damage) -> tuple[str, str]:
     """What comes of a damage: `none` where the program finds no fault in that line; and what `explain` says."""
-    programs = Programs(program, programs.program("forms"), damage.command)
+    programs = Programs(program, built.program("forms"), damage.command)
     printed, differing = programs.fault_of(damage.lines), programs.differing(damage.lines)
     if differing:
         return "nothing found", differing

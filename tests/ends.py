@@ -150,7 +150,7 @@ def by_streams(copy: wrapper.Copy) -> None:
 
 def by_memory(copy: wrapper.Copy) -> None:
     """No memory is told, and `explore` may have what is free."""
-    code = "import console; console.run(lambda: len(bytearray(1 << 46)), 'stopped')"
+    code = "from common import console; console.run(lambda: len(bytearray(1 << 46)), 'stopped')"
     done = subprocess.run([sys.executable, "-c", code], cwd=os.path.join(copy.top, "tools"), capture_output=True)
     copy.holds((done.returncode, done.stderr) == (4, b"suites: out of memory\n"), f"no memory: {done}")
     copy.build("session", ENDLESS)
@@ -261,15 +261,15 @@ def by_builds(copy: wrapper.Copy) -> None:
             os.unlink(os.path.join(copy.top, "out", name))
     for text, told in ((KILLED.format(9), "signal 9"), ("#!/bin/sh\necho no room; exit 1\n", "status 1")):
         write(clang, text)
-        holds(copy, "python3 tools/choose.py", 1, told, env=env)
+        holds(copy, "python3 tools choose", 1, told, env=env)
         copy.holds(kept(copy) == [], f"{told} is kept: {kept(copy)}")
     write(os.path.join(kit, "path", "rt"), KIT.format(kit, "kill -9 $$", sources.KIT_LOGIC))
-    holds(copy, "python3 tools/choose.py", 1, "signal 9", env=env)
+    holds(copy, "python3 tools choose", 1, "signal 9", env=env)
     copy.holds(kept(copy) == [], "a killed rt is kept")
     write(os.path.join(kit, "path", "rt"), KIT.format(kit, MODULE, sources.KIT_LOGIC))
     os.unlink(clang)
-    done = asked(copy, "python3 tools/choose.py", env=env)
-    is_kept = done.stdout == b"trial tools/trial.py\n" and kept(copy) == ["trial.json"]
+    done = asked(copy, "python3 tools choose", env=env)
+    is_kept = done.stdout == b"trial tools/front/trial.sh\n" and kept(copy) == ["trial.json"]
     copy.holds(is_kept, f"a kit without clang: {done}")
 
 

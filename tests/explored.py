@@ -18,18 +18,15 @@ each that differs; status 1 where one does.
 """
 import argparse
 import os
-import random
 import re
-import shlex
 import subprocess
 import sys
-import tempfile
 import typing
 
 import played
 from played import Tally
 
-from common import console, programs
+from common import built, console
 from compare import compare, scenario
 
 KEPT = os.path.join(played.TOP, "tests", "explored")
@@ -181,7 +178,7 @@ def compare_progress(program: str, tally: Tally) -> None:
 
 def compare_kept(every: int) -> int:
     """Compares with the kept ways, and plays the scripts of ways."""
-    program, suites, tally = programs.program("explore"), played.program(None), Tally()
+    program, suites, tally = built.program("explore"), played.program(None), Tally()
     for name, words, text in kept():
         with open(os.path.join(KEPT, f"{name}.ways"), encoding="utf-8") as file:
             wanted = file.read()
@@ -236,7 +233,7 @@ class Explorable(scenario.Scenario):
 
 def compare_random(given: argparse.Namespace) -> int:
     """Compares with the other program for random scripts."""
-    program, tally, seed, count = programs.program("explore"), Tally(), given.first, 0
+    program, tally, seed, count = built.program("explore"), Tally(), given.first, 0
     while count < given.scripts:
         script, words = Explorable(seed).whole()
         seed += 1

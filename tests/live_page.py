@@ -26,13 +26,13 @@ import typing
 
 import browser
 import played
-import spoken
 from played import Tally
 from shown_page import SEEN
 
+from common import tool
 from show import show
 
-DOOR = [sys.executable, os.path.join(played.TOP, "tools", "show.py"), "--live"]
+DOOR = tool("show", "--live")
 OWN = ["--root", "1000:100:755"]
 # What is told in the first stories, and what is no part of the script of it.
 STORY = ["# the owner makes a plan", "begin 0 1000 100 0 file /plan u::rw,u:2000:r,g::-,m::r,o::- ; write /plan 6869",

@@ -7,7 +7,8 @@ import typing
 TOP = os.path.realpath(os.path.join(os.path.dirname(os.path.abspath(__file__)), ".."))
 # What tests import of the tools, before what of tests has the same name: the one edit of where modules are looked for.
 sys.path.insert(0, os.path.join(TOP, "tools"))
-from read_rows import Row, examples, rows, said  # noqa: E402, F401
+from common import tool  # noqa: E402
+from common.read_rows import Row, examples, rows, said  # noqa: E402, F401
 
 
 def program(named: str | None = None) -> str:
@@ -18,10 +19,7 @@ def program(named: str | None = None) -> str:
         path = os.path.abspath(named)
     else:
         chosen = subprocess.run(
-            [sys.executable, os.path.join(TOP, "tools", "choose.py")],
-            stdin=subprocess.DEVNULL,
-            stdout=subprocess.PIPE,
-            text=True,
+            tool("choose"), stdin=subprocess.DEVNULL, stdout=subprocess.PIPE, text=True
         )
         path = os.path.join(TOP, chosen.stdout.split()[-1]) if chosen.returncode == 0 else ""
     if not os.path.exists(path):

@@ -19,7 +19,7 @@ import explored
 import played
 from played import Tally
 
-from common import console, programs
+from common import built, console
 
 # The scripts that are explored, each with its words, where none is named.
 STORIES = (
@@ -56,7 +56,7 @@ class Refused:
         reach = {"REFUSE_FROM": str(first), "REFUSE_TO": str(last), "REFUSE_MARK": self.mark}
         setting = {"LD_PRELOAD": self.library, **reach}
         done = subprocess.run(
-            [programs.program("explore"), *words],
+            [built.program("explore"), *words],
             input=script,
             capture_output=True,
             env={**os.environ, **(setting if first else {})},

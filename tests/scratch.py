@@ -16,7 +16,7 @@ import tempfile
 import typing
 
 TOP = os.path.realpath(os.path.join(os.path.dirname(os.path.abspath(__file__)), ".."))
-BUILD = "import sys, trial; trial.build(sys.argv[1], lambda: None)"
+BUILD = "import sys; from front import trial; trial.build(sys.argv[1], lambda: None)"
 PARTS = ("src", "specs", "proofs")
 
 

@@ -8,7 +8,6 @@ would call themselves. Status 1 where one is found that is not in the table, or 
 """
 import os
 import re
-import sys
 import typing
 
 import played

@@ -31,7 +31,7 @@ import spoken
 from played import Tally
 from spoken import HEAD, HEADER, Talk, ran, text_of
 
-from common import programs
+from common import built
 from session import dump
 
 STORY = (
@@ -402,7 +402,7 @@ def main() -> int:
     read.add_argument("program", nargs="?")
     given = read.parse_args()
     path, tally = spoken.program(given.program), Tally(most=20, width=600)
-    setattr(beside, "program", lambda name: path)
+    setattr(built, "program", lambda name: path)
     with tempfile.TemporaryDirectory(prefix="suites-") as folder:
         answers(path, tally)
         goes_on(path, tally)

@@ -8,7 +8,7 @@ from collections.abc import Iterable, Mapping, Sequence
 
 import played
 
-from common import programs
+from common import built
 
 # The first line of each journal.
 HEAD = b"# journal of suites session, 1\n"
@@ -18,7 +18,7 @@ PATIENCE = 60
 
 
 def program(named: str | None = None) -> str:
-    return os.path.abspath(named) if named else programs.program("session")
+    return os.path.abspath(named) if named else built.program("session")
 
 
 def text_of(lines: Iterable[bytes]) -> bytes:

@@ -23,10 +23,11 @@ import played
 from played import Tally
 from shown_page import SEEN
 
-from explore import questions
+from common import tool
+from explore import queries
 from show import show, ways_page
 
-EXPLORE = [sys.executable, os.path.join(played.TOP, "tools", "explore.py")]
+EXPLORE = tool("explore")
 STORIES = os.path.join(played.TOP, "examples", "explore")
 # Stories with their options, and questions.
 SHOWN: tuple[tuple[str, list[str], list[str]], ...] = (
@@ -105,10 +106,10 @@ def clicked(tally: Tally, driver: browser.Browser, name: str, ways: dict[int, li
     for place in range(answers):
         driver.click(f"#answers li:nth-child({place + 1}) button")
         text = driver.value(f"document.querySelector('#answers li:nth-child({place + 1})').innerText")
-        question = questions.read(text.partition(": ")[2])
+        question = queries.read(text.partition(": ")[2])
         marked = [one["number"] for one in driver.value(TREE) if one["asked"]]
         wanted = [one for one, lines in ways.items()
-                  if question.holds(next(questions.ways_in([f"way {one} x", *lines])))]
+                  if question.holds(next(queries.ways_in([f"way {one} x", *lines])))]
         tally.holds(sorted(marked) == wanted, name, text, "what is marked", marked, wanted)
 
 

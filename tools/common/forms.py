@@ -5,7 +5,9 @@ import functools
 import os
 import typing
 
-TABLE = os.path.join(os.path.dirname(os.path.dirname(os.path.abspath(__file__))), "crates", "forms", "stdout")
+from common import TOP
+
+TABLE = os.path.join(TOP, "crates", "forms", "stdout")
 # Places as people write them in a form.
 SHOWN = {"SERVERS": "N", "AGENTS": "N", "OLD": "S,S,..", "OPERATIONS": "OPERATION ; .."}
 

@@ -1,4 +1,3 @@
-#!/usr/bin/env python3
 """tools/compare.py SCRIPT..
 tools/compare.py --seeds COUNT [--from SEED] [--lines LINES]
 
@@ -17,11 +16,11 @@ import re
 import subprocess
 import sys
 
-from common import console
+from common import TOP, console
 from compare import scenario
 from trace import trace
 
-SUITES = os.path.join(trace.TOP, "suites")
+SUITES = os.path.join(TOP, "suites")
 DECIDE = re.compile(r"t (\d+) decide (?:answered|refused)$")
 NUMBERED = re.compile(r"\b(made|suite) (\d+)")
 HEADER = {"servers", "agents", "votes", "root", "cache", "user", "group"}
@@ -196,7 +195,3 @@ def main() -> int:
     for what in sorted(total):
         print(f"  {total[what]:8} {what}")
     return 1 if wrong else 0
-
-
-if __name__ == "__main__":
-    console.run(main, "stopped")

@@ -1,4 +1,3 @@
-#!/usr/bin/env python3
 """tools/scenario.py SEED [LINES]
 
 Writes a random script of `suites play`: users who make, read, write, list, drop and guard files and folders, with
@@ -173,7 +172,3 @@ def main() -> int:
     given = read.parse_args()
     sys.stdout.write(Scenario(given.seed, given.lines).script())
     return 0
-
-
-if __name__ == "__main__":
-    sys.exit(main())

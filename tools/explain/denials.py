@@ -7,14 +7,11 @@ import functools
 import os
 import re
 import subprocess
-import sys
 import typing
 
-from common import console
+from common import TOP, console, tool
 from explain import faults
 
-TOOLS = os.path.dirname(os.path.abspath(__file__))
-TOP = os.path.dirname(TOOLS)
 OPEN = "u::rwx,g::rwx,o::rwx"
 
 
@@ -32,8 +29,7 @@ class Asked(typing.NamedTuple):
 @functools.cache
 def program() -> str:
     """The program that `./suites` runs; ends the tool where there is none."""
-    words = [sys.executable, os.path.join(TOOLS, "choose.py")]
-    chosen = subprocess.run(words, stdin=subprocess.DEVNULL, stdout=subprocess.PIPE, text=True)
+    chosen = subprocess.run(tool("choose"), stdin=subprocess.DEVNULL, stdout=subprocess.PIPE, text=True)
     if chosen.returncode != 0:
         raise console.Stop("there is no program that plays the table")
     return os.path.join(TOP, chosen.stdout.split()[-1])

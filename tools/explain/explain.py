@@ -1,4 +1,3 @@
-#!/usr/bin/env python3
 """./suites explain [--of COMMAND] LINE [FILE]
 
 Prints what docs/FAULTS.md says of a code, or of a line as the program, `votes` or `may` printed it; what a word
@@ -26,11 +25,11 @@ import sys
 import textwrap
 import typing
 
-from common import console, forms, quoted
+from common import TOP, console, forms, quoted
 from explain import explore_lines, faults, judge_lines, meanings, misfits, play_lines, table_lines, tool_lines
 
 
-PAGE = os.path.join(os.path.dirname(os.path.dirname(os.path.abspath(__file__))), "docs", "FAULTS.md")
+PAGE = os.path.join(TOP, "docs", "FAULTS.md")
 CODE = re.compile(r"\b([SAVNGFUsavngfu](?:1[0-3]|[1-9]))\b")
 SPAN = r"`([^`]*)`"
 # The lines of an example, the last line that it prints, and what is told of that.
@@ -181,7 +180,7 @@ def explained(text: str) -> str:
     if word and " " in text:
         return word
     if VOTES.match(text):
-        return filled(f"{worded.meant('VOTES', text)}.")
+        return filled(f"{meanings.meant('VOTES', text)}.")
     inner = tool_lines.within(text)
     if inner:
         return f"A sentence of `./suites shell`, with the session's own words behind it.\n\n{explained(inner)}"
@@ -321,7 +320,3 @@ def main() -> int:
         sys.stdout.reconfigure(errors="backslashreplace")
     print(quoted.safe(answer(sys.argv[1:])))
     return 0 if sys.argv[1:] else 2
-
-
-if __name__ == "__main__":
-    console.run(main, "stopped")

@@ -8,11 +8,10 @@ import os
 import re
 import textwrap
 
-from common import forms
+from common import TOP, forms
 from explain import misfits
 from common.quoted import either, letters, plain, short
 
-TOP = os.path.dirname(os.path.dirname(os.path.abspath(__file__)))
 ROW = re.compile(r"\| (.*) \| (.*) \|$")
 # Slanted words, and no sign of multiplication.
 SLANTED = re.compile(r"\*(\w(?:[^*]*\w)?)\*")

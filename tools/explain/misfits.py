@@ -5,7 +5,7 @@ import functools
 import subprocess
 import typing
 
-from common import console, forms, programs
+from common import built, console, forms
 
 
 class Why(typing.NamedTuple):
@@ -63,8 +63,8 @@ class Item(typing.NamedTuple):
 @functools.cache
 def asked(first: str, number: int, given: bytes) -> str:
     """What the program prints for two words and an input."""
-    words = [programs.program("forms"), first, str(min(number, 2**64 - 1))]
-    done = subprocess.run(words, input=given, stdout=subprocess.PIPE, env=programs.setting("forms"))
+    words = [built.program("forms"), first, str(min(number, 2**64 - 1))]
+    done = subprocess.run(words, input=given, stdout=subprocess.PIPE, env=built.setting("forms"))
     if done.returncode != 0:
         raise console.Stop(console.ended("forms", done.returncode))
     return done.stdout.decode("latin1").removesuffix("\n")

@@ -1,4 +1,3 @@
-#!/usr/bin/env python3
 """./suites explore [OPTIONS] < SCRIPT
 
 Tells every way in which the jobs below the line `together` of a script of events may end; help/explore.txt tells all
@@ -18,12 +17,12 @@ import threading
 import time
 import typing
 
-from common import console, programs
-from explore import questions
+from common import TOP, built, console
+from explore import queries
 from gate import gate
 from trace import trace
 
-HELP = os.path.join(programs.TOP, "help", "explore.txt")
+HELP = os.path.join(TOP, "help", "explore.txt")
 # The options that tell a number, with the least and the most that each may be.
 NUMBERS = {
     "--crashes": (0, 255),
@@ -70,7 +69,7 @@ def read(words: list[str]) -> argparse.Namespace:
     parser.add_argument("--brief", action="store_true")
     for option in NUMBERS:
         parser.add_argument(option, type=number_of(option))
-    parser.add_argument("--ask", type=questions.read, action="append")
+    parser.add_argument("--ask", type=queries.read, action="append")
     parser.add_argument("--page", action="store_true")
     parser.add_argument("files", nargs="*")
     given = parser.parse_args(words)
@@ -169,7 +168,7 @@ def status_of(options: list[str], printed: typing.IO[bytes], script: typing.IO[b
     watched.
     """
     is_watched = sys.stderr.isatty()
-    words = [programs.program("explore"), *options, *([PROGRESS] if is_watched else [])]
+    words = [built.program("explore"), *options, *([PROGRESS] if is_watched else [])]
     errors = subprocess.PIPE if is_watched else None
     process = subprocess.Popen(words, stdin=script, stdout=printed, stderr=errors, preexec_fn=limit_memory)
     try:
@@ -205,16 +204,16 @@ def answer(given: argparse.Namespace) -> int:
         with printed:
             if status not in (DONE, NOT_ALL):
                 return ended(given, status, printed.read())
-            jobs = next(questions.ways_in(lines_of(printed)))
-        wrong = questions.unknown(given.ask, jobs)
+            jobs = next(queries.ways_in(lines_of(printed)))
+        wrong = queries.unknown(given.ask, jobs)
         if wrong:
             raise console.Bad(wrong)
         status, printed = told_of(words_of(given), script)
         with printed:
             if status not in (DONE, NOT_ALL):
                 return ended(given, status, printed.read())
-            answers, count = [questions.Answer(question) for question in given.ask], 0
-            for count, way in enumerate(questions.ways_in(lines_of(printed)), 1):
+            answers, count = [queries.Answer(question) for question in given.ask], 0
+            for count, way in enumerate(queries.ways_in(lines_of(printed)), 1):
                 for one in answers:
                     one.look(count, way)
             printed.seek(0)
@@ -290,7 +289,3 @@ def main() -> int:
     if given.page:
         return page(given)
     return answer(given) if given.ask else run(given)
-
-
-if __name__ == "__main__":
-    console.run(main, "stopped")

@@ -1,4 +1,3 @@
-#!/usr/bin/env python3
 """Chooses the program that `./suites` runs, and prints of what kind it is and where.
 
 `proved`: it was proved and built of this code with these claims (`tools/build.py`). `checked`: it was compiled of the
@@ -15,7 +14,7 @@ import shlex
 import subprocess
 import typing
 
-from common import console, programs
+from common import TOP, built, console
 from front import sources, trial
 
 KEPT = sources.KEPT
@@ -23,16 +22,16 @@ CHOICE = os.path.join(KEPT, f"{sources.OF_PROGRAM}choice.sh")
 PROGRAMS = {
     "proved": f"crates/{sources.PROGRAM}/out/{sources.PROGRAM}",
     "checked": f"out/{sources.PROGRAM}",
-    "trial": "tools/trial.py",
+    "trial": "tools/front/trial.sh",
 }
 STOPPED = "stopped; there is no checked build yet"
 # The programs beside it that tools use.
 BESIDE = ("trace", "explore", "may", "forms", "judge", "session")
-CHANGES = os.path.join(sources.TOP, "CHANGELOG.md")
+CHANGES = os.path.join(TOP, "CHANGELOG.md")
 
 
 def path_of(kind: str) -> str:
-    return os.path.join(sources.TOP, PROGRAMS[kind])
+    return os.path.join(TOP, PROGRAMS[kind])
 
 
 def record_of(kind: str, now: sources.Sources, kit: sources.Kit) -> dict[str, str | None]:
@@ -129,9 +128,9 @@ def build() -> None:
 
 def commit() -> str:
     """The commit of these sources, and whether they differ from it; nothing where that is not known."""
-    if not os.path.exists(os.path.join(sources.TOP, ".git")):
+    if not os.path.exists(os.path.join(TOP, ".git")):
         return ""
-    words = ["git", "-C", sources.TOP, "describe", "--always", "--abbrev=12", "--exclude=*", "--dirty= with changes"]
+    words = ["git", "-C", TOP, "describe", "--always", "--abbrev=12", "--exclude=*", "--dirty= with changes"]
     try:
         return subprocess.run(words, stdin=subprocess.DEVNULL, capture_output=True, text=True).stdout.strip()
     except FileNotFoundError:
@@ -148,7 +147,7 @@ def version() -> typing.Iterator[str]:
     kit = sources.Kit()
     is_there = "which is on the path" if sources.KIT_LOGIC in kit.name.split() else "which is not on the path"
     yield f"kit logic {sources.KIT_LOGIC}, {is_there}"
-    others = [(name, programs.kept_choice(name)) for name in BESIDE]
+    others = [(name, built.kept_choice(name)) for name in BESIDE]
     told = [f"{name} {choice[0]}" for name, choice in others if choice]
     if told:
         yield f"beside it {', '.join(told)}"
@@ -177,7 +176,3 @@ def main() -> int:
         kind = choose()
     print(kind, PROGRAMS[kind])
     return 0
-
-
-if __name__ == "__main__":
-    console.run(main, STOPPED)

@@ -1,4 +1,3 @@
-#!/usr/bin/env python3
 """Proves and builds the program `suites`, or the one that the environment names (tools/sources.py), and says on
 standard error how far it is. `./suites --prove` calls it.
 
@@ -132,7 +131,3 @@ def main() -> int:
         choose.choose()
         teller.say(f"proved and built in {teller.seconds()} s")
     return 0
-
-
-if __name__ == "__main__":
-    console.run(main, STOPPED)

@@ -1,4 +1,3 @@
-#!/usr/bin/env python3
 """tools/after.py six
 tools/after.py silent PROGRAM SCRIPT
 
@@ -13,7 +12,6 @@ import re
 import select
 import stat
 import subprocess
-import sys
 import typing
 
 from common import console
@@ -149,7 +147,3 @@ def main() -> int:
     for text in [why_six()] if given.what == "six" else told_of(given.program, given.script):
         console.Teller().say(text)
     return 0
-
-
-if __name__ == "__main__":
-    console.run(main, "stopped")

@@ -13,9 +13,8 @@ import tempfile
 import time
 import typing
 
-from common import console
+from common import TOP, console
 
-TOP = os.path.dirname(os.path.dirname(os.path.abspath(__file__)))
 CRATES = os.path.join(TOP, "crates")
 # The program that is built or run: `suites`, or the one that `./suites` names here.
 PROGRAM = os.environ.get("SUITES_PROGRAM", "suites")

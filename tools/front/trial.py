@@ -1,4 +1,3 @@
-#!/usr/bin/env python3
 """tools/trial.py WORD...
 
 All that a checked build rests on inside the kit: `rt try` makes the program as a file of LLVM's, `module.bc`, in a
@@ -169,7 +168,3 @@ def main() -> int:
         process.terminate()
         process.wait()
         raise
-
-
-if __name__ == "__main__":
-    console.run(main, "stopped")

@@ -1,4 +1,3 @@
-#!/usr/bin/env python3
 """Runs all tests that need no proof (tools/test.py, `./suites --test`), and where they pass `rt ci`, the gate; tells
 before its last line how long that took and what each step cost.
 
@@ -10,14 +9,11 @@ import os
 import re
 import resource
 import subprocess
-import sys
 import time
 
-sys.dont_write_bytecode = True
-from common import console
-from gate import times
+from common import console, tool
+from gate import gate_times
 
-TOOLS = os.path.dirname(os.path.abspath(__file__))
 # The most memory that nearly any check was seen to take, in bytes, and how much of what is free may be taken.
 LANE, SHARE = 2_800_000_000, 0.95
 # Where a control group sets a limit of memory and what it holds of that, and a quota of processor time.
@@ -75,17 +71,17 @@ def lanes() -> int | None:
     return found if found > 1 else None
 
 
-def keep(times: times.Times) -> None:
+def keep(times: gate_times.Times) -> None:
     """Keeps the times where that was asked for."""
     path = os.environ.get("SUITES_GATE_TIMES")
     try:
         if path:
-            times.write(times, path)
+            gate_times.write(times, path)
     except OSError as error:
         print(f"warning: the times were not kept in {path}: {error.strerror}")
 
 
-def tell(times: times.Times, begun: float, number: int | None) -> None:
+def tell(times: gate_times.Times, begun: float, number: int | None) -> None:
     """Tells what each step cost. Nothing fails where it costs too much."""
     keep(times)
     spent = resource.getrusage(resource.RUSAGE_CHILDREN)
@@ -99,18 +95,18 @@ def tell(times: times.Times, begun: float, number: int | None) -> None:
         end="",
     )
     print(f" and {max(whole - provers, 0) / 60:.0f} for all else:")
-    for line in times.lines(times, times.bounds()) if times else ["  nothing had to be proved"]:
+    for line in gate_times.lines(times, gate_times.bounds()) if times else ["  nothing had to be proved"]:
         print(line)
 
 
 def main() -> int:
     console.words(__doc__).parse_args()
-    if subprocess.run([sys.executable, os.path.join(TOOLS, "test.py")], stdin=subprocess.DEVNULL).returncode != 0:
+    if subprocess.run(tool("test"), stdin=subprocess.DEVNULL).returncode != 0:
         return 1
     begun, number = time.monotonic(), lanes()
     given = {**os.environ, **({"RT_JOBS": str(number)} if number else {})}
     gate = subprocess.Popen(["rt", "ci"], env=given, stdout=subprocess.PIPE, stderr=subprocess.STDOUT, errors="replace")
-    watch = times.Watch(gate.pid)
+    watch = gate_times.Watch(gate.pid)
     watch.start()
     last = ""
     for line in gate.stdout:
@@ -122,10 +118,3 @@ def main() -> int:
     tell(watch.times(), begun, number)
     print(last, end="", flush=True)
     return status
-
-
-if __name__ == "__main__":
-    try:
-        sys.exit(main())
-    except KeyboardInterrupt:
-        sys.exit(130)

@@ -1,4 +1,3 @@
-#!/usr/bin/env python3
 """./suites --test [--long]
 
 Runs all tests that need no proof, side by side: the rows of crates/rows/stdin through the program that `./suites`
@@ -20,7 +19,7 @@ import tempfile
 import time
 import typing
 
-from common import console
+from common import TOP, console, tool
 from front import sources
 from gate import gate
 
@@ -49,7 +48,7 @@ class Part:
         settings: typing.Mapping[str, str] | None = None,
     ) -> None:
         self.title, self.words, self.after, self.settings = title, words, after, dict(settings or {})
-        self.folder, self.program = os.path.join(sources.TOP, folder), program
+        self.folder, self.program = os.path.join(TOP, folder), program
         self.counts: tuple[int, int] | None = None
         self.process: subprocess.Popen[bytes] | None = None
         self.log: typing.IO[bytes] | None = None
@@ -91,8 +90,8 @@ class Part:
         return f"{line}\n{console.tail(self.text, 60)}status {self.process.returncode}" if failed else line
 
 
-def tool(path: str, *words: str) -> list[str]:
-    return [sys.executable, os.path.join(sources.TOP, path), *words]
+def test(name: str, *words: str) -> list[str]:
+    return [sys.executable, os.path.join(TOP, "tests", name), *words]
 
 
 def tried(crate: str) -> dict[str, typing.Any]:
@@ -104,85 +103,85 @@ FORMS, EXPLORE, JUDGE = "the program of forms", "the program of explore", "the p
 SESSION = "the program of session"
 # What takes longest stands first, but for what tells at once that something is wrong.
 PARTS = (
-    Part("what pages show", tool("tools/shown.py")),
-    Part("what documents name", tool("tools/named.py")),
-    Part("words of pages", tool("tools/page_words.py")),
-    Part("texts of wrong bodies", tool("tools/wrong_bodies.py", "--check")),
-    Part("page of wrong bodies", tool("tools/wrong_bodies_page.py", "--check")),
-    Part("table of public functions", tool("tools/proved_page.py", "--check")),
-    Part("forms in pages and help", tool("tools/forms_page.py", "--check")),
-    Part("words that need no build", tool("tests/wrapper.py")),
-    Part("how tools end", tool("tests/ends.py")),
-    Part("type hints", tool("tests/hints.py")),
-    Part("functions that call themselves", tool("tests/self-calls.py")),
+    Part("what pages show", tool("shown")),
+    Part("what documents name", tool("named")),
+    Part("words of pages", tool("page_words")),
+    Part("texts of wrong bodies", tool("wrong_bodies", "--check")),
+    Part("page of wrong bodies", tool("wrong_bodies_page", "--check")),
+    Part("table of public functions", tool("proved_page", "--check")),
+    Part("forms in pages and help", tool("forms_page", "--check")),
+    Part("words that need no build", test("wrapper.py")),
+    Part("how tools end", test("ends.py")),
+    Part("type hints", test("hints.py")),
+    Part("functions that call themselves", test("self-calls.py")),
     Part("tests of runs", **tried("run_tests")),
     Part("tests of libraries", **tried("library_tests")),
-    Part(PROGRAM, tool("tools/choose.py")),
-    Part(TRACE, tool("tools/choose.py"), program="trace"),
-    Part(MAY, tool("tools/choose.py"), program="may"),
-    Part(FORMS, tool("tools/choose.py"), program="forms"),
-    Part(EXPLORE, tool("tools/choose.py"), program="explore"),
-    Part(JUDGE, tool("tools/choose.py"), program="judge"),
-    Part(SESSION, tool("tools/choose.py"), program="session"),
+    Part(PROGRAM, tool("choose")),
+    Part(TRACE, tool("choose"), program="trace"),
+    Part(MAY, tool("choose"), program="may"),
+    Part(FORMS, tool("choose"), program="forms"),
+    Part(EXPLORE, tool("choose"), program="explore"),
+    Part(JUDGE, tool("choose"), program="judge"),
+    Part(SESSION, tool("choose"), program="session"),
     Part("tests of commands", **tried("command_tests")),
-    Part("rows", tool("tests/checked-build.py"), [PROGRAM]),
-    Part("the table of forms", tool("tests/form-table.py"), [PROGRAM]),
-    Part("everything that can happen", tool("tests/explored.py"), [PROGRAM, TRACE, EXPLORE]),
-    Part("questions of everything that can happen", tool("tests/asking.py"), [EXPLORE]),
-    Part("little memory", tool("tests/small-memory.py"), [EXPLORE]),
-    Part("a stack of 1 MiB", tool("tests/small-stack.py"), [PROGRAM, TRACE, FORMS, EXPLORE]),
-    Part("examples of FAULTS", tool("tests/explained.py"), [PROGRAM, TRACE, FORMS, EXPLORE]),
-    Part("what explain says of every line", tool("tests/every_line.py"), [PROGRAM, TRACE, FORMS, EXPLORE, MAY]),
-    Part("what explain says of damaged scripts", tool("tests/damaged-scripts.py", "--cases", "1000"), [PROGRAM, FORMS]),
-    Part("command lines of documents", tool("tests/typed.py"), [PROGRAM, TRACE, FORMS, EXPLORE]),
-    Part("verdicts on histories", tool("tests/judged.py"), [JUDGE]),
-    Part("how programs end", tool("tests/statuses.py"), [TRACE, FORMS]),
-    Part("answers of may", tool("tests/may.py"), [MAY]),
+    Part("rows", test("checked-build.py"), [PROGRAM]),
+    Part("the table of forms", test("form-table.py"), [PROGRAM]),
+    Part("everything that can happen", test("explored.py"), [PROGRAM, TRACE, EXPLORE]),
+    Part("questions of everything that can happen", test("asking.py"), [EXPLORE]),
+    Part("little memory", test("small-memory.py"), [EXPLORE]),
+    Part("a stack of 1 MiB", test("small-stack.py"), [PROGRAM, TRACE, FORMS, EXPLORE]),
+    Part("examples of FAULTS", test("explained.py"), [PROGRAM, TRACE, FORMS, EXPLORE]),
+    Part("what explain says of every line", test("every_line.py"), [PROGRAM, TRACE, FORMS, EXPLORE, MAY]),
+    Part("what explain says of damaged scripts", test("damaged-scripts.py", "--cases", "1000"), [PROGRAM, FORMS]),
+    Part("command lines of documents", test("typed.py"), [PROGRAM, TRACE, FORMS, EXPLORE]),
+    Part("verdicts on histories", test("judged.py"), [JUDGE]),
+    Part("how programs end", test("statuses.py"), [TRACE, FORMS]),
+    Part("answers of may", test("may.py"), [MAY]),
     Part(
         "may against the kernel",
-        tool("tests/may-against-the-kernel.py", "--questions", "100", "--mounts", "--if-possible"),
+        test("may-against-the-kernel.py", "--questions", "100", "--mounts", "--if-possible"),
         [MAY],
     ),
-    Part("the mount", tool("tests/mount.py"), [PROGRAM, SESSION]),
-    Part("the mount against the kernel", tool("tests/mount-against-the-kernel.py"), [PROGRAM, SESSION]),
-    Part("the shell, import and stories", tool("tests/shell.py"), [PROGRAM, TRACE, FORMS, SESSION]),
-    Part("programs on the mount", tool("tests/mount-programs.py", "--well"), [PROGRAM, SESSION]),
-    Part("sessions and their journals", tool("tests/session.py"), [PROGRAM, SESSION]),
-    Part("what votes tells", tool("tests/votes.py"), [PROGRAM, TRACE]),
-    Part("what votes tells of scripts", tool("tests/votes-left.py"), [PROGRAM, TRACE]),
-    Part("pictures", tool("tests/drawn.py"), [TRACE]),
-    Part("events", tool("tests/events.py"), [TRACE]),
-    Part("pages in a browser", tool("tests/shown_page.py"), [TRACE]),
-    Part("the page of all ways", tool("tests/ways_shown.py"), [PROGRAM, TRACE, EXPLORE]),
-    Part("the page of a session", tool("tests/live_page.py"), [PROGRAM, TRACE, SESSION]),
-    Part("work done anew", tool("tests/work.py"), [PROGRAM]),
-    Part("random scripts", tool("tools/compare.py", "--seeds", "200"), [PROGRAM, TRACE]),
+    Part("the mount", test("mount.py"), [PROGRAM, SESSION]),
+    Part("the mount against the kernel", test("mount-against-the-kernel.py"), [PROGRAM, SESSION]),
+    Part("the shell, import and stories", test("shell.py"), [PROGRAM, TRACE, FORMS, SESSION]),
+    Part("programs on the mount", test("mount-programs.py", "--well"), [PROGRAM, SESSION]),
+    Part("sessions and their journals", test("session.py"), [PROGRAM, SESSION]),
+    Part("what votes tells", test("votes.py"), [PROGRAM, TRACE]),
+    Part("what votes tells of scripts", test("votes-left.py"), [PROGRAM, TRACE]),
+    Part("pictures", test("drawn.py"), [TRACE]),
+    Part("events", test("events.py"), [TRACE]),
+    Part("pages in a browser", test("shown_page.py"), [TRACE]),
+    Part("the page of all ways", test("ways_shown.py"), [PROGRAM, TRACE, EXPLORE]),
+    Part("the page of a session", test("live_page.py"), [PROGRAM, TRACE, SESSION]),
+    Part("work done anew", test("work.py"), [PROGRAM]),
+    Part("random scripts", tool("compare", "--seeds", "200"), [PROGRAM, TRACE]),
 )
 # What --long adds; of allocations each 61st is refused, and inputs are cut at each 29th byte.
 LONG = (
-    Part("programs of tests and measurements", tool("tests/compiled.py")),
-    Part("instructions", tool("tests/instructions.py")),
-    Part("crates in another repository", tool("tests/taken.py")),
-    Part("slow inputs", tool("tests/growth.py"), [PROGRAM, TRACE, MAY, FORMS, EXPLORE]),
-    Part("races", tool("tests/races.py", "1")),
-    Part("the mount, long", tool("tests/mount-against-the-kernel.py", "--calls", "200000"), [PROGRAM, SESSION]),
-    Part("programs on the mount, and servers that crash", tool("tests/mount-programs.py"), [PROGRAM, SESSION]),
-    Part("faults of the mount", tool("tests/mount-faults.py"), [PROGRAM, SESSION]),
-    Part("sessions that are killed", tool("tests/session.py", "--long"), [PROGRAM, SESSION]),
-    Part("lies about runs", tool("tests/lies.py", "1000"), [TRACE]),
+    Part("programs of tests and measurements", test("compiled.py")),
+    Part("instructions", test("instructions.py")),
+    Part("crates in another repository", test("taken.py")),
+    Part("slow inputs", test("growth.py"), [PROGRAM, TRACE, MAY, FORMS, EXPLORE]),
+    Part("races", test("races.py", "1")),
+    Part("the mount, long", test("mount-against-the-kernel.py", "--calls", "200000"), [PROGRAM, SESSION]),
+    Part("programs on the mount, and servers that crash", test("mount-programs.py"), [PROGRAM, SESSION]),
+    Part("faults of the mount", test("mount-faults.py"), [PROGRAM, SESSION]),
+    Part("sessions that are killed", test("session.py", "--long"), [PROGRAM, SESSION]),
+    Part("lies about runs", test("lies.py", "1000"), [TRACE]),
     Part(
         "refused allocations",
-        ["sh", os.path.join(sources.TOP, "tests/refuse-each.sh")],
+        ["sh", os.path.join(TOP, "tests/refuse-each.sh")],
         [PROGRAM, TRACE],
         settings={"EVERY": "61"},
     ),
-    Part("refused allocations of explore", tool("tests/refuse-explore.py", "--every", "61"), [EXPLORE]),
+    Part("refused allocations of explore", test("refuse-explore.py", "--every", "61"), [EXPLORE]),
     Part(
         "refused allocations in tests",
-        ["sh", os.path.join(sources.TOP, "tests/refuse-in-test.sh")],
+        ["sh", os.path.join(TOP, "tests/refuse-in-test.sh")],
         settings={"IF_POSSIBLE": "1"},
     ),
-    Part("inputs cut off, and streams that fail", tool("tests/damaged-runs.py"), [PROGRAM], settings={"EVERY": "29"}),
+    Part("inputs cut off, and streams that fail", test("damaged-runs.py"), [PROGRAM], settings={"EVERY": "29"}),
 )
 
 
@@ -235,7 +234,3 @@ def main() -> int:
     teller.say(f"took {teller.seconds()} s, and {spent.ru_utime + spent.ru_stime:.0f} s of processor time")
     print(f"{passed} passed, {failed} failed")
     return 1 if failed else 0
-
-
-if __name__ == "__main__":
-    console.run(main, STOPPED)

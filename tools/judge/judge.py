@@ -1,4 +1,3 @@
-#!/usr/bin/env python3
 """./suites judge [--order | --small] < HISTORY
 
 Tells whether a history is one plain table's; help/judge.txt tells all of it. The program `judge` does the work. Here
@@ -12,9 +11,9 @@ import subprocess
 import sys
 import typing
 
-from common import console, programs
+from common import TOP, built, console
 
-HELP = os.path.join(programs.TOP, "help", "judge.txt")
+HELP = os.path.join(TOP, "help", "judge.txt")
 DONE, NO_ORDER, FAULTY, NO_STREAM = 0, 1, 3, 6
 MOST = 16 << 20
 # So many calls that ran beside the one that is told are told with it.
@@ -52,7 +51,7 @@ def read(words: list[str]) -> argparse.Namespace:
 
 def judged(text: bytes, *words: str) -> tuple[int, str]:
     """The exit status of the program for a history, and what it printed."""
-    done = subprocess.run([programs.program("judge"), *words], input=text, stdout=subprocess.PIPE)
+    done = subprocess.run([built.program("judge"), *words], input=text, stdout=subprocess.PIPE)
     return done.returncode, done.stdout.decode("latin1")
 
 
@@ -162,7 +161,7 @@ def script(lines: list[str], order: list[int]) -> list[str]:
     told = [next(line for line in lines if line.split()[:1] == ["root"])]
     told += [f"do {calls[place].asks}" for place in order]
     played = subprocess.run(
-        [programs.program("suites"), "table"], input="\n".join([*told, ""]).encode("latin1"), stdout=subprocess.PIPE
+        [built.program("suites"), "table"], input="\n".join([*told, ""]).encode("latin1"), stdout=subprocess.PIPE
     )
     answers = played.stdout.decode("latin1").splitlines()
     return [told[0], *(part for line, answer in zip(told[1:], answers) for part in (line, f"# {answer}"))]
@@ -205,7 +204,3 @@ def main() -> int:
     except BrokenPipeError:
         os.dup2(os.open(os.devnull, os.O_WRONLY), sys.stdout.fileno())
         return NO_STREAM
-
-
-if __name__ == "__main__":
-    console.run(main, "stopped")

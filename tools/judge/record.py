@@ -1,4 +1,3 @@
-#!/usr/bin/env python3
 """tools/record.py FOLDER [--through FOLDER | --nfs URL] [--calls N] [--readers N] [--seed N] [--opens] > HISTORY
 
 Makes calls on files of a real folder as several users at once, and prints what they were told as a history for
@@ -246,7 +245,3 @@ def main() -> int:
     calls = recorded(given)
     sys.stdout.write("\n".join([*lines, *lines_of(calls), ""]))
     return 0
-
-
-if __name__ == "__main__":
-    console.run(main, "stopped")

@@ -1,4 +1,3 @@
-#!/usr/bin/env python3
 """tools/forms_page.py [--check]
 
 Writes the tables of operations, events and jobs in docs/SCRIPTS.md from the table of forms (crates/forms/stdout). With
@@ -7,13 +6,12 @@ says a form or a sentence otherwise than the table. Status 1 where something dif
 """
 import os
 import re
-import sys
 import typing
 
-from common import console, forms
+from common import TOP, console, forms
 from front import sources
 
-PAGE, HELP = os.path.join(sources.TOP, "docs", "SCRIPTS.md"), os.path.join(sources.TOP, "help")
+PAGE, HELP = os.path.join(TOP, "docs", "SCRIPTS.md"), os.path.join(TOP, "help")
 # The heads of the tables of the page, and what stands in them.
 TABLES: dict[str, list[forms.Line] | list[forms.Operation]] = {
     "| Operation | Does |": list(forms.OPERATIONS.values()),
@@ -92,7 +90,3 @@ def main() -> int:
     rows = len(forms.LINES) + len(forms.OPERATIONS)
     print(f"{rows} forms, {len(wrong)} differ")
     return 1 if wrong or not rows else 0
-
-
-if __name__ == "__main__":
-    sys.exit(main())

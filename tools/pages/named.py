@@ -1,4 +1,3 @@
-#!/usr/bin/env python3
 """Looks whether what the documents name is there.
 
 Of all that README.md, CONTRIBUTING.md, docs/ and the pages of crates (the lines //! of src/lib.rt or src/main.rt)
@@ -13,12 +12,10 @@ gate begins with it.
 import glob
 import os
 import re
-import sys
 import typing
 
-from common import console
+from common import TOP, console
 
-TOP = os.path.realpath(os.path.join(os.path.dirname(os.path.abspath(__file__)), ".."))
 FOLDERS = ("crates", "tools", "tests", "bench", "examples")
 LEFT_OUT = {"out", "__pycache__"}
 QUOTED = re.compile(r"`([^`]+)`")
@@ -207,7 +204,3 @@ def main() -> int:
             lost += 1
             print(f"{os.path.relpath(path, TOP)}: {what}")
     return 1 if lost else 0
-
-
-if __name__ == "__main__":
-    sys.exit(main())

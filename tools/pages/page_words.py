@@ -1,4 +1,3 @@
-#!/usr/bin/env python3
 """tools/page_words.py [--each]
 
 Counts the words of the pages that are written by hand: README.md, CONTRIBUTING.md and docs/, without the page of wrong
@@ -8,11 +7,9 @@ README is to be read in one sitting and all pages in an evening, so each has a b
 import glob
 import os
 import re
-import sys
 
-from common import console
+from common import TOP, console
 
-TOP = os.path.realpath(os.path.join(os.path.dirname(os.path.abspath(__file__)), ".."))
 FRONT, MOST_IN_FRONT, MOST = "README.md", 1_800, 30_000
 WRITTEN = ("WRONG-BODIES.md",)
 OF_TABLES = "PROVED.md"
@@ -45,7 +42,3 @@ def main() -> int:
     whole = sum(found.values())
     print(f"told: README has {found[FRONT]:,} words of {MOST_IN_FRONT:,}, all pages by hand {whole:,} of {MOST:,}")
     return 0 if found[FRONT] <= MOST_IN_FRONT and whole <= MOST else 1
-
-
-if __name__ == "__main__":
-    sys.exit(main())

@@ -1,4 +1,3 @@
-#!/usr/bin/env python3
 """Writes the two tables of docs/PROVED.md that come from the sources, and holds the names above them against these.
 
     tools/proved_page.py           writes the tables (each between its two marks)
@@ -15,12 +14,10 @@ import difflib
 import glob
 import os
 import re
-import sys
 import typing
 
-from common import console
+from common import TOP, console
 
-TOP = os.path.realpath(os.path.join(os.path.dirname(os.path.abspath(__file__)), ".."))
 PAGE = os.path.join(TOP, "docs", "PROVED.md")
 LAWS = "<!-- laws: written by tools/proved_page.py -->", "<!-- end of laws -->"
 FUNCTIONS = "<!-- public functions: written by tools/proved_page.py -->", "<!-- end of public functions -->"
@@ -206,7 +203,3 @@ def main() -> int:
     )
     print(*changes, sep="\n", end="\n" if changes else "")
     return 1 if wrong or changes else 0
-
-
-if __name__ == "__main__":
-    sys.exit(main())

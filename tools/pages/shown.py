@@ -1,4 +1,3 @@
-#!/usr/bin/env python3
 """tools/shown.py [--help-texts]
 
 Looks whether all that README.md, docs/SCRIPTS.md and examples/ show is played by the gate.
@@ -18,12 +17,11 @@ import re
 import sys
 import typing
 
-from common import console, rows
+from common import TOP, console, read_rows
 from front import sources
 from trace import draw, trace
 from votes import votes
 
-TOP = os.path.join(os.path.dirname(os.path.abspath(__file__)), "..")
 PICTURE, STORY = "docs/revocation.svg", "examples/play/revocation.script"
 PAGES = ("README.md", "docs/SCRIPTS.md")
 HELP, OF_TOOLS = "help", ("tools.txt", "explore.txt", "judge.txt", "session.txt")
@@ -47,7 +45,7 @@ def content(name: str) -> bytes:
 
 def rows() -> list[tuple[str, bytes, bytes]]:
     """The rows: words, input and output of each."""
-    return [(b" ".join(row["words"]).decode(), row["input"], row["output"]) for row in rows.rows()]
+    return [(b" ".join(row["words"]).decode(), row["input"], row["output"]) for row in read_rows.rows()]
 
 
 def stories() -> typing.Iterator[tuple[str, bytes, bytes]]:
@@ -151,7 +149,7 @@ def differing(page: str, known: list[tuple[str, bytes, bytes]]) -> typing.Iterat
         elif text in outputs:
             outputs = set()
         else:
-            outputs = {printed for _, given, printed in known if rows.said(given) == rows.said(text)}
+            outputs = {printed for _, given, printed in known if read_rows.said(given) == read_rows.said(text)}
             if not outputs:
                 lost.append("this block is a script or an output of no row")
         yield from (f"{page}:{number}: {line}" for line in lost)
@@ -181,7 +179,3 @@ def main() -> int:
     for line in wrong:
         print(line, file=sys.stderr)
     return 1 if wrong else 0
-
-
-if __name__ == "__main__":
-    sys.exit(main())

@@ -1,4 +1,3 @@
-#!/usr/bin/env python3
 """./suites dump < JOURNAL
 
 Prints a short script of `play` that makes the tree of a journal, or of any script without a fault. Each file and folder
@@ -21,7 +20,7 @@ import tempfile
 import typing
 from collections.abc import Iterable, Iterator
 
-from common import console, programs
+from common import built, console
 
 # The first line of each journal.
 HEAD = "# journal of suites session, 1"
@@ -51,7 +50,7 @@ def asked(lines: Iterable[str], questions: Iterable[str]) -> list[str]:
     """The answers to questions behind these lines, one line each."""
     given, wanted = list(lines), list(questions)
     text = "".join(f"{line}\n" for line in [*given, *wanted])
-    words = [programs.program("session"), "--marks"]
+    words = [built.program("session"), "--marks"]
     done = subprocess.run(words, input=text.encode("latin1"), stdout=subprocess.PIPE)
     if done.returncode not in (0, 3):
         raise console.Stop(console.ended("session", done.returncode))
@@ -183,7 +182,3 @@ def main() -> int:
     for line in dumped(sys.stdin.buffer.read().decode("latin1")):
         print(line)
     return 0
-
-
-if __name__ == "__main__":
-    console.run(main, "stopped")

@@ -1,4 +1,3 @@
-#!/usr/bin/env python3
 """./suites session [--marks] [--journal FILE [--no-sync] [--compact]]
 
 Answers each line of a script of events before it reads the next one; help/session.txt tells all of it. The program
@@ -8,10 +7,10 @@ tree can be made (tools/dump.py).
 import os
 import sys
 
-from common import console, programs
+from common import TOP, built, console
 from session import dump
 
-HELP = os.path.join(programs.TOP, "help", "session.txt")
+HELP = os.path.join(TOP, "help", "session.txt")
 COMMAND_LINE, NO_STREAM = 2, 6
 COMPACT, JOURNAL = "--compact", "--journal"
 
@@ -32,7 +31,7 @@ def main() -> int:
         with open(HELP, encoding="utf-8") as file:
             sys.stdout.write(file.read())
         return 0
-    program = programs.program("session")
+    program = built.program("session")
     if COMPACT in words:
         rest = compacted(words)
         if rest is None:
@@ -43,7 +42,3 @@ def main() -> int:
     if sys.stdin.isatty():
         console.Teller().say("each line is answered, from `servers N` on; Ctrl-D ends it (./suites session --help)")
     os.execv(program, [program, *words])
-
-
-if __name__ == "__main__":
-    console.run(main, "stopped")

@@ -20,16 +20,12 @@ story, and each is printed before its answer.
 
 A transaction that ends U2, U3 or U5 is tried again, up to eight times, which is said.
 """
+import argparse
 import os
 import sys
 
-sys.path[0] = os.path.dirname(os.path.dirname(os.path.abspath(__file__)))
-
-import argparse  # noqa: E402
-
-from common import console
-from mount import words  # noqa: E402
-from shell import speaking  # noqa: E402
+from mount import words
+from shell import speaking
 
 
 def main() -> int:
@@ -42,7 +38,3 @@ def main() -> int:
         read.add_argument(name)
     read.add_argument("--session", default=os.environ.get("SUITES_SESSION", words.SESSION))
     return speaking.speak(read.parse_args())
-
-
-if __name__ == "__main__":
-    console.run(main, "stopped")

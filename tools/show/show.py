@@ -1,4 +1,3 @@
-#!/usr/bin/env python3
 """./suites show [--open] [--from LINE] [--to LINE] < SCRIPT > run.html
 ./suites show --live [--open] [--journal FILE] [--script FILE] [--servers N] [--agents N] [--votes V] [--root U:G:MODE]
 
@@ -34,11 +33,11 @@ import typing
 import webbrowser
 from collections.abc import Iterator
 
-from common import console, quoted
+from common import TOOLS, console, quoted
 from explain import explain
 from trace import states, trace
 
-PARTS = os.path.join(trace.TOOLS, "show")
+PARTS = os.path.join(TOOLS, "show")
 # What stands for what in the page.
 FILES = {"STYLE": "style.css", "MODEL": "model.js", "SAYING": "saying.js", "DRAWING": "drawing.js", "PAGE": "page.js"}
 # Words of the page that are explained elsewhere than their like.
@@ -255,7 +254,3 @@ def main() -> int:
     else:
         sys.stdout.buffer.write(page.encode())
     return 0
-
-
-if __name__ == "__main__":
-    console.run(main, "stopped")

@@ -14,7 +14,7 @@ import typing
 from collections.abc import Callable, Sequence
 
 from common import console
-from explore import questions
+from explore import queries
 from show import show
 
 # So many runs are on a page at most, those of the first ways; what is to be typed for another one stands there.
@@ -111,9 +111,9 @@ def data_of(ways: Sequence[Way], runs: dict[int, Run], command: Callable[[int], 
     return told
 
 
-def answers_to(questions: Sequence[questions.Question], lines: Sequence[str], is_all: bool) -> list[dict[str, object]]:
+def answers_to(questions: Sequence[queries.Question], lines: Sequence[str], is_all: bool) -> list[dict[str, object]]:
     """What was asked, how often it is so, and in which ways."""
-    ways = list(enumerate(questions.ways_in(lines), 1))
+    ways = list(enumerate(queries.ways_in(lines), 1))
     told = list[dict[str, object]]()
     for question in questions:
         found = [number for number, way in ways if question.holds(way)]
@@ -125,14 +125,14 @@ def answers_to(questions: Sequence[questions.Question], lines: Sequence[str], is
 
 
 def page_of(
-    printed: str, questions: Sequence[questions.Question], leads: Callable[[int], bytes], command: Callable[[int], str]
+    printed: str, questions: Sequence[queries.Question], leads: Callable[[int], bytes], command: Callable[[int], str]
 ) -> str:
     """The page of what the program printed; what leads to a way, and what is typed for it."""
     lines = printed.splitlines()
     ways, teller = ways_of(lines), console.Teller()
     if not ways:
         raise console.Stop(f"there is no way to be shown: {lines[-1] if lines else 'nothing was told'}")
-    wrong = questions.unknown(questions, next(questions.ways_in(lines)))
+    wrong = queries.unknown(questions, next(queries.ways_in(lines)))
     if wrong:
         raise console.Bad(wrong)
     runs = runs_of(ways, leads, lambda text: teller.say(text, False))

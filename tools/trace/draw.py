@@ -1,4 +1,3 @@
-#!/usr/bin/env python3
 """./suites draw [--agent A] [--suite S] [--from N] [--to M] [--fold] [--all] [--anyway] < SCRIPT > run.svg
 
 Plays a script of events as `suites play` does, and draws what happens, from above to below: a line for each agent and
@@ -459,7 +458,3 @@ def main() -> int:
         run.progress.make_way()
         sys.stdout.buffer.write(text.encode())
     return 0
-
-
-if __name__ == "__main__":
-    console.run(main, "stopped")

@@ -1,4 +1,3 @@
-#!/usr/bin/env python3
 """./suites trace [--agent A] [--suite S] < SCRIPT
 ./suites trace --json < SCRIPT
 
@@ -18,7 +17,6 @@ import dataclasses
 import functools
 import os
 import re
-import shlex
 import subprocess
 import sys
 import tempfile
@@ -26,11 +24,9 @@ import time
 from collections.abc import Iterable, Iterator, Mapping
 from typing import Any, BinaryIO, NoReturn
 
-from common import console, programs, quoted
+from common import built, console, quoted
 from trace.known_paths import FEW, Paths, paths
 
-TOOLS = os.path.dirname(os.path.abspath(__file__))
-TOP = os.path.dirname(TOOLS)
 REQUEST = re.compile(r"  (\d+) -> s(\d+)  (.*?) +: (.*)")
 OUTCOME = re.compile(r"(\d+)\.(\d+) (\d+) (.*)")
 SUITE = re.compile(r"\bsuite (\d+)\b")
@@ -47,11 +43,11 @@ PIECE, PAUSE = 4 << 20, 0.02
 PATIENCE, AGAIN = 2, 0.5
 # What a terminal is told where the program ends so (as `./suites` tells it of the other commands).
 EXPLAINED = {6: "the input is above 16 MiB, or a read or a write failed (./suites explain 'status 6')"}
-ENV = programs.setting("trace")
+ENV = built.setting("trace")
 
 
 # The path of the program `trace`.
-program = functools.partial(programs.program, "trace")
+program = functools.partial(built.program, "trace")
 
 
 class Progress:
@@ -466,7 +462,3 @@ def main() -> int:
         else:
             write_about(run, out, given.agent, given.suite)
     return 0
-
-
-if __name__ == "__main__":
-    console.run(main, "stopped")

@@ -1,4 +1,3 @@
-#!/usr/bin/env python3
 """./suites votes VOTES [--servers N] [--up P]
 ./suites votes --script FILE [--up P]
 ./suites votes --of N [--lose-read A] [--lose-write B] [--up P]
@@ -437,7 +436,3 @@ def fault_text(word: str, fault: Fault) -> str:
     code = str(fault)
     told = [quoted.sentence(reasons.Of(fault.why, word, "VOTES").text()), "", FORM, ""] if code != "G1" else []
     return "\n".join([f"fault {code}", "", *told, *([explain.explained(code)] if code != "S1" else [])]).rstrip()
-
-
-if __name__ == "__main__":
-    console.run(main, "stopped")

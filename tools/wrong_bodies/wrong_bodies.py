@@ -1,4 +1,3 @@
-#!/usr/bin/env python3
 """Tries the wrong bodies that stand beside the gate: the edits of crates/NAME/wrong, which the prover must refuse.
 
     tools/wrong_bodies.py                 those of all crates
@@ -19,11 +18,11 @@ import re
 import shutil
 import signal
 import subprocess
-import sys
 import tempfile
 import typing
 
-TOP = os.path.realpath(os.path.join(os.path.dirname(os.path.abspath(__file__)), ".."))
+from common import TOP
+
 CRATES = os.path.join(TOP, "crates")
 GATE, BESIDE = "must-fail", "wrong"
 NAMED = re.compile(r"[A-Za-z0-9_-][A-Za-z0-9_.-]*\.edit")
@@ -237,16 +236,3 @@ def main() -> int:
     given = words()
     names = given.names or crates()
     return 1 if (check(names) if given.check else try_all(names, given)) else 0
-
-
-def end(*_: object) -> None:
-    raise KeyboardInterrupt
-
-
-if __name__ == "__main__":
-    signal.signal(signal.SIGTERM, end)
-    try:
-        sys.exit(main())
-    except KeyboardInterrupt:
-        sys.stderr.write("\nwrong_bodies.py: ended before all were tried\n")
-        sys.exit(130)

@@ -1,4 +1,3 @@
-#!/usr/bin/env python3
 """What the steps of the gate cost: processor seconds by crate and kind of step.
 
     SUITES_GATE_TIMES=times.csv .ci/run        the gate, which keeps its times in a file
@@ -15,13 +14,13 @@ import argparse
 import csv
 import glob
 import os
-import sys
 import threading
 import typing
 
+from common import TOP
+
 KINDS = ("proof", "seed", "edits", "tests")
 HEADS = ("Own proof", "Seed", "Wrong bodies", "Tests", "All")
-TOP = os.path.dirname(os.path.dirname(os.path.abspath(__file__)))
 BOUNDS = os.path.join(TOP, "docs", "gate-bounds.csv")
 ALL = "all"
 EVERY = 0.5
@@ -215,7 +214,3 @@ def main() -> int:
     rows = rows_of(merged(map(read, given.times)))
     print("\n".join(bound_lines(rows) if given.bounds else table_lines(rows)))
     return 0
-
-
-if __name__ == "__main__":
-    sys.exit(main())

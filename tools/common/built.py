@@ -9,10 +9,8 @@ import shutil
 import subprocess
 import sys
 
-from common import console
+from common import TOP, console, tool
 
-TOOLS = os.path.dirname(os.path.abspath(__file__))
-TOP = os.path.dirname(TOOLS)
 
 
 def setting(name: str) -> dict[str, str]:
@@ -40,7 +38,7 @@ def program(name: str) -> str:
     """The path of the program; ends the tool where there is none."""
     choice = kept_choice(name)
     if not choice:
-        words = [sys.executable, os.path.join(TOOLS, "choose.py")]
+        words = tool("choose")
         chosen = subprocess.run(words, env=setting(name), stdin=subprocess.DEVNULL, stdout=subprocess.PIPE, text=True)
         if chosen.returncode != 0:
             sys.exit(chosen.returncode)

@@ -1,4 +1,3 @@
-#!/usr/bin/env python3
 """Writes docs/WRONG-BODIES.md: each wrong body of crates/NAME/must-fail and crates/NAME/wrong, crate by crate.
 
     tools/wrong_bodies_page.py           writes the page
@@ -9,14 +8,13 @@ clause (`refused by: ..`). ./suites --test runs --check.
 """
 import difflib
 import os
-import sys
 import typing
 
-from common import console
+from common import TOP, console
 from wrong_bodies import wrong_bodies
 
-PAGE = os.path.join(wrong_bodies.TOP, "docs", "WRONG-BODIES.md")
-SHOWN = os.path.join(wrong_bodies.TOP, "docs", "wrong-bodies-shown.txt")
+PAGE = os.path.join(TOP, "docs", "WRONG-BODIES.md")
+SHOWN = os.path.join(TOP, "docs", "wrong-bodies-shown.txt")
 PLACES = ((wrong_bodies.GATE, "gate"), (wrong_bodies.BESIDE, "beside"))
 HEAD = """# Wrong bodies
 
@@ -86,7 +84,7 @@ def words_of(text: str) -> dict[str, str]:
 
 def crates() -> list[str]:
     """The crates, in the order of crates.txt: bottom up."""
-    lines = wrong_bodies.content(os.path.join(wrong_bodies.TOP, "crates.txt")).split("\n")
+    lines = wrong_bodies.content(os.path.join(TOP, "crates.txt")).split("\n")
     return [line.split(":")[0].split()[0] for line in (line.partition("#")[0] for line in lines) if ":" in line]
 
 
@@ -132,7 +130,7 @@ def would_do(faults: list[str]) -> str:
         name, _, rest = piece.partition("\n")
         words = dict(line.split(": ", 1) for line in rest.split("\n"))
         if name not in known:
-            faults.append(f"{name}: there is no such edit, though {os.path.relpath(SHOWN, wrong_bodies.TOP)} has it")
+            faults.append(f"{name}: there is no such edit, though {os.path.relpath(SHOWN, TOP)} has it")
         told.append((name, words))
     counts = {
         "count": len(told),
@@ -193,7 +191,3 @@ def main() -> int:
     ]
     print(*changes, sep="\n", end="\n" if changes else "")
     return 1 if faults or changes else 0
-
-
-if __name__ == "__main__":
-    sys.exit(main())

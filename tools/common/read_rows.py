@@ -4,7 +4,8 @@ import re
 import sys
 import typing
 
-TOP = os.path.realpath(os.path.join(os.path.dirname(os.path.abspath(__file__)), ".."))
+from common import TOP
+
 ROWS = os.path.join(TOP, "crates", "rows", "stdin")
 # How many rows there are, as the program `rows` is to print it; and so many at least, so that no test passes over a
 # few.
