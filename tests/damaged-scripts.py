@@ -1,7 +1,7 @@
 #!/usr/bin/env python3
 """tests/damaged-scripts.py [--cases COUNT] [--from SEED] [PROGRAM]
 
-Damages scripts of tools/scenario.py, and the same as scripts of `serve` and `table`, each in one known way in one
+Damages scripts of tools/compare, and the same as scripts of `serve` and `table`, each in one known way in one
 line, and plays them by the program (out/suites, if none is named).
 
 The program `forms` has to tell the same code. The fault has to stay where all is cut off behind the word that `forms`

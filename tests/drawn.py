@@ -1,7 +1,7 @@
 #!/usr/bin/env python3
 """tests/drawn.py [PROGRAM]
 
-Draws runs with tools/draw.py, reads the pictures as XML, and looks whether all that is promised of them holds. PROGRAM
+Draws runs with ./suites draw, reads the pictures as XML, and looks whether all that is promised of them holds. PROGRAM
 is `suites` (the checked build, if none is named): how many requests there are is what `play` tells. Status 1 where
 something differs.
 

@@ -6,7 +6,7 @@ tests/explored.py --write PROTOTYPE [--merged descent|state|history]
 Compares what the program `explore` tells of the scripts of examples/explore and tests/explored with the ways that are
 kept in tests/explored/NAME.ways: those which another program told, that shares no line with it. Plays the script of
 each N-th way by `suites play` (all by default), which has to print just the lines of the way; and compares each answer
-that was decided there with that of the plain table, in the order of the decisions, as tools/compare.py does. With
+that was decided there with that of the plain table, in the order of the decisions, as tools/compare does. With
 --progress it has to tell the same, and how many worlds it has looked at.
 
 With --against it compares with that other program itself, a plain explorer in Rust, for N random scripts (300 by

@@ -18,9 +18,7 @@ def program(named: str | None = None) -> str:
     if named:
         path = os.path.abspath(named)
     else:
-        chosen = subprocess.run(
-            tool("choose"), stdin=subprocess.DEVNULL, stdout=subprocess.PIPE, text=True
-        )
+        chosen = subprocess.run(tool("choose"), stdin=subprocess.DEVNULL, stdout=subprocess.PIPE, text=True)
         path = os.path.join(TOP, chosen.stdout.split()[-1]) if chosen.returncode == 0 else ""
     if not os.path.exists(path):
         sys.exit(f"there is no program to be played{': ' + path if path else ''}")

@@ -101,7 +101,7 @@ class Terminal:
         return is_shown
 
     def type(self, text: str) -> None:
-        """Types a text once the shell sleeps: a signal that comes between its prompt and its sleep would be seen late."""
+        """Types a text once the shell sleeps: a signal between its prompt and its sleep would be seen late."""
         end = time.monotonic() + 60
         while time.monotonic() < end:
             with open(f"/proc/{self.child}/stat", encoding="utf-8") as file:

@@ -1,7 +1,7 @@
 #!/usr/bin/env python3
 """tests/shown_page.py [--shots FOLDER]
 
-Opens the pages of tools/show.py in a headless Chromium, steps through them by keys, and looks whether what they say is
+Opens the pages of ./suites show in a headless Chromium, steps through them by keys, and looks whether what they say is
 what `trace` tells in lines. Without Chromium it prints "skipped: no chromium" and ends with 0. With --shots it leaves
 pictures of some pages in a folder. Status 1 where something differs.
 

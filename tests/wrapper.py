@@ -232,8 +232,8 @@ def answers_at_once(copy: Copy) -> None:
 def says_once_a_day(copy: Copy) -> None:
     """A sentence that is said once a day is not said a second time."""
     code = (
-        "import os\nfrom common import console\nfor _ in 'ab': console.say_once_a_day('told', 'hello')\nos.utime('told', (0, 0));"
-        " console.say_once_a_day('told', 'again')"
+        "import os\nfrom common import console\nfor _ in 'ab': console.say_once_a_day('told', 'hello')\n"
+        "os.utime('told', (0, 0)); console.say_once_a_day('told', 'again')"
     )
     with tempfile.TemporaryDirectory(prefix="suites-") as room:
         done = subprocess.run(

@@ -1,5 +1,5 @@
 """The programs beside `suites`: the proved one where it is that of the sources, else a checked build, which is made
-where it is wanting (tools/choose.py).
+where it is wanting (tools/front/choose.py).
 """
 import contextlib
 import functools

@@ -1,11 +1,11 @@
-"""tools/compare.py SCRIPT..
-tools/compare.py --seeds COUNT [--from SEED] [--lines LINES]
+"""python3 tools compare SCRIPT..
+python3 tools compare --seeds COUNT [--from SEED] [--lines LINES]
 
 Plays a script of `suites play`, writes the transactions that it decided as a script of `suites table`, in the order of
 their decisions (as `./suites trace` shows them), and compares the answers of both: every reply, every refusal, every
 denial with its entry, and the servers' audits. Numbers of what was made differ, since they come of the number of the
 transaction, and are mapped. A transaction whose agent stopped after it was decided has no answer in `play`: of it is
-compared whether it was answered or refused. With --seeds it does so for scripts of tools/scenario.py. Status 1 where
+compared whether it was answered or refused. With --seeds it does so for scripts of scenario.py. Status 1 where
 something differs, or a script cannot be played.
 """
 import argparse

@@ -1,4 +1,4 @@
-"""tools/scenario.py SEED [LINES]
+"""python3 tools scenario SEED [LINES]
 
 Writes a random script of `suites play`: users who make, read, write, list, drop and guard files and folders, with
 servers that crash and restart, agents that stop in the middle of a job, sweeps, forgotten caches, and votes that are

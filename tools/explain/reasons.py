@@ -21,7 +21,7 @@ MARKS = {
     "\xff\xfe": "the byte order mark of UTF-16",
     "\xfe\xff": "the byte order mark of UTF-16",
 }
-# Reasons of which tools/laid_out.py tells, with what it knows of the script.
+# Reasons of which faults.py tells, with what it knows of the script.
 LAID_OUT = ("elsewhere", "unknown", "names-below", "behind-header", "few")
 # The sentence of each reason, with the parts of `Of` and the data of the reason.
 SENTENCES = {

@@ -1,6 +1,6 @@
 """Chooses the program that `./suites` runs, and prints of what kind it is and where.
 
-`proved`: it was proved and built of this code with these claims (`tools/build.py`). `checked`: it was compiled of the
+`proved`: it was proved and built of this code with these claims (prove.py). `checked`: it was compiled of the
 same code without a proof, with its checks at run time, which is done here where it is wanting. `trial`: the kit gives
 no such build, so `rt try` is run each time. The choice is kept in out/choice.sh with all files that it was made from,
 so that `./suites` makes it again only where one of them has changed. With the word --is-fresh: status 0 where the

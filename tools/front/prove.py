@@ -1,4 +1,4 @@
-"""Proves and builds the program `suites`, or the one that the environment names (tools/sources.py), and says on
+"""Proves and builds the program `suites`, or the one that the environment names (sources.py), and says on
 standard error how far it is. `./suites --prove` calls it.
 
 The crates that the program stands on are proved, and the laws of all runs, side by side where they do not stand on

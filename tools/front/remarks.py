@@ -1,5 +1,5 @@
-"""tools/after.py six
-tools/after.py silent PROGRAM SCRIPT
+"""python3 tools remarks six
+python3 tools remarks silent PROGRAM SCRIPT
 
 What `./suites` says once the program has ended, which does not say it itself. `six`: which of its three reasons
 status 6 has, by the standard input and output that the program had too. `silent`: which lines of a script of `play`

@@ -1,8 +1,8 @@
-"""Runs all tests that need no proof (tools/test.py, `./suites --test`), and where they pass `rt ci`, the gate; tells
+"""Runs all tests that need no proof (test.py, `./suites --test`), and where they pass `rt ci`, the gate; tells
 before its last line how long that took and what each step cost.
 
 What passes and what fails is rt's alone: its output and its status are handed on as they are. The environment
-variable SUITES_GATE_TIMES names a file that is to keep the times (tools/gate_times.py makes a table of it), and
+variable SUITES_GATE_TIMES names a file that is to keep the times (gate_times.py makes a table of it), and
 RT_JOBS fixes how many checks rt runs side by side.
 """
 import os

@@ -1,10 +1,10 @@
 """What the steps of the gate cost: processor seconds by crate and kind of step.
 
     SUITES_GATE_TIMES=times.csv .ci/run        the gate, which keeps its times in a file
-    tools/gate_times.py times.csv..            the same as a table for docs/PERFORMANCE.md
-    tools/gate_times.py --bounds times.csv..   a quarter more for each crate, for docs/gate-bounds.csv
+    python3 tools gate_times times.csv..            the same as a table for docs/PERFORMANCE.md
+    python3 tools gate_times --bounds times.csv..   a quarter more for each crate, for docs/gate-bounds.csv
 
-tools/gate.py reads the times from the provers that run. The kinds: `proof` is a crate's own proof, with the builds of
+gate.py reads the times from the provers that run. The kinds: `proof` is a crate's own proof, with the builds of
 a program; `seed` its proof from nothing for its wrong bodies, with the look whether it still stands after them;
 `edits` the wrong bodies themselves, and `tests` the proof of the crate with its tests. Of several files, where a gate
 was run in pieces, the most counts that a step of a crate took in one of them: a piece that finds a crate proved looks

@@ -1,4 +1,4 @@
-"""Calls of one user on files of an NFS server, by libnfs: for tools/record.py."""
+"""Calls of one user on files of an NFS server, by libnfs: for record.py."""
 import ctypes
 import os
 

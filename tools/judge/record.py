@@ -1,4 +1,4 @@
-"""tools/record.py FOLDER [--through FOLDER | --nfs URL] [--calls N] [--readers N] [--seed N] [--opens] > HISTORY
+"""python3 tools record FOLDER [--through FOLDER | --nfs URL] [--calls N] [--readers N] [--seed N] [--opens] > HISTORY
 
 Makes calls on files of a real folder as several users at once, and prints what they were told as a history for
 `./suites judge`. The owner (1000) sets lists and writes in FOLDER; readers (1001 and 2000 in turn) read there, or

@@ -1,4 +1,4 @@
-"""tools/forms_page.py [--check]
+"""python3 tools forms_page [--check]
 
 Writes the tables of operations, events and jobs in docs/SCRIPTS.md from the table of forms (crates/forms/stdout). With
 --check it writes nothing, and tells what differs. In both it tells where a text of help/, which the program prints,
@@ -83,7 +83,7 @@ def main() -> int:
     wrong = [line for command in forms.COMMANDS for line in differing(command)]
     if given.check and new != text:
         wrong += [f"docs/SCRIPTS.md lacks: {line}" for line in new.split("\n") if line not in text.split("\n")]
-        wrong.append("docs/SCRIPTS.md has other tables than the table of forms: tools/forms_page.py writes them")
+        wrong.append("docs/SCRIPTS.md has other tables than the table of forms: tools/pages/forms_page.py writes them")
     elif new != text:
         sources.write_whole(PAGE, new)
     print(*wrong, sep="\n", end="\n" if wrong else "")

@@ -1,4 +1,4 @@
-"""tools/page_words.py [--each]
+"""python3 tools page_words [--each]
 
 Counts the words of the pages that are written by hand: README.md, CONTRIBUTING.md and docs/, without the page of wrong
 bodies and without the tables of docs/PROVED.md. A word has a letter or a digit. With --each it tells them page by page.

@@ -1,7 +1,7 @@
 """Writes the two tables of docs/PROVED.md that come from the sources, and holds the names above them against these.
 
-    tools/proved_page.py           writes the tables (each between its two marks)
-    tools/proved_page.py --check   writes nothing; tells what differs, with status 1
+    python3 tools proved_page           writes the tables (each between its two marks)
+    python3 tools proved_page --check   writes nothing; tells what differs, with status 1
 
 Both tables go crate by crate in the order of crates.txt. The first has the laws, each with its lines `///`. A law is
 a public function that has a contract and does nothing: one whose lines begin "A law", one of a file laws.rt, or one
@@ -19,8 +19,8 @@ import typing
 from common import TOP, console
 
 PAGE = os.path.join(TOP, "docs", "PROVED.md")
-LAWS = "<!-- laws: written by tools/proved_page.py -->", "<!-- end of laws -->"
-FUNCTIONS = "<!-- public functions: written by tools/proved_page.py -->", "<!-- end of public functions -->"
+LAWS = "<!-- laws: written by tools/pages/proved_page.py -->", "<!-- end of laws -->"
+FUNCTIONS = "<!-- public functions: written by tools/pages/proved_page.py -->", "<!-- end of public functions -->"
 BLOCK = re.compile(r"(?:pub )?(?:unsafe )?(impl|trait)\b")
 FUNCTION = re.compile(r"(pub )?(?:const |unsafe )*fn (\w+)")
 CLAUSE = re.compile(r"ensures(?:\*)? (\w+) \{")

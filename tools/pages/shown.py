@@ -1,4 +1,4 @@
-"""tools/shown.py [--help-texts]
+"""python3 tools shown [--help-texts]
 
 Looks whether all that README.md, docs/SCRIPTS.md and examples/ show is played by the gate.
 
@@ -175,7 +175,7 @@ def main() -> int:
     if not any(story in content(HELD) for story in FENCED.findall(content("README.md"))):
         wrong.append(f"README.md shows another end of the mount's story than {HELD} holds")
     if f"`{sources.KIT_LOGIC}`".encode() not in content("README.md"):
-        wrong.append("README.md names another kit than tools/sources.py")
+        wrong.append("README.md names another kit than tools/front/sources.py")
     for line in wrong:
         print(line, file=sys.stderr)
     return 1 if wrong else 0

@@ -2,7 +2,7 @@
 
 Answers each line of a script of events before it reads the next one; help/session.txt tells all of it. The program
 `session` does the work, and takes the place of this tool. With --compact the journal is first made as short as its
-tree can be made (tools/dump.py).
+tree can be made (dump.py).
 """
 import os
 import sys

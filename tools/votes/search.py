@@ -1,7 +1,7 @@
 """How an agent finds the votes of a file or folder, where its cache has no hint: it begins at the opening votes.
 
 It asks the servers that have a vote by the newest votes that it has met, in listed order. One that has a newer copy
-of the list and votes tells of newer votes, which count from then on (tools/votes.py tells what that may miss).
+of the list and votes tells of newer votes, which count from then on (votes.py tells what that may miss).
 """
 import itertools
 import typing

@@ -1,10 +1,10 @@
 """Tries the wrong bodies that stand beside the gate: the edits of crates/NAME/wrong, which the prover must refuse.
 
-    tools/wrong_bodies.py                 those of all crates
-    tools/wrong_bodies.py NAME..          those of these crates
-    tools/wrong_bodies.py --gate NAME..   those of crates/NAME/must-fail, which the gate tries too
-    tools/wrong_bodies.py --only EDIT NAME..   the one of that name, wherever it stands
-    tools/wrong_bodies.py --check [NAME..]     only whether the texts of all edits, in the gate and beside it, apply
+    python3 tools wrong_bodies             those of all crates
+    python3 tools wrong_bodies NAME..      those of these crates
+    python3 tools wrong_bodies --gate NAME..   those of crates/NAME/must-fail, which the gate tries too
+    python3 tools wrong_bodies --only EDIT NAME..   the one of that name, wherever it stands
+    python3 tools wrong_bodies --check [NAME..]   only whether the texts of all edits, in the gate and beside it, apply
 
 It works on a copy of the crates as they stand, in a temporary folder that is removed however it ends. A crate is
 proved first (`rt check`, which begins with what other checks on this machine kept): over a crate that is not proved
@@ -26,7 +26,7 @@ from common import TOP
 CRATES = os.path.join(TOP, "crates")
 GATE, BESIDE = "must-fail", "wrong"
 NAMED = re.compile(r"[A-Za-z0-9_-][A-Za-z0-9_.-]*\.edit")
-# The lines of an edit that rt does not read: tools/wrong_bodies_page.py makes the page of them.
+# The lines of an edit that rt does not read: wrong_bodies_page.py makes the page of them.
 TOLD = ("why", "refused by")
 SAID = re.compile(r"(?:rt: )?must-fail (\w+)/(\S+)\.edit: (.*)")
 UNPROVED = re.compile(

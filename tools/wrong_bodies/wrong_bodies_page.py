@@ -1,7 +1,7 @@
 """Writes docs/WRONG-BODIES.md: each wrong body of crates/NAME/must-fail and crates/NAME/wrong, crate by crate.
 
-    tools/wrong_bodies_page.py           writes the page
-    tools/wrong_bodies_page.py --check   writes nothing; tells what differs, with status 1
+    python3 tools wrong_bodies_page           writes the page
+    python3 tools wrong_bodies_page --check   writes nothing; tells what differs, with status 1
 
 The first line of an edit says what it makes wrong (`why: ..`), the second which function refuses it and by which
 clause (`refused by: ..`). ./suites --test runs --check.
@@ -19,13 +19,13 @@ PLACES = ((wrong_bodies.GATE, "gate"), (wrong_bodies.BESIDE, "beside"))
 HEAD = """# Wrong bodies
 
 Each line is an edit that makes a function, a definition or a condition wrong. The prover must refuse it: if it does
-not, a contract is too weak. `tools/wrong_bodies_page.py` writes this page from the edits, so change the edits and not
+not, a contract is too weak. `python3 tools wrong_bodies_page` writes this page from the edits, so change the edits and not
 the page.
 
 An edit marked `gate` stands in `crates/NAME/must-fail`, and the gate tries it whenever its crate changes. The gate
 has the edits that break a rule of the service, those that were once let through, and those that a reader would try
 first. An edit marked `beside` stands in `crates/NAME/wrong`. It was refused when it was last tried, or its last
-column says that it was not tried yet; `tools/wrong_bodies.py NAME` tries it again. Try those of a crate before a
+column says that it was not tried yet; `python3 tools wrong_bodies NAME` tries it again. Try those of a crate before a
 change of its public contracts or its definitions lands.
 
 The last column names the function, and in brackets the clause or the definition that the edit breaks. A function with
