@@ -348,7 +348,7 @@ def told_alone() -> tuple[int, list[str]]:
 
 
 def silent_lines(program: str) -> tuple[int, list[str]]:
-    """What differs between the lines that front/remarks.py says did nothing and those that the trace says did nothing."""
+    """What differs between the lines that remarks.py says did nothing and those that the trace says did nothing."""
     wrong = []
     for seed in range(SEEDS):
         script = scenario.Scenario(seed, 80).script()

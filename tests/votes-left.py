@@ -23,6 +23,7 @@ import tempfile
 import played
 import voted
 
+from common import tool
 from trace import trace
 from votes import shapes, votes
 
@@ -49,12 +50,8 @@ def told_of_script(script: str) -> subprocess.CompletedProcess[str]:
     with tempfile.NamedTemporaryFile("w", suffix=".script", newline="") as file:
         file.write(script)
         file.flush()
-        return subprocess.run(
-            [sys.executable, os.path.join(trace.TOOLS, "votes.py"), "--script", file.name],
-            stdout=subprocess.PIPE,
-            stderr=subprocess.DEVNULL,
-            text=True,
-        )
+        words = tool("votes", "--script", file.name)
+        return subprocess.run(words, stdout=subprocess.PIPE, stderr=subprocess.DEVNULL, text=True)
 
 
 def check_scripts(_: argparse.Namespace, __: random.Random) -> tuple[int, list[str]]:

@@ -19,8 +19,8 @@ PLACES = ((wrong_bodies.GATE, "gate"), (wrong_bodies.BESIDE, "beside"))
 HEAD = """# Wrong bodies
 
 Each line is an edit that makes a function, a definition or a condition wrong. The prover must refuse it: if it does
-not, a contract is too weak. `python3 tools wrong_bodies_page` writes this page from the edits, so change the edits and not
-the page.
+not, a contract is too weak. `python3 tools wrong_bodies_page` writes this page from the edits, so change the edits and
+not the page.
 
 An edit marked `gate` stands in `crates/NAME/must-fail`, and the gate tries it whenever its crate changes. The gate
 has the edits that break a rule of the service, those that were once let through, and those that a reader would try
