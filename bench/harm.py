@@ -29,8 +29,8 @@ import twice
 import unproved
 from twice import CRATES, Edit
 
+from common import text_of
 from compare import compare
-from wrong_bodies import wrong_bodies
 import explored
 
 PROGRAMS = ("explore", "trace", "suites")
@@ -79,7 +79,7 @@ def with_switch(room: str) -> None:
         with open(os.path.join(folder, "switch.rt"), "w", encoding="utf-8") as file:
             file.write(SWITCH)
         path = os.path.join(folder, "lib.rt")
-        text = wrong_bodies.content(path)
+        text = text_of(path)
         with open(path, "w", encoding="utf-8") as file:
             file.write(re.sub(r"^((?:pub )?mod )", r"mod switch;\n\1", text, count=1, flags=re.M))
 

@@ -7,6 +7,7 @@ import typing
 
 import measure
 
+from common import text_of
 from wrong_bodies import wrong_bodies
 
 CRATES = ("run_core", "txn_core", "suite_collect", "rep_core", "file_exec", "weak_cache")
@@ -72,7 +73,7 @@ def owner_of(lines: list[str], function: Function) -> str:
 
 
 def lines_of(path: str) -> list[str]:
-    return wrong_bodies.content(path).split("\n")
+    return text_of(path).split("\n")
 
 
 class Edit(typing.NamedTuple):
@@ -85,7 +86,7 @@ class Edit(typing.NamedTuple):
 
 def edit_of(crate: str, path: str) -> Edit:
     file, old, pairs = "", "", []
-    for line in wrong_bodies.content(path).split("\n"):
+    for line in text_of(path).split("\n"):
         word, _, rest = line.partition(": ")
         if word == "file":
             file = rest.strip()

@@ -14,7 +14,6 @@ number may come to be read in the place of another, and pass its limit: so of th
 how many of each kind were named. Status 1 where too few are, nothing is found, or `forms` tells another word. --kind
 NAME tries one kind, as word_dropped.
 """
-import argparse
 import collections
 import os
 import random
@@ -26,7 +25,7 @@ import typing
 
 import played
 
-from common import built, forms
+from common import built, console, forms
 from compare import scenario
 from explain import explain
 from explain.faults import WORD
@@ -373,7 +372,7 @@ def tried(program: str, path: str, damage: Damage) -> tuple[str, str]:
 
 
 def main() -> int:
-    read = argparse.ArgumentParser(description=__doc__, formatter_class=argparse.RawDescriptionHelpFormatter)
+    read = console.words(__doc__)
     read.add_argument("--cases", type=int, default=2000)
     read.add_argument("--from", type=int, default=0, dest="first")
     read.add_argument("--kind")

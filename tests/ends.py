@@ -175,13 +175,6 @@ def by_settings(copy: wrapper.Copy) -> None:
             copy.holds(same and plain.stdout, f"{words} with {setting}: {other}")
 
 
-def is_there(process: int) -> bool:
-    with contextlib.suppress(OSError):
-        with open(f"/proc/{process}/stat", encoding="ascii") as file:
-            return file.read().rpartition(") ")[2][0] != "Z"
-    return False
-
-
 def until(is_so: typing.Callable[[], object]) -> bool:
     """Waits until something is so; answers whether it became so."""
     for _ in range(600):
@@ -206,7 +199,7 @@ def by_stops_of_sessions(copy: wrapper.Copy) -> None:
         with open(kept, encoding="ascii") as file:
             child = int(file.read())
         process.send_signal(signal.SIGTERM)
-        is_stopped = until(lambda: not is_there(child))
+        is_stopped = until(lambda: not played.is_alive(child))
         _, told = process.communicate(timeout=120)
         is_told = process.returncode == 130 and b"stopped" in told and b"Traceback" not in told
         copy.holds(is_told and is_stopped, f"{words}: {process.returncode} {told!r}, stopped: {is_stopped}")
@@ -230,7 +223,7 @@ def by_stops(copy: wrapper.Copy) -> None:
             with open(kept, encoding="ascii") as file:
                 child = int(file.read())
             process.send_signal(number)
-            status, is_stopped = process.wait(120), until(lambda: not is_there(child))
+            status, is_stopped = process.wait(120), until(lambda: not played.is_alive(child))
             about = f"{number.name} {'on a terminal' if on_terminal else ''}"
             copy.holds(begun and is_stopped and status == 128 + number, f"{about}: {status}, stopped: {is_stopped}")
             os.close(given)

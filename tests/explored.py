@@ -265,7 +265,7 @@ def write(given: argparse.Namespace) -> int:
 
 
 def main() -> int:
-    asks = argparse.ArgumentParser(description=__doc__, formatter_class=argparse.RawDescriptionHelpFormatter)
+    asks = console.words(__doc__)
     asks.add_argument("--every", type=int, default=1)
     asks.add_argument("--against", metavar="PROTOTYPE")
     asks.add_argument("--write", metavar="PROTOTYPE")

@@ -12,7 +12,6 @@ clicks   the same by hand, in a headless Chromium: what the page shows is what t
 """
 from __future__ import annotations
 
-import argparse
 import contextlib
 import json
 import os
@@ -210,13 +209,6 @@ def tells(tally: Tally, folder: str) -> None:
         tally.holds(live.script() == file.read().splitlines(), "a script is begun with", live.script())
 
 
-def is_there(process: int) -> bool:
-    with contextlib.suppress(OSError):
-        with open(f"/proc/{process}/stat", encoding="ascii") as file:
-            return file.read().rpartition(") ")[2][0] != "Z"
-    return False
-
-
 def ends(tally: Tally) -> None:
     with Live(*OWN) as live:
         live.tell("begin 0 1000 100 0 file /a 644")
@@ -233,7 +225,7 @@ def ends(tally: Tally) -> None:
         live.child.send_signal(number)
         _, said = live.child.communicate(timeout=60)
         tally.holds(live.child.returncode == 0 and "Traceback" not in said, number.name, live.child.returncode, said)
-        tally.holds(time.monotonic() - begun < 20 and not is_there(session), number.name, "the session goes on")
+        tally.holds(time.monotonic() - begun < 20 and not played.is_alive(session), number.name, "the session goes on")
 
 
 class Hand:
@@ -356,23 +348,14 @@ def same_as_saved(tally: Tally, driver: browser.Browser, live: Live, folder: str
 
 
 def main() -> int:
-    read = argparse.ArgumentParser()
-    read.add_argument("--shots")
-    given = read.parse_args()
-    tally, path = Tally(most=20, width=600), browser.program()
+    tally, shots = Tally(most=20, width=600), browser.shots()
     asks(tally)
     with tempfile.TemporaryDirectory() as folder:
         tells(tally, folder)
         ends(tally)
-        if path:
-            driver = browser.Browser(path)
-            try:
-                clicks(tally, driver, folder, given.shots)
-                tally.holds(not driver.faults, "the console has faults", driver.faults[:3])
-            finally:
-                driver.close()
-    if not path:
-        print("skipped: no chromium")
+        with browser.opened(tally) as driver:
+            if driver:
+                clicks(tally, driver, folder, shots)
     return tally.told("looked at")
 
 

@@ -1,5 +1,7 @@
 """The program that a test plays, the rows of crates/rows/stdin, and what tests count."""
+import contextlib
 import os
+import shutil
 import subprocess
 import sys
 import typing
@@ -23,6 +25,22 @@ def program(named: str | None = None) -> str:
     if not os.path.exists(path):
         sys.exit(f"there is no program to be played{': ' + path if path else ''}")
     return path
+
+
+def library(name: str, folder: str) -> str | None:
+    """The library that stands before calls of the system, made of a file here: tests/fail.c has them fail,
+    tests/refuse.c refuses memory; none where there is no compiler.
+    """
+    path = os.path.join(folder, f"{name}.so")
+    words = ["cc", "-shared", "-fPIC", "-O1", "-o", path, os.path.join(TOP, "tests", f"{name}.c"), "-ldl"]
+    return path if shutil.which("cc") and subprocess.run(words, stderr=subprocess.DEVNULL).returncode == 0 else None
+
+
+def is_alive(process: int) -> bool:
+    with contextlib.suppress(OSError):
+        with open(f"/proc/{process}/stat", encoding="ascii") as file:
+            return file.read().rpartition(") ")[2][0] != "Z"
+    return False
 
 
 class Tally:

@@ -12,6 +12,7 @@ import re
 import shlex
 import shutil
 import subprocess
+import sys
 import tempfile
 import typing
 
@@ -47,9 +48,8 @@ class Refused:
     """The program with the allocator behind tests/refuse.c."""
 
     def __init__(self, folder: str) -> None:
-        self.library, self.mark = os.path.join(folder, "refuse.so"), os.path.join(folder, "mark")
-        source = os.path.join(played.TOP, "tests", "refuse.c")
-        subprocess.run(["cc", "-O1", "-shared", "-fPIC", "-o", self.library, source, "-ldl"], check=True)
+        self.mark = os.path.join(folder, "mark")
+        self.library = played.library("refuse", folder) or sys.exit("tests/refuse.c is not compiled")
 
     def run(self, words: list[str], script: bytes, first: int = 0, last: int = 0) -> Run:
         """Runs the program, where the allocations from the first to the last of these are refused."""

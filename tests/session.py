@@ -173,7 +173,7 @@ def is_full(path: str, tally: Tally, folder: str) -> None:
 
 def fails(path: str, tally: Tally, folder: str) -> None:
     """Each call of the system fails in turn."""
-    library = spoken.failing(folder)
+    library = played.library("fail", folder)
     if not library:
         return
     whole = HEAD + text_of(KEPT)
@@ -211,7 +211,7 @@ def fails(path: str, tally: Tally, folder: str) -> None:
 
 def lacks_memory(path: str, tally: Tally, folder: str) -> None:
     """Each allocation is refused in turn: it is told, and all lines behind it are answered."""
-    library = spoken.refusing(folder)
+    library = played.library("refuse", folder)
     if not library:
         return
     marks = marks_of(len(STORY) + len(PROBE))

@@ -15,7 +15,6 @@ hands    keys, clicks, what is explained to whoever points at it, a file through
 many     five servers and 300 requests, and 2,000 events: each step takes no longer than a picture of a film (processor
          time)
 """
-import argparse
 import dataclasses
 import json
 import os
@@ -332,28 +331,17 @@ def many(tally: Tally, pages: Pages, shots: str | None) -> None:
 
 
 def main() -> int:
-    read = argparse.ArgumentParser()
-    read.add_argument("--shots")
-    given = read.parse_args()
-    tally, path = Tally(most=20, width=600), browser.program()
+    tally, shots = Tally(most=20, width=600), browser.shots()
     models(tally)
     refused(tally)
-    if path:
-        driver = browser.Browser(path)
-        try:
-            with tempfile.TemporaryDirectory() as folder:
-                pages = Pages(driver, folder)
-                whole(tally, pages, given.shots)
-                for part in (hostile, hands):
-                    part(tally, pages)
-                many(tally, pages, given.shots)
-            tally.holds(not driver.faults, "the console has faults", driver.faults[:3])
-        finally:
-            driver.close()
-    if not path:
-        print("skipped: no chromium")
-    tally.told("looked at")
-    return 1 if tally.wrong else 0
+    with browser.opened(tally) as driver, tempfile.TemporaryDirectory() as folder:
+        if driver:
+            pages = Pages(driver, folder)
+            whole(tally, pages, shots)
+            for part in (hostile, hands):
+                part(tally, pages)
+            many(tally, pages, shots)
+    return tally.told("looked at")
 
 
 if __name__ == "__main__":

@@ -90,23 +90,3 @@ def journal(folder: str, content: bytes | None = None) -> str:
 def content(path: str) -> bytes:
     with open(path, "rb") as file:
         return file.read()
-
-
-def failing(folder: str) -> str | None:
-    """The library that has calls of the system fail (tests/fail.c); none where there is no compiler."""
-    path = os.path.join(folder, "fail.so")
-    words = ["cc", "-shared", "-fPIC", "-O1", "-o", path, os.path.join(played.TOP, "tests", "fail.c"), "-ldl"]
-    try:
-        return path if subprocess.run(words, stderr=subprocess.DEVNULL).returncode == 0 else None
-    except FileNotFoundError:
-        return None
-
-
-def refusing(folder: str) -> str | None:
-    """The library that refuses memory (tests/refuse.c); none where there is no compiler."""
-    path = os.path.join(folder, "refuse.so")
-    words = ["cc", "-shared", "-fPIC", "-O1", "-o", path, os.path.join(played.TOP, "tests", "refuse.c"), "-ldl"]
-    try:
-        return path if subprocess.run(words, stderr=subprocess.DEVNULL).returncode == 0 else None
-    except FileNotFoundError:
-        return None

@@ -14,7 +14,6 @@ Status 1 where something differs. `./suites --test` runs it.
 import argparse
 import fractions
 import itertools
-import os
 import random
 import subprocess
 import sys
@@ -23,8 +22,7 @@ import tempfile
 import played
 import voted
 
-from common import tool
-from trace import trace
+from common import console, tool
 from votes import shapes, votes
 
 OPENING = (
@@ -158,7 +156,7 @@ def check_shapes(given: argparse.Namespace, __: random.Random) -> tuple[int, lis
 
 
 def main() -> int:
-    read = argparse.ArgumentParser(description=__doc__, formatter_class=argparse.RawDescriptionHelpFormatter)
+    read = console.words(__doc__)
     checks = {"scripts": check_scripts, "searches": check_moved, "shapes": check_shapes}
     return voted.run_checks(read, checks)
 

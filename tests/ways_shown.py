@@ -9,7 +9,6 @@ does. Without Chromium the page alone is looked at.
 """
 from __future__ import annotations
 
-import argparse
 import json
 import os
 import re
@@ -160,22 +159,10 @@ def large(tally: Tally) -> None:
 
 
 def main() -> int:
-    read = argparse.ArgumentParser()
-    read.add_argument("--shots")
-    given = read.parse_args()
-    tally, path = Tally(most=20, width=600), browser.program()
-    driver = browser.Browser(path) if path else None
-    try:
-        with tempfile.TemporaryDirectory() as folder:
-            pages(tally, driver, folder, given.shots)
-        if driver:
-            tally.holds(not driver.faults, "the console has faults", driver.faults[:3])
-    finally:
-        if driver:
-            driver.close()
+    tally, shots = Tally(most=20, width=600), browser.shots()
+    with browser.opened(tally) as driver, tempfile.TemporaryDirectory() as folder:
+        pages(tally, driver, folder, shots)
     large(tally)
-    if not path:
-        print("skipped: no chromium")
     return tally.told("looked at")
 
 

@@ -14,6 +14,8 @@ import sys
 import time
 import typing
 
+from common import text_of
+
 NO_MEMORY, NO_STREAM, STOPPED = 4, 6, 130
 DAY = 24 * 60 * 60
 # What is wrong where a stream cannot be written, and where there is no memory.
@@ -140,6 +142,18 @@ def is_of_explore(fault: str, path: str) -> bool:
 def words(text: str) -> argparse.ArgumentParser:
     """What reads the words of a command line; help is the text at the head of the tool."""
     return argparse.ArgumentParser(description=text, formatter_class=argparse.RawDescriptionHelpFormatter)
+
+
+def print_help(name: str) -> int:
+    """Prints a text of help/."""
+    sys.stdout.write(text_of("help", f"{name}.txt"))
+    return 0
+
+
+def tell_reading() -> None:
+    """Tells a terminal that it is read."""
+    if sys.stdin.isatty():
+        Teller().say("reading from the terminal, up to its end (Ctrl-D at the start of a line)")
 
 
 def tail(text: str, lines: int = 20) -> str:

@@ -16,7 +16,7 @@ import re
 import subprocess
 import sys
 
-from common import TOP, console
+from common import TOP, console, numbers
 from compare import scenario
 from trace import trace
 
@@ -45,11 +45,6 @@ def output(command: str, script: str) -> list[str]:
     return done.stdout.decode("latin1").splitlines()
 
 
-def number_of(agent: int, count: int) -> int:
-    """The number of the transaction that is an agent's job of this number."""
-    return 64 * count + agent
-
-
 class Run:
     """A run as its trace shows it: its transactions, those that were decided in their order, and the audits."""
 
@@ -66,7 +61,7 @@ class Run:
             if words[0] in ("begin", "sweep") and not any(line.startswith("  nothing") for line in block):
                 agent = int(words[1])
                 if words[0] == "begin":
-                    self.jobs[number_of(agent, counts[agent])] = Job(words)
+                    self.jobs[numbers.transaction(agent, counts[agent])] = Job(words)
                 counts[agent] += 1
             for line in block:
                 self.take(line)
@@ -86,7 +81,7 @@ class Run:
             self.decided.append(int(decide[1]))
             self.audits.clear()
         elif outcome:
-            job = self.jobs.get(number_of(int(outcome[1]), int(outcome[2])))
+            job = self.jobs.get(numbers.transaction(int(outcome[1]), int(outcome[2])))
             if job:
                 job.ending = outcome[4]
 
@@ -116,8 +111,8 @@ def mapped(text: str, places: dict[int, int]) -> str:
         suite = int(found[2])
         if not suite:
             return found[0]
-        t, place = divmod(suite - 1, 8)
-        return f"{found[1]} {8 * places[t] + place + 1 if t in places else f'of t {t}'}"
+        t, place = numbers.maker_of(suite)
+        return f"{found[1]} {numbers.suite(places[t], place) if t in places else f'of t {t}'}"
     return NUMBERED.sub(number, text)
 
 

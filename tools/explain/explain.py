@@ -25,11 +25,10 @@ import sys
 import textwrap
 import typing
 
-from common import TOP, console, forms, quoted
+from common import console, forms, numbers, quoted, text_of
 from explain import explore_lines, faults, judge_lines, meanings, misfits, play_lines, table_lines, tool_lines
 
 
-PAGE = os.path.join(TOP, "docs", "FAULTS.md")
 CODE = re.compile(r"\b([SAVNGFUsavngfu](?:1[0-3]|[1-9]))\b")
 SPAN = r"`([^`]*)`"
 # The lines of an example, the last line that it prints, and what is told of that.
@@ -65,20 +64,19 @@ def page() -> typing.Iterator[tuple[str, str, str, list[str]]]:
     """The parts of the page: the title of its group, where to read on, its code, and its lines."""
     group = more = code = ""
     lines: list[str] = []
-    with open(PAGE, encoding="utf-8") as file:
-        for line in [*file.read().splitlines(), "## "]:
-            if line.startswith("#"):
-                if code:
-                    yield group, more, code, lines
-                code, lines = "", []
-                if line.startswith("### "):
-                    code = line[4:]
-                else:
-                    group, more = line.lstrip("# "), ""
-            elif not code and "Read on: " in line:
-                more = line[line.index("Read on: "):]
-            elif code:
-                lines.append(line)
+    for line in [*text_of("docs", "FAULTS.md").splitlines(), "## "]:
+        if line.startswith("#"):
+            if code:
+                yield group, more, code, lines
+            code, lines = "", []
+            if line.startswith("### "):
+                code = line[4:]
+            else:
+                group, more = line.lstrip("# "), ""
+        elif not code and "Read on: " in line:
+            more = line[line.index("Read on: "):]
+        elif code:
+            lines.append(line)
 
 
 def codes_in(text: str) -> list[str]:
@@ -122,13 +120,13 @@ def worked_out(text: str) -> list[str]:
         told.append(f"Transaction {front[6]} of the script, counted from 0.")
     for made, suite, t in NUMBERED.findall(text):
         if made:
-            t, place = divmod(int(suite) - 1, 8)
-            told.append(f"{suite} = 8 * {t} + {place + 1}: made by operation {place + 1} of transaction {t}.")
+            t, place = numbers.maker_of(int(suite))
+            is_made = f"made by operation {place + 1} of transaction {t}"
+            told.append(f"{suite} = {numbers.OPERATIONS} * {t} + {place + 1}: {is_made}.")
         if not (front and front[6]):
-            told.append(
-                f"{t} = 64 * {int(t) // 64} + {int(t) % 64}: in play and serve transaction {t} is job {int(t) // 64} of"
-                f" agent {int(t) % 64}."
-            )
+            agent, job = numbers.job_of(int(t))
+            is_of = f"in play and serve transaction {t} is job {job} of agent {agent}"
+            told.append(f"{t} = {numbers.AGENTS} * {job} + {agent}: {is_of}.")
     return list(dict.fromkeys(told))
 
 

@@ -4,11 +4,10 @@ The sentences are those of the table of forms, of docs/WORDS.md, and of the fiel
 that each stands once.
 """
 import itertools
-import os
 import re
 import textwrap
 
-from common import TOP, forms
+from common import forms, text_of
 from explain import misfits
 from common.quoted import either, letters, plain, short
 
@@ -16,11 +15,6 @@ ROW = re.compile(r"\| (.*) \| (.*) \|$")
 # Slanted words, and no sign of multiplication.
 SLANTED = re.compile(r"\*(\w(?:[^*]*\w)?)\*")
 WIDE, INDENT = 100, 4
-
-
-def text_of(*path: str) -> str:
-    with open(os.path.join(TOP, *path), encoding="utf-8") as file:
-        return file.read()
 
 
 def words() -> dict[str, str]:

@@ -9,7 +9,7 @@ import re
 import subprocess
 import typing
 
-from common import console, forms, quoted
+from common import console, forms, numbers, quoted
 from explain import denials, faults, refusals
 from trace import trace
 
@@ -49,7 +49,7 @@ class Job:
 
     @property
     def t(self) -> int:
-        return 64 * self.count + self.agent
+        return numbers.transaction(self.agent, self.count)
 
     @property
     def operations(self) -> list[str]:
@@ -139,7 +139,7 @@ class Played:
         """A file or folder by its path, where it is known, and its number."""
         if suite == 0:
             return "/ (suite 0, the root folder)"
-        t, place = divmod(suite - 1, 8)
+        t, place = numbers.maker_of(suite)
         known = trace.paths(self.lines).get(suite)
         operations = self.jobs[t].operations if t in self.jobs else []
         known = known or (operations[place].split()[1] if place < len(operations) else None)
@@ -163,7 +163,7 @@ def made(run: Played, job: Job, replies: str) -> typing.Iterator[str]:
     told = replies.split("; ")
     for place, (operation, reply) in enumerate(zip(job.operations, told), 1):
         number = re.fullmatch(r"made (\d+)", reply)
-        why = f", which is 8 * {job.t} + {place}: operation {place} of transaction {job.t}" if number else ""
+        why = f", which is {numbers.OPERATIONS} * {job.t} + {place}: operation {place} of transaction {job.t}" if number else ""
         if place <= FEW:
             yield f"Operation {place}, `{operation}`: {reply}{why}."
 
@@ -353,7 +353,8 @@ def swept(job: Job) -> typing.Iterator[str]:
                 if of[2] == "resolve"
                 else "a lock of it that was not prepared is broken"
             )
-            yield f"Transaction {of[1]}, job {int(of[1]) // 64} of agent {int(of[1]) % 64}: {what}."
+            agent, number = numbers.job_of(int(of[1]))
+            yield f"Transaction {of[1]}, job {number} of agent {agent}: {what}."
 
 
 def why(run: Played, job: Job, how: str, rest: str, script: str, number: int) -> typing.Iterator[str]:
@@ -428,7 +429,7 @@ def of_run(run: Played, text: str, script: str, name: str) -> list[str]:
                 *denied(run, job, line.partition(f" uid {audited[2]} ")[2], script)]
     if not outcome:
         return [f"It is printed by line {number} of {name}."]
-    job = run.jobs[64 * int(outcome[2]) + int(outcome[1])]
+    job = run.jobs[numbers.transaction(int(outcome[1]), int(outcome[2]))]
     told = [f"It is printed by line {number} of {name}, and was begun by {job.about()}."]
     return told + list(why(run, job, outcome[4], outcome[5], script, number))
 

@@ -4,7 +4,7 @@ number is.
 import re
 import typing
 
-from common import console
+from common import console, numbers
 from explain import denials, faults, refusals
 
 OUTCOME = re.compile(r"(\d+) (?:(\d+) )?(answered|denied|refused|undecided|swept)\b ?(.*)")
@@ -42,7 +42,7 @@ def jobs_of(script: str, language: str) -> list[Job]:
 
 def path_of(suite: int, jobs: list[Job]) -> str:
     """The path of what a script of `table` made, with its number."""
-    t, place = divmod(suite - 1, 8)
+    t, place = numbers.maker_of(suite)
     if suite == 0:
         return "/"
     return (

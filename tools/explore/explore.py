@@ -17,12 +17,11 @@ import threading
 import time
 import typing
 
-from common import TOP, built, console
+from common import built, console
 from explore import queries
 from gate import gate
 from trace import trace
 
-HELP = os.path.join(TOP, "help", "explore.txt")
 # The options that tell a number, with the least and the most that each may be.
 NUMBERS = {
     "--crashes": (0, 255),
@@ -281,11 +280,8 @@ def ended(given: argparse.Namespace, status: int, text: bytes) -> int:
 def main() -> int:
     given = read(sys.argv[1:])
     if given.help:
-        with open(HELP, encoding="utf-8") as file:
-            sys.stdout.write(file.read())
-        return 0
-    if sys.stdin.isatty():
-        console.Teller().say("reading from the terminal, up to its end (Ctrl-D at the start of a line)")
+        return console.print_help("explore")
+    console.tell_reading()
     if given.page:
         return page(given)
     return answer(given) if given.ask else run(given)

@@ -11,9 +11,8 @@ import subprocess
 import sys
 import typing
 
-from common import TOP, built, console
+from common import built, console
 
-HELP = os.path.join(TOP, "help", "judge.txt")
 DONE, NO_ORDER, FAULTY, NO_STREAM = 0, 1, 3, 6
 MOST = 16 << 20
 # So many calls that ran beside the one that is told are told with it.
@@ -194,11 +193,8 @@ def run(given: argparse.Namespace) -> int:
 def main() -> int:
     given = read(sys.argv[1:])
     if given.help:
-        with open(HELP, encoding="utf-8") as file:
-            sys.stdout.write(file.read())
-        return DONE
-    if sys.stdin.isatty():
-        console.Teller().say("reading from the terminal, up to its end (Ctrl-D at the start of a line)")
+        return console.print_help("judge")
+    console.tell_reading()
     try:
         return run(given)
     except BrokenPipeError:

@@ -8,7 +8,7 @@ import os
 import re
 import typing
 
-from common import TOP, console, forms
+from common import TOP, console, forms, page, text_of
 from front import sources
 
 PAGE, HELP = os.path.join(TOP, "docs", "SCRIPTS.md"), os.path.join(TOP, "help")
@@ -24,11 +24,6 @@ TOLD, REST = re.compile(r"  ([a-z]+)((?: [^ ]+)*?)(?:  +(\S.*))?$"), " " * 20
 # Places that help writes in its own way.
 OWN_WAY = {"SERVER,SERVER,..": "S,S,..", "OPERATION ; OPERATION ..": "OPERATION ; .."}
 OPERATIONS_IN = "table"
-
-
-def text_of(path: str) -> str:
-    with open(path, encoding="utf-8") as file:
-        return file.read()
 
 
 def written(text: str) -> str:
@@ -75,13 +70,10 @@ def differing(command: str) -> typing.Iterator[str]:
 
 
 def main() -> int:
-    read = console.words(__doc__)
-    read.add_argument("--check", action="store_true")
-    given = read.parse_args()
-    text = text_of(PAGE)
+    only_looks, text = page.is_check(__doc__), text_of(PAGE)
     new = written(text)
     wrong = [line for command in forms.COMMANDS for line in differing(command)]
-    if given.check and new != text:
+    if only_looks and new != text:
         wrong += [f"docs/SCRIPTS.md lacks: {line}" for line in new.split("\n") if line not in text.split("\n")]
         wrong.append("docs/SCRIPTS.md has other tables than the table of forms: tools/pages/forms_page.py writes them")
     elif new != text:

@@ -8,7 +8,7 @@ import glob
 import os
 import re
 
-from common import TOP, console
+from common import TOP, console, text_of
 
 FRONT, MOST_IN_FRONT, MOST = "README.md", 1_800, 30_000
 WRITTEN = ("WRONG-BODIES.md",)
@@ -18,8 +18,7 @@ TABLE = re.compile(r"^\|.*\n", re.M)
 
 def words_of(path: str) -> int:
     """How many words a page has that are written by hand."""
-    with open(path, encoding="utf-8") as file:
-        text = file.read()
+    text = text_of(path)
     if os.path.basename(path) == OF_TABLES:
         text = TABLE.sub("", text)
     return sum(any(map(str.isalnum, word)) for word in text.split())

@@ -10,15 +10,14 @@ public types and traits (`Type::name`, the names of one type together), and thos
 names of its clauses. Of the table above them, which says in words what is proved, each name in the last column has to
 be in the crate of its row. A law without lines is a fault. ./suites --test runs --check.
 """
-import difflib
 import glob
 import os
 import re
 import typing
 
-from common import TOP, console
+from common import TOP, page, text_of
 
-PAGE = os.path.join(TOP, "docs", "PROVED.md")
+PAGE = os.path.join("docs", "PROVED.md")
 LAWS = "<!-- laws: written by tools/pages/proved_page.py -->", "<!-- end of laws -->"
 FUNCTIONS = "<!-- public functions: written by tools/pages/proved_page.py -->", "<!-- end of public functions -->"
 BLOCK = re.compile(r"(?:pub )?(?:unsafe )?(impl|trait)\b")
@@ -27,14 +26,9 @@ CLAUSE = re.compile(r"ensures(?:\*)? (\w+) \{")
 OF_TESTS = ("library_tests", "run_tests", "command_tests")
 
 
-def content(path: str) -> str:
-    with open(path, encoding="utf-8") as file:
-        return file.read()
-
-
 def crates() -> list[str]:
     """The libraries, in the order of crates.txt."""
-    lines = (line.partition("#")[0] for line in content(os.path.join(TOP, "crates.txt")).split("\n"))
+    lines = (line.partition("#")[0] for line in text_of(os.path.join(TOP, "crates.txt")).split("\n"))
     names = [line.split(":")[0].split()[0] for line in lines if ":" in line]
     return [
         name
@@ -45,7 +39,7 @@ def crates() -> list[str]:
 
 def shown(crate: str) -> tuple[set[str], set[str]]:
     """The names that a crate's root shows, and the modules that are public."""
-    text = content(os.path.join(TOP, "crates", crate, "src", "lib.rt"))
+    text = text_of(os.path.join(TOP, "crates", crate, "src", "lib.rt"))
     names = {name for used in re.findall(r"pub use ([^;]*);", text) for name in re.findall(r"\w+", used)}
     return names, set(re.findall(r"^pub mod (\w+)", text, re.M))
 
@@ -68,7 +62,7 @@ def functions(path: str) -> list[typing.Any]:
     found: list[typing.Any] = []
     open_: typing.Any = None
     said: list[str] = []
-    for line in content(path).split("\n"):
+    for line in text_of(path).split("\n"):
         begins = FUNCTION.match(line.strip())
         if BLOCK.match(line):
             of, by_trait = type_of(line), " for " in line or "trait " in line.split("{")[0]
@@ -167,7 +161,7 @@ def faults(text: str) -> typing.Iterator[str]:
             crate = re.sub(r"\W", "", cells[0])
             named.setdefault(crate, set()).update(re.findall(r"\w+", " ".join(re.findall(r"`([^`]+)`", cells[-1]))))
     for name in crates():
-        texts = [content(path) for part in ("src", "specs") for end in ("rt", "antt") for path in
+        texts = [text_of(path) for part in ("src", "specs") for end in ("rt", "antt") for path in
                  glob.glob(os.path.join(TOP, "crates", name, part, "**", f"*.{end}"), recursive=True)]
         words[name] = {word for one in texts for word in re.findall(r"\w+", one)}
     for name in crates():
@@ -183,23 +177,10 @@ def written(text: str, marks: tuple[str, str], table: str) -> tuple[str, str]:
 
 
 def main() -> int:
-    read = console.words(__doc__)
-    read.add_argument("--check", action="store_true")
-    given = read.parse_args()
-    text = content(PAGE)
+    only_looks, text = page.is_check(__doc__), text_of(PAGE)
     if any(mark not in text for mark in (*LAWS, *FUNCTIONS)):
         print("docs/PROVED.md has no marks for its two tables")
         return 1
     new, before = written(text, LAWS, table_of_laws())
     new, _ = written(new, FUNCTIONS, table_of_functions())
-    wrong = list(faults(before))
-    print(*wrong, sep="\n", end="\n" if wrong else "")
-    if not given.check:
-        with open(PAGE, "w", encoding="utf-8") as file:
-            file.write(new)
-        return 1 if wrong else 0
-    changes = list(
-        difflib.unified_diff(text.split("\n"), new.split("\n"), "docs/PROVED.md", "from the sources", lineterm="", n=0)
-    )
-    print(*changes, sep="\n", end="\n" if changes else "")
-    return 1 if wrong or changes else 0
+    return page.written(PAGE, new, list(faults(before)), "from the sources", only_looks)

@@ -7,10 +7,9 @@ tree can be made (dump.py).
 import os
 import sys
 
-from common import TOP, built, console
+from common import built, console
 from session import dump
 
-HELP = os.path.join(TOP, "help", "session.txt")
 COMMAND_LINE, NO_STREAM = 2, 6
 COMPACT, JOURNAL = "--compact", "--journal"
 
@@ -28,9 +27,7 @@ def compacted(words: list[str]) -> list[str] | None:
 def main() -> int:
     words = sys.argv[1:]
     if words[:1] in (["--help"], ["-h"]):
-        with open(HELP, encoding="utf-8") as file:
-            sys.stdout.write(file.read())
-        return 0
+        return console.print_help("session")
     program = built.program("session")
     if COMPACT in words:
         rest = compacted(words)

@@ -33,7 +33,7 @@ import typing
 import webbrowser
 from collections.abc import Iterator
 
-from common import TOOLS, console, quoted
+from common import TOOLS, console, quoted, text_of
 from explain import explain
 from trace import states, trace
 
@@ -177,11 +177,6 @@ def embedded(data: object) -> str:
     return text.replace("<", "\\u003c").replace(">", "\\u003e").replace("&", "\\u0026")
 
 
-def part(name: str) -> str:
-    with open(os.path.join(PARTS, name), encoding="utf-8") as file:
-        return file.read()
-
-
 def digest(text: str) -> str:
     """The digest of a script or a style, by which alone a browser lets it run."""
     return f"'sha256-{base64.b64encode(hashlib.sha256(text.encode()).digest()).decode()}'"
@@ -193,17 +188,17 @@ def page_of(script: bytes, shown: Shown, besides: Besides | None = None) -> str:
     if lines[-1] == "":
         lines.pop()
     data = {"script": [line.removesuffix("\r") for line in lines], **dataclasses.asdict(shown), "meanings": meanings()}
-    parts = {name: part(file) for name, file in FILES.items()}
+    parts = {name: text_of(PARTS, file) for name, file in FILES.items()}
     styles = [digest(parts["STYLE"])]
     scripts = [digest(text) for name, text in parts.items() if name != "STYLE"]
     parts |= {"MORE": "", "CONNECT": ""}
     if besides:
-        data[besides.name], text = besides.data, part(besides.file)
+        data[besides.name], text = besides.data, text_of(PARTS, besides.file)
         scripts.append(digest(text))
         parts["MORE"] = f"<script>{text}</script>\n"
         parts["CONNECT"] = "; connect-src 'self'" if besides.asks else ""
     parts |= {"DATA": embedded(data), "STYLES": " ".join(styles), "SCRIPTS": " ".join(scripts)}
-    return re.sub(r"@([A-Z]+)@", lambda found: parts[found[1]], part("page.html"))
+    return re.sub(r"@([A-Z]+)@", lambda found: parts[found[1]], text_of(PARTS, "page.html"))
 
 
 def opened(page: str) -> None:

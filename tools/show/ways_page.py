@@ -13,7 +13,7 @@ import sys
 import typing
 from collections.abc import Callable, Sequence
 
-from common import console
+from common import console, numbers
 from explore import queries
 from show import show
 
@@ -59,7 +59,7 @@ def decided_in(events: Sequence[str]) -> list[str]:
         is_decided = event.get("request", {}).get("asks") == "decide" and event["reply"].get("says") == "verdict"
         if is_decided and event["reply"]["verdict"] != "aborted":
             t = event["request"]["t"]
-            found.setdefault(t, f"{t % 64}.{t // 64}")
+            found.setdefault(t, "{}.{}".format(*numbers.job_of(t)))
     return [*found.values()]
 
 

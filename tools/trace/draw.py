@@ -25,7 +25,7 @@ import sys
 import typing
 from collections.abc import Iterable, Iterator
 
-from common import console, quoted
+from common import console, numbers, quoted
 from trace import trace
 
 # The most requests of a picture that is drawn without a word.
@@ -80,7 +80,8 @@ Happening = tuple[str, str, typing.Any]
 def short(words: str, known: dict[int, str], agent: int) -> str:
     """A request of an agent, or its reply, in few words."""
     words = re.sub(r"^t \d+ (?!resolve|break|finish)", "", words)
-    words = re.sub(r"^t (\d+) finish", lambda found: "finish" if int(found[1]) % 64 == agent else found[0], words)
+    of = re.match(r"t (\d+) (?=finish)", words)
+    words = words[of.end() :] if of and numbers.job_of(int(of[1]))[0] == agent else words
     words = re.sub(r" (?:bytes \d+|names(?: \S+=\d+)*)", "", words)
     words = trace.SUITE.sub(lambda found: known.get(int(found[1]), found[0]), words)
     for long, brief in (
@@ -101,9 +102,9 @@ class Picture:
     def __init__(self, agents: list[int], servers: list[int]) -> None:
         self.x: dict[str, int] = {}
         at = LEFT
-        for kind, numbers, apart in (("agent", agents, OF_AGENTS), ("server", servers, OF_SERVERS)):
-            step = max(LEAST, min(apart, WIDE // max(1, len(numbers))))
-            self.x |= {f"{kind} {number}": at + place * step for place, number in enumerate(numbers)}
+        for kind, those, apart in (("agent", agents, OF_AGENTS), ("server", servers, OF_SERVERS)):
+            step = max(LEAST, min(apart, WIDE // max(1, len(those))))
+            self.x |= {f"{kind} {number}": at + place * step for place, number in enumerate(those)}
             at = max(self.x.values(), default=at) + GAP
         self.width = max([x + RIGHT for x in self.x.values()] + [NARROW])
         self.y, self.named, self.parts = HEAD + 14, [20], list[str]()
@@ -249,7 +250,7 @@ class Numbered:
 
 def job_of(agent: int, mark: str) -> str:
     """The number of an agent's job, and of its transaction, from the mark behind the line that begins it."""
-    return f"job {mark[1:]} (t {64 * int(mark[1:]) + agent})"
+    return f"job {mark[1:]} (t {numbers.transaction(agent, int(mark[1:]))})"
 
 
 def head_of(words: list[str]) -> tuple[str, str] | None:

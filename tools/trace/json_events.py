@@ -8,7 +8,7 @@ import subprocess
 import sys
 import typing
 
-from common import console
+from common import console, numbers
 from trace import trace
 from trace.known_paths import Paths
 
@@ -82,7 +82,7 @@ class Fuller:
         told: dict[str, typing.Any] = {"agent": agent, "job": job}
         if words[0] == "sweep":
             return {"begun": {**told, "sweeps": int(words[2])}}
-        told |= {"t": 64 * job + agent, "home": (agent + job) % self.servers, "user": int(words[2])}
+        told |= {"t": numbers.transaction(agent, job), "home": (agent + job) % self.servers, "user": int(words[2])}
         told |= {"groups": [int(gid) for gid in words[3].split(",")], "site": int(words[4])}
         return {"begun": {**told, "operations": " ".join(words[5:]).split(" ; ")}}
 

@@ -371,8 +371,8 @@ def script(agent: int | None = None) -> bytes:
     if 0 in console.CLOSED:
         console.Teller().say("a read failed: standard input is closed")
         sys.exit(6)
-    if sys.stdin.isatty() and sys.stderr.isatty():
-        console.Teller().say("reading from the terminal, up to its end (Ctrl-D at the start of a line)")
+    if sys.stderr.isatty():
+        console.tell_reading()
     text = sys.stdin.buffer.read()
     count = agent is not None and AGENTS.search(text)
     if count and not 0 <= agent < int(count[1]):

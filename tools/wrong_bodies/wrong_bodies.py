@@ -21,7 +21,7 @@ import subprocess
 import tempfile
 import typing
 
-from common import TOP
+from common import TOP, text_of
 
 CRATES = os.path.join(TOP, "crates")
 GATE, BESIDE = "must-fail", "wrong"
@@ -49,17 +49,12 @@ def name_of(edit: str) -> str:
     return os.path.splitext(os.path.basename(edit))[0]
 
 
-def content(path: str) -> str:
-    with open(path, encoding="utf-8") as file:
-        return file.read()
-
-
 def why_not(edit: str, folder: str) -> str | None:
     """Why an edit cannot be applied to the crate in a folder, or None. Reads an edit as rt does."""
     if not NAMED.fullmatch(os.path.basename(edit)):
         return "its name is not of letters, digits, _, - and . with .edit at the end"
     path, old, texts, before = "", None, {}, {}
-    for line in content(edit).split("\n"):
+    for line in text_of(edit).split("\n"):
         word, _, rest = (
             ("new", "", line[5:] if line[4:5] == " " else line[4:]) if line.startswith("new:") else line.partition(": ")
         )
@@ -75,7 +70,7 @@ def why_not(edit: str, folder: str) -> str | None:
             if path not in texts:
                 if not os.path.isfile(os.path.join(folder, path)):
                     return f"there is no file {path}"
-                texts[path] = before[path] = content(os.path.join(folder, path))
+                texts[path] = before[path] = text_of(os.path.join(folder, path))
             if texts[path].count(old) != 1:
                 return f"its 'old:' text is in {path} {texts[path].count(old)} times, and not once: {old.strip()}"
             texts[path], old = texts[path].replace(old, rest), None

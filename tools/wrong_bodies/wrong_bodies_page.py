@@ -6,14 +6,13 @@
 The first line of an edit says what it makes wrong (`why: ..`), the second which function refuses it and by which
 clause (`refused by: ..`). ./suites --test runs --check.
 """
-import difflib
 import os
 import typing
 
-from common import TOP, console
+from common import TOP, page, text_of
 from wrong_bodies import wrong_bodies
 
-PAGE = os.path.join(TOP, "docs", "WRONG-BODIES.md")
+PAGE = os.path.join("docs", "WRONG-BODIES.md")
 SHOWN = os.path.join(TOP, "docs", "wrong-bodies-shown.txt")
 PLACES = ((wrong_bodies.GATE, "gate"), (wrong_bodies.BESIDE, "beside"))
 HEAD = """# Wrong bodies
@@ -84,7 +83,7 @@ def words_of(text: str) -> dict[str, str]:
 
 def crates() -> list[str]:
     """The crates, in the order of crates.txt: bottom up."""
-    lines = wrong_bodies.content(os.path.join(TOP, "crates.txt")).split("\n")
+    lines = text_of("crates.txt").split("\n")
     return [line.split(":")[0].split()[0] for line in (line.partition("#")[0] for line in lines) if ":" in line]
 
 
@@ -93,7 +92,7 @@ def rows(crate: str, faults: list[str]) -> typing.Iterator[str]:
     for folder, place in PLACES:
         for edit in wrong_bodies.edits(crate, folder):
             name = f"{crate}/{wrong_bodies.name_of(edit)}"
-            words = words_of(wrong_bodies.content(edit))
+            words = words_of(text_of(edit))
             faults += [f"{name}: it has no line '{word}: ..'" for word in wrong_bodies.TOLD if not words.get(word)]
             if any("|" in text for text in words.values()):
                 faults.append(f"{name}: a word has a |, which a table cannot show")
@@ -126,7 +125,7 @@ def would_do(faults: list[str]) -> str:
         for edit in wrong_bodies.edits(crate, folder)
     }
     told = []
-    for piece in wrong_bodies.content(SHOWN).strip().split("\n\n"):
+    for piece in text_of(SHOWN).strip().split("\n\n"):
         name, _, rest = piece.partition("\n")
         words = dict(line.split(": ", 1) for line in rest.split("\n"))
         if name not in known:
@@ -146,7 +145,7 @@ def would_do(faults: list[str]) -> str:
     return WOULD_DO.format(**counts) + "\n".join(lines) + "\n"
 
 
-def page() -> tuple[str, list[str]]:
+def whole_page() -> tuple[str, list[str]]:
     """The page, and what is wrong with the edits."""
     parts, counts = [HEAD], {place: 0 for _, place in PLACES}
     faults: list[str] = []
@@ -173,21 +172,5 @@ def page() -> tuple[str, list[str]]:
 
 
 def main() -> int:
-    read = console.words(__doc__)
-    read.add_argument("--check", action="store_true")
-    given = read.parse_args()
-    text, faults = page()
-    print(*faults, sep="\n", end="\n" if faults else "")
-    if not given.check:
-        with open(PAGE, "w", encoding="utf-8") as file:
-            file.write(text)
-        return 1 if faults else 0
-    stands = wrong_bodies.content(PAGE) if os.path.exists(PAGE) else ""
-    changes = [
-        line
-        for line in difflib.unified_diff(
-            stands.split("\n"), text.split("\n"), "docs/WRONG-BODIES.md", "from the edits", lineterm="", n=0
-        )
-    ]
-    print(*changes, sep="\n", end="\n" if changes else "")
-    return 1 if faults or changes else 0
+    only_looks = page.is_check(__doc__)
+    return page.written(PAGE, *whole_page(), "from the edits", only_looks)
