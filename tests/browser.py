@@ -23,7 +23,7 @@ KEYS = {"Enter": 13, "ArrowRight": 39, "ArrowLeft": 37, "Home": 36, "End": 35, "
 @contextlib.contextmanager
 def opened(tally: Tally) -> Iterator["Browser | None"]:
     """A browser, whose console is to have no fault; none where none is installed, which is said."""
-    path = next(filter(None, map(shutil.which, NAMES)), None)
+    path: str | None = next(filter(None, map(shutil.which, NAMES)), None)
     if not path:
         print("skipped: no chromium")
         yield None

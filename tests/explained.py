@@ -9,6 +9,7 @@ names has to show it. Each command line that the page shows has to end with stat
 print, each word of a reply, each word of a line of `trace`, and each line that rows print, has to stand on the page;
 each limit that the page or the tools name has to be the one of the sources. Status 1 where something differs.
 """
+import functools
 import glob
 import os
 import re
@@ -19,12 +20,13 @@ import typing
 
 import played
 
-from common import console, forms
+from common import console, forms, text_of
 from compare import scenario
 from explain import explain, play_lines, reasons
 from front import remarks
 
 TOP = played.TOP
+source = functools.partial(text_of, "crates")
 
 HEADERS: dict[str, list[str]] = {
     "table": ["root 1000 100 777"],
@@ -159,11 +161,6 @@ MENDED = {
 SEEDS = 6
 NOT_FOUND = "Was it changed since?"
 WORDS = ("", "one", "two", "three", "four", "five", "six", "seven", "eight", "nine")
-
-
-def source(*path: str) -> str:
-    with open(os.path.join(TOP, "crates", *path), encoding="utf-8") as file:
-        return file.read()
 
 
 def examples() -> typing.Iterator[tuple[str, list[str], list[str], str, str]]:
@@ -369,10 +366,8 @@ def silent_lines(program: str) -> tuple[int, list[str]]:
 
 def play_commands() -> tuple[int, list[str]]:
     """Runs the command lines that the page shows; how many there are, and which fail."""
-    with open(explain.PAGE, encoding="utf-8") as file:
-        shown = sorted(
-            {span for span in re.findall(explain.SPAN, file.read()) if re.match(r"(\./)?suites .*[a-z]", span)}
-        )
+    spans = set(re.findall(explain.SPAN, text_of("docs", "FAULTS.md")))
+    shown = sorted(span for span in spans if re.match(r"(\./)?suites .*[a-z]", span))
     wrong = []
     for command in shown:
         line = command if command.startswith("./") else f"./{command}"
@@ -384,15 +379,7 @@ def play_commands() -> tuple[int, list[str]]:
             if "<" in line or not re.fullmatch(r"\./suites (trace|draw|show|votes|play|table|acl)", line)
             else f"{line} --help"
         )
-        done = subprocess.run(
-            line,
-            shell=True,
-            cwd=TOP,
-            stdin=subprocess.DEVNULL,
-            stdout=subprocess.PIPE,
-            stderr=subprocess.PIPE,
-            text=True,
-        )
+        done = subprocess.run(line, shell=True, cwd=TOP, stdin=subprocess.DEVNULL, capture_output=True, text=True)
         if done.returncode != 0 or not done.stdout:
             wrong.append(f"{command} ends with {done.returncode}: {(done.stdout + done.stderr).strip()[:200]}")
     return len(shown), wrong

@@ -9,7 +9,7 @@ import typing
 TOP = os.path.realpath(os.path.join(os.path.dirname(os.path.abspath(__file__)), ".."))
 # What tests import of the tools, before what of tests has the same name: the one edit of where modules are looked for.
 sys.path.insert(0, os.path.join(TOP, "tools"))
-from common import tool  # noqa: E402
+from common import built  # noqa: E402
 from common.read_rows import Row, examples, rows, said  # noqa: E402, F401
 
 
@@ -17,11 +17,7 @@ def program(named: str | None = None) -> str:
     """The program that the words of a test name, or the one that `./suites` runs, which is built where there is none;
     ends the test without it.
     """
-    if named:
-        path = os.path.abspath(named)
-    else:
-        chosen = subprocess.run(tool("choose"), stdin=subprocess.DEVNULL, stdout=subprocess.PIPE, text=True)
-        path = os.path.join(TOP, chosen.stdout.split()[-1]) if chosen.returncode == 0 else ""
+    path = os.path.abspath(named) if named else built.chosen("suites")[1]
     if not os.path.exists(path):
         sys.exit(f"there is no program to be played{': ' + path if path else ''}")
     return path

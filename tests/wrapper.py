@@ -114,12 +114,7 @@ class Copy(Tally):
         """What standard error says of an answer with these standard streams, as a shell writes them."""
         line = f"exec ./suites {words} {streams}"
         return subprocess.run(
-            ["sh", "-c", line],
-            cwd=self.top,
-            stdin=subprocess.DEVNULL,
-            stdout=subprocess.PIPE,
-            stderr=subprocess.PIPE,
-            text=True,
+            ["sh", "-c", line], cwd=self.top, stdin=subprocess.DEVNULL, capture_output=True, text=True
         )
 
     def at_once(self, words: list[str]) -> tuple[int, str, str]:

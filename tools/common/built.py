@@ -8,9 +8,15 @@ import shlex
 import shutil
 import subprocess
 import sys
+import typing
 
 from common import TOP, console, tool
 
+
+
+def kept(name: str, what: str) -> str:
+    """The path of a file that is kept of a program."""
+    return os.path.join(TOP, "out", what if name == "suites" else f"{name}-{what}")
 
 
 def setting(name: str) -> dict[str, str]:
@@ -22,34 +28,39 @@ def kept_choice(name: str) -> tuple[str, str] | None:
     """The kind and the path of the program that was chosen last, where all stands that it was chosen from (`./suites`
     looks so at the other one): choosing takes longer than playing a story.
     """
-    path = os.path.join(TOP, "out", f"{name}-choice.sh")
-    with contextlib.suppress(OSError, ValueError, KeyError), open(path, encoding="utf-8") as file:
-        kept = dict(word.split("=", 1) for word in shlex.split(file.read()))
-        names = [*kept["files"].split("\n"), kept["program"]]
-        is_same_kit = os.environ.get("PATH") == kept["searched"] or shutil.which("rt") == kept["rt"]
+    with contextlib.suppress(OSError, ValueError, KeyError), open(kept(name, "choice.sh"), encoding="utf-8") as file:
+        said = dict(word.split("=", 1) for word in shlex.split(file.read()))
+        names = [*said["files"].split("\n"), said["program"]]
+        is_same_kit = os.environ.get("PATH") == said["searched"] or shutil.which("rt") == said["rt"]
         written = os.fstat(file.fileno()).st_mtime_ns
         if is_same_kit and all(os.stat(os.path.join(TOP, one)).st_ctime_ns <= written for one in names):
-            return kept["kind"], kept["program"]
+            return said["kind"], said["program"]
     return None
 
 
 @functools.cache
-def program(name: str) -> str:
-    """The path of the program; ends the tool where there is none."""
+def chosen(name: str) -> tuple[str, str]:
+    """The kind and the path of the program; ends the tool where there is none."""
     choice = kept_choice(name)
     if not choice:
-        words = tool("choose")
-        chosen = subprocess.run(words, env=setting(name), stdin=subprocess.DEVNULL, stdout=subprocess.PIPE, text=True)
-        if chosen.returncode != 0:
-            sys.exit(chosen.returncode)
-        kind, path = chosen.stdout.split()
+        how: dict[str, typing.Any] = {"env": setting(name), "stdin": subprocess.DEVNULL, "text": True}
+        done = subprocess.run(tool("choose"), stdout=subprocess.PIPE, **how)
+        if done.returncode != 0:
+            sys.exit(done.returncode)
+        kind, path = done.stdout.split()
         choice = kind, path
-    kind, path = choice
+    return choice[0], os.path.join(TOP, choice[1])
+
+
+@functools.cache
+def program(name: str) -> str:
+    """The path of the program, where it is not proved with a word of that; ends the tool where there is none."""
+    kind, path = chosen(name)
     if kind == "checked":
         word = "" if name == "suites" else f" {name}"
         text = f"checked build of {name}, not proved yet; ./suites --prove{word} proves and builds it"
         if sys.stderr.isatty():
             console.Teller().say(text)
         else:
-            console.say_once_a_day(os.path.join(TOP, "out", f"{name}-told"), text)
-    return os.path.join(TOP, path)
+            console.say_once_a_day(kept(name, "told"), text)
+    return path

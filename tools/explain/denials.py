@@ -3,13 +3,11 @@
 The transactions before are played by `suites table`, and after them the list is asked for by its owner, who lets
 itself in.
 """
-import functools
-import os
 import re
 import subprocess
 import typing
 
-from common import TOP, console, tool
+from common import built
 from explain import faults
 
 OPEN = "u::rwx,g::rwx,o::rwx"
@@ -26,21 +24,11 @@ class Asked(typing.NamedTuple):
         return f"do {self.uid} {self.groups} {' ; '.join(self.operations)}"
 
 
-@functools.cache
-def program() -> str:
-    """The program that `./suites` runs; ends the tool where there is none."""
-    chosen = subprocess.run(tool("choose"), stdin=subprocess.DEVNULL, stdout=subprocess.PIPE, text=True)
-    if chosen.returncode != 0:
-        raise console.Stop("there is no program that plays the table")
-    return os.path.join(TOP, chosen.stdout.split()[-1])
-
-
 def table(lines: list[str]) -> list[str]:
     """What `suites table` prints of a script; nothing where it has a fault."""
     text = "".join(f"{line}\n" for line in lines)
-    done = subprocess.run(
-        [program(), "table"], input=text.encode("latin1"), stdout=subprocess.PIPE, stderr=subprocess.DEVNULL
-    )
+    words = [built.chosen("suites")[1], "table"]
+    done = subprocess.run(words, input=text.encode("latin1"), stdout=subprocess.PIPE, stderr=subprocess.DEVNULL)
     return done.stdout.decode("latin1").splitlines() if done.returncode == 0 else []
 
 

@@ -163,7 +163,8 @@ def made(run: Played, job: Job, replies: str) -> typing.Iterator[str]:
     told = replies.split("; ")
     for place, (operation, reply) in enumerate(zip(job.operations, told), 1):
         number = re.fullmatch(r"made (\d+)", reply)
-        why = f", which is {numbers.OPERATIONS} * {job.t} + {place}: operation {place} of transaction {job.t}" if number else ""
+        what = f"{numbers.OPERATIONS} * {job.t} + {place}: operation {place} of transaction {job.t}"
+        why = f", which is {what}" if number else ""
         if place <= FEW:
             yield f"Operation {place}, `{operation}`: {reply}{why}."
 

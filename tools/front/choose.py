@@ -17,8 +17,7 @@ import typing
 from common import TOP, built, console
 from front import sources, trial
 
-KEPT = sources.KEPT
-CHOICE = os.path.join(KEPT, f"{sources.OF_PROGRAM}choice.sh")
+CHOICE = built.kept(sources.PROGRAM, "choice.sh")
 PROGRAMS = {
     "proved": f"crates/{sources.PROGRAM}/out/{sources.PROGRAM}",
     "checked": f"out/{sources.PROGRAM}",
@@ -45,7 +44,7 @@ def record_of(kind: str, now: sources.Sources, kit: sources.Kit) -> dict[str, st
 
 
 def record_path(kind: str) -> str:
-    return os.path.join(KEPT, f"{sources.OF_PROGRAM}{kind}.json")
+    return built.kept(sources.PROGRAM, f"{kind}.json")
 
 
 def keep_record(kind: str, now: sources.Sources, kit: sources.Kit) -> None:
@@ -107,7 +106,7 @@ def build() -> None:
     teller = console.Teller()
     sources.Kit().wanted()
     sources.make_folder()
-    with console.alone(os.path.join(KEPT, f"{sources.OF_PROGRAM}checked.lock"), teller) as has_waited:
+    with console.alone(built.kept(sources.PROGRAM, "checked.lock"), teller) as has_waited:
         if has_waited and choose():
             return
         teller = console.Teller()

@@ -22,8 +22,6 @@ LIST = "crates.txt"
 # The logic of the kit that these sources are proved with, as README.md names it.
 KIT_LOGIC = "dac8208d650f15bf"
 KEPT = os.path.join(TOP, "out")
-# What begins the names of files that are kept of another program than `suites`.
-OF_PROGRAM = "" if PROGRAM == "suites" else f"{PROGRAM}-"
 SUMS = os.path.join(KEPT, "sums.json")
 # The folders of a crate: what a checked build is made of, what its contracts cite besides, and what proves them.
 CODE, CLAIMS, PROOFS = "src", "specs", "proofs"
