@@ -36,7 +36,7 @@ def main() -> None:
     name = sys.argv[1] if len(sys.argv) > 1 else ""
     if name not in TOOLS:
         console.run(unknown, "")
-    sys.argv[:2] = [f"python3 tools {name}"]
+    sys.argv[:2] = [name]
     tool = importlib.import_module(TOOLS[name])
     console.run(tool.main, getattr(tool, "STOPPED", "stopped"))
 
