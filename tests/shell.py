@@ -77,6 +77,10 @@ TYPED = (
 )
 
 
+# So many seconds a terminal may take to show something, and so many before Ctrl-C is typed again.
+PATIENCE, MOMENT = 120, 5
+
+
 class Terminal:
     """A shell on a terminal of its own."""
 
@@ -87,9 +91,9 @@ class Terminal:
             env = {**os.environ, "XDG_STATE_HOME": room, "TERM": "xterm", "INPUTRC": "/dev/null", "COLUMNS": "200"}
             os.execve(sys.executable, tool("shell", *own_session(), *words), env)
 
-    def shows(self, text: str) -> bool:
-        """Whether a text is shown behind what was looked for before."""
-        end = time.monotonic() + 60
+    def shows(self, text: str, seconds: float = PATIENCE) -> bool:
+        """Whether a text is shown, within so many seconds, behind what was looked for before."""
+        end = time.monotonic() + seconds
         while text not in self.shown and time.monotonic() < end:
             if select.select([self.leader], [], [], 1)[0]:
                 try:
@@ -101,19 +105,25 @@ class Terminal:
         return is_shown
 
     def type(self, text: str) -> None:
-        """Types a text once the shell sleeps: a signal between its prompt and its sleep would be seen late."""
-        end = time.monotonic() + 60
-        while time.monotonic() < end:
-            with open(f"/proc/{self.child}/stat", encoding="utf-8") as file:
-                if file.read().rpartition(")")[2].split()[0] == "S":
-                    break
-            time.sleep(0.01)
         os.write(self.leader, text.encode())
+
+    def answers(self, typed: str, wanted: str) -> bool:
+        """Whether a text is shown once another was typed. Ctrl-C is typed again where it comes to nothing: Python sees
+        a signal between two keys late.
+        """
+        if typed != CTRL_C:
+            self.type(typed)
+            return self.shows(wanted)
+        for _ in range(PATIENCE // MOMENT):
+            self.type(typed)
+            if self.shows(wanted, MOMENT):
+                return True
+        return False
 
     def ended(self) -> int:
         """The status with which it ends by itself, soon."""
         with contextlib.suppress(OSError):
-            while select.select([self.leader], [], [], 60)[0] and os.read(self.leader, 4096):
+            while select.select([self.leader], [], [], PATIENCE)[0] and os.read(self.leader, 4096):
                 pass
         os.close(self.leader)
         return os.waitstatus_to_exitcode(os.waitpid(self.child, 0)[1])
@@ -128,8 +138,7 @@ def on_terminals(tally: played.Tally) -> None:
         terminal = Terminal(room, "--root", "0:0:777")
         tally.holds(terminal.shows("root> "), "a terminal is asked", terminal.shown)
         for typed, wanted in TYPED:
-            terminal.type(typed)
-            tally.holds(terminal.shows(wanted), repr(typed), repr(terminal.shown))
+            tally.holds(terminal.answers(typed, wanted), repr(typed), repr(terminal.shown))
         terminal.type(CTRL_D)
         tally.holds(terminal.ended() == 0, "Ctrl-D ends it")
         again = Terminal(room)
@@ -138,9 +147,8 @@ def on_terminals(tally: played.Tally) -> None:
         tally.holds(again.shows("cat /nothing"), "what was typed is kept", repr(again.shown))
         again.type(UP)
         tally.holds(again.shows("servers"), "and what was typed before", repr(again.shown))
-        again.type(CTRL_C)
         # what is typed with it goes with it
-        again.shows("^C")
+        again.answers(CTRL_C, "^C")
         again.shows("root> ")
         again.type("quit\n")
         tally.holds(again.ended() == 0, "quit ends it")
