@@ -8,10 +8,10 @@ import typing
 import measure
 
 from common import text_of
+from front import sources
 from wrong_bodies import wrong_bodies
 
 CRATES = ("run_core", "txn_core", "suite_collect", "rep_core", "file_exec", "weak_cache")
-FUNCTION = re.compile(r"^( *)(?:pub(?:\([\w: ]+\))? )?(?:const )?(?:unsafe )?fn (\w+)")
 CLAUSE = re.compile(r"^\s*(?:ensures|requires)\b")
 
 
@@ -28,7 +28,7 @@ class Function(typing.NamedTuple):
 def function_at(lines: list[str], at: int) -> Function | None:
     """The function that this line is of, in a file as `rt fmt` lays it out."""
     for first in range(at, -1, -1):
-        found = FUNCTION.match(lines[first])
+        found = sources.FUNCTION.match(lines[first])
         if not found:
             continue
         indent = found[1]

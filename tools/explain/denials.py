@@ -11,6 +11,8 @@ from common import built
 from explain import faults
 
 OPEN = "u::rwx,g::rwx,o::rwx"
+# What is told of an operation that was denied.
+DENIED = re.compile(r"op (\d+) suite (\d+) wants (\S+) by (\S+)")
 
 
 class Asked(typing.NamedTuple):

@@ -15,7 +15,6 @@ from trace import trace
 
 OUTCOME = re.compile(r"(\d+)\.(\d+) (\d+) (answered|denied|refused|undecided|swept)\b ?(.*)")
 AUDITED = re.compile(r"t (\d+) uid (\d+) op (\d+) suite (\d+) wants (\S+) by (\S+)")
-DENIED = re.compile(r"op (\d+) suite (\d+) wants (\S+) by (\S+)")
 POLL = re.compile(r"t \d+ (?:poll suite (\d+) (shared|exclusive)|upgrade suite (\d+))")
 OF = re.compile(r"t (\d+) (\w+)")
 WANTED = {
@@ -171,7 +170,7 @@ def made(run: Played, job: Job, replies: str) -> typing.Iterator[str]:
 
 def denied(run: Played, job: Job, rest: str, script: str) -> typing.Iterator[str]:
     """Which operation was denied where, and how the list came to that."""
-    found = DENIED.match(rest)
+    found = denials.DENIED.match(rest)
     if not found:
         return
     place, suite, wanted, decider = int(found[1]), int(found[2]), found[3], found[4]

@@ -8,7 +8,6 @@ from common import console, numbers
 from explain import denials, faults, refusals
 
 OUTCOME = re.compile(r"(\d+) (?:(\d+) )?(answered|denied|refused|undecided|swept)\b ?(.*)")
-DENIED = re.compile(r"op (\d+) suite (\d+) wants (\S+) by (\S+)")
 REFUSED = re.compile(r"(F\d+) op (\d+)")
 # What `serve` says of all jobs together.
 WHOLE = re.compile(r"certified \d+ steps$|mismatch$")
@@ -89,7 +88,7 @@ def of_line(text: str, script: str, name: str, language: str) -> list[str]:
     refusal = REFUSED.match(rest)
     if outcome[3] == "refused" and refusal:
         told += why_refused(refusal, job, jobs[: int(outcome[1])], language)
-    found = DENIED.match(rest)
+    found = denials.DENIED.match(rest)
     if found:
         place, suite = int(found[1]), int(found[2])
         path = path_of(suite, jobs) if language == "table" else f"suite {suite}"
