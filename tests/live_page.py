@@ -291,7 +291,7 @@ def clicks(tally: Tally, driver: browser.Browser, folder: str, shots: str | None
         for line in ("begin 0 2000 2000 0 file /a</script><img/src=x> 644", "run 0", "</script><img/src=x>"):
             driver.type("#line", line)
             driver.press("Enter")
-            hand.until(f"document.getElementById('line').value === ''"
+            hand.until("document.getElementById('line').value === ''"
                        " || document.getElementById('told').className === 'bad'")
         tally.holds("fault line" in hand.told() and driver.value("document.images.length") == 0, "a fault", hand.told())
         # letters that are keys of the page are typed as they are
@@ -331,11 +331,10 @@ def same_as_saved(tally: Tally, driver: browser.Browser, live: Live, folder: str
     rows = driver.value("JSON.stringify(Page.run.rows)")
     script = driver.value("document.getElementById('script').innerText")
     driver.value("Page.go(Page.run.last)")
-    other = driver.ask("Target.createTarget", {"url": f"file://{path}"})["targetId"]
-    before, driver.session = driver.session, driver.ask("Target.attachToTarget", {"targetId": other, "flatten": True})[
-        "sessionId"]
-    while driver.value("document.readyState") != "complete":
-        time.sleep(0.02)
+    other = driver.ask("Target.createTarget", {"url": "about:blank"})["targetId"]
+    attached = driver.ask("Target.attachToTarget", {"targetId": other, "flatten": True})
+    before, driver.session = driver.session, attached["sessionId"]
+    driver.open(path)
     theirs = [driver.value(f"(Page.go({place}), {SEEN})") for place in moments]
     for one in theirs:
         one["last"] -= 1
