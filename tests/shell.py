@@ -152,6 +152,8 @@ def on_terminals(tally: played.Tally) -> None:
         again.shows("root> ")
         again.type("quit\n")
         tally.holds(again.ended() == 0, "quit ends it")
+    # that its programs are checked builds is told once a day, where no terminal is
+    subprocess.run(tool("shell", *own_session()), input=b"", capture_output=True)
     env = {**os.environ, "TERM": "xterm"}
     done = subprocess.run(tool("shell", *own_session()), input=b"cat /no\n", capture_output=True, env=env)
     told = b"root> cat /no\nNo such file or folder (refused F4 op 1)\n"
