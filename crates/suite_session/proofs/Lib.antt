@@ -1,3 +1,6 @@
+pub mod Accepted
+pub mod HeaderLines
+pub mod IsPlay
 pub mod OneMore
 pub mod Played
 pub mod Promised
