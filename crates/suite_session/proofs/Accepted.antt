@@ -13,9 +13,9 @@ use Rattle.script_text.specs.Numbers.{is_number, number_up_to}
 use Rattle.suite_play.specs.Headers.{among, caches_in, count, count_in, judged, limit, max_number, old_in, opening_votes}
 use Rattle.suite_play.specs.declared.caches.Caches.{Caches}
 use Rattle.suite_prefix.specs.Forms.{fits_one}
-use Rattle.suite_prefix.specs.SettingsRules.{Opening, first_fault, max_agents, max_cache, max_slots}
+use Rattle.suite_prefix.specs.SettingsRules.{Opening, first_fault, has_fault, max_agents, max_cache, max_slots}
 use Rattle.suite_prefix.specs.declared.settings.SettingsFault.{SettingsFault}
-use Rattle.suite_prefix.specs.declared.settings.SettingsFault.TheVariants.{BadCache, BadCount, OldTooLarge}
+use Rattle.suite_prefix.specs.declared.settings.SettingsFault.TheVariants.{BadCache, BadCount, OldTooLarge, UnknownServer}
 use Rattle.suite_script.proofs.ValidOperations.{after_any, after_end, then_holds}
 use Rattle.suite_script.specs.Votes as votes
 use Rattle.suite_script.specs.Words.{Word, at_end, word}
@@ -113,7 +113,7 @@ one_more_below servers found server below all =
     ])
 
 pub none_below : (servers : ℕ) → are_below servers empty ≡ true
-none_below servers = (are_below_decides servers empty).1 (λ server there. absurd (false≢true (sym (contains-empty server) ∙ there)))
+none_below servers = (are_below_decides servers empty).1 (λ server there. absurd (false≢true (sym (contains-empty nat_cmp server) ∙ there)))
 
 below_among : (servers : ℕ) → (servers ≡ 0 → ⊥) → (words : List Word) (found : FinSet nat_cmp) → are_below servers found ≡ true → IfOk (among servers found words) (λ old. are_below servers old ≡ true)
 below_among servers some [] found all = all
@@ -158,7 +158,10 @@ pub no_fault : (given : Opening) → IsRight given → first_fault given ≡ Non
 no_fault given right =
     let servers = or_parts (nat_eq given.servers 0) (nat_lt valid.max_servers given.servers) right.servers in
     let agents = or_parts (nat_eq given.agents 0) (nat_lt max_agents given.agents) right.agents in
-    none_of_four _ _ _ _ _ _ _ _ (rw (servers.0, servers.1, agents.0, agents.1) refl) (rw (right.known, right.below) refl) (rw (right.budget, right.quota, right.slots) refl) right.fits
+    let counts : has_fault BadCount given ≡ false = rw (servers.0, servers.1, agents.0, agents.1) refl in
+    let known : has_fault UnknownServer given ≡ false = rw (right.known, right.below) refl in
+    let caches : has_fault BadCache given ≡ false = rw (right.budget, right.quota, right.slots) refl in
+    none_of_four (has_fault BadCount given) (has_fault UnknownServer given) (has_fault BadCache given) (has_fault OldTooLarge given) BadCount UnknownServer BadCache OldTooLarge counts known caches right.fits
 
 pub some_servers : (most servers : ℕ) → is_bad most servers ≡ false → servers ≡ 0 → ⊥
 some_servers most servers right none =

@@ -1,5 +1,6 @@
 pub mod Accepted
 pub mod HeaderLines
+pub mod HeaderText
 pub mod IsPlay
 pub mod OneMore
 pub mod Played
