@@ -1,5 +1,5 @@
 -- The settings of a header that was read have no fault.
-use Rattle.std.proofs.Common.{◌≡◌, ◌∙◌, ℕ, ◌-◌, ◌<◌, ◌≤◌, nat_le, nat_lt, nat_eq, Bool, true, false, ◌&&◌, ◌||◌, not, cond, if◌then◌else◌, List, [], ◌∷◌, Option, Some, None, Result, Ok, Err, refl, inl, inr, arith, sym, ap}
+use Rattle.std.proofs.Common.{◌≡◌, ◌∙◌, ℕ, ◌-◌, ◌<◌, ◌≤◌, nat_le, nat_lt, nat_eq, Bool, true, false, ◌&&◌, ◌||◌, not, cond, if◌then◌else◌, List, [], ◌∷◌, Option, Some, None, Ok, Err, refl, inl, inr, arith, sym}
 use Rattle.std.specs.Prelude.{IfOk, IfSome}
 use Rattle.std.specs.FinSet.{FinSet, contains, contains-empty, empty, insert}
 use Rattle.std.specs.List.{list_any, slice_split}
@@ -8,7 +8,7 @@ use Rattle.std.specs.Str.Parse.{digits_value}
 use Rattle.std.proofs.lemmas.Bool.{and_parts, cases_Bool, eqb-false, eqb-true, false≢true, or_cases, or_from, or_parts}
 use Rattle.std.proofs.lemmas.Bool.Decides.{nat_tests}
 use Rattle.acl_core.specs.declared.lists.Lists.{Lists}
-use Rattle.file_ops.specs.Steps.{◌>>=◌, ◌>>◌, found_or}
+use Rattle.file_ops.specs.Steps.{◌>>◌, found_or}
 use Rattle.script_text.specs.Numbers.{is_number, number_up_to}
 use Rattle.suite_play.specs.Headers.{among, caches_in, count, count_in, judged, limit, max_number, old_in, opening_votes}
 use Rattle.suite_play.specs.declared.caches.Caches.{Caches}
@@ -19,7 +19,6 @@ use Rattle.suite_prefix.specs.declared.settings.SettingsFault.TheVariants.{BadCa
 use Rattle.suite_script.proofs.ValidOperations.{after_any, after_end, then_holds}
 use Rattle.suite_script.specs.Votes as votes
 use Rattle.suite_script.specs.Words.{Word, at_end, word}
-use Rattle.suite_script.specs.declared.fault.LineFault.{LineFault}
 use Rattle.suite_script.specs.declared.fault.LineFault.TheVariants.{Form, Settings}
 use Rattle.vote_core.proofs.ServerSets.{contains_inserted}
 use Rattle.vote_core.proofs.Within.{are_below_decides}

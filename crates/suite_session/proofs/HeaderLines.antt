@@ -1,7 +1,7 @@
 -- A line of the header, as `play` finds it in a text and as a session comes to it.
 use Rattle.std.proofs.Common.{◌≡◌, ◌∙◌, ℕ, ◌+◌, Bool, true, false, List, [], ◌∷◌, if◌then◌else◌, Result, Ok, Err, refl, sym, ap, subst}
 use Rattle.std.specs.Str.{bytes_eq}
-use Rattle.file_ops.specs.Steps.{◌>>=◌, ◌>>◌}
+use Rattle.file_ops.specs.Steps.{◌>>=◌}
 use Rattle.script_desk.specs.Doing.{Keeps, Passes, said}
 use Rattle.script_desk.specs.declared.desk.ScriptDesk.{ScriptDesk}
 use Rattle.script_text.specs.Words.{words}

@@ -1,5 +1,5 @@
 -- A session over a text that `play` reads without a fault is `play`.
-use Rattle.std.proofs.Common.{◌≡◌, ◌∙◌, ℕ, ◌+◌, Bool, true, false, nat_lt, ◌||◌, List, [], ◌∷◌, ◌++◌, length, if◌then◌else◌, Result, Ok, Err, refl, sym, ap, subst, arith}
+use Rattle.std.proofs.Common.{◌≡◌, ◌∙◌, ℕ, ◌+◌, Bool, false, List, [], ◌∷◌, ◌++◌, length, Result, Ok, Err, refl, sym, ap, subst, arith}
 use Rattle.std.specs.List.{list_any}
 use Rattle.std.specs.Str.Lines.{lines}
 use Rattle.std.proofs.lemmas.Bool.{or_parts}
@@ -19,14 +19,14 @@ use Rattle.suite_play.specs.Outputs.{lines_of, play_output}
 use Rattle.suite_play.specs.declared.command.Command.{Command}
 use Rattle.suite_prefix.specs.SettingsRules.{Opening}
 use Rattle.suite_script.specs.Outputs as output
-use Rattle.suite_script.specs.Scripts.{Headed, Pending, owns, owns_in, no_names, script_of, scripted, whole}
+use Rattle.suite_script.specs.Scripts.{Headed, Pending, owns, no_names, script_of, scripted, whole}
 use Rattle.suite_script.specs.declared.fault.ScriptFault.{ScriptFault}
-use Rattle.suite_session.proofs.HeaderLines.{begins_as, script_at}
+use Rattle.suite_session.proofs.HeaderLines.{begins_as}
 use Rattle.suite_session.proofs.HeaderText.{header_opens}
 use Rattle.suite_session.proofs.Played.{AreRight, Prints, are_played}
 use Rattle.suite_session.specs.Played.{AreDone, SessionIsPlay, first_state, manner, told_for}
 use Rattle.suite_session.specs.Promised.{ways}
-use Rattle.suite_session.specs.Services.{at_first, opened_of}
+use Rattle.suite_session.specs.Services.{opened_of}
 use Rattle.suite_session.specs.declared.play_service.PlayService.{PlayService}
 use Rattle.suite_session.specs.declared.play_service.PlayService.TheVariants as service
 
