@@ -7,7 +7,6 @@ use Rattle.std.specs.Ordering.{nat_cmp}
 use Rattle.std.specs.Str.Parse.{digits_value}
 use Rattle.std.proofs.lemmas.Bool.{and_parts, cases_Bool, eqb-false, eqb-true, false≢true, or_cases, or_from, or_parts}
 use Rattle.std.proofs.lemmas.Bool.Decides.{nat_tests}
-use Rattle.acl_core.specs.declared.lists.Lists.{Lists}
 use Rattle.file_ops.specs.Steps.{◌>>◌, found_or}
 use Rattle.script_text.specs.Numbers.{is_number, number_up_to}
 use Rattle.suite_play.specs.Headers.{among, caches_in, count, count_in, judged, limit, max_number, old_in, opening_votes}
@@ -20,6 +19,7 @@ use Rattle.suite_script.proofs.ValidOperations.{after_any, after_end, then_holds
 use Rattle.suite_script.specs.Votes as votes
 use Rattle.suite_script.specs.Words.{Word, at_end, word}
 use Rattle.suite_script.specs.declared.fault.LineFault.TheVariants.{Form, Settings}
+use Rattle.suite_script.specs.declared.root.Root.{Root}
 use Rattle.vote_core.proofs.ServerSets.{contains_inserted}
 use Rattle.vote_core.proofs.Within.{are_below_decides}
 use Rattle.vote_core.specs.Quorums.{Configuration, Representative}
@@ -121,20 +121,20 @@ below_among servers some (text ∷ more) found all =
     (λ server fits. below_among servers some more (insert found server) (one_more_below servers found server (omega (arith, fits, some)) all))
 
 -- the servers are there, and their form holds the root
-pub record AreOld (servers : ℕ) (acl : Lists) (votes : Configuration) (old : FinSet nat_cmp) : Type 0 where
+pub record AreOld (servers : ℕ) (root : Root) (votes : Configuration) (old : FinSet nat_cmp) : Type 0 where
   pub below : are_below servers old ≡ true
-  pub fits : fits_one acl votes ≡ true
+  pub fits : fits_one root.acl votes ≡ true
 
-old_if : (servers : ℕ) (acl : Lists) (votes : Configuration) (old : FinSet nat_cmp) (rest : List Word) (fits : Bool) → are_below servers old ≡ true → fits_one acl votes ≡ fits
-    → IfOk (◌>>◌ (if fits then at_end rest else Err (Settings OldTooLarge)) (Ok old)) (AreOld servers acl votes)
-old_if servers acl votes old rest true below is = after_end _ (at_end rest) _ (record { below = below; fits = is })
-old_if servers acl votes old rest false below is = tt
+old_if : (servers : ℕ) (root : Root) (votes : Configuration) (old : FinSet nat_cmp) (rest : List Word) (fits : Bool) → are_below servers old ≡ true → fits_one root.acl votes ≡ fits
+    → IfOk (◌>>◌ (if fits then at_end rest else Err (Settings OldTooLarge)) (Ok old)) (AreOld servers root votes)
+old_if servers root votes old rest true below is = after_end _ (at_end rest) _ (record { below = below; fits = is })
+old_if servers root votes old rest false below is = tt
 
-pub are_old : (servers : ℕ) (acl : Lists) (votes : Configuration) (words : List Word) → (servers ≡ 0 → ⊥) → IfOk (old_in servers acl votes words) (AreOld servers acl votes)
-are_old servers acl votes words some =
+pub are_old : (servers : ℕ) (root : Root) (votes : Configuration) (words : List Word) → (servers ≡ 0 → ⊥) → IfOk (old_in servers root.acl votes words) (AreOld servers root votes)
+are_old servers root votes words some =
     after_any _ (word words) _ (λ next. then_holds (λ old. are_below servers old ≡ true) _ (among servers empty (slice_split (λ byte. nat_eq byte 44) next.value)) _
     (below_among servers some (slice_split (λ byte. nat_eq byte 44) next.value) empty (none_below servers))
-    (λ old below. old_if servers acl votes old next.rest (fits_one acl votes) below refl))
+    (λ old below. old_if servers root votes old next.rest (fits_one root.acl votes) below refl))
 
 -- ---- settings
 
@@ -170,8 +170,8 @@ and_false : (b : Bool) → (b && false) ≡ false
 and_false true = refl
 and_false false = refl
 
-pub none_fit : (acl : Lists) (votes : Configuration) → (not (are_below 0 empty) && not (fits_one acl votes)) ≡ false
-none_fit acl votes = rw (none_below 0) refl
+pub none_fit : (root : Root) (votes : Configuration) → (not (are_below 0 empty) && not (fits_one root.acl votes)) ≡ false
+none_fit root votes = rw (none_below 0) refl
 
-pub old_fit : (acl : Lists) (votes : Configuration) (old : FinSet nat_cmp) → fits_one acl votes ≡ true → (not (are_below 0 old) && not (fits_one acl votes)) ≡ false
-old_fit acl votes old fits = rw fits (and_false (not (are_below 0 old)))
+pub old_fit : (root : Root) (votes : Configuration) (old : FinSet nat_cmp) → fits_one root.acl votes ≡ true → (not (are_below 0 old) && not (fits_one root.acl votes)) ≡ false
+old_fit root votes old fits = rw fits (and_false (not (are_below 0 old)))

@@ -81,15 +81,15 @@ takes_cache servers agents votes root sound first later caches same reads =
       quota = right.quota;
       slots = right.slots;
       below = none_below servers;
-      fits = none_fit root.acl votes;
+      fits = none_fit root votes;
     }) in
     (refl, rw (same, reads, none) refl)
 
 takes_old : (servers agents : ℕ) (votes : Configuration) (root : Root) (caches : Caches) → IsSound servers agents votes → AreRight caches
     → Takes (codes "old") (old_in servers root.acl votes) (λ old. told_all servers agents votes root old caches) (told_all servers agents votes root empty caches)
 takes_old servers agents votes root caches sound right first later old same reads =
-    let are : AreOld servers root.acl votes old =
-    subst (λ (given : Result (FinSet nat_cmp) LineFault). IfOk given (AreOld servers root.acl votes)) reads (are_old servers root.acl votes later (some_servers max_servers servers sound.servers_are)) in
+    let are : AreOld servers root votes old =
+    subst (λ (given : Result (FinSet nat_cmp) LineFault). IfOk given (AreOld servers root votes)) reads (are_old servers root votes later (some_servers max_servers servers sound.servers_are)) in
     let none = no_fault (settings_with servers agents votes root caches old) (record {
       servers = sound.servers_are;
       agents = sound.agents_are;
@@ -98,7 +98,7 @@ takes_old servers agents votes root caches sound right first later old same read
       quota = right.quota;
       slots = right.slots;
       below = are.below;
-      fits = old_fit root.acl votes old are.fits;
+      fits = old_fit root votes old are.fits;
     }) in
     (same, rw (reads, none) refl)
 

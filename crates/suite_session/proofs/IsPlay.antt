@@ -73,6 +73,13 @@ was_done keeps desk line Unkept is = absurd (omega (arith, is))
 was_done keeps desk line Lost is = absurd (omega (arith, is))
 was_done keeps desk line (Left later) is = absurd (omega (arith, is))
 
+short_if : (keeps : Bool) (desk : ScriptDesk PlayService) (line : List ℕ) (long : Bool) → is_long line ≡ long → line_status (manner keeps) desk line Done ≡ done → is_long line ≡ false
+short_if keeps desk line true long is =
+    let status : line_status (manner keeps) desk line Done ≡ 3 = rw long refl in
+    let three : ◌≡◌ {A = ℕ} 3 0 = sym status ∙ is in
+    absurd (omega (arith, three))
+short_if keeps desk line false long is = long
+
 answer_is : (keeps : Bool) (desk : ScriptDesk PlayService) (number other : ℕ) (line : List ℕ) → is_long line ≡ false → status_of_kind (kind_in (does ways desk line)) ≡ done
     → line_answer (manner keeps) desk number line Done ≡ text_of ways desk other line
 answer_is keeps desk number other line short right = rw short (append-nil (text_of ways desk number line) ∙ same_text number other (does ways desk line) right)
@@ -103,18 +110,18 @@ line_gone keeps number status desk came line is short right zero_is =
     ∙ ap (λ (one : ℕ). gone (one_more number) (worse status one) (after_line ways desk line) (later_of came)) (status_is keeps desk line short right)
     ∙ ap (λ (one : ℕ). gone (one_more number) (worse one done) (after_line ways desk line) (later_of came)) zero_is
 
-are_told : (keeps : Bool) (lines : List (List ℕ)) (number other status : ℕ) (desk : ScriptDesk PlayService) (came : List (Came (ScriptDesk PlayService))) → AreRight desk lines → list_any is_long lines ≡ false
+are_told : (keeps : Bool) (lines : List (List ℕ)) (number other status : ℕ) (desk : ScriptDesk PlayService) (came : List (Came (ScriptDesk PlayService))) → AreRight desk lines
     → (after (manner keeps) (gone number status desk came) lines).status ≡ done → answers (manner keeps) (gone number status desk came) lines ≡ told_for desk other lines
-are_told keeps [] number other status desk came right short is = refl
-are_told keeps (line ∷ more) number other status desk came right short is =
-    let parts = or_parts (is_long line) (list_any is_long more) short in
+are_told keeps [] number other status desk came right is = refl
+are_told keeps (line ∷ more) number other status desk came right is =
     let both = no_worse status (line_status (manner keeps) desk line (first_of came)) (status_before keeps (one_line (manner keeps) (gone number status desk came) line) more is) in
     let done_is = was_done keeps desk line (first_of came) both.1 in
-    let next = line_gone keeps number status desk came line done_is parts.0 right.0 both.0 in
+    let short = short_if keeps desk line (is_long line) refl (ap (λ (it : Came (ScriptDesk PlayService)). line_status (manner keeps) desk line it) (sym done_is) ∙ both.1) in
+    let next = line_gone keeps number status desk came line done_is short right.0 both.0 in
     ap (λ (it : Came (ScriptDesk PlayService)). line_answer (manner keeps) desk number line it ++ answers (manner keeps) (one_line (manner keeps) (gone number status desk came) line) more) done_is
-    ∙ ap (λ text. text ++ answers (manner keeps) (one_line (manner keeps) (gone number status desk came) line) more) (answer_is keeps desk number other line parts.0 right.0)
+    ∙ ap (λ text. text ++ answers (manner keeps) (one_line (manner keeps) (gone number status desk came) line) more) (answer_is keeps desk number other line short right.0)
     ∙ ap (λ (going : Going (ScriptDesk PlayService)). text_of ways desk other line ++ answers (manner keeps) going more) next
-    ∙ ap (λ text. text_of ways desk other line ++ text) (are_told keeps more (one_more number) (other + 1) done (after_line ways desk line) (later_of came) right.1 parts.1
+    ∙ ap (λ text. text_of ways desk other line ++ text) (are_told keeps more (one_more number) (other + 1) done (after_line ways desk line) (later_of came) right.1
     (ap (λ (going : Going (ScriptDesk PlayService)). (after (manner keeps) going more).status) (sym next) ∙ is))
 
 record BeginsDone (came : List (Came (ScriptDesk PlayService))) : Type 0 where
@@ -140,7 +147,7 @@ ends_well keeps (line ∷ more) number desk came all right short =
 -- ---- the law
 
 pub session_is_play : SessionIsPlay
-session_is_play keeps came turns status left printed answered played short =
+session_is_play keeps came turns status left printed answered played =
     let text = turn.heard turns in
     let prints = all_printed text printed played in
     let cut : cutting.all_lines text ≡ lines text = sym (lines_are_cut text) in
@@ -150,7 +157,7 @@ session_is_play keeps came turns status left printed answered played short =
       told = λ is.
           answered.all_told
           ∙ ap (answers (manner keeps) (gone 1 done first_state came)) cut
-          ∙ are_told keeps (lines text) 1 1 done first_state came prints.1 short (sym ended ∙ is)
+          ∙ are_told keeps (lines text) 1 1 done first_state came prints.1 (sym ended ∙ is)
           ∙ prints.0;
-      ends = λ all. ended ∙ ends_well keeps (lines text) 1 first_state came all prints.1 short;
+      ends = λ all short. ended ∙ ends_well keeps (lines text) 1 first_state came all prints.1 short;
     }

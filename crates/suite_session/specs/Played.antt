@@ -57,15 +57,13 @@ AreDone (Unkept ∷ later) = ⊥
 AreDone (Lost ∷ later) = ⊥
 AreDone (Left state ∷ later) = ⊥
 
--- where the session's status is 0, it has told what is printed; and its status is 0 where each line was carried out
-pub record HasTold (printed text : List ℕ) (came : List (Came (ScriptDesk PlayService))) (status : ℕ) : Type 0 where
-  pub told : status ≡ done → text ≡ printed
-  pub ends : AreDone came → status ≡ done
+-- where its status is 0, it has told what is printed; and its status is 0 where each line was carried out, and none is too long
+pub record IsPlayed (came : List (Came (ScriptDesk PlayService))) (turns : List turn.Turn) (status : ℕ) (printed : List ℕ) : Type 0 where
+  pub told : status ≡ done → turn.told turns ≡ printed
+  pub ends : AreDone came → list_any is_long (lines (turn.heard turns)) ≡ false → status ≡ done
 
--- A session that heard a text which `play` reads without a fault, its header too, and none of whose lines is too long, has told what `play` prints for it.
+-- A session that heard a text which `play` reads without a fault, its header too, has told what `play` prints for it.
 abbrev pub SessionIsPlay : Type 0
 SessionIsPlay =
     (keeps : Bool) (came : List (Came (ScriptDesk PlayService))) (turns : List turn.Turn) (status : ℕ) (left : ScriptDesk PlayService) (printed : List ℕ)
-    → IsAnswered (manner keeps) (begin first_state came) turns status left
-    → play_output (turn.heard turns) ≡ output.Done printed → list_any is_long (lines (turn.heard turns)) ≡ false
-    → HasTold printed (turn.told turns) came status
+    → IsAnswered (manner keeps) (begin first_state came) turns status left → play_output (turn.heard turns) ≡ output.Done printed → IsPlayed came turns status printed

@@ -15,8 +15,9 @@ pub fn lines_below_are_played()
     ensures { LinesBelowArePlayed }
 {}
 
-/// A law: a session that heard a text which `play` reads without a fault has told what `play` prints for it, header,
-/// names and lines, where its status is 0; and that it is, where each line was carried out. It does nothing.
+/// A law: a session that heard a text which `play` reads without a fault, header, names and lines, has told what `play`
+/// prints for it, where its status is 0; which it is where each line was carried out, and none is above 16 MiB. It does
+/// nothing.
 pub fn session_is_play()
     ensures { SessionIsPlay }
 {}
