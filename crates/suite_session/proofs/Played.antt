@@ -1,22 +1,22 @@
--- Line by line a session below its header prints what `play` prints.
-use Rattle.std.proofs.Common.{◌≡◌, ◌∙◌, ℕ, ◌+◌, Bool, true, false, ◌&&◌, ◌||◌, List, [], ◌∷◌, ◌++◌, codes, is_some, if◌then◌else◌, Result, Ok, Err, refl, sym, ap, subst}
+-- Line by line a session below its header prints what `play` prints, and none of the lines is faulty.
+use Rattle.std.proofs.Common.{◌≡◌, ◌∙◌, ℕ, ◌+◌, Bool, true, false, ◌&&◌, List, [], ◌∷◌, ◌++◌, codes, if◌then◌else◌, Result, Ok, Err, refl, sym, ap, subst}
 use Rattle.std.proofs.lemmas.Bool.{false≢true}
 use Rattle.std.proofs.lemmas.Slice.Eq.{bytes_eq-Decides}
 use Rattle.std.specs.Str.{bytes_eq}
 use Rattle.acl_text.specs.Tables.{Tables}
-use Rattle.run_core.specs.Opened.{Opened}
-use Rattle.script_desk.specs.Doing.{Passes, asked, below, headed, next_in, said, text_in}
+use Rattle.byte_streams.specs.Endings.{done}
+use Rattle.line_session.specs.Answers.{status_of_kind}
+use Rattle.script_desk.specs.Doing.{Does, Keeps, Passes, after_line, asked, below, headed, kind_in, kind_of_line, next_in, said, text_in}
 use Rattle.script_desk.specs.declared.desk.ScriptDesk.{ScriptDesk}
 use Rattle.script_text.specs.Words.{words}
 use Rattle.suite_play.specs.Commands.{is_command}
 use Rattle.suite_play.specs.Headers.{is_known}
-use Rattle.suite_play.specs.Playing.{all_lines, played}
+use Rattle.suite_play.specs.Playing.{all_lines}
 use Rattle.suite_play.specs.declared.command.Command.{Command}
 use Rattle.suite_script.specs.Scripts.{followed, group_line, is_group, is_skipped, is_user, later_line, lines_from, misplaced, name_line, named_line, own_line, owns_in, user_line, with_own}
 use Rattle.suite_script.specs.Words.{Word}
 use Rattle.suite_script.specs.declared.fault.LineFault.{LineFault}
 use Rattle.suite_script.specs.declared.fault.ScriptFault.{ScriptFault}
-use Rattle.suite_script.specs.declared.line.Line.{Line}
 use Rattle.suite_session.specs.Played.{LinesBelowArePlayed, language_below, told_for}
 use Rattle.suite_session.specs.Promised.{ways}
 use Rattle.suite_session.specs.Services.{after_own, asks, head_of, heads, own_of, told}
@@ -92,24 +92,47 @@ goes_on : (command : Command) (later : Result (List Command) ScriptFault) (owns 
 goes_on command (Ok rest) owns is = record { rest = rest; is = refl; all = sym (same_owns (command ∷ rest) owns is) }
 goes_on command (Err fault) owns is = absurd cc
 
-abbrev desk_of : Tables → OpenService → ScriptDesk PlayService
+abbrev pub desk_of : Tables → OpenService → ScriptDesk PlayService
 desk_of names open_service = record { names = names; service = service.Open open_service }
 
-abbrev printed : OpenService → List Command → List ℕ
+abbrev pub printed : OpenService → List Command → List ℕ
 printed open_service owns = all_lines (fixed_of open_service.world.given) open_service.world.world owns
+
+-- each line calls for status 0
+abbrev pub AreRight : ScriptDesk PlayService → List (List ℕ) → Type 0
+AreRight desk [] = Unit {0}
+AreRight desk (line ∷ later) = (status_of_kind (kind_of_line ways desk line) ≡ done) × AreRight (after_line ways desk line) later
+
+-- lines are told this text, and none is faulty
+abbrev pub Prints : ScriptDesk PlayService → ℕ → List (List ℕ) → List ℕ → Type 0
+Prints desk number lines text = (told_for desk number lines ≡ text) × AreRight desk lines
+
+-- the same of a line that does this, and those after it
+abbrev pub Goes : ℕ → Does (ScriptDesk PlayService) → ScriptDesk PlayService → List (List ℕ) → List ℕ → Type 0
+Goes number does desk more text =
+    (text_in number does ++ told_for (next_in desk does) (number + 1) more ≡ text) × ((status_of_kind (kind_in does) ≡ done) × AreRight (next_in desk does) more)
+
+-- a line that tells nothing
+pub goes_quietly : (number : ℕ) (desk next : ScriptDesk PlayService) (more : List (List ℕ)) (text : List ℕ) → Prints next (number + 1) more text → Goes number (Keeps [] next) desk more text
+goes_quietly number desk next more text later = (later.0, (refl, later.1))
+
+pub passes_quietly : (number : ℕ) (desk : ScriptDesk PlayService) (more : List (List ℕ)) (text : List ℕ) → Prints desk (number + 1) more text → Goes number (Passes []) desk more text
+passes_quietly number desk more text later = (later.0, (refl, later.1))
 
 -- lines are played, from any desk on
 abbrev ArePlayed : List (List ℕ) → Type 0
 ArePlayed lines =
     (names : Tables) (open_service : OpenService) (begun : Bool) (number : ℕ) (owns : List Command)
-    → owns_in (language_below open_service) begun names (lines_from number lines) ≡ Ok owns → told_for (desk_of names open_service) number lines ≡ printed open_service owns
+    → owns_in (language_below open_service) begun names (lines_from number lines) ≡ Ok owns → Prints (desk_of names open_service) number lines (printed open_service owns)
 
 command_played : (more : List (List ℕ)) → ArePlayed more → (names : Tables) (open_service : OpenService) (number : ℕ) (command : Command) (owns : List Command)
     → GoesOn command (owns_in (language_below open_service) true names (lines_from (number + 1) more)) owns
-    → ways.line (service.Open open_service) command ++ told_for (record { names = names; service = ways.after (service.Open open_service) command }) (number + 1) more ≡ printed open_service owns
+    → Goes number (Keeps (ways.line (service.Open open_service) command) (record { names = names; service = ways.after (service.Open open_service) command })) (desk_of names open_service) more (printed open_service owns)
 command_played more played_on names open_service number command owns goes =
-    ap (λ text. ways.line (service.Open open_service) command ++ text) (played_on names (after_own open_service command) true (number + 1) goes.rest goes.is)
-    ∙ ap (printed open_service) (sym goes.all)
+    let later = played_on names (after_own open_service command) true (number + 1) goes.rest goes.is in (
+      ap (λ text. ways.line (service.Open open_service) command ++ text) later.0 ∙ ap (printed open_service) (sym goes.all),
+      (refl, later.1),
+    )
 
 line_played : (more : List (List ℕ)) → ArePlayed more → (names : Tables) (open_service : OpenService) (begun : Bool) (number : ℕ) (owns : List Command)
     (head : Result PlayService LineFault) (answer : Result (List ℕ) LineFault) (own : Result Command LineFault) (named anywhere : Result Tables LineFault) (first : Word) (heads_it asks_it command : Bool)
@@ -120,7 +143,7 @@ line_played : (more : List (List ℕ)) → ArePlayed more → (names : Tables) (
     (owns_in (language_below open_service) true names (lines_from (number + 1) more)) ≡ Ok owns
     → let desk = desk_of names open_service in
     let does = if heads_it then headed desk head else if asks_it then asked answer else below ways desk (if command then own_line own else named_line anywhere) in
-    text_in number does ++ told_for (next_in desk does) (number + 1) more ≡ printed open_service owns
+    Goes number does desk more (printed open_service owns)
 line_played more played_on names open_service begun number owns head answer own named anywhere first true asks_it true is_head is_asked commands gives is =
     absurd (false≢true (sym (commands refl).heads ∙ is_head))
 line_played more played_on names open_service begun number owns head answer own named anywhere first false true true is_head is_asked commands gives is =
@@ -134,8 +157,9 @@ line_played more played_on names open_service begun number owns head answer own 
     absurd (false≢true (sym (gives given refl).0.asks ∙ is_asked))
 line_played more played_on names open_service begun number owns head answer own (Ok given) (Ok known) first false false false is_head is_asked commands gives is =
     let same : known ≡ given = same_tables known given (gives given refl).1 in
-    ap (λ (known : Tables). told_for (desk_of known (record open_service { is_fresh = false })) (number + 1) more) same
-    ∙ played_on given (record open_service { is_fresh = false }) begun (number + 1) owns is
+    let fresh = record open_service { is_fresh = false } in
+    goes_quietly number (desk_of names open_service) (desk_of known fresh) more (printed open_service owns)
+    (subst (λ (known : Tables). Prints (desk_of known fresh) (number + 1) more (printed open_service owns)) (sym same) (played_on given fresh begun (number + 1) owns is))
 line_played more played_on names open_service begun number owns head answer own (Ok given) (Err fault) first false false false is_head is_asked commands gives is =
     absurd (no_tables fault given (gives given refl).1)
 line_played more played_on names open_service begun number owns head answer own (Err fault) anywhere first heads_it asks_it false is_head is_asked commands gives is = absurd cc
@@ -143,7 +167,7 @@ line_played more played_on names open_service begun number owns head answer own 
 words_played : (more : List (List ℕ)) → ArePlayed more → (names : Tables) (open_service : OpenService) (begun : Bool) (number : ℕ) (owns : List Command) (line : List Word)
     → followed number (later_line (language_below open_service) begun names line) (λ known. owns_in (language_below open_service) begun known (lines_from (number + 1) more))
     (owns_in (language_below open_service) true names (lines_from (number + 1) more)) ≡ Ok owns
-    → let desk = desk_of names open_service in text_in number (said ways desk line) ++ told_for (next_in desk (said ways desk line)) (number + 1) more ≡ printed open_service owns
+    → let desk = desk_of names open_service in Goes number (said ways desk line) desk more (printed open_service owns)
 words_played more played_on names open_service begun number owns [] is = absurd cc
 words_played more played_on names open_service begun number owns (first ∷ later) is =
     line_played more played_on names open_service begun number owns (head_of (service.Open open_service) first later) (told (service.Open open_service) first later)
@@ -155,13 +179,14 @@ one_played : (line : List ℕ) (more : List (List ℕ)) → ArePlayed more → (
     → owns_in (language_below open_service) begun names (if skipped then lines_from (number + 1) more else record { number = number; words = words line } ∷ lines_from (number + 1) more) ≡ Ok owns
     → let desk = desk_of names open_service in
     let does = if skipped then Passes [] else said ways desk (words line) in
-    text_in number does ++ told_for (next_in desk does) (number + 1) more ≡ printed open_service owns
-one_played line more played_on names open_service begun number owns true is = played_on names open_service begun (number + 1) owns is
+    Goes number does desk more (printed open_service owns)
+one_played line more played_on names open_service begun number owns true is =
+    passes_quietly number (desk_of names open_service) more (printed open_service owns) (played_on names open_service begun (number + 1) owns is)
 one_played line more played_on names open_service begun number owns false is = words_played more played_on names open_service begun number owns (words line) is
 
-are_played : (lines : List (List ℕ)) → ArePlayed lines
-are_played [] names open_service begun number owns is = ap (printed open_service) (same_owns [] owns is)
+pub are_played : (lines : List (List ℕ)) → ArePlayed lines
+are_played [] names open_service begun number owns is = (ap (printed open_service) (same_owns [] owns is), tt)
 are_played (line ∷ more) names open_service begun number owns is = one_played line more (are_played more) names open_service begun number owns (is_skipped line) is
 
 pub lines_below_are_played : LinesBelowArePlayed
-lines_below_are_played names open_service begun number lines owns is = are_played lines names open_service begun number owns is
+lines_below_are_played names open_service begun number lines owns is = (are_played lines names open_service begun number owns is).0

@@ -1,6 +1,6 @@
 //! What holds of the definitions of a session.
 
-ghost use Rattle.suite_session.specs.Played.{LinesBelowArePlayed};
+ghost use Rattle.suite_session.specs.Played.{LinesBelowArePlayed, SessionIsPlay};
 ghost use Rattle.suite_session.specs.Promised.{SessionIsPromised};
 
 /// A law: at each moment the world of a session is that of its events so far, so all is promised of it that is promised
@@ -13,4 +13,11 @@ pub fn session_is_promised()
 /// `play` prints for them. It does nothing.
 pub fn lines_below_are_played()
     ensures { LinesBelowArePlayed }
+{}
+
+/// A law: a session that heard a text which `play` reads without a fault, header, names and lines, has told what `play`
+/// prints for it, where its status is 0; which it is where each line was carried out, and none is above 16 MiB. It does
+/// nothing.
+pub fn session_is_play()
+    ensures { SessionIsPlay }
 {}

@@ -8,8 +8,8 @@
 //! prints what `play` prints for it, and leaves the world that `play` has after it (`specs/Services.antt`).
 //!
 //! At each moment the world of a session is that of its events so far, so all is promised of it that is promised of
-//! a run (`session_is_promised`). Lines below the header are told what `play` prints for them
-//! (`lines_below_are_played`).
+//! a run (`session_is_promised`). A session over a text that `play` reads without a fault is told what `play` prints
+//! for it (`session_is_play`), and lines below a header are as well (`lines_below_are_played`).
 //!
 //! `row PATH` tells what stands at a path, and `content PATH` the bytes of the file there, as the newest of all stored
 //! copies have it (`specs/Rows.antt`), without an access check: they are for whoever looks after the servers, and
@@ -34,7 +34,7 @@ mod side;
 mod start;
 
 pub use heading::Heading;
-pub use laws::{lines_below_are_played, session_is_promised};
+pub use laws::{lines_below_are_played, session_is_play, session_is_promised};
 pub use open_service::OpenService;
 pub use play_service::PlayService;
 pub use start::first_desk;
