@@ -1,4 +1,7 @@
+pub mod Copies
 pub mod Headings
+pub mod HeldLocks
+pub mod Places
 pub mod Played
 pub mod Promised
 pub mod Questions

@@ -23,10 +23,13 @@
 //! **Definitions** (`specs/`): `Headings`, `Services`, `Questions`, `Rows`, `Promised`, `Played`.
 #![tactic(auto)]
 
+mod copies;
 mod heading;
+mod held_locks;
 mod laws;
 mod newest;
 mod open_service;
+mod places;
 mod play_service;
 mod question;
 mod shown;

@@ -14,7 +14,8 @@ use std::alloc::{AllocError, Global};
 use suite_prefix::{Replica, StoredCopy};
 
 impl Side {
-    fn version(self, copy: &Replica) -> u64
+    /// The version of this side of a copy.
+    pub(crate) fn version(self, copy: &Replica) -> u64
         ensures { result ≡ version_of self copy.now }
     {
         match self {
@@ -42,7 +43,7 @@ fn copy_among(
 }
 
 /// The copy of a suite at a server, where it has one.
-fn copy_at(
+pub(crate) fn copy_at(
     alloc: Global,
     world: &World,
     server: u8,
