@@ -25,14 +25,18 @@ abbrev pub mode_text : Bool → List ℕ
 mode_text true = codes " exclusive"
 mode_text false = codes " shared"
 
+abbrev pub front_text : ℕ → List ℕ
+front_text number = codes "locks server " ++ decimal number
+
+abbrev pub held_text : Lock → List ℕ
+held_text lock = codes " t " ++ decimal lock.t ++ codes " suite " ++ decimal lock.suite ++ mode_text (is_exclusive lock.mode)
+
 abbrev pub lock_line : Opening → World → ℕ → Lock → List ℕ
-lock_line given world number lock =
-    codes "locks server " ++ decimal number ++ codes " t " ++ decimal lock.t ++ codes " suite " ++ decimal lock.suite ++ mode_text (is_exclusive lock.mode)
-    ++ stage_text lock.prepared (home_is_up given world lock.t) ++ line_feed
+lock_line given world number lock = front_text number ++ held_text lock ++ stage_text lock.prepared (home_is_up given world lock.t) ++ line_feed
 
 -- a line for each lock of a server; where it has none one says so
 abbrev pub locks_in : Opening → World → ℕ → List Lock → List ℕ
-locks_in given world number [] = codes "locks server " ++ decimal number ++ codes " nothing" ++ line_feed
+locks_in given world number [] = front_text number ++ codes " nothing" ++ line_feed
 locks_in given world number (lock ∷ locks) = flat_map (lock_line given world number) (lock ∷ locks)
 
 abbrev pub locks_by : Opening → World → ℕ → Option State → List ℕ

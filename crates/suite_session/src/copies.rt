@@ -200,7 +200,6 @@ fn push_line(
 }
 
 /// Adds a line for each server.
-#[tactic(auto, using(crate::proofs::OneMore::standing_more, crate::proofs::OneMore::none_standing))]
 fn push_lines(
     alloc: Global,
     service: &OpenService,

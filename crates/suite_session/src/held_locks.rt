@@ -1,10 +1,10 @@
 //! The locks at the servers.
 
-ghost use Rattle.std.specs.Prelude.{◌≡◌, ◌++◌, OnOk, codes, decimal};
+ghost use Rattle.std.specs.Prelude.{◌≡◌, ◌++◌, OnOk};
 ghost use Rattle.std.specs.List.{flat_map};
 ghost use Rattle.run_core.specs.Worlds.{server_at};
 ghost use Rattle.suite_script.specs.Faults.{line_feed};
-ghost use Rattle.suite_session.specs.HeldLocks.{home_is_up, lock_line, locks_by, locks_in, locks_text, mode_text, stage_text};
+ghost use Rattle.suite_session.specs.HeldLocks.{front_text, held_text, home_is_up, lock_line, locks_by, locks_in, locks_text, mode_text, stage_text};
 ghost use Rattle.txn_core.specs.Agents.{fixed_of};
 ghost use Rattle.txn_core.specs.Doing.{home_of};
 
@@ -48,19 +48,29 @@ fn mode_text(is_exclusive: bool) -> &'static [u8]
 }
 
 fn push_front(text: &mut Vec<u8>, number: u8) -> Result<(), AllocError>
-    ensures { OnOk result (text.new.items ≡ text.old.items ++ codes "locks server " ++ decimal number) }
+    ensures { OnOk result (text.new.items ≡ text.old.items ++ front_text number) }
 {
     text.extend_from_slice(b"locks server ")?;
     push_number(text, u64::from(number))
 }
 
 fn push_held(text: &mut Vec<u8>, lock: Lock) -> Result<(), AllocError>
-    ensures { OnOk result (text.new.items ≡ text.old.items ++ codes " t " ++ decimal lock.t ++ codes " suite " ++ decimal lock.suite) }
+    ensures { OnOk result (text.new.items ≡ text.old.items ++ held_text lock) }
 {
     text.extend_from_slice(b" t ")?;
     push_number(text, lock.t)?;
     text.extend_from_slice(b" suite ")?;
-    push_number(text, lock.suite)
+    push_number(text, lock.suite)?;
+    text.extend_from_slice(mode_text(lock.mode.is_exclusive()))
+}
+
+fn push_stage(text: &mut Vec<u8>, service: &OpenService, lock: Lock) -> Result<(), AllocError>
+    ensures { OnOk result (text.new.items
+        ≡ text.old.items ++ stage_text lock.prepared (home_is_up service.now.settings service.now.world.world lock.t) ++ line_feed) }
+{
+    let home_is_up = home_is_up(service, lock.t);
+    text.extend_from_slice(stage_text(lock.prepared, home_is_up))?;
+    text.extend_from_slice(b"\n")
 }
 
 fn push_lock(
@@ -73,10 +83,7 @@ fn push_lock(
 {
     push_front(text, number)?;
     push_held(text, lock)?;
-    text.extend_from_slice(mode_text(lock.mode.is_exclusive()))?;
-    let home_is_up = home_is_up(service, lock.t);
-    text.extend_from_slice(stage_text(lock.prepared, home_is_up))?;
-    text.extend_from_slice(b"\n")
+    push_stage(text, service, lock)
 }
 
 fn push_each(
@@ -127,7 +134,6 @@ fn push_locks_at(
 }
 
 /// Adds a line for each lock at each server.
-#[tactic(auto, using(crate::proofs::OneMore::locks_more, crate::proofs::OneMore::none_locked))]
 pub(crate) fn push_locks(text: &mut Vec<u8>, service: &OpenService) -> Result<(), AllocError>
     ensures { OnOk result (text.new.items
         ≡ text.old.items ++ locks_text service.now.settings service.now.world.world service.now.settings.servers) }

@@ -1,6 +1,6 @@
 //! The places of the servers.
 
-ghost use Rattle.std.specs.Prelude.{◌≡◌, ◌++◌, IfOk, OnOk, Some, map};
+ghost use Rattle.std.specs.Prelude.{◌≡◌, ◌++◌, IfOk, OnOk, Some, length, map};
 ghost use Rattle.std.specs.List.{flat_map};
 ghost use Rattle.rep_core.specs.code.Planning.{copies_in};
 ghost use Rattle.run_core.specs.Worlds.{server_at};
@@ -115,6 +115,12 @@ fn named_in(alloc: Global, service: &OpenService) -> Result<Vec<u64>, AllocError
     Ok(named)
 }
 
+fn taken(copies: &[(u64, StoredCopy)]) -> u64
+    ensures { result ≡ length (copies_in copies.now) }
+{
+    copies.len() as u64
+}
+
 /// How many of the suites of copies are not named.
 fn unnamed(named: &[u64], copies: &[(u64, StoredCopy)]) -> u64
     ensures { result ≡ unnamed named.now (copies_in copies.now) }
@@ -137,7 +143,7 @@ fn push_server(
     text.extend_from_slice(b"room server ")?;
     push_number(text, u64::from(number))?;
     text.extend_from_slice(b" taken ")?;
-    push_number(text, copies.len() as u64)?;
+    push_number(text, taken(copies))?;
     text.extend_from_slice(b" of ")?;
     push_number(text, MAX_SUITES as u64)?;
     text.extend_from_slice(b" unnamed ")?;
@@ -159,7 +165,6 @@ fn push_room_at(
     }
 }
 
-#[tactic(auto, using(crate::proofs::OneMore::room_more, crate::proofs::OneMore::no_room))]
 fn push_all(
     text: &mut Vec<u8>,
     named: &[u64],
