@@ -50,10 +50,17 @@ abbrev pub unnamed : List ℕ → List (ℕ × Replica) → ℕ
 unnamed named copies = count_by (λ pair. not (list_any (λ number. number == pair.0) named)) copies
 
 -- a place is taken by each suite of which a server has a copy
+abbrev pub taken_text : List (ℕ × Replica) → List ℕ
+taken_text copies = codes " taken " ++ decimal (length copies) ++ codes " of " ++ decimal max_suites
+
+abbrev pub unnamed_text : List ℕ → List (ℕ × Replica) → List ℕ
+unnamed_text named copies = codes " unnamed " ++ decimal (unnamed named copies) ++ line_feed
+
+abbrev pub copies_line : List ℕ → ℕ → List (ℕ × Replica) → List ℕ
+copies_line named number copies = codes "room server " ++ decimal number ++ taken_text copies ++ unnamed_text named copies
+
 abbrev pub room_line : List ℕ → ℕ → Option State → List ℕ
-room_line named number (Some st) =
-    codes "room server " ++ decimal number ++ codes " taken " ++ decimal (length st.store.copies) ++ codes " of " ++ decimal max_suites
-    ++ codes " unnamed " ++ decimal (unnamed named st.store.copies) ++ line_feed
+room_line named number (Some st) = copies_line named number st.store.copies
 room_line named number None = codes ""
 
 unfoldable pub room_lines : List ℕ → World → ℕ → List ℕ

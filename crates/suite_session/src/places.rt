@@ -1,10 +1,10 @@
 //! The places of the servers.
 
-ghost use Rattle.std.specs.Prelude.{◌≡◌, ◌++◌, IfOk, OnOk, Some, length, map};
+ghost use Rattle.std.specs.Prelude.{◌≡◌, ◌++◌, IfOk, OnOk, length, map};
 ghost use Rattle.std.specs.List.{flat_map};
 ghost use Rattle.rep_core.specs.code.Planning.{copies_in};
 ghost use Rattle.run_core.specs.Worlds.{server_at};
-ghost use Rattle.suite_session.specs.Places.{is_folder, named_by, named_in, numbers_by, numbers_in, numbers_of, room_line, room_lines, room_text, unnamed};
+ghost use Rattle.suite_session.specs.Places.{copies_line, is_folder, named_by, named_in, numbers_by, numbers_in, numbers_of, room_line, room_lines, room_text, taken_text, unnamed, unnamed_text};
 ghost use Rattle.suite_session.specs.Rows.{newest};
 ghost use Rattle.suite_session.specs.declared.side.Side.TheVariants as side;
 
@@ -12,7 +12,7 @@ use crate::newest::newest;
 use crate::open_service::OpenService;
 use crate::side::Side;
 use file_ops::ROOT;
-use rep_core::{MAX_SUITES, Server};
+use rep_core::MAX_SUITES;
 use run_core::World;
 use script_text::push_number;
 use std::alloc::{AllocError, Global};
@@ -131,24 +131,39 @@ fn unnamed(named: &[u64], copies: &[(u64, StoredCopy)]) -> u64
         .count() as u64
 }
 
-fn push_server(
-    text: &mut Vec<u8>,
-    named: &[u64],
-    number: u8,
-    server: &Server,
-) -> Result<(), AllocError>
-    ensures { OnOk result (text.new.items ≡ text.old.items ++ room_line named.now number (Some server.now.state)) }
+fn push_taken(text: &mut Vec<u8>, copies: &[(u64, StoredCopy)]) -> Result<(), AllocError>
+    ensures { OnOk result (text.new.items ≡ text.old.items ++ taken_text (copies_in copies.now)) }
 {
-    let copies = server.copies();
-    text.extend_from_slice(b"room server ")?;
-    push_number(text, u64::from(number))?;
     text.extend_from_slice(b" taken ")?;
     push_number(text, taken(copies))?;
     text.extend_from_slice(b" of ")?;
-    push_number(text, MAX_SUITES as u64)?;
+    push_number(text, MAX_SUITES as u64)
+}
+
+fn push_unnamed(
+    text: &mut Vec<u8>,
+    named: &[u64],
+    copies: &[(u64, StoredCopy)],
+) -> Result<(), AllocError>
+    ensures { OnOk result (text.new.items ≡ text.old.items ++ unnamed_text named.now (copies_in copies.now)) }
+{
     text.extend_from_slice(b" unnamed ")?;
     push_number(text, unnamed(named, copies))?;
     text.extend_from_slice(b"\n")
+}
+
+fn push_counts(
+    text: &mut Vec<u8>,
+    named: &[u64],
+    number: u8,
+    copies: &[(u64, StoredCopy)],
+) -> Result<(), AllocError>
+    ensures { OnOk result (text.new.items ≡ text.old.items ++ copies_line named.now number (copies_in copies.now)) }
+{
+    text.extend_from_slice(b"room server ")?;
+    push_number(text, u64::from(number))?;
+    push_taken(text, copies)?;
+    push_unnamed(text, named, copies)
 }
 
 fn push_room_at(
@@ -160,12 +175,12 @@ fn push_room_at(
     ensures { OnOk result (text.new.items ≡ text.old.items ++ room_line named.now number (server_at world.now.world number)) }
 {
     match world.server(number) {
-        Some(server) => push_server(text, named, number, server),
+        Some(server) => push_counts(text, named, number, server.copies()),
         None => Ok(()),
     }
 }
 
-fn push_all(
+fn push_lines(
     text: &mut Vec<u8>,
     named: &[u64],
     world: &World,
@@ -189,5 +204,5 @@ pub(crate) fn push_room(
 {
     let named = named_in(alloc, service)?;
     let count = service.settings.servers() as u8;
-    push_all(text, &named, &service.world, count)
+    push_lines(text, &named, &service.world, count)
 }
