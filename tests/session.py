@@ -400,7 +400,8 @@ def tells_stories(path: str, tally: Tally, folder: str) -> None:
     dump.compact(name)
     again = ran(path, ["--journal", name], b"room\nrow /\nrow /kept\n")[1].splitlines()
     tally.holds(lasting(first[-1]) == lasting(again[-1]) and first[-2] != again[-2], "full", first, again)
-    tally.holds(first[-3:-2] == standing.of_room((5, 3)) and again[-3:-2] == standing.of_room((2, 0)), "full", first, again)
+    rooms = [lines[-3:-2] for lines in (first, again)]
+    tally.holds(rooms == [standing.of_room((5, 3)), standing.of_room((2, 0))], "full", rooms)
 
 
 def main() -> int:

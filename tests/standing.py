@@ -27,8 +27,8 @@ SERVER, COPY, LOCK = (
 )
 # Lines that are refused below a header, and are then told as a misspelled word is.
 DAMAGED = (
-    b"copies", b"copies /a /b", b"copies /a 0", b"locks /", b"locks 0", b"locks locks", b"room 0", b"room /", b"copy /a",
-    b"lock", b"rooms", b"copies\t", b"Copies /a",
+    b"copies", b"copies /a /b", b"copies /a 0", b"locks /", b"locks 0", b"locks locks", b"room 0", b"room /",
+    b"copy /a", b"lock", b"rooms", b"copies ", b"Copies /a",
 )
 
 
@@ -147,8 +147,7 @@ def by_trace(path: str, tally: Tally) -> None:
             continue
         found = sorted(set(re.findall(r"/[\w./-]*", re.sub(r"(?m)^(?:votes|#).*$", "", script))))
         asked = [b"locks", b"room", *(b"copies " + one.encode() for one in found)]
-        rows = [b"row " + one.encode() for one in found]
-        told = ran(path, [], text_of((*script.encode().splitlines(), b"# here", *asked, *rows)))[1].decode().splitlines()
+        told = ran(path, [], text_of((*script.encode().splitlines(), *asked)))[1].decode().splitlines()
         seen += same_as_trace(told, lines, tally, name)
     tally.holds(seen > 100, "lines of stories", seen)
 
