@@ -21,8 +21,8 @@ MAKE = (b"begin 0 1000 100 0 file /a 644 ; write /a 6869", b"run 0")
 NOTHING = [b"locks server %d nothing" % server for server in range(3)]
 SERVER, COPY, LOCK = (
     re.compile(form) for form in (
-        r"= server (\d+) (up|down)$", r"    (?:\S+ )?suite (\d+) \w+ prefix (\d+) content (\d+) votes ",
-        r"    t (\d+) (?:\S+ )?suite (\d+) (exclusive|shared)( prepared)?$",
+        r"= server (\d+) (up|down)$", r"    (?:\S+=)?suite (\d+) \w+ prefix (\d+) content (\d+) votes ",
+        r"    t (\d+) (?:\S+=)?suite (\d+) (exclusive|shared)( prepared)?$",
     )
 )
 # Lines that are refused below a header, and are then told as a misspelled word is.
