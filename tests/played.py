@@ -1,9 +1,12 @@
 """The program that a test plays, the rows of crates/rows/stdin, and what tests count."""
 import os
+import signal
 import subprocess
 import sys
 import typing
 
+# What a test starts is stopped by Ctrl-C also where the test itself, as one that runs in the background, is not.
+signal.signal(signal.SIGINT, signal.default_int_handler)
 TOP = os.path.realpath(os.path.join(os.path.dirname(os.path.abspath(__file__)), ".."))
 # What tests import of the tools, before what of tests has the same name: the one edit of where modules are looked for.
 sys.path.insert(0, os.path.join(TOP, "tools"))

@@ -3,12 +3,14 @@
 
 Explores with little memory: a limit of address space, as `./suites explore` sets one, has to end a search by `not all`
 with status 7, before a signal ends it. A script whose ways are kept in tests/explored is explored under limits that
-rise: each answer tells no way that is not kept, and as many worlds as one before at least, or is `fault memory`; some
-say `not all`, and the last says `all` and tells just what is kept. Last `./suites explore` is asked, under a limit of
-the shell, for a search that takes more than any machine has. Prints what differs; status 1 where something does.
+rise from where the system can begin the program: each answer tells no way that is not kept, and as many worlds as one
+before at least, or is `fault memory`; some say `not all`, and the last says `all` and tells just what is kept. Last
+`./suites explore` is asked, under a limit of the shell, for a search that takes more than any machine has. Prints what
+differs; status 1 where something does.
 """
 from __future__ import annotations
 
+import contextlib
 import os
 import re
 import resource
@@ -23,12 +25,12 @@ import wrapper
 import beside
 import console
 
-# The script, and how much address space it may take, in KiB.
-STORY, LIMITS = "revocation-crash", (*range(3_000, 12_000, 500), 400_000)
+# The script; how much address space it may take, in KiB: so many limits, so far apart, and one that is wide enough.
+STORY, RISES, STEP, ENOUGH = "revocation-crash", 18, 500, 400_000
 # As much as Python needs to begin, and more; and what is explored with that.
 LITTLE, WIDE = 130_000, "three-makers"
 WIDE_WORDS = "--crashes 9 --returns 9 --stops 2"
-DONE, NO_MEMORY, NOT_ALL = 0, 4, 7
+DONE, FAULTY, NO_MEMORY, NOT_ALL = 0, 3, 4, 7
 LAST = re.compile(r"(?:not )?all:? \d+ ways, (\d+) worlds\n\Z")
 
 
@@ -39,6 +41,7 @@ def limited(program: str, words: list[str], script: str, most: int) -> tuple[int
         [program, *words],
         input=script.encode(),
         stdout=subprocess.PIPE,
+        stderr=subprocess.DEVNULL,
         preexec_fn=lambda: resource.setrlimit(resource.RLIMIT_AS, limit),
     )
     return done.returncode, done.stdout.decode()
@@ -58,13 +61,23 @@ def fault(status: int, text: str, wanted: str) -> str:
     return f"tells ways that are not kept: {others}" if others else ""
 
 
+def least_to_begin(program: str) -> int:
+    """The least limit, in steps, under which the system begins the program, which then reads that it has no script."""
+    for most in range(STEP, ENOUGH, STEP):
+        with contextlib.suppress(subprocess.SubprocessError):
+            if limited(program, [], "", most)[0] in (FAULTY, NO_MEMORY):
+                return most
+    return ENOUGH
+
+
 def rising(program: str, tally: played.Tally) -> None:
     """A script under limits that rise."""
     words, script = next((words, script) for name, words, script in explored.kept() if name == STORY)
     with open(os.path.join(explored.KEPT, f"{STORY}.ways"), encoding="utf-8") as file:
         wanted = file.read()
-    least, statuses = 0, list[int]()
-    for most in LIMITS:
+    begins, least, statuses = least_to_begin(program), 0, list[int]()
+    limits = [*(begins + STEP * rise for rise in range(1, RISES + 1)), ENOUGH]
+    for most in limits:
         status, text = limited(program, words.split(), script, most)
         wrong = fault(status, text, wanted)
         worlds = LAST.search(text)
@@ -73,7 +86,7 @@ def rising(program: str, tally: played.Tally) -> None:
         least = max(least, int(worlds[1]) if worlds else 0)
         statuses.append(status)
         tally.holds(not wrong, f"{STORY} with {most} KiB {wrong}")
-    tally.holds(NOT_ALL in statuses and statuses[-1] == DONE, f"{STORY} with {LIMITS} KiB ends with {statuses}")
+    tally.holds(NOT_ALL in statuses and statuses[-1] == DONE, f"{STORY} with {limits} KiB ends with {statuses}")
 
 
 def by_the_tool(program: str, tally: played.Tally) -> None:

@@ -4,8 +4,8 @@
 Types each command line that README.md, docs/FAULTS.md and docs/SCRIPTS.md show, behind a `$` or of `./suites`, in
 blocks and in lines of text, at the top of the repository. Each has to end with status 0 (`may` with 1 where it shows
 a denial), and to print what is shown below it. Left out are those with a word to be filled in, as `./suites explain
-CODE`, those that take an hour or are the tests themselves, and `--is-fresh`, whose status is that of the build.
-Prints each that differs; status 1 where one does.
+CODE`, those that take an hour or are the tests themselves, those that go on until they are stopped, and `--is-fresh`,
+whose status is that of the build. Prints each that differs or does not end; status 1 where one does.
 """
 import re
 import subprocess
@@ -25,7 +25,9 @@ SPAN = re.compile(r"`(\./suites (?!\w+`)[^`]+)`")
 FILLED_IN = re.compile(r"(?<![\w/])(?:[A-Z]{2,}|[A-Z])(?!\w)|\[|\.\.\.|< \.\.")
 # So many command lines at least are shown, so that a change of the form of documents is told.
 FEWEST = 12
-LEFT_OUT = ("./suites --prove", "./suites --test", "./suites --is-fresh", ".ci/run")
+LEFT_OUT = ("./suites --prove", "./suites --test", "./suites --is-fresh", "./suites show --live", ".ci/run")
+# What a command that has not ended after so many seconds ends with.
+PATIENCE, NOT_ENDED = 600, 124
 
 
 def of_block(number: int, block: list[bytes]) -> list[tuple[int, str, str | None]]:
@@ -77,7 +79,7 @@ def typed(folder: str) -> int:
             if not is_typed(command):
                 continue
             done = subprocess.run(
-                ["sh", "-c", put_into(folder, command)],
+                ["timeout", str(PATIENCE), "sh", "-c", put_into(folder, command)],
                 cwd=played.TOP,
                 stdin=subprocess.DEVNULL,
                 stdout=subprocess.PIPE,
@@ -88,7 +90,7 @@ def typed(folder: str) -> int:
             if done.returncode != status_of(wanted) or wanted not in (None, printed):
                 wrong += 1
                 print(
-                    f"{document}:{number}: {command} ends with {done.returncode} and"
+                    f"{document}:{number}: {command} ends with {done.returncode} ({NOT_ENDED} where it did not end) and"
                     f" prints\n{printed}{done.stderr.decode('latin1')}"
                 )
     if count < FEWEST:
