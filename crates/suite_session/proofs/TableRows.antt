@@ -42,7 +42,7 @@ use Rattle.vote_core.specs.Quorums.{Configuration, votes_in}
 use Rattle.vote_core.specs.Validity.{IsValid}
 
 -- each copy is the one in effect, and where there is none nothing is; so it is behind the last server
-pub record TellEffects (given : Opening) (events : List Event) (copies : Copies) : Type 0 where
+pub record ShowEffects (given : Opening) (events : List Event) (copies : Copies) : Type 0 where
   pub some : (suite server : ℕ) (copy : Replica) → copies server suite ≡ Some copy → copy ≡ copy_at given events suite server
   pub none : (suite server : ℕ) → copies server suite ≡ None → ((copy_at given events suite server).prefix.pver ≡ 0) × ((copy_at given events suite server).dver ≡ 0)
   pub beyond : (suite server : ℕ) → given.servers ≤ server → ((copy_at given events suite server).prefix.pver ≡ 0) × ((copy_at given events suite server).dver ≡ 0)
@@ -67,12 +67,11 @@ none_told suite None body absent = refl
 none_told suite (Some head) None absent = refl
 none_told suite (Some head) (Some body) absent = rw (absent head refl) refl
 
-shown_of : ℕ → Replica → Shown
+abbrev shown_of : ℕ → Replica → Shown
 shown_of suite held = record { suite = suite; prefix = held.prefix; dver = held.dver; content = held.content }
 
 made_told : (suite : ℕ) (head body held : Replica) (k : PrefixKind) → held.prefix.kind ≡ k → (k ≡ kind.Absent → ⊥) → head.prefix ≡ held.prefix → body.dver ≡ held.dver → body.content ≡ held.content
     → shown_by suite (Some head) (Some body) ≡ Some (shown_of suite held)
-unfolding shown_of
 made_told suite head body held kind.Absent is there prefix dver content = absurd (there refl)
 made_told suite head body held kind.File is there prefix dver content = rw (ap (λ (p : Prefix). p.kind) prefix ∙ is, prefix, dver, content) refl
 made_told suite head body held kind.Folder is there prefix dver content = rw (ap (λ (p : Prefix). p.kind) prefix ∙ is, prefix, dver, content) refl
@@ -98,7 +97,7 @@ pub record IsToldAs (suite : ℕ) (held : Replica) (row : Option Row) (head body
   pub child : (name : List ℕ) → child_in body name ≡ child_by row name
   pub versions : (shown : Shown) → shown_by suite head body ≡ Some shown → (shown.suite ≡ suite) × (shown.prefix.pver ≡ held.prefix.pver) × (shown.dver ≡ held.dver)
 
-module _ (given : Opening) (events : List Event) (kept : AllKeepSides given events) (copies : Copies) (tell : TellEffects given events copies) (z : ℕ) where
+module _ (given : Opening) (events : List Event) (kept : AllKeepSides given events) (copies : Copies) (tell : ShowEffects given events copies) (z : ℕ) where
   abbrev held : Replica
   held = register given z events
 
@@ -241,16 +240,13 @@ module _ (given : Opening) (events : List Event) (kept : AllKeepSides given even
       }
     where
       of_suite : (one : Shown) → shown_of z held ≡ one → one.suite ≡ z
-      unfolding shown_of
-      of_suite one same = ap (λ (s : Shown). s.suite) (sym same)
+            of_suite one same = ap (λ (s : Shown). s.suite) (sym same)
 
       of_pver : (one : Shown) → shown_of z held ≡ one → one.prefix.pver ≡ held.prefix.pver
-      unfolding shown_of
-      of_pver one same = ap (λ (s : Shown). s.prefix.pver) (sym same)
+            of_pver one same = ap (λ (s : Shown). s.prefix.pver) (sym same)
 
       of_dver : (one : Shown) → shown_of z held ≡ one → one.dver ≡ held.dver
-      unfolding shown_of
-      of_dver one same = ap (λ (s : Shown). s.dver) (sym same)
+            of_dver one same = ap (λ (s : Shown). s.dver) (sym same)
 
   -- ---- what was not
 
@@ -314,7 +310,7 @@ module _ (given : Opening) (events : List Event) (kept : AllKeepSides given even
 
 -- ---- the way
 
-module _ (given : Opening) (events : List Event) (kept : AllKeepSides given events) (copies : Copies) (tell : TellEffects given events copies) where
+module _ (given : Opening) (events : List Event) (kept : AllKeepSides given events) (copies : Copies) (tell : ShowEffects given events copies) where
   abbrev rows : Rows
   rows = (table_of given events).rows
 

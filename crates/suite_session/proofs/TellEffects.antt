@@ -22,7 +22,7 @@ use Rattle.sorted_map.specs.SortedMap.{get}
 use Rattle.suite_prefix.specs.Absent.{absent_copy}
 use Rattle.suite_prefix.specs.SettingsRules.{IsAccepted, Opening}
 use Rattle.suite_prefix.specs.declared.copies.Replica.{Replica}
-use Rattle.suite_session.proofs.TableRows.{TellEffects, tell_the_table}
+use Rattle.suite_session.proofs.TableRows.{ShowEffects, tell_the_table}
 use Rattle.suite_session.specs.Promised.{IsMadeBy}
 use Rattle.suite_session.specs.Rows.{stored_by, stored_in}
 use Rattle.suite_session.specs.TableRows.{AllIsFinished, RowsAreTheTables, TellTheTable, in_effect_in}
@@ -66,7 +66,7 @@ module _ (given : Opening) (events : List Event) (accepted : IsAccepted given) w
           subst (λ (st : State). IsNever (copy_in_effect st.store (answered_in given events) z)) (sym (ap (λ o. unwrap_or o (state.opening server given)) is))
           (opening_never z server (list_any (λ (rep : Representative). rep.0 == server) given.c0.reps) (none_listed server most))
 
-  tell_in_effect : TellEffects given events (in_effect_in given events)
+  tell_in_effect : ShowEffects given events (in_effect_in given events)
   tell_in_effect = record {
     some = λ suite server copy is. sym (same_Some (copy_at given events suite server) copy is);
     none = λ suite server is. absurd (none-some (copy_at given events suite server) (sym is));
@@ -92,7 +92,7 @@ module _ (given : Opening) (events : List Event) (accepted : IsAccepted given) w
     none_stored suite server (Some st) there is =
         subst IsNever (sym (at server st suite there ∙ ap (λ o. unwrap_or o (absent_copy st.store.c0)) is)) (refl, refl)
 
-    tell_stored : TellEffects given events (stored_in world)
+    tell_stored : ShowEffects given events (stored_in world)
     tell_stored = record {
       some = λ suite server copy is. some_stored suite server copy (server_at world server) refl is;
       none = λ suite server is. none_stored suite server (server_at world server) refl is;
