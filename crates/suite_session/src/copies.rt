@@ -69,7 +69,9 @@ fn is_prepared_by(server: &Server, suite: u64) -> Result<bool, AllocError>
 fn is_prepared(locks: &[Lock], suite: u64) -> bool
     ensures { result ≡ is_prepared suite locks.now }
 {
-    locks.iter().any(|lock| lock.prepared && lock.suite == suite)
+    locks
+        .iter()
+        .any(|lock| lock.prepared && lock.suite == suite)
 }
 
 fn versions_in(copy: &Option<Replica>) -> Option<Versions>
@@ -84,12 +86,7 @@ fn versions_in(copy: &Option<Replica>) -> Option<Versions>
     }
 }
 
-fn standing_at(
-    alloc: Global,
-    world: &World,
-    suite: u64,
-    number: u8,
-) -> Result<Standing, AllocError>
+fn standing_at(alloc: Global, world: &World, suite: u64, number: u8) -> Result<Standing, AllocError>
     ensures { IfOk result (λ one. one ≡ standing_at world.now.world suite number) }
 {
     let copy = copy_at(alloc, world, number, suite)?;
@@ -167,10 +164,7 @@ fn push_versions(text: &mut Vec<u8>, newest: Versions, copy: Versions) -> Result
     push_number(text, copy.prefix)?;
     text.extend_from_slice(b" content ")?;
     push_number(text, copy.content)?;
-    text.extend_from_slice(behind_text(
-        copy.prefix < newest.prefix,
-        copy.content < newest.content,
-    ))
+    text.extend_from_slice(behind_text(copy.prefix < newest.prefix, copy.content < newest.content))
 }
 
 fn push_standing(text: &mut Vec<u8>, sought: Sought, one: Standing) -> Result<(), AllocError>

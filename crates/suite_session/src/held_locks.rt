@@ -44,7 +44,11 @@ fn stage_text(is_prepared: bool, home_is_up: bool) -> &'static [u8]
 fn mode_text(is_exclusive: bool) -> &'static [u8]
     ensures { result.now ≡ mode_text is_exclusive }
 {
-    if is_exclusive { b" exclusive" } else { b" shared" }
+    if is_exclusive {
+        b" exclusive"
+    } else {
+        b" shared"
+    }
 }
 
 fn push_front(text: &mut Vec<u8>, number: u8) -> Result<(), AllocError>
@@ -116,11 +120,7 @@ fn push_all(
     push_each(text, service, number, locks)
 }
 
-fn push_locks_at(
-    text: &mut Vec<u8>,
-    service: &OpenService,
-    number: u8,
-) -> Result<(), AllocError>
+fn push_locks_at(text: &mut Vec<u8>, service: &OpenService, number: u8) -> Result<(), AllocError>
     ensures { OnOk result (text.new.items
         ≡ text.old.items ++ locks_by service.now.settings service.now.world.world number (server_at service.now.world.world number)) }
 {

@@ -11,16 +11,20 @@
 //! a run (`session_is_promised`). Lines below the header are told what `play` prints for them
 //! (`lines_below_are_played`).
 //!
-//! `row PATH` tells what stands at a path, and `content PATH` the bytes of the file there, as the newest of all stored
-//! copies have it (`specs/Rows.antt`), without an access check: they are for whoever looks after the servers, and
-//! change nothing. What a transaction prepared and its home has decided is seen once it is finished at a server.
+//! Lines that ask are for whoever looks after the servers: they check no access, and change nothing. `row PATH` tells
+//! what stands at a path, and `content PATH` the bytes of the file there, as the newest of all stored copies have it
+//! (`specs/Rows.antt`). What a transaction prepared and its home has decided is seen once it is finished at a server.
+//! `copies PATH` tells what each server has of it (`specs/Copies.antt`), `locks` who holds what lock at which server
+//! (`specs/HeldLocks.antt`), and `room` how many places of each server are taken, and by how many things that no folder
+//! names any more (`specs/Places.antt`). A place that a prepared transaction takes is counted once it is finished.
 //!
 //! **The caller owes** nothing. Names are looked up by fixed keys, since no text is there from which keys could come.
 //!
 //! **Files**: `heading` (a header so far), `open_service` (a world below a header), `play_service`, `question`
-//! (lines that ask), `newest` (the newest copies of a suite), `side`, `shown` (what stands at a path), `laws`,
-//! `start`.
-//! **Definitions** (`specs/`): `Headings`, `Services`, `Questions`, `Rows`, `Promised`, `Played`.
+//! (lines that ask), `newest` (the newest copies of a suite), `side`, `shown` (what stands at a path), `copies` (what
+//! each server has of it), `held_locks`, `places`, `laws`, `start`.
+//! **Definitions** (`specs/`): `Headings`, `Services`, `Questions`, `Rows`, `Copies`, `HeldLocks`, `Places`, `Promised`,
+//! `Played`.
 #![tactic(auto)]
 
 mod copies;

@@ -55,7 +55,12 @@ fn found(alloc: Global, world: &World, count: u8, names: &[Name]) -> Result<Opti
 }
 
 /// The suite at a path; a text that is none leads to nothing.
-pub(crate) fn found_at(alloc: Global, world: &World, count: u8, text: &[u8]) -> Result<Option<u64>, AllocError>
+pub(crate) fn found_at(
+    alloc: Global,
+    world: &World,
+    count: u8,
+    text: &[u8],
+) -> Result<Option<u64>, AllocError>
     ensures { IfOk result (λ suite. suite ≡ found_at (stored_in world.now.world) count (names_of text.now)) }
 {
     let path = PathText::new(alloc, text)?;
