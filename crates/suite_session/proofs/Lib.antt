@@ -1,4 +1,4 @@
-pub mod Newest
+pub mod NewestCopies
 pub mod OneMore
 pub mod Played
 pub mod Promised

@@ -33,7 +33,7 @@ use Rattle.suite_prefix.specs.declared.copies.Prefix.{Prefix}
 use Rattle.suite_prefix.specs.declared.copies.PrefixKind.{PrefixKind}
 use Rattle.suite_prefix.specs.declared.copies.PrefixKind.TheVariants as kind
 use Rattle.suite_prefix.specs.declared.copies.Replica.{Replica}
-use Rattle.suite_session.proofs.Newest.{AtLeast, IsNewest, is_newest}
+use Rattle.suite_session.proofs.NewestCopies.{AtLeast, IsNewest, is_newest}
 use Rattle.suite_session.specs.Rows.{Copies, child_in, child_of, found, found_at, found_on, newest, shown_at, shown_by, shown_for}
 use Rattle.suite_session.specs.TableRows.{TellTheTable, child_by, leads_at, leads_to, numbered, numbered_at, row_at, row_in, row_told}
 use Rattle.suite_session.specs.declared.shown.Shown.{Shown}

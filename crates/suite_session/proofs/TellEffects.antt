@@ -1,5 +1,6 @@
 -- The copies in effect tell what is in effect, and so do the stored ones where all is finished.
 use Rattle.std.proofs.Common.{◌≡◌, ℕ, zero, suc, ◌<◌, ◌≤◌, ◌==◌, Bool, true, false, List, [], ◌∷◌, length, unwrap_or, Option, Some, None, refl, sym, ap, subst, ◌∙◌, arith}
+use Rattle.std.proofs.lemmas.Bool.{false≢true}
 use Rattle.std.proofs.lemmas.Bool.Decides.{nat_tests}
 use Rattle.std.proofs.lemmas.List.Elements.{All-weaker}
 use Rattle.std.proofs.lemmas.List.Folds.{list_any_none}
@@ -10,11 +11,15 @@ use Rattle.std.specs.Prelude.{slice_get}
 use Rattle.law_headline.proofs.Keeping.{all_keep}
 use Rattle.law_headline.specs.Premises.{CanBe}
 use Rattle.law_one_table.specs.Effects.{answered_in, copy_at}
+use Rattle.law_run_machine.proofs.Consistent.{servers_are_consistent}
 use Rattle.law_run_machine.specs.Machines.{servers_of}
 use Rattle.law_runs.proofs.Lengths.{so_many}
+use Rattle.rep_core.proofs.Members.{has_any, has_from}
+use Rattle.rep_core.specs.Intentions.{Intention}
 use Rattle.rep_core.specs.State as state
 use Rattle.rep_core.specs.State.{State}
-use Rattle.rep_core.specs.Store.{copy_in_effect, copy_of, root_copy}
+use Rattle.rep_core.specs.Store.{copy_in_effect, copy_of, in_effect, root_copy}
+use Rattle.rep_core.specs.declared.lock.Lock.{Lock}
 use Rattle.run_core.specs.Runs.{run}
 use Rattle.run_core.specs.Worlds.{World, server_at}
 use Rattle.run_core.specs.declared.event.Event.{Event}
@@ -25,7 +30,7 @@ use Rattle.suite_prefix.specs.declared.copies.Replica.{Replica}
 use Rattle.suite_session.proofs.TableRows.{ShowEffects, tell_the_table}
 use Rattle.suite_session.specs.Promised.{IsMadeBy}
 use Rattle.suite_session.specs.Rows.{stored_by, stored_in}
-use Rattle.suite_session.specs.TableRows.{AllIsFinished, RowsAreTheTables, TellTheTable, in_effect_in}
+use Rattle.suite_session.specs.TableRows.{AllIsFinished, NothingIsPrepared, RowsAreTheTables, TellTheTable, in_effect_in}
 use Rattle.suite_session.specs.declared.open_service.OpenService.{OpenService}
 use Rattle.suite_session.specs.declared.play_service.PlayService.TheVariants as service
 use Rattle.vote_core.specs.Quorums.{Representative}
@@ -99,6 +104,33 @@ module _ (given : Opening) (events : List Event) (accepted : IsAccepted given) w
       beyond = beyond;
     }
 
+-- ---- where nothing is prepared nothing is left to be finished
+
+module _ (given : Opening) (events : List Event) (none : NothingIsPrepared (run given events)) (z server : ℕ) where
+  abbrev st : State
+  st = servers_of given (run given events) server
+
+  no_lock : list_any (λ (lock : Lock). lock.prepared) st.locks ≡ false
+  no_lock = of (server_at (run given events) server) refl
+    where
+      of : (found : Option State) → server_at (run given events) server ≡ found → list_any (λ (lock : Lock). lock.prepared) st.locks ≡ false
+      of (Some one) is = ap (λ o. list_any (λ (lock : Lock). lock.prepared) (unwrap_or o (state.opening server given)).locks) is ∙ none server one is
+      of None is = ap (λ o. list_any (λ (lock : Lock). lock.prepared) (unwrap_or o (state.opening server given)).locks) is
+
+  of_intention : (found : Option Intention) → get nat_cmp st.store.intentions z ≡ found → in_effect found (answered_in given events) (copy_of st.store z) ≡ copy_of st.store z
+  of_intention None is = refl
+  of_intention (Some intention) is =
+      let beside = (servers_are_consistent given events server).locked z intention is in
+      absurd (false≢true (sym no_lock ∙ has_any (λ (lock : Lock). lock.prepared) st.locks beside.lock (has_from st.locks beside.lock beside.there) beside.prepared))
+
+  is_finished : copy_at given events z server ≡ copy_of st.store z
+  is_finished = of_intention (get nat_cmp st.store.intentions z) refl
+
+all_finished : (given settings : Opening) (world : World) (events : List Event) → given ≡ settings → world ≡ run given events → NothingIsPrepared world → AllIsFinished settings events
+all_finished given settings world events same is none =
+    let now = subst NothingIsPrepared (is ∙ ap (λ given. run given events) same) none in
+    λ z server. is_finished settings events now z server
+
 of_world : (given settings : Opening) (world : World) (events : List Event) → given ≡ settings → CanBe given events → world ≡ run given events → AllIsFinished settings events
     → TellTheTable settings events (stored_in world)
 of_world given settings world events same can is finished =
@@ -110,4 +142,5 @@ pub rows_are_the_tables : RowsAreTheTables
 rows_are_the_tables = record {
   in_effect = λ given events can. tell_the_table given events (all_keep given events can) (in_effect_in given events) (tell_in_effect given events can.accepted);
   stored = λ open_service events made finished. of_world open_service.world.given open_service.settings open_service.world.world events made.1 made.0.can_be made.0.is finished;
+  finished = λ open_service events made none. all_finished open_service.world.given open_service.settings open_service.world.world events made.1 made.0.is none;
 }

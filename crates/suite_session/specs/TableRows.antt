@@ -1,15 +1,18 @@
 -- What is told of a path is what the one table of the run has there.
-use Rattle.std.specs.Prelude.{◌≡◌, ℕ, List, [], ◌∷◌, option_map, Option, Some, None}
+use Rattle.std.specs.Prelude.{◌≡◌, ℕ, false, List, [], ◌∷◌, option_map, Option, Some, None}
+use Rattle.std.specs.List.{list_any}
 use Rattle.file_ops.specs.Paths.{names_of}
 use Rattle.file_ops.specs.Rows.{Row, Rows, root, row_of}
 use Rattle.law_headline.specs.Premises.{CanBe}
 use Rattle.law_one_table.specs.Effects.{copy_at}
 use Rattle.law_one_table.specs.Versions.{HaveVersions}
 use Rattle.law_run_machine.specs.Machines.{servers_of}
+use Rattle.rep_core.specs.State.{State}
 use Rattle.rep_core.specs.Store.{copy_of}
 use Rattle.run_core.specs.declared.event.Event.{Event}
 use Rattle.run_core.specs.Runs.{run}
 use Rattle.run_core.specs.TableOfRun.{table_of}
+use Rattle.run_core.specs.Worlds.{World, server_at}
 use Rattle.suite_prefix.specs.SettingsRules.{Opening}
 use Rattle.suite_session.specs.Promised.{IsMadeBy}
 use Rattle.suite_session.specs.Rows.{Copies, child_of, found_on, shown_at, stored_in}
@@ -65,6 +68,10 @@ in_effect_in given events server suite = Some (copy_at given events suite server
 abbrev pub AllIsFinished : Opening → List Event → Type 0
 AllIsFinished given events = (suite server : ℕ) → copy_at given events suite server ≡ copy_of (servers_of given (run given events) server).store suite
 
+-- no server has a prepared lock, as `locks` tells
+abbrev pub NothingIsPrepared : World → Type 0
+NothingIsPrepared world = (server : ℕ) (st : State) → server_at world server ≡ Some st → list_any (λ lock. lock.prepared) st.locks ≡ false
+
 -- ---- the law
 
 -- What copies tell of each path is what the table has there, and its versions are the row's.
@@ -79,3 +86,5 @@ pub record RowsAreTheTables : Type 0 where
   -- So do the stored ones, of which a session tells, once all that was decided is finished.
   pub stored : (open_service : OpenService) (events : List Event) → IsMadeBy (service.Open open_service) events → AllIsFinished open_service.settings events
       → TellTheTable open_service.settings events (stored_in open_service.world.world)
+  -- And it is where no server has a prepared lock.
+  pub finished : (open_service : OpenService) (events : List Event) → IsMadeBy (service.Open open_service) events → NothingIsPrepared open_service.world.world → AllIsFinished open_service.settings events
