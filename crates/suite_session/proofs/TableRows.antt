@@ -34,10 +34,11 @@ use Rattle.suite_prefix.specs.declared.copies.PrefixKind.{PrefixKind}
 use Rattle.suite_prefix.specs.declared.copies.PrefixKind.TheVariants as kind
 use Rattle.suite_prefix.specs.declared.copies.Replica.{Replica}
 use Rattle.suite_session.proofs.NewestCopies.{AtLeast, IsNewest, is_newest}
-use Rattle.suite_session.specs.Rows.{Copies, child_in, child_of, found, found_at, found_on, newest, shown_at, shown_by, shown_for}
+use Rattle.suite_session.specs.Rows.{Copies, child_in, child_of, found, found_at, found_on, newest, shown_at, shown_by, shown_for, unless_absent}
 use Rattle.suite_session.specs.TableRows.{TellTheTable, child_by, leads_at, leads_to, numbered, numbered_at, row_at, row_in, row_told}
 use Rattle.suite_session.specs.declared.shown.Shown.{Shown}
 use Rattle.suite_session.specs.declared.side.Side.TheVariants as side
+use Rattle.txn_core.specs.Suites.{row_with}
 use Rattle.vote_core.specs.Quorums.{Configuration, votes_in}
 use Rattle.vote_core.specs.Validity.{IsValid}
 
@@ -67,24 +68,34 @@ none_told suite None body absent = refl
 none_told suite (Some head) None absent = refl
 none_told suite (Some head) (Some body) absent = rw (absent head refl) refl
 
-abbrev shown_of : ℕ → Replica → Shown
-shown_of suite held = record { suite = suite; prefix = held.prefix; dver = held.dver; content = held.content }
+abbrev shown_so : ℕ → Prefix → ℕ → Content → Shown
+shown_so suite prefix dver content = record { suite = suite; prefix = prefix; dver = dver; content = content }
 
-made_told : (suite : ℕ) (head body held : Replica) (k : PrefixKind) → held.prefix.kind ≡ k → (k ≡ kind.Absent → ⊥) → head.prefix ≡ held.prefix → body.dver ≡ held.dver → body.content ≡ held.content
+abbrev shown_of : ℕ → Replica → Shown
+shown_of suite held = shown_so suite held.prefix held.dver held.content
+
+made_some : (k : PrefixKind) (shown : Shown) → (k ≡ kind.Absent → ⊥) → unless_absent k shown ≡ Some shown
+made_some kind.Absent shown made = absurd (made refl)
+made_some kind.File shown made = refl
+made_some kind.Folder shown made = refl
+
+made_told : (suite : ℕ) (head body held : Replica) → (held.prefix.kind ≡ kind.Absent → ⊥) → head.prefix ≡ held.prefix → body.dver ≡ held.dver → body.content ≡ held.content
     → shown_by suite (Some head) (Some body) ≡ Some (shown_of suite held)
-made_told suite head body held kind.Absent is there prefix dver content = absurd (there refl)
-made_told suite head body held kind.File is there prefix dver content = rw (ap (λ (p : Prefix). p.kind) prefix ∙ is, prefix, dver, content) refl
-made_told suite head body held kind.Folder is there prefix dver content = rw (ap (λ (p : Prefix). p.kind) prefix ∙ is, prefix, dver, content) refl
+made_told suite head body held made prefix dver content =
+    made_some head.prefix.kind (shown_so suite head.prefix body.dver body.content) (λ is. made (sym (ap (λ (p : Prefix). p.kind) prefix) ∙ is))
+    ∙ ap (λ p. Some (shown_so suite p body.dver body.content)) prefix
+    ∙ ap (λ d. Some (shown_so suite held.prefix d body.content)) dver
+    ∙ ap (λ c. Some (shown_so suite held.prefix held.dver c)) content
 
 -- the row that a register shows
 none_shown : (held : Replica) → held.prefix.kind ≡ kind.Absent → row_shown held ≡ None
 none_shown held is = rw is refl
 
-made_shown : (held : Replica) (k : PrefixKind) → held.prefix.kind ≡ k → (k ≡ kind.Absent → ⊥)
-    → row_shown held ≡ Some (record { owner = held.prefix.owner; group = held.prefix.group; acl = held.prefix.acl; votes = held.prefix.votes; content = held.content })
-made_shown held kind.Absent is there = absurd (there refl)
-made_shown held kind.File is there = rw is refl
-made_shown held kind.Folder is there = rw is refl
+made_row : (k : PrefixKind) (prefix : Prefix) (content : Content) → (k ≡ kind.Absent → ⊥)
+    → row_with k prefix (Some content) ≡ Some (record { owner = prefix.owner; group = prefix.group; acl = prefix.acl; votes = prefix.votes; content = content })
+made_row kind.Absent prefix content made = absurd (made refl)
+made_row kind.File prefix content made = refl
+made_row kind.Folder prefix content made = refl
 
 made_or_not : (k : PrefixKind) → (k ≡ kind.Absent) ⊎ (k ≡ kind.Absent → ⊥)
 made_or_not kind.Absent = inl refl
@@ -92,9 +103,9 @@ made_or_not kind.File = inr (λ is. cc)
 made_or_not kind.Folder = inr (λ is. cc)
 
 -- what is told of a suite
-pub record IsToldAs (suite : ℕ) (held : Replica) (row : Option Row) (head body : Option Replica) : Type 0 where
-  pub row : row_told (shown_by suite head body) ≡ numbered suite row
-  pub child : (name : List ℕ) → child_in body name ≡ child_by row name
+pub record IsToldAs (suite : ℕ) (held : Replica) (there : Option Row) (head body : Option Replica) : Type 0 where
+  pub row : row_told (shown_by suite head body) ≡ numbered suite there
+  pub child : (name : List ℕ) → child_in body name ≡ child_by there name
   pub versions : (shown : Shown) → shown_by suite head body ≡ Some shown → (shown.suite ≡ suite) × (shown.prefix.pver ≡ held.prefix.pver) × (shown.dver ≡ held.dver)
 
 module _ (given : Opening) (events : List Event) (kept : AllKeepSides given events) (copies : Copies) (tell : ShowEffects given events copies) (z : ℕ) where
@@ -207,7 +218,7 @@ module _ (given : Opening) (events : List Event) (kept : AllKeepSides given even
       let low = best.least in
       let up = subst (λ (c : Replica). c.prefix.pver ≤ held.prefix.pver) (sym is) (most from.0).0 in
       let equal : best.best.prefix.pver ≡ held.prefix.pver = omega (arith, low, up, its) in
-      (best.best, (best.is, ap (λ (c : Replica). c.prefix) is ∙ same_prefix from.0 (ap (λ (c : Replica). c.prefix.pver) (sym is) ∙ equal)))
+      (best.best, best.is, ap (λ (c : Replica). c.prefix) is ∙ same_prefix from.0 (ap (λ (c : Replica). c.prefix.pver) (sym is) ∙ equal))
 
   new_content : 0 < held.dver → (copy : Replica) × (body ≡ Some copy) × (copy.dver ≡ held.dver) × (copy.content ≡ held.content)
   new_content some =
@@ -220,7 +231,7 @@ module _ (given : Opening) (events : List Event) (kept : AllKeepSides given even
       let low = best.least in
       let up = subst (λ (c : Replica). c.dver ≤ held.dver) (sym is) (most from.0).1 in
       let equal : best.best.dver ≡ held.dver = omega (arith, low, up, its) in
-      (best.best, (best.is, (equal, ap (λ (c : Replica). c.content) is ∙ same_content from.0 some (ap (λ (c : Replica). c.dver) (sym is) ∙ equal))))
+      (best.best, best.is, equal, ap (λ (c : Replica). c.content) is ∙ same_content from.0 some (ap (λ (c : Replica). c.dver) (sym is) ∙ equal))
 
   positive : (n : ℕ) → (n ≡ 0 → held.prefix.kind ≡ kind.Absent) → (held.prefix.kind ≡ kind.Absent → ⊥) → 0 < n
   positive n zero made = elim (none_or_some n) [ inl is ↦ absurd (made (zero is)) | inr some ↦ some ]
@@ -229,24 +240,16 @@ module _ (given : Opening) (events : List Event) (kept : AllKeepSides given even
   when_made made =
       let h = new_prefix (positive held.prefix.pver absent_at made) in
       let b = new_content (positive held.dver unmade made) in
-      let row = sym shown.shows ∙ made_shown held held.prefix.kind refl made in
-      let told = ap (λ head. shown_by z head body) h.1.0 ∙ ap (λ body. shown_by z (Some h.0) body) b.1.0 ∙ made_told z h.0 b.0 held held.prefix.kind refl made h.1.1 b.1.1.0 b.1.1.1 in
+      let row = sym shown.shows ∙ made_row held.prefix.kind held.prefix held.content made in
+      let told : shown_by z head body ≡ Some (shown_of z held) =
+      ap (λ head. shown_by z head body) h.1 ∙ ap (λ body. shown_by z (Some h.0) body) b.1 ∙ made_told z h.0 b.0 held made h.2 b.2 b.3 in
       record {
         row = ap row_told told ∙ sym (ap (numbered z) row);
-        child = λ name. ap (λ body. child_in body name) b.1.0 ∙ ap (λ content. child_of content name) b.1.1.1 ∙ sym (ap (λ row. child_by row name) row);
+        child = λ name. ap (λ body. child_in body name) b.1 ∙ ap (λ content. child_of content name) b.3 ∙ sym (ap (λ row. child_by row name) row);
         versions = λ one is.
             let same : shown_of z held ≡ one = same_Some (shown_of z held) one (sym told ∙ is) in
-            (of_suite one same, (of_pver one same, of_dver one same));
+            (ap (λ (s : Shown). s.suite) (sym same), ap (λ (s : Shown). s.prefix.pver) (sym same), ap (λ (s : Shown). s.dver) (sym same));
       }
-    where
-      of_suite : (one : Shown) → shown_of z held ≡ one → one.suite ≡ z
-            of_suite one same = ap (λ (s : Shown). s.suite) (sym same)
-
-      of_pver : (one : Shown) → shown_of z held ≡ one → one.prefix.pver ≡ held.prefix.pver
-            of_pver one same = ap (λ (s : Shown). s.prefix.pver) (sym same)
-
-      of_dver : (one : Shown) → shown_of z held ≡ one → one.dver ≡ held.dver
-            of_dver one same = ap (λ (s : Shown). s.dver) (sym same)
 
   -- ---- what was not
 
@@ -333,26 +336,26 @@ module _ (given : Opening) (events : List Event) (kept : AllKeepSides given even
   same_row (Some suite) = (told_as given events kept copies tell suite).row
 
   -- a row that is told is there
-  row_there : (suite : ℕ) (shown : Shown) (told : Option Shown) (row : Option Row) → told ≡ Some shown → row_told told ≡ numbered suite row → (one : Row) × (row ≡ Some one)
-  row_there suite shown None row is same = absurd (none-some shown is)
-  row_there suite shown (Some one) None is same = absurd (none-some (row_in one) (sym same))
-  row_there suite shown (Some one) (Some row) is same = (row, refl)
+  row_there : (suite : ℕ) (one : Shown) (told : Option Shown) (row : Option Row) → told ≡ Some one → row_told told ≡ numbered suite row → (its : Row) × (row ≡ Some its)
+  row_there suite one None row is same = absurd (none-some one is)
+  row_there suite one (Some other) None is same = absurd (none-some (row_in other) (sym same))
+  row_there suite one (Some other) (Some row) is same = (row, refl)
 
-  same_versions : (suite : Option ℕ) (shown : Shown) (versions : HaveVersions given events) → shown_for copies given.servers suite ≡ Some shown
-      → ((versions.at events shown.suite).prefix ≡ shown.prefix.pver) × ((versions.at events shown.suite).content ≡ shown.dver)
-  same_versions None shown versions is = absurd (none-some shown is)
-  same_versions (Some suite) shown versions is =
+  same_versions : (suite : Option ℕ) (one : Shown) (versions : HaveVersions given events) → shown_for copies given.servers suite ≡ Some one
+      → ((versions.at events one.suite).prefix ≡ one.prefix.pver) × ((versions.at events one.suite).content ≡ one.dver)
+  same_versions None one versions is = absurd (none-some one is)
+  same_versions (Some suite) one versions is =
       let told = told_as given events kept copies tell suite in
-      let its = told.versions shown is in
-      let row = row_there suite shown (shown_for copies given.servers (Some suite)) (row_of rows suite) is told.row in
+      let its = told.versions one is in
+      let row = row_there suite one (shown_for copies given.servers (Some suite)) (row_of rows suite) is told.row in
       let at = its_versions given events kept copies tell suite row.0 versions row.1 in
       (
-        ap (λ n. (versions.at events n).prefix) its.0 ∙ at.0 ∙ sym its.1.0,
-        ap (λ n. (versions.at events n).content) its.0 ∙ at.1 ∙ sym its.1.1,
+        ap (λ n. (versions.at events n).prefix) its.0 ∙ at.0 ∙ sym its.1,
+        ap (λ n. (versions.at events n).content) its.0 ∙ at.1 ∙ sym its.2,
       )
 
   pub tell_the_table : TellTheTable given events copies
   tell_the_table = record {
     rows = λ text. same_row (found_at copies given.servers (names_of text)) ∙ ap (numbered_at rows) (same_at (names_of text));
-    versions = λ text shown versions is. same_versions (found_at copies given.servers (names_of text)) shown versions is;
+    versions = λ text one versions is. same_versions (found_at copies given.servers (names_of text)) one versions is;
   }

@@ -1,5 +1,5 @@
 -- The copies in effect tell what is in effect, and so do the stored ones where all is finished.
-use Rattle.std.proofs.Common.{◌≡◌, ℕ, zero, suc, ◌<◌, ◌≤◌, ◌==◌, Bool, true, false, List, [], ◌∷◌, length, unwrap_or, Option, Some, None, refl, sym, ap, subst, ◌∙◌, arith}
+use Rattle.std.proofs.Common.{◌≡◌, ℕ, zero, suc, ◌<◌, ◌≤◌, ◌==◌, Bool, true, false, if◌then◌else◌, List, [], ◌∷◌, length, unwrap_or, Option, Some, None, refl, sym, ap, subst, ◌∙◌, arith}
 use Rattle.std.proofs.lemmas.Bool.{false≢true}
 use Rattle.std.proofs.lemmas.Bool.Decides.{nat_tests}
 use Rattle.std.proofs.lemmas.List.Elements.{All-weaker}
@@ -79,28 +79,28 @@ module _ (given : Opening) (events : List Event) (accepted : IsAccepted given) w
   }
 
   module _ (finished : AllIsFinished given events) where
-    abbrev world : World
-    world = run given events
+    abbrev ran : World
+    ran = run given events
 
-    at : (server : ℕ) (st : State) (suite : ℕ) → server_at world server ≡ Some st → copy_at given events suite server ≡ copy_of st.store suite
+    at : (server : ℕ) (st : State) (suite : ℕ) → server_at ran server ≡ Some st → copy_at given events suite server ≡ copy_of st.store suite
     at server st suite is = finished suite server ∙ ap (λ o. copy_of (unwrap_or o (state.opening server given)).store suite) is
 
-    some_stored : (suite server : ℕ) (copy : Replica) (found : Option State) → server_at world server ≡ found → stored_by found suite ≡ Some copy → copy ≡ copy_at given events suite server
+    some_stored : (suite server : ℕ) (copy : Replica) (found : Option State) → server_at ran server ≡ found → stored_by found suite ≡ Some copy → copy ≡ copy_at given events suite server
     some_stored suite server copy None there is = absurd (none-some copy is)
     some_stored suite server copy (Some st) there is = sym (at server st suite there ∙ ap (λ o. unwrap_or o (absent_copy st.store.c0)) is)
 
-    none_stored : (suite server : ℕ) (found : Option State) → server_at world server ≡ found → stored_by found suite ≡ None → IsNever (copy_at given events suite server)
+    none_stored : (suite server : ℕ) (found : Option State) → server_at ran server ≡ found → stored_by found suite ≡ None → IsNever (copy_at given events suite server)
     none_stored suite server None there is =
-        let most = none_behind world.servers server there in
+        let most = none_behind ran.servers server there in
         let many = (so_many given events).0 in
         beyond suite server (omega (arith, most, many))
     none_stored suite server (Some st) there is =
         subst IsNever (sym (at server st suite there ∙ ap (λ o. unwrap_or o (absent_copy st.store.c0)) is)) (refl, refl)
 
-    tell_stored : ShowEffects given events (stored_in world)
+    tell_stored : ShowEffects given events (stored_in ran)
     tell_stored = record {
-      some = λ suite server copy is. some_stored suite server copy (server_at world server) refl is;
-      none = λ suite server is. none_stored suite server (server_at world server) refl is;
+      some = λ suite server copy is. some_stored suite server copy (server_at ran server) refl is;
+      none = λ suite server is. none_stored suite server (server_at ran server) refl is;
       beyond = beyond;
     }
 
