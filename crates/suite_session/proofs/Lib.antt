@@ -1,3 +1,6 @@
+pub mod NewestCopies
 pub mod OneMore
 pub mod Played
 pub mod Promised
+pub mod TableRows
+pub mod TellEffects

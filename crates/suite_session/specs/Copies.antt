@@ -7,7 +7,7 @@ use Rattle.rep_core.specs.declared.lock.Lock.{Lock}
 use Rattle.run_core.specs.Worlds.{World, server_at}
 use Rattle.suite_prefix.specs.declared.copies.Replica.{Replica}
 use Rattle.suite_script.specs.Faults.{line_feed}
-use Rattle.suite_session.specs.Rows.{found_at, newest, stored_by, version_of}
+use Rattle.suite_session.specs.Rows.{found_at, newest, stored_by, stored_in, version_of}
 use Rattle.suite_session.specs.declared.copies.Sought.{Sought}
 use Rattle.suite_session.specs.declared.copies.Standing.{Standing}
 use Rattle.suite_session.specs.declared.copies.Versions.{Versions}
@@ -50,7 +50,7 @@ version_in one None = 0
 abbrev pub sought_in : World → ℕ → ℕ → Sought
 sought_in world count suite = record {
   suite = suite;
-  newest = record { prefix = version_in side.Prefix (newest side.Prefix world suite count); content = version_in side.Content (newest side.Content world suite count) };
+  newest = record { prefix = version_in side.Prefix (newest side.Prefix (stored_in world) suite count); content = version_in side.Content (newest side.Content (stored_in world) suite count) };
 }
 
 -- ---- how it is told
@@ -93,4 +93,4 @@ copies_of world count text (Some suite) = standing_lines text (sought_in world c
 copies_of world count text None = codes "copies " ++ text ++ codes " nothing" ++ line_feed
 
 abbrev pub copies_text : World → ℕ → List ℕ → List ℕ
-copies_text world count text = copies_of world count text (found_at world count (names_of text))
+copies_text world count text = copies_of world count text (found_at (stored_in world) count (names_of text))

@@ -7,3 +7,4 @@ pub mod Promised
 pub mod Questions
 pub mod Rows
 pub mod Services
+pub mod TableRows

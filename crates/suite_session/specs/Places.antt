@@ -11,7 +11,7 @@ use Rattle.suite_prefix.specs.declared.copies.PrefixKind.{PrefixKind}
 use Rattle.suite_prefix.specs.declared.copies.PrefixKind.TheVariants as kind
 use Rattle.suite_prefix.specs.declared.copies.Replica.{Replica}
 use Rattle.suite_script.specs.Faults.{line_feed}
-use Rattle.suite_session.specs.Rows.{newest}
+use Rattle.suite_session.specs.Rows.{newest, stored_in}
 use Rattle.suite_session.specs.declared.side.Side.TheVariants as side
 
 -- ---- what is named
@@ -32,7 +32,7 @@ is_folder kind.Folder = true
 
 -- those that a folder among copies names, as its newest content at the first so many servers has them
 abbrev pub numbers_by : World → ℕ → ℕ × Replica → List ℕ
-numbers_by world count pair = if is_folder pair.1.prefix.kind then numbers_of (newest side.Content world pair.0 count) else []
+numbers_by world count pair = if is_folder pair.1.prefix.kind then numbers_of (newest side.Content (stored_in world) pair.0 count) else []
 
 abbrev pub named_by : World → ℕ → Option State → List ℕ
 named_by world count (Some st) = flat_map (numbers_by world count) st.store.copies

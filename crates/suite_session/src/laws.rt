@@ -2,6 +2,7 @@
 
 ghost use Rattle.suite_session.specs.Played.{LinesBelowArePlayed};
 ghost use Rattle.suite_session.specs.Promised.{SessionIsPromised};
+ghost use Rattle.suite_session.specs.TableRows.{RowsAreTheTables};
 
 /// A law: at each moment the world of a session is that of its events so far, so all is promised of it that is promised
 /// of a run. It does nothing.
@@ -13,4 +14,10 @@ pub fn session_is_promised()
 /// `play` prints for them. It does nothing.
 pub fn lines_below_are_played()
     ensures { LinesBelowArePlayed }
+{}
+
+/// A law: what `row` tells of a path, by the copies in effect, is the row of the run's one table, for every run and path,
+/// and so by the stored copies, once all that was decided is finished. It does nothing.
+pub fn rows_are_the_tables()
+    ensures { RowsAreTheTables }
 {}

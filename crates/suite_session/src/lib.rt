@@ -41,7 +41,7 @@ mod side;
 mod start;
 
 pub use heading::Heading;
-pub use laws::{lines_below_are_played, session_is_promised};
+pub use laws::{lines_below_are_played, rows_are_the_tables, session_is_promised};
 pub use open_service::OpenService;
 pub use play_service::PlayService;
 pub use start::first_desk;
