@@ -258,12 +258,12 @@ module _ (given : Opening) (events : List Event) (kept : AllKeepSides given even
       let zero = never absent in
       let none : row_of (table_of given events).rows z ≡ None = sym shown.shows ∙ none_shown held absent in
       let told : shown_by z head body ≡ None = none_told z head body (λ copy is.
-          let from = of_prefix.from copy is in
-          let its = tell.some z from.0 copy from.1 in
-          let low = (most from.0).0 in
-          let z0 = zero.0 in
-          let version : (effects from.0).prefix.pver ≡ held.prefix.pver = omega (arith, low, z0) in
-          ap (λ (c : Replica). c.prefix.kind) its ∙ ap (λ (p : Prefix). p.kind) (same_prefix from.0 version) ∙ absent) in
+      let from = of_prefix.from copy is in
+      let its = tell.some z from.0 copy from.1 in
+      let low = (most from.0).0 in
+      let z0 = zero.0 in
+      let version : (effects from.0).prefix.pver ≡ held.prefix.pver = omega (arith, low, z0) in
+      ap (λ (c : Replica). c.prefix.kind) its ∙ ap (λ (p : Prefix). p.kind) (same_prefix from.0 version) ∙ absent) in
       record {
         row = ap row_told told ∙ sym (ap (numbered z) none);
         child = λ name. no_name name body refl zero.1 ∙ sym (ap (λ row. child_by row name) none);
@@ -348,8 +348,7 @@ module _ (given : Opening) (events : List Event) (kept : AllKeepSides given even
       let told = told_as given events kept copies tell suite in
       let its = told.versions one is in
       let row = row_there suite one (shown_for copies given.servers (Some suite)) (row_of rows suite) is told.row in
-      let at = its_versions given events kept copies tell suite row.0 versions row.1 in
-      (
+      let at = its_versions given events kept copies tell suite row.0 versions row.1 in (
         ap (λ n. (versions.at events n).prefix) its.0 ∙ at.0 ∙ sym its.1,
         ap (λ n. (versions.at events n).content) its.0 ∙ at.1 ∙ sym its.2,
       )

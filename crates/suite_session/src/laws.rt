@@ -16,8 +16,9 @@ pub fn lines_below_are_played()
     ensures { LinesBelowArePlayed }
 {}
 
-/// A law: what `row` tells of a path, by the copies in effect, is the row of the run's one table, for every run and path,
-/// and so by the stored copies, once all that was decided is finished. It does nothing.
+/// A law: what `row` tells of a path, by the copies in effect, is the row of the run's one table, with its versions, for
+/// every run and path. So it is by the stored copies, once all that was decided is finished, as it is where no server
+/// has a prepared lock. It does nothing.
 pub fn rows_are_the_tables()
     ensures { RowsAreTheTables }
 {}
