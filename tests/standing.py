@@ -116,6 +116,14 @@ def dropped(path: str, tally: Tally) -> None:
     old = [b"up prefix 1 content 2 behind content", *[b"up prefix 1 content 3"] * 2]
     wanted = [*of_copies(b"/", 0, *old), *of_room((2, 1), (2, 1), (1, 0))]
     tally.holds(told == wanted, "dropped", told, wanted)
+    # a folder and what was in it, at one server
+    lines = (
+        b"servers 1", b"agents 1", b"votes 1/1/1", b"root 1000 100 777", b"cache 0 0 0",
+        b"begin 0 1000 100 0 folder /d 755 ; file /d/f 644", b"run 0", b"room",
+        b"begin 0 1000 100 0 drop /d/f ; drop /d", b"run 0", b"room",
+    )
+    rooms = [line for line in ran(path, [], text_of(lines))[1].splitlines() if line.startswith(b"room")]
+    tally.holds(rooms == [*of_room((3, 0)), *of_room((3, 2))], "a folder is dropped", rooms)
 
 
 def damaged(path: str, tally: Tally) -> None:
