@@ -1,13 +1,11 @@
 -- What copies tell of a path is what the table has there, where they tell what is in effect.
-use Rattle.std.proofs.Common.{◌≡◌, ◌⊎◌, ℕ, ◌<◌, ◌≤◌, ◌==◌, Bool, true, false, List, [], ◌∷◌, ◌++◌, length, option_map, Option, Some, None, inl, inr, refl, sym, ap, subst, ◌∙◌, arith}
+use Rattle.std.proofs.Common.{◌≡◌, ◌⊎◌, ℕ, ◌<◌, ◌≤◌, true, List, [], ◌∷◌, Option, Some, None, inl, inr, refl, sym, ap, subst, ◌∙◌, arith}
 use Rattle.std.proofs.lemmas.Bool.Decides.{nat_tests}
 use Rattle.std.proofs.lemmas.List.{append-nil}
-use Rattle.std.proofs.lemmas.Option.{none-some, same_Some, slice_get_within}
-use Rattle.std.specs.Prelude.{nat_le, slice_get}
+use Rattle.std.proofs.lemmas.Option.{none-some, same_Some}
+use Rattle.std.specs.Prelude.{nat_le}
 use Rattle.file_ops.specs.Paths.{names_of}
 use Rattle.file_ops.specs.Rows.{Row, Rows, root, row_of}
-use Rattle.law_headline.proofs.Keeping.{all_keep}
-use Rattle.law_headline.specs.Premises.{CanBe}
 use Rattle.law_one_table.proofs.Effects.{effect_at, greatest, inv, of_row}
 use Rattle.law_one_table.proofs.Running.{all_shown}
 use Rattle.law_one_table.proofs.Shown.{IsShown, NeverAs}
@@ -18,24 +16,23 @@ use Rattle.law_run_machine.specs.Machines.{machine_of}
 use Rattle.law_server_moves.specs.Laws.{beginning}
 use Rattle.law_suite_machine.proofs.Conclusions.{quorums_show}
 use Rattle.law_suite_machine.proofs.Invariant.{Inv}
-use Rattle.law_suite_machine.specs.Machine.{IsQuorum, World, effect}
-use Rattle.law_suite_machine.specs.Registers.{Beginning, GoesWith, WasContent, WasCopy, content_at, empty_of, prefix_at}
+use Rattle.law_suite_machine.specs.Machine.{IsQuorum, World}
+use Rattle.law_suite_machine.specs.Registers.{Beginning, WasCopy, content_at, prefix_at}
 use Rattle.run_core.specs.declared.event.Event.{Event}
 use Rattle.run_core.specs.TableOfRun.{table_of}
 use Rattle.suite_content.specs.Contents.{empty_content}
 use Rattle.suite_content.specs.declared.content.Content.{Content}
 use Rattle.suite_content.specs.declared.content.Kind.{Kind}
 use Rattle.suite_content.specs.declared.content.Kind.TheVariants as holds
-use Rattle.suite_prefix.specs.Absent.{absent_prefix}
 use Rattle.suite_prefix.specs.Copies.{held_by}
 use Rattle.suite_prefix.specs.SettingsRules.{Opening}
 use Rattle.suite_prefix.specs.declared.copies.Prefix.{Prefix}
 use Rattle.suite_prefix.specs.declared.copies.PrefixKind.{PrefixKind}
 use Rattle.suite_prefix.specs.declared.copies.PrefixKind.TheVariants as kind
 use Rattle.suite_prefix.specs.declared.copies.Replica.{Replica}
-use Rattle.suite_session.proofs.NewestCopies.{AtLeast, IsNewest, is_newest}
-use Rattle.suite_session.specs.Rows.{Copies, child_in, child_of, found, found_at, found_on, newest, shown_at, shown_by, shown_for, unless_absent}
-use Rattle.suite_session.specs.TableRows.{TellTheTable, child_by, leads_at, leads_to, numbered, numbered_at, row_at, row_in, row_told}
+use Rattle.suite_session.proofs.NewestCopies.{IsNewest, is_newest}
+use Rattle.suite_session.specs.Rows.{Copies, child_in, child_of, found, found_at, found_on, newest, shown_by, shown_for, unless_absent}
+use Rattle.suite_session.specs.TableRows.{TellTheTable, child_by, leads_at, leads_to, numbered, numbered_at, row_in, row_told}
 use Rattle.suite_session.specs.declared.shown.Shown.{Shown}
 use Rattle.suite_session.specs.declared.side.Side.TheVariants as side
 use Rattle.txn_core.specs.Suites.{row_with}

@@ -4,7 +4,7 @@ ghost use Rattle.std.specs.Prelude.{◌≡◌, ◌++◌, IfOk, OnOk, Some, codes
 ghost use Rattle.run_core.specs.Worlds.{server_at};
 ghost use Rattle.suite_script.specs.Faults.{line_feed};
 ghost use Rattle.suite_session.specs.Copies.{behind_text, copies_text, copy_text, is_prepared, is_prepared_by, is_up, prepared_text, sought_in, standing_at, standing_line, standing_lines, standing_text, up_text, version_in, versions_in};
-ghost use Rattle.suite_session.specs.Rows.{newest, stored_by, stored_in};
+ghost use Rattle.suite_session.specs.Rows.{newest, stored_in};
 
 use crate::newest::{copy_at, newest};
 use crate::open_service::OpenService;

@@ -4,8 +4,8 @@ ghost use Rattle.std.specs.Prelude.{◌≡◌, ◌++◌, IfOk, OnOk, length, map
 ghost use Rattle.std.specs.List.{flat_map};
 ghost use Rattle.rep_core.specs.code.Planning.{copies_in};
 ghost use Rattle.run_core.specs.Worlds.{server_at};
-ghost use Rattle.suite_session.specs.Places.{copies_line, is_folder, named_by, named_in, numbers_by, numbers_in, numbers_of, room_line, room_lines, room_text, taken_text, unnamed, unnamed_text};
-ghost use Rattle.suite_session.specs.Rows.{newest, stored_in};
+ghost use Rattle.suite_session.specs.Places.{copies_line, is_folder, named_by, named_in, numbers_by, numbers_of, room_line, room_lines, room_text, taken_text, unnamed, unnamed_text};
+ghost use Rattle.suite_session.specs.Rows.{newest};
 ghost use Rattle.suite_session.specs.declared.side.Side.TheVariants as side;
 
 use crate::newest::newest;

@@ -28,11 +28,8 @@ use Rattle.suite_prefix.specs.Absent.{absent_copy}
 use Rattle.suite_prefix.specs.SettingsRules.{IsAccepted, Opening}
 use Rattle.suite_prefix.specs.declared.copies.Replica.{Replica}
 use Rattle.suite_session.proofs.TableRows.{ShowEffects, tell_the_table}
-use Rattle.suite_session.specs.Promised.{IsMadeBy}
 use Rattle.suite_session.specs.Rows.{stored_by, stored_in}
 use Rattle.suite_session.specs.TableRows.{AllIsFinished, NothingIsPrepared, RowsAreTheTables, TellTheTable, in_effect_in}
-use Rattle.suite_session.specs.declared.open_service.OpenService.{OpenService}
-use Rattle.suite_session.specs.declared.play_service.PlayService.TheVariants as service
 use Rattle.vote_core.specs.Quorums.{Representative}
 
 -- nothing was made there
