@@ -147,7 +147,7 @@ PARTS = (
     Part("the mount against the kernel", tool("tests/mount-against-the-kernel.py"), [PROGRAM, SESSION]),
     Part("the shell, import and stories", tool("tests/shell.py"), [PROGRAM, TRACE, FORMS, SESSION]),
     Part("programs on the mount", tool("tests/mount-programs.py", "--well"), [PROGRAM, SESSION]),
-    Part("sessions and their journals", tool("tests/session.py"), [PROGRAM, SESSION]),
+    Part("sessions and their journals", tool("tests/session.py"), [PROGRAM, TRACE, SESSION]),
     Part("what votes tells", tool("tests/votes.py"), [PROGRAM, TRACE]),
     Part("what votes tells of scripts", tool("tests/votes-left.py"), [PROGRAM, TRACE]),
     Part("pictures", tool("tests/drawn.py"), [TRACE]),
@@ -168,7 +168,7 @@ LONG = (
     Part("the mount, long", tool("tests/mount-against-the-kernel.py", "--calls", "200000"), [PROGRAM, SESSION]),
     Part("programs on the mount, and servers that crash", tool("tests/mount-programs.py"), [PROGRAM, SESSION]),
     Part("faults of the mount", tool("tests/mount-faults.py"), [PROGRAM, SESSION]),
-    Part("sessions that are killed", tool("tests/session.py", "--long"), [PROGRAM, SESSION]),
+    Part("sessions that are killed", tool("tests/session.py", "--long"), [PROGRAM, TRACE, SESSION]),
     Part("lies about runs", tool("tests/lies.py", "1000"), [TRACE]),
     Part(
         "refused allocations",
