@@ -141,7 +141,8 @@ ASKS: tuple[tuple[str, str], ...] = (
         " transaction is prepared there and has not ended there",
     ),
     (
-        r"copies (\S+) suite (\d+) server (\d+) (up|down) prefix (\d+) content (\d+)(?: behind [a-z ]+?)?(?: prepared)?$",
+        r"copies (\S+) suite (\d+) server (\d+) (up|down) prefix (\d+) content (\d+)(?: behind [a-z ]+?)?"
+        r"(?: prepared)?$",
         "{0} is suite {1}, and server {2}, which is {3}, has a copy of it, with version {4} of the prefix (kind, owner,"
         " group, lists and votes) and {5} of the content. `behind` tells what of it is older than the newest copy that"
         " a server has, `prepared` that a transaction is prepared there and has not ended there",
