@@ -32,18 +32,18 @@ use Rattle.suite_prefix.specs.declared.copies.PrefixKind.TheVariants as kind
 use Rattle.suite_prefix.specs.declared.copies.Replica.{Replica}
 use Rattle.suite_session.proofs.NewestCopies.{IsNewest, is_newest}
 use Rattle.suite_session.specs.Rows.{Copies, child_in, child_of, found, found_at, found_on, newest, shown_by, shown_for, unless_absent}
-use Rattle.suite_session.specs.TableRows.{TellTheTable, child_by, leads_at, leads_to, numbered, numbered_at, row_in, row_told}
+use Rattle.suite_session.specs.TableRows.{OnNext, OnPath, OnWay, TellTheRow, child_by, leads_at, leads_to, numbered, numbered_at, row_in, row_told}
 use Rattle.suite_session.specs.declared.shown.Shown.{Shown}
 use Rattle.suite_session.specs.declared.side.Side.TheVariants as side
 use Rattle.txn_core.specs.Suites.{row_with}
 use Rattle.vote_core.specs.Quorums.{Configuration, votes_in}
 use Rattle.vote_core.specs.Validity.{IsValid}
 
--- each copy is the one in effect, and where there is none nothing is; so it is behind the last server
-pub record ShowEffects (given : Opening) (events : List Event) (copies : Copies) : Type 0 where
-  pub some : (suite server : ℕ) (copy : Replica) → copies server suite ≡ Some copy → copy ≡ copy_at given events suite server
-  pub none : (suite server : ℕ) → copies server suite ≡ None → ((copy_at given events suite server).prefix.pver ≡ 0) × ((copy_at given events suite server).dver ≡ 0)
-  pub beyond : (suite server : ℕ) → given.servers ≤ server → ((copy_at given events suite server).prefix.pver ≡ 0) × ((copy_at given events suite server).dver ≡ 0)
+-- each copy of a suite is the one in effect, and where there is none nothing is; so it is behind the last server
+pub record ShowEffects (given : Opening) (events : List Event) (copies : Copies) (suite : ℕ) : Type 0 where
+  pub some : (server : ℕ) (copy : Replica) → copies server suite ≡ Some copy → copy ≡ copy_at given events suite server
+  pub none : (server : ℕ) → copies server suite ≡ None → ((copy_at given events suite server).prefix.pver ≡ 0) × ((copy_at given events suite server).dver ≡ 0)
+  pub beyond : (server : ℕ) → given.servers ≤ server → ((copy_at given events suite server).prefix.pver ≡ 0) × ((copy_at given events suite server).dver ≡ 0)
 
 least : (a b : ℕ) → a ≤ b → nat_le a b ≡ true
 least a b is = grind (arith, nat_tests)
@@ -105,7 +105,7 @@ pub record IsToldAs (suite : ℕ) (held : Replica) (there : Option Row) (head bo
   pub child : (name : List ℕ) → child_in body name ≡ child_by there name
   pub versions : (shown : Shown) → shown_by suite head body ≡ Some shown → (shown.suite ≡ suite) × (shown.prefix.pver ≡ held.prefix.pver) × (shown.dver ≡ held.dver)
 
-module _ (given : Opening) (events : List Event) (kept : AllKeepSides given events) (copies : Copies) (tell : ShowEffects given events copies) (z : ℕ) where
+module _ (given : Opening) (events : List Event) (kept : AllKeepSides given events) (copies : Copies) (z : ℕ) (tell : ShowEffects given events copies z) where
   abbrev held : Replica
   held = register given z events
 
@@ -183,10 +183,10 @@ module _ (given : Opening) (events : List Event) (kept : AllKeepSides given even
 
       inside : (server < given.servers) ⊎ (given.servers ≤ server) → server < given.servers
       inside (inl less) = less
-      inside (inr more) = absurd (not_none (tell.beyond z server more))
+      inside (inr more) = absurd (not_none (tell.beyond server more))
 
       of : (found : Option Replica) → copies server z ≡ found → (copy : Replica) × (copies server z ≡ Some copy)
-      of None is = absurd (not_none (tell.none z server is))
+      of None is = absurd (not_none (tell.none server is))
       of (Some copy) is = (copy, is)
 
   -- ---- what was made
@@ -209,9 +209,9 @@ module _ (given : Opening) (events : List Event) (kept : AllKeepSides given even
       let version : (effects one.0).prefix.pver ≡ held.prefix.pver = ap (λ (p : Prefix). p.pver) one.1 in
       let at = there one.0 (inl (subst (λ n. 0 < n) (sym version) some)) in
       let best = of_prefix.least one.0 at.1.0 at.0 at.1.1 in
-      let its : at.1.0.prefix.pver ≡ held.prefix.pver = ap (λ (c : Replica). c.prefix.pver) (tell.some z one.0 at.1.0 at.1.1) ∙ version in
+      let its : at.1.0.prefix.pver ≡ held.prefix.pver = ap (λ (c : Replica). c.prefix.pver) (tell.some one.0 at.1.0 at.1.1) ∙ version in
       let from = of_prefix.from best.best best.is in
-      let is = tell.some z from.0 best.best from.1 in
+      let is = tell.some from.0 best.best from.1 in
       let low = best.least in
       let up = subst (λ (c : Replica). c.prefix.pver ≤ held.prefix.pver) (sym is) (most from.0).0 in
       let equal : best.best.prefix.pver ≡ held.prefix.pver = omega (arith, low, up, its) in
@@ -222,9 +222,9 @@ module _ (given : Opening) (events : List Event) (kept : AllKeepSides given even
       let one = some_content in
       let at = there one.0 (inr (subst (λ n. 0 < n) (sym one.1) some)) in
       let best = of_content.least one.0 at.1.0 at.0 at.1.1 in
-      let its : at.1.0.dver ≡ held.dver = ap (λ (c : Replica). c.dver) (tell.some z one.0 at.1.0 at.1.1) ∙ one.1 in
+      let its : at.1.0.dver ≡ held.dver = ap (λ (c : Replica). c.dver) (tell.some one.0 at.1.0 at.1.1) ∙ one.1 in
       let from = of_content.from best.best best.is in
-      let is = tell.some z from.0 best.best from.1 in
+      let is = tell.some from.0 best.best from.1 in
       let low = best.least in
       let up = subst (λ (c : Replica). c.dver ≤ held.dver) (sym is) (most from.0).1 in
       let equal : best.best.dver ≡ held.dver = omega (arith, low, up, its) in
@@ -256,7 +256,7 @@ module _ (given : Opening) (events : List Event) (kept : AllKeepSides given even
       let none : row_of (table_of given events).rows z ≡ None = sym shown.shows ∙ none_shown held absent in
       let told : shown_by z head body ≡ None = none_told z head body (λ copy is.
       let from = of_prefix.from copy is in
-      let its = tell.some z from.0 copy from.1 in
+      let its = tell.some from.0 copy from.1 in
       let low = (most from.0).0 in
       let z0 = zero.0 in
       let version : (effects from.0).prefix.pver ≡ held.prefix.pver = omega (arith, low, z0) in
@@ -277,7 +277,7 @@ module _ (given : Opening) (events : List Event) (kept : AllKeepSides given even
       no_name name None is zero = refl
       no_name name (Some copy) is zero =
           let from = of_content.from copy is in
-          let its = tell.some z from.0 copy from.1 in
+          let its = tell.some from.0 copy from.1 in
           let low = (most from.0).1 in
           ap (λ (c : Replica). child_of c.content name) its ∙ empty from.0 name (omega (arith, low, zero))
 
@@ -310,27 +310,37 @@ module _ (given : Opening) (events : List Event) (kept : AllKeepSides given even
 
 -- ---- the way
 
-module _ (given : Opening) (events : List Event) (kept : AllKeepSides given events) (copies : Copies) (tell : ShowEffects given events copies) where
+-- what holds on the way holds at the end
+next_end : (next : Option ℕ) (P Q : ℕ → Type 0) (lead : ℕ → Option ℕ) → ((n : ℕ) → Q n → OnNext (lead n) P) → OnNext next Q → OnNext (found_on next lead) P
+next_end None P Q lead goes on = tt
+next_end (Some n) P Q lead goes on = goes n on
+
+at_end : (P : ℕ → Type 0) (rows : Rows) (suite : ℕ) (names : List (List ℕ)) → OnWay P rows suite names → OnNext (leads_to rows suite names) P
+at_end P rows suite [] holds = holds
+at_end P rows suite (name ∷ names) holds =
+    next_end (child_by (row_of rows suite) name) P (λ next. OnWay P rows next names) (λ next. leads_to rows next names) (λ next on. at_end P rows next names on) holds.1
+
+module _ (given : Opening) (events : List Event) (kept : AllKeepSides given events) (copies : Copies) where
   abbrev rows : Rows
   rows = (table_of given events).rows
 
-  on : (c : Option ℕ) (f g : ℕ → Option ℕ) → ((n : ℕ) → f n ≡ g n) → found_on c f ≡ found_on c g
-  on None f g same = refl
-  on (Some n) f g same = same n
+  abbrev Show : ℕ → Type 0
+  Show suite = ShowEffects given events copies suite
 
-  same_way : (suite : ℕ) (names : List (List ℕ)) → found copies given.servers suite names ≡ leads_to rows suite names
-  same_way suite [] = refl
-  same_way suite (name ∷ names) =
-      ap (λ c. found_on c (λ next. found copies given.servers next names)) ((told_as given events kept copies tell suite).child name)
-      ∙ on (child_by (row_of rows suite) name) (λ next. found copies given.servers next names) (λ next. leads_to rows next names) (λ next. same_way next names)
+  same_next : (next : Option ℕ) (Q : ℕ → Type 0) (f g : ℕ → Option ℕ) → ((n : ℕ) → Q n → f n ≡ g n) → OnNext next Q → found_on next f ≡ found_on next g
+  same_next None Q f g same on = refl
+  same_next (Some n) Q f g same on = same n on
 
-  same_at : (names : Option (List (List ℕ))) → found_at copies given.servers names ≡ leads_at rows names
-  same_at None = refl
-  same_at (Some names) = same_way root names
+  same_way : (suite : ℕ) (names : List (List ℕ)) → OnWay Show rows suite names → found copies given.servers suite names ≡ leads_to rows suite names
+  same_way suite [] show = refl
+  same_way suite (name ∷ names) show =
+      ap (λ c. found_on c (λ next. found copies given.servers next names)) ((told_as given events kept copies suite show.0).child name)
+      ∙ same_next (child_by (row_of rows suite) name) (λ next. OnWay Show rows next names) (λ next. found copies given.servers next names) (λ next. leads_to rows next names)
+      (λ next on. same_way next names on) show.1
 
-  same_row : (suite : Option ℕ) → row_told (shown_for copies given.servers suite) ≡ numbered_at rows suite
-  same_row None = refl
-  same_row (Some suite) = (told_as given events kept copies tell suite).row
+  same_row : (suite : Option ℕ) → OnNext suite Show → row_told (shown_for copies given.servers suite) ≡ numbered_at rows suite
+  same_row None show = refl
+  same_row (Some suite) show = (told_as given events kept copies suite show).row
 
   -- a row that is told is there
   row_there : (suite : ℕ) (one : Shown) (told : Option Shown) (row : Option Row) → told ≡ Some one → row_told told ≡ numbered suite row → (its : Row) × (row ≡ Some its)
@@ -338,20 +348,31 @@ module _ (given : Opening) (events : List Event) (kept : AllKeepSides given even
   row_there suite one (Some other) None is same = absurd (none-some (row_in other) (sym same))
   row_there suite one (Some other) (Some row) is same = (row, refl)
 
-  same_versions : (suite : Option ℕ) (one : Shown) (versions : HaveVersions given events) → shown_for copies given.servers suite ≡ Some one
+  same_versions : (suite : Option ℕ) (one : Shown) (versions : HaveVersions given events) → OnNext suite Show → shown_for copies given.servers suite ≡ Some one
       → ((versions.at events one.suite).prefix ≡ one.prefix.pver) × ((versions.at events one.suite).content ≡ one.dver)
-  same_versions None one versions is = absurd (none-some one is)
-  same_versions (Some suite) one versions is =
-      let told = told_as given events kept copies tell suite in
+  same_versions None one versions show is = absurd (none-some one is)
+  same_versions (Some suite) one versions show is =
+      let told = told_as given events kept copies suite show in
       let its = told.versions one is in
       let row = row_there suite one (shown_for copies given.servers (Some suite)) (row_of rows suite) is told.row in
-      let at = its_versions given events kept copies tell suite row.0 versions row.1 in (
+      let at = its_versions given events kept copies suite show row.0 versions row.1 in (
         ap (λ n. (versions.at events n).prefix) its.0 ∙ at.0 ∙ sym its.1,
         ap (λ n. (versions.at events n).content) its.0 ∙ at.1 ∙ sym its.2,
       )
 
-  pub tell_the_table : TellTheTable given events copies
-  tell_the_table = record {
-    rows = λ text. same_row (found_at copies given.servers (names_of text)) ∙ ap (numbered_at rows) (same_at (names_of text));
-    versions = λ text one versions is. same_versions (found_at copies given.servers (names_of text)) one versions is;
-  }
+  same_at : (names : Option (List (List ℕ))) → OnPath Show rows names → found_at copies given.servers names ≡ leads_at rows names
+  same_at None show = refl
+  same_at (Some names) show = same_way root names show
+
+  ends : (names : Option (List (List ℕ))) → OnPath Show rows names → OnNext (leads_at rows names) Show
+  ends None show = tt
+  ends (Some names) show = at_end Show rows root names show
+
+  pub tell_the_row : (text : List ℕ) → OnPath Show rows (names_of text) → TellTheRow given events copies text
+  tell_the_row text show =
+      let same = ap (shown_for copies given.servers) (same_at (names_of text) show) in
+      let last = ends (names_of text) show in
+      record {
+        row = ap row_told same ∙ same_row (leads_at rows (names_of text)) last;
+        versions = λ one versions is. same_versions (leads_at rows (names_of text)) one versions last (sym same ∙ is);
+      }
