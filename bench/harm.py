@@ -6,11 +6,11 @@ What wrong bodies would do, were they not refused: those of the crates that all 
 edit changes stands there a second time, changed, and is taken in the place of the first where the environment names
 that edit. Then has each tell the ways of the scripts of examples/explore and tests/explored, up to the first, of those
 with the fewest worlds, in which an answer that was decided is not that of the plain table, in the order of the
-decisions (tools/compare.py); where the ways are as they are to be, it plays their scripts. And it plays the rows of
+decisions (tools/compare); where the ways are as they are to be, it plays their scripts. And it plays the rows of
 `play`.
 
 Writes docs/wrong-bodies-shown.txt: of each edit what comes of it, in which story, and the fewest events that show it.
-tools/wrong_bodies_page.py makes a table of that. With --keep the programs stay in this folder, and are taken from there
+`python3 tools wrong_bodies_page` tables that. With --keep the programs stay in this folder, and are taken from there
 the next time. Takes some fifteen minutes of processor time; none of it is part of the gate.
 """
 import functools
@@ -29,9 +29,9 @@ import twice
 import unproved
 from twice import CRATES, Edit
 
-import compare
+from common import text_of
+from compare import compare
 import explored
-import wrong_bodies
 
 PROGRAMS = ("explore", "trace", "suites")
 # What is compared of a way.
@@ -79,7 +79,7 @@ def with_switch(room: str) -> None:
         with open(os.path.join(folder, "switch.rt"), "w", encoding="utf-8") as file:
             file.write(SWITCH)
         path = os.path.join(folder, "lib.rt")
-        text = wrong_bodies.content(path)
+        text = text_of(path)
         with open(path, "w", encoding="utf-8") as file:
             file.write(re.sub(r"^((?:pub )?mod )", r"mod switch;\n\1", text, count=1, flags=re.M))
 

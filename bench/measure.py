@@ -8,9 +8,9 @@ import typing
 TOP = os.path.realpath(os.path.join(os.path.dirname(os.path.abspath(__file__)), ".."))
 # What benches take of tests and tools: the one edit of where modules are looked for.
 sys.path += [os.path.join(TOP, "tests"), os.path.join(TOP, "tools")]
-import console  # noqa: E402, F401
 import scratch  # noqa: E402, F401
-import trial  # noqa: E402, F401
+from common import console  # noqa: E402, F401
+from front import trial  # noqa: E402, F401
 
 PROGRAM = os.path.join(TOP, "crates", "suites", "out", "suites")
 # How much was done of a run, its input, its seconds and its peak.

@@ -7,10 +7,11 @@ import typing
 
 import measure
 
-import wrong_bodies
+from common import text_of
+from front import sources
+from wrong_bodies import wrong_bodies
 
 CRATES = ("run_core", "txn_core", "suite_collect", "rep_core", "file_exec", "weak_cache")
-FUNCTION = re.compile(r"^( *)(?:pub(?:\([\w: ]+\))? )?(?:const )?(?:unsafe )?fn (\w+)")
 CLAUSE = re.compile(r"^\s*(?:ensures|requires)\b")
 
 
@@ -27,7 +28,7 @@ class Function(typing.NamedTuple):
 def function_at(lines: list[str], at: int) -> Function | None:
     """The function that this line is of, in a file as `rt fmt` lays it out."""
     for first in range(at, -1, -1):
-        found = FUNCTION.match(lines[first])
+        found = sources.FUNCTION.match(lines[first])
         if not found:
             continue
         indent = found[1]
@@ -72,7 +73,7 @@ def owner_of(lines: list[str], function: Function) -> str:
 
 
 def lines_of(path: str) -> list[str]:
-    return wrong_bodies.content(path).split("\n")
+    return text_of(path).split("\n")
 
 
 class Edit(typing.NamedTuple):
@@ -85,7 +86,7 @@ class Edit(typing.NamedTuple):
 
 def edit_of(crate: str, path: str) -> Edit:
     file, old, pairs = "", "", []
-    for line in wrong_bodies.content(path).split("\n"):
+    for line in text_of(path).split("\n"):
         word, _, rest = line.partition(": ")
         if word == "file":
             file = rest.strip()

@@ -5,7 +5,7 @@ Builds the program without proof, to the file OUT, in some two minutes: to measu
 proved. Nothing is proved of it, and it is no part of the gate. On a script of 10,000 events it takes as long as the
 proved program does, so far as that can be told.
 
-`rt try` makes the module, with checks at run time. `tools/trial.py` takes it while that runs; the checks are struck
+`rt try` makes the module, with checks at run time. tools/front/trial.py takes it while that runs; the checks are struck
 out, since the proved program has none, and so is the filling of fresh slots with a pattern, which only `rt try` asks
 for; the hints on inlining, which `rt try` drops, are put in again (`inlining.py`); then it is compiled.
 

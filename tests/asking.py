@@ -14,7 +14,6 @@ import os
 import random
 import re
 import subprocess
-import sys
 import tempfile
 import typing
 
@@ -22,9 +21,8 @@ import explored
 import played
 from played import Tally
 
-import console
+from common import console, tool
 
-TOOL = os.path.join(played.TOP, "tools", "explore.py")
 STORY = os.path.join(explored.STORIES, "revocation.script")
 # How many questions are asked of a script at once, and of how many atoms each is at most.
 AT_ONCE, ATOMS = 12, 4
@@ -92,7 +90,7 @@ def question(dice: random.Random, ways: list[tuple[str, ...]], atoms: int) -> As
 
 def asked(path: str, words: list[str], questions: typing.Sequence[str]) -> tuple[int, str, str]:
     """The exit status of `explore` for a script and questions, what it printed, and what it said."""
-    told = [sys.executable, TOOL, *words, *(word for text in questions for word in ("--ask", text))]
+    told = [*tool("explore"), *words, *(word for text in questions for word in ("--ask", text))]
     with open(path, "rb") as script:
         done = subprocess.run(told, stdin=script, capture_output=True, cwd=played.TOP)
     return done.returncode, done.stdout.decode(), done.stderr.decode()

@@ -1,4 +1,5 @@
 """A headless Chromium that a test drives: the protocol of its developer tools goes over two pipes."""
+import argparse
 import base64
 import contextlib
 import json
@@ -11,15 +12,35 @@ import time
 from collections.abc import Iterator
 from typing import Any
 
+from played import Tally
+
 NAMES = ("chromium", "chromium-browser", "google-chrome")
 # How long an answer of the browser may take, and how much of it is read at once.
 PATIENCE, PIECE = 60, 1 << 16
 KEYS = {"Enter": 13, "ArrowRight": 39, "ArrowLeft": 37, "Home": 36, "End": 35, " ": 32, "Tab": 9, "Escape": 27}
 
 
-def program() -> str | None:
-    """The browser's program, where one is installed."""
-    return next(filter(None, map(shutil.which, NAMES)), None)
+@contextlib.contextmanager
+def opened(tally: Tally) -> Iterator["Browser | None"]:
+    """A browser, whose console is to have no fault; none where none is installed, which is said."""
+    path: str | None = next(filter(None, map(shutil.which, NAMES)), None)
+    if not path:
+        print("skipped: no chromium")
+        yield None
+        return
+    driver = Browser(path)
+    try:
+        yield driver
+        tally.holds(not driver.faults, "the console has faults", driver.faults[:3])
+    finally:
+        driver.close()
+
+
+def shots() -> str | None:
+    """The folder for pictures of the pages, where the words of the test name one."""
+    read = argparse.ArgumentParser()
+    read.add_argument("--shots")
+    return read.parse_args().shots
 
 
 class Browser:

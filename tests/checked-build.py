@@ -12,7 +12,7 @@ import typing
 
 import played
 
-import console
+from common import console
 
 
 def differs(program: str, row: played.Row, source: dict[str, typing.Any]) -> subprocess.CompletedProcess[bytes] | None:

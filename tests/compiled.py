@@ -15,6 +15,8 @@ import tempfile
 import played
 import scratch
 
+from common import text_of
+
 # Programs of tests/programs: with each, the modules of which it is made, here and in crates/.
 MADE_OF = {
     "liar": ("lies", "story", "telling", "trace/src/asked", "trace/src/told", "trace/src/words"),
@@ -23,11 +25,6 @@ MADE_OF = {
 # The program of which the others become modules, and what a measurement takes in place of the runtime that only a
 # `main` has.
 ROOT, RUNTIME = "liar", "&(impl AllocGlobal + Print + std::rt::Clock + std::sync::Wait)"
-
-
-def source(path: str) -> str:
-    with open(os.path.join(played.TOP, path), encoding="utf-8") as file:
-        return file.read()
 
 
 def as_module(text: str) -> str:
@@ -45,15 +42,15 @@ def modules() -> tuple[dict[str, str], int]:
     """All modules with their texts, and how many programs there are."""
     texts, count = {}, 0
     for program, parts in MADE_OF.items():
-        text = source(f"tests/programs/{program}.rt.txt")
+        text = text_of(f"tests/programs/{program}.rt.txt")
         texts[program] = text if program == ROOT else re.sub(r"^#!\[.*\]\n", "", text, flags=re.M)
         for part in parts:
-            texts[os.path.basename(part)] = source(
+            texts[os.path.basename(part)] = text_of(
                 f"crates/{part}.rt" if "/" in part else f"tests/programs/{part}.rt.txt"
             )
         count += 1
     for path in sorted(glob.glob(os.path.join(played.TOP, "bench", "*.rattle"))):
-        texts[f"bench_{os.path.basename(path).split('.')[0]}"] = as_module(source(path))
+        texts[f"bench_{os.path.basename(path).split('.')[0]}"] = as_module(text_of(path))
         count += 1
     return texts, count
 

@@ -24,7 +24,7 @@ from concurrent.futures import ThreadPoolExecutor
 import played
 import reading
 
-import console
+from common import console
 
 HERE = os.path.dirname(os.path.abspath(__file__))
 # Looks at each so many-th byte alone, where the variable says so.
@@ -152,10 +152,7 @@ def failing(program: str, row: played.Row, library: str, name: str) -> tuple[int
 def failed(program: str, rows: list[played.Row]) -> list[str]:
     wrong, calls = list[str](), collections.Counter[str]()
     with tempfile.TemporaryDirectory() as folder:
-        library = os.path.join(folder, "fail.so")
-        subprocess.run(
-            ["cc", "-O1", "-shared", "-fPIC", "-o", library, os.path.join(HERE, "fail.c"), "-ldl"], check=True
-        )
+        library = played.library("fail", folder) or sys.exit("tests/fail.c is not compiled")
         for row in rows:
             for name in ("FAIL_READ", "FAIL_WRITE"):
                 count, found = failing(program, row, library, name)

@@ -1,7 +1,7 @@
 #!/usr/bin/env python3
 """tests/damaged-scripts.py [--cases COUNT] [--from SEED] [PROGRAM]
 
-Damages scripts of tools/scenario.py, and the same as scripts of `serve` and `table`, each in one known way in one
+Damages scripts of tools/compare, and the same as scripts of `serve` and `table`, each in one known way in one
 line, and plays them by the program (out/suites, if none is named).
 
 The program `forms` has to tell the same code. The fault has to stay where all is cut off behind the word that `forms`
@@ -14,7 +14,6 @@ number may come to be read in the place of another, and pass its limit: so of th
 how many of each kind were named. Status 1 where too few are, nothing is found, or `forms` tells another word. --kind
 NAME tries one kind, as word_dropped.
 """
-import argparse
 import collections
 import os
 import random
@@ -26,11 +25,10 @@ import typing
 
 import played
 
-import beside
-import explain
-import forms
-import scenario
-from laid_out import WORD
+from common import built, console, forms
+from compare import scenario
+from explain import explain
+from explain.faults import WORD
 
 FIRSTS = {command: list(forms.lines_of(command, "own")) for command in forms.COMMANDS}
 VERBS = list(forms.OPERATIONS)
@@ -354,7 +352,7 @@ def unnamed(damage: Damage, said: str) -> list[str | tuple[str, ...]]:
 
 def tried(program: str, path: str, damage: Damage) -> tuple[str, str]:
     """What comes of a damage: `none` where the program finds no fault in that line; and what `explain` says."""
-    programs = Programs(program, beside.program("forms"), damage.command)
+    programs = Programs(program, built.program("forms"), damage.command)
     printed, differing = programs.fault_of(damage.lines), programs.differing(damage.lines)
     if differing:
         return "nothing found", differing
@@ -374,7 +372,7 @@ def tried(program: str, path: str, damage: Damage) -> tuple[str, str]:
 
 
 def main() -> int:
-    read = argparse.ArgumentParser(description=__doc__, formatter_class=argparse.RawDescriptionHelpFormatter)
+    read = console.words(__doc__)
     read.add_argument("--cases", type=int, default=2000)
     read.add_argument("--from", type=int, default=0, dest="first")
     read.add_argument("--kind")

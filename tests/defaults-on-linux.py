@@ -17,7 +17,7 @@ import typing
 
 import played
 
-import console
+from common import console
 
 TOP = os.path.join(os.path.dirname(os.path.abspath(__file__)), "..")
 ACCESS = "u::rwx,g::r-x,o::--x"

@@ -1,7 +1,7 @@
 #!/usr/bin/env python3
 """tests/drawn.py [PROGRAM]
 
-Draws runs with tools/draw.py, reads the pictures as XML, and looks whether all that is promised of them holds. PROGRAM
+Draws runs with ./suites draw, reads the pictures as XML, and looks whether all that is promised of them holds. PROGRAM
 is `suites` (the checked build, if none is named): how many requests there are is what `play` tells. Status 1 where
 something differs.
 
@@ -28,12 +28,10 @@ import xml.etree.ElementTree as etree
 import played
 from played import Tally
 
-import console
-import draw
-import scenario
-import trace
+from common import console, tool
+from compare import scenario
+from trace import draw, trace
 
-DRAW = os.path.join(played.TOP, "tools", "draw.py")
 STORIES = os.path.join(played.TOP, "examples", "play")
 # An em of these fonts has 2,048 units, and each letter 1,233 (DejaVu Sans Mono; the others have less). A letter reaches
 # so far above and below its line.
@@ -155,7 +153,7 @@ class Text:
 
 
 def run(script: str, *words: str) -> tuple[int, str, str]:
-    done = subprocess.run([sys.executable, DRAW, *words], input=script.encode(), capture_output=True)
+    done = subprocess.run(tool("draw", *words), input=script.encode(), capture_output=True)
     return done.returncode, done.stdout.decode(), done.stderr.decode()
 
 
@@ -457,8 +455,8 @@ def unordered(tally: Tally) -> None:
 
 
 SLOW = (
-    "import sys; sys.argv[0] = 'draw'; import {0} as tool, trace; trace.PATIENCE = trace.AGAIN = 0; trace.PIECE = 999;"
-    " tool.main()"
+    "import sys; sys.argv[0] = 'draw'; from trace import {0} as tool, trace; trace.PATIENCE = trace.AGAIN = 0;"
+    " trace.PIECE = 999; tool.main()"
 )
 
 
@@ -467,19 +465,19 @@ def slow(tally: Tally) -> None:
     not.
     """
     script, folder = SCRIPTS["five"].encode(), os.path.join(played.TOP, "tools")
-    for tool in ("trace", "draw"):
-        words = [sys.executable, "-c", SLOW.format(tool)]
+    for name in ("trace", "draw"):
+        words = [sys.executable, "-c", SLOW.format(name)]
         own, terminal = pty.openpty()
         done = subprocess.run(words, input=script, stdout=subprocess.PIPE, stderr=terminal, cwd=folder)
         os.close(terminal)
         said = read_all(own)
         tally.holds(
-            done.returncode == 0 and " % of the script is played, 0 s" in said, tool, "a terminal is told", said
+            done.returncode == 0 and " % of the script is played, 0 s" in said, name, "a terminal is told", said
         )
-        tally.holds(said.endswith("\r\033[K"), tool, "what was said last stays", said[-60:])
+        tally.holds(said.endswith("\r\033[K"), name, "what was said last stays", said[-60:])
         silent = subprocess.run(words, input=script, capture_output=True, cwd=folder)
         tally.holds(
-            "%" not in silent.stderr.decode() and silent.stdout == done.stdout, tool, "not on a terminal", silent.stderr
+            "%" not in silent.stderr.decode() and silent.stdout == done.stdout, name, "not on a terminal", silent.stderr
         )
 
 

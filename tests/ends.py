@@ -22,7 +22,7 @@ import typing
 import played
 import wrapper
 
-import sources
+from front import sources
 
 # In place of a program: it ends by the signal of this number.
 KILLED = "#!/bin/sh\ncat > /dev/null\nkill -{0} $$\n"
@@ -150,7 +150,7 @@ def by_streams(copy: wrapper.Copy) -> None:
 
 def by_memory(copy: wrapper.Copy) -> None:
     """No memory is told, and `explore` may have what is free."""
-    code = "import console; console.run(lambda: len(bytearray(1 << 46)), 'stopped')"
+    code = "from common import console; console.run(lambda: len(bytearray(1 << 46)), 'stopped')"
     done = subprocess.run([sys.executable, "-c", code], cwd=os.path.join(copy.top, "tools"), capture_output=True)
     copy.holds((done.returncode, done.stderr) == (4, b"suites: out of memory\n"), f"no memory: {done}")
     copy.build("session", ENDLESS)
@@ -173,13 +173,6 @@ def by_settings(copy: wrapper.Copy) -> None:
             other = asked(copy, f"./suites {words}", env={**os.environ, **setting})
             same = (plain.returncode, plain.stdout) == (other.returncode, other.stdout)
             copy.holds(same and plain.stdout, f"{words} with {setting}: {other}")
-
-
-def is_there(process: int) -> bool:
-    with contextlib.suppress(OSError):
-        with open(f"/proc/{process}/stat", encoding="ascii") as file:
-            return file.read().rpartition(") ")[2][0] != "Z"
-    return False
 
 
 def until(is_so: typing.Callable[[], object]) -> bool:
@@ -206,7 +199,7 @@ def by_stops_of_sessions(copy: wrapper.Copy) -> None:
         with open(kept, encoding="ascii") as file:
             child = int(file.read())
         process.send_signal(signal.SIGTERM)
-        is_stopped = until(lambda: not is_there(child))
+        is_stopped = until(lambda: not played.is_alive(child))
         _, told = process.communicate(timeout=120)
         is_told = process.returncode == 130 and b"stopped" in told and b"Traceback" not in told
         copy.holds(is_told and is_stopped, f"{words}: {process.returncode} {told!r}, stopped: {is_stopped}")
@@ -230,7 +223,7 @@ def by_stops(copy: wrapper.Copy) -> None:
             with open(kept, encoding="ascii") as file:
                 child = int(file.read())
             process.send_signal(number)
-            status, is_stopped = process.wait(120), until(lambda: not is_there(child))
+            status, is_stopped = process.wait(120), until(lambda: not played.is_alive(child))
             about = f"{number.name} {'on a terminal' if on_terminal else ''}"
             copy.holds(begun and is_stopped and status == 128 + number, f"{about}: {status}, stopped: {is_stopped}")
             os.close(given)
@@ -261,15 +254,15 @@ def by_builds(copy: wrapper.Copy) -> None:
             os.unlink(os.path.join(copy.top, "out", name))
     for text, told in ((KILLED.format(9), "signal 9"), ("#!/bin/sh\necho no room; exit 1\n", "status 1")):
         write(clang, text)
-        holds(copy, "python3 tools/choose.py", 1, told, env=env)
+        holds(copy, "python3 tools choose", 1, told, env=env)
         copy.holds(kept(copy) == [], f"{told} is kept: {kept(copy)}")
     write(os.path.join(kit, "path", "rt"), KIT.format(kit, "kill -9 $$", sources.KIT_LOGIC))
-    holds(copy, "python3 tools/choose.py", 1, "signal 9", env=env)
+    holds(copy, "python3 tools choose", 1, "signal 9", env=env)
     copy.holds(kept(copy) == [], "a killed rt is kept")
     write(os.path.join(kit, "path", "rt"), KIT.format(kit, MODULE, sources.KIT_LOGIC))
     os.unlink(clang)
-    done = asked(copy, "python3 tools/choose.py", env=env)
-    is_kept = done.stdout == b"trial tools/trial.py\n" and kept(copy) == ["trial.json"]
+    done = asked(copy, "python3 tools choose", env=env)
+    is_kept = done.stdout == b"trial tools/front/trial.sh\n" and kept(copy) == ["trial.json"]
     copy.holds(is_kept, f"a kit without clang: {done}")
 
 

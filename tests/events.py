@@ -20,12 +20,10 @@ import played
 import shown_page
 from played import Tally
 
-import happened
-import retold
-import scenario
-import show
-import told_in_full
-import trace
+from compare import scenario
+from explain import play_lines
+from show import show
+from trace import json_events, states, trace
 
 SCHEMA = os.path.join(played.TOP, "docs", "events.schema.json")
 # Words of an ending beside its parts.
@@ -86,9 +84,9 @@ def scripts() -> Iterator[tuple[str, str]]:
         yield f"seed {seed}", scenario.Scenario(seed, 200).script()
 
 
-def replayed(events: list[dict]) -> retold.Retold:
+def replayed(events: list[dict]) -> states.Retold:
     """What servers and agents have at the end, by what is told of them in each event."""
-    run = retold.Retold(events[0])
+    run = states.Retold(events[0])
     for event in events[1:-1]:
         run.hear(event)
     return run
@@ -122,7 +120,7 @@ def talks(events: list[dict]) -> Iterator[tuple[dict, bool]]:
     anything does.
     """
     heard = {one["agent"]: Talk(one) for one in events[0]["agents"]}
-    run = retold.Retold(events[0])
+    run = states.Retold(events[0])
     for event in events[1:-1]:
         by = event.get("by")
         if not by:
@@ -190,7 +188,7 @@ def said_again(end: dict) -> str:
     return " ".join([end["how"], *parts]) if end["how"] != "answered" else f"answered {'; '.join(end['replies'])}"
 
 
-def begun_by(run: happened.Played, job: happened.Job) -> dict[str, Any]:
+def begun_by(run: play_lines.Played, job: play_lines.Job) -> dict[str, Any]:
     """A job as an event tells it."""
     words, told = job.words, {"agent": job.agent, "job": job.count}
     if words[0] == "sweep":
@@ -202,7 +200,7 @@ def begun_by(run: happened.Played, job: happened.Job) -> dict[str, Any]:
 
 def in_full(tally: Tally, name: str, events: list[dict], script: str, lines: list[str]) -> None:
     """Holds what is told in full against the trace: jobs that begin, ends, and paths."""
-    run = happened.Played(script, lines)
+    run = play_lines.Played(script, lines)
     begun = [event["begun"] for event in events if "begun" in event]
     wanted = [begun_by(run, job) for job in sorted(run.jobs.values(), key=lambda job: job.begun)]
     tally.holds(begun == wanted, name, "jobs that begin", [one for one in begun if one not in wanted][:2])
@@ -218,7 +216,7 @@ def in_full(tally: Tally, name: str, events: list[dict], script: str, lines: lis
 def typed(tally: Tally) -> None:
     """What the command prints is what is looked at here, and of a fault its line."""
     script = next(iter(shown_page.stories().values())).encode()
-    words, fuller = [os.path.join(played.TOP, "suites"), "trace", "--json"], told_in_full.Fuller()
+    words, fuller = [os.path.join(played.TOP, "suites"), "trace", "--json"], json_events.Fuller()
     for given, status in ((script, 0), (script + b"none\n", 3)):
         done = subprocess.run(words, input=given, capture_output=True, check=False)
         lines = [line.encode() + b"\n" for line in show.events_of(script)] if status == 0 else []
@@ -231,7 +229,7 @@ def main() -> int:
     with open(SCHEMA, encoding="utf-8") as file:
         schema = Schema(json.load(file))
     for name, script in scripts():
-        bare_lines, fuller = show.events_of(script.encode()), told_in_full.Fuller()
+        bare_lines, fuller = show.events_of(script.encode()), json_events.Fuller()
         events = [json.loads(fuller.of(line.encode())) for line in bare_lines]
         for line, event in zip(bare_lines, events):
             tally.holds(bare(json.loads(json.dumps(event))) == json.loads(line), name, "another event", line)

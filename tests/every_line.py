@@ -19,9 +19,8 @@ import typing
 
 import played
 
-import console
-import explain
-import quoted
+from common import console, quoted
+from explain import explain
 
 # So many kinds of lines at least are printed; fewer were found by mistake.
 FEWEST = 400

@@ -9,6 +9,7 @@ names has to show it. Each command line that the page shows has to end with stat
 print, each word of a reply, each word of a line of `trace`, and each line that rows print, has to stand on the page;
 each limit that the page or the tools name has to be the one of the sources. Status 1 where something differs.
 """
+import functools
 import glob
 import os
 import re
@@ -19,15 +20,13 @@ import typing
 
 import played
 
-import console
-import after
-import explain
-import forms
-import happened
-import reasons
-import scenario
+from common import console, forms, text_of
+from compare import scenario
+from explain import explain, play_lines, reasons
+from front import remarks
 
 TOP = played.TOP
+source = functools.partial(text_of, "crates")
 
 HEADERS: dict[str, list[str]] = {
     "table": ["root 1000 100 777"],
@@ -162,11 +161,6 @@ MENDED = {
 SEEDS = 6
 NOT_FOUND = "Was it changed since?"
 WORDS = ("", "one", "two", "three", "four", "five", "six", "seven", "eight", "nine")
-
-
-def source(*path: str) -> str:
-    with open(os.path.join(TOP, "crates", *path), encoding="utf-8") as file:
-        return file.read()
 
 
 def examples() -> typing.Iterator[tuple[str, list[str], list[str], str, str]]:
@@ -306,9 +300,9 @@ def told_of_runs(program: str) -> tuple[int, list[str]]:
         done = subprocess.run(
             [program, "play"], input=script.encode("latin1"), stdout=subprocess.PIPE, stderr=subprocess.DEVNULL
         )
-        run = happened.played(script.encode("latin1"), "the script")
+        run = play_lines.played(script.encode("latin1"), "the script")
         for line in dict.fromkeys(done.stdout.decode("latin1").splitlines()):
-            said, count = " ".join(happened.of_run(run, line, script, "the script")), count + 1
+            said, count = " ".join(play_lines.of_run(run, line, script, "the script")), count + 1
             found = re.search(
                 r"Its list was then (\S+), its owner user (\d+), and its group (\d+)\. User (\d+) of groups (\S+) ",
                 said,
@@ -351,16 +345,16 @@ def told_alone() -> tuple[int, list[str]]:
 
 
 def silent_lines(program: str) -> tuple[int, list[str]]:
-    """What differs between the lines that tools/after.py says did nothing and those that the trace says did nothing."""
+    """What differs between the lines that remarks.py says did nothing and those that the trace says did nothing."""
     wrong = []
     for seed in range(SEEDS):
         script = scenario.Scenario(seed, 80).script()
         done = subprocess.run(
             [program, "play"], input=script.encode("latin1"), stdout=subprocess.PIPE, stderr=subprocess.DEVNULL
         )
-        said = list(after.silent(after.lines_of(script), done.stdout.decode("latin1")))
+        said = list(remarks.silent(remarks.lines_of(script), done.stdout.decode("latin1")))
         found = {int(number) for number in re.findall(r"line (\d+) did nothing", "\n".join(said))}
-        run = happened.played(script.encode("latin1"), "the script")
+        run = play_lines.played(script.encode("latin1"), "the script")
         left = {
             f"agent {agent} has a job that has not ended (line {job.number}); run {agent} ends it"
             for agent, job in run.busy.items()
@@ -372,10 +366,8 @@ def silent_lines(program: str) -> tuple[int, list[str]]:
 
 def play_commands() -> tuple[int, list[str]]:
     """Runs the command lines that the page shows; how many there are, and which fail."""
-    with open(explain.PAGE, encoding="utf-8") as file:
-        shown = sorted(
-            {span for span in re.findall(explain.SPAN, file.read()) if re.match(r"(\./)?suites .*[a-z]", span)}
-        )
+    spans = set(re.findall(explain.SPAN, text_of("docs", "FAULTS.md")))
+    shown = sorted(span for span in spans if re.match(r"(\./)?suites .*[a-z]", span))
     wrong = []
     for command in shown:
         line = command if command.startswith("./") else f"./{command}"
@@ -387,15 +379,7 @@ def play_commands() -> tuple[int, list[str]]:
             if "<" in line or not re.fullmatch(r"\./suites (trace|draw|show|votes|play|table|acl)", line)
             else f"{line} --help"
         )
-        done = subprocess.run(
-            line,
-            shell=True,
-            cwd=TOP,
-            stdin=subprocess.DEVNULL,
-            stdout=subprocess.PIPE,
-            stderr=subprocess.PIPE,
-            text=True,
-        )
+        done = subprocess.run(line, shell=True, cwd=TOP, stdin=subprocess.DEVNULL, capture_output=True, text=True)
         if done.returncode != 0 or not done.stdout:
             wrong.append(f"{command} ends with {done.returncode}: {(done.stdout + done.stderr).strip()[:200]}")
     return len(shown), wrong

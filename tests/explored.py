@@ -6,7 +6,7 @@ tests/explored.py --write PROTOTYPE [--merged descent|state|history]
 Compares what the program `explore` tells of the scripts of examples/explore and tests/explored with the ways that are
 kept in tests/explored/NAME.ways: those which another program told, that shares no line with it. Plays the script of
 each N-th way by `suites play` (all by default), which has to print just the lines of the way; and compares each answer
-that was decided there with that of the plain table, in the order of the decisions, as tools/compare.py does. With
+that was decided there with that of the plain table, in the order of the decisions, as tools/compare does. With
 --progress it has to tell the same, and how many worlds it has looked at.
 
 With --against it compares with that other program itself, a plain explorer in Rust, for N random scripts (300 by
@@ -18,21 +18,16 @@ each that differs; status 1 where one does.
 """
 import argparse
 import os
-import random
 import re
-import shlex
 import subprocess
 import sys
-import tempfile
 import typing
 
 import played
 from played import Tally
 
-import beside
-import compare
-import console
-import scenario
+from common import built, console
+from compare import compare, scenario
 
 KEPT = os.path.join(played.TOP, "tests", "explored")
 STORIES = os.path.join(played.TOP, "examples", "explore")
@@ -183,7 +178,7 @@ def compare_progress(program: str, tally: Tally) -> None:
 
 def compare_kept(every: int) -> int:
     """Compares with the kept ways, and plays the scripts of ways."""
-    program, suites, tally = beside.program("explore"), played.program(None), Tally()
+    program, suites, tally = built.program("explore"), played.program(None), Tally()
     for name, words, text in kept():
         with open(os.path.join(KEPT, f"{name}.ways"), encoding="utf-8") as file:
             wanted = file.read()
@@ -238,7 +233,7 @@ class Explorable(scenario.Scenario):
 
 def compare_random(given: argparse.Namespace) -> int:
     """Compares with the other program for random scripts."""
-    program, tally, seed, count = beside.program("explore"), Tally(), given.first, 0
+    program, tally, seed, count = built.program("explore"), Tally(), given.first, 0
     while count < given.scripts:
         script, words = Explorable(seed).whole()
         seed += 1
@@ -270,7 +265,7 @@ def write(given: argparse.Namespace) -> int:
 
 
 def main() -> int:
-    asks = argparse.ArgumentParser(description=__doc__, formatter_class=argparse.RawDescriptionHelpFormatter)
+    asks = console.words(__doc__)
     asks.add_argument("--every", type=int, default=1)
     asks.add_argument("--against", metavar="PROTOTYPE")
     asks.add_argument("--write", metavar="PROTOTYPE")

@@ -8,14 +8,13 @@ that the table tells. Prints what differs; status 1 where something does.
 """
 from __future__ import annotations
 
-import argparse
 import subprocess
 import sys
 import typing
 
 import played
 
-import forms
+from common import console, forms
 
 # A word that fits in each place, whatever fits in the others.
 SAMPLES = {**{name: place.sample for name, place in forms.PLACES.items()}, "OPERATIONS": "read /a"}
@@ -88,7 +87,7 @@ def differing(program: str, case: Case) -> str:
 
 
 def main() -> int:
-    read = argparse.ArgumentParser(description=__doc__, formatter_class=argparse.RawDescriptionHelpFormatter)
+    read = console.words(__doc__)
     read.add_argument("program", nargs="?")
     program = played.program(read.parse_args().program)
     cases = (case for command in forms.COMMANDS for case in cases_of(command))

@@ -22,8 +22,7 @@ import typing
 
 import played
 
-import beside
-import console
+from common import built, console
 
 MOST, TIMES = 2.3, 16
 # A count that is less than this is that of a program which only begins and ends.
@@ -319,7 +318,7 @@ INPUTS: tuple[Input, ...] = (*ACL, *TABLE, *PLAY, *SERVE, *TRACE, *EXPLORE, *FOR
 def path_of(program: str, folder: str | None) -> str:
     if folder:
         return os.path.join(folder, program)
-    return played.program() if program == "suites" else beside.program(program)
+    return played.program() if program == "suites" else built.program(program)
 
 
 def ran(words: list[str], text: str) -> bytes:

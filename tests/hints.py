@@ -16,7 +16,7 @@ import tempfile
 
 TOP = os.path.realpath(os.path.join(os.path.dirname(os.path.abspath(__file__)), ".."))
 WIDEST, FEWEST = 120, 90
-FOLDERS = ("tools", "tools/may", "tools/mount", "tools/shell", "tests", "bench")
+FOLDERS = ("tools", "tools/*", "tests", "bench")
 # What may be nothing is not told apart from what may not: a match that was looked for is taken to be there.
 CONFIG = """[mypy]
 strict_optional = False

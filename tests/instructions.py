@@ -20,7 +20,7 @@ import played
 
 sys.path.append(os.path.join(os.path.dirname(os.path.abspath(__file__)), "..", "bench"))
 import acl
-import console
+from common import console
 import left
 import play
 import table

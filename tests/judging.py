@@ -18,7 +18,7 @@ import typing
 
 import played  # noqa: F401
 
-import trace
+from trace import trace
 
 
 

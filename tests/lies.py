@@ -23,6 +23,8 @@ import judging
 import played
 import scratch
 
+from common import text_of
+
 
 CRATES = [
     "agent_pool",
@@ -55,11 +57,6 @@ Row = tuple[str, int, list[tuple[int, str]], str]
 Case = tuple[list[str], judging.Lists, list[judging.Decision] | None]
 # Of so many cases at most no script can say them, or the words leave them open: the others are judged.
 UNJUDGED = 0.1
-
-
-def example(name: str) -> str:
-    with open(os.path.join(played.TOP, "examples", "serve", name), encoding="utf-8") as file:
-        return file.read()
 
 
 def mixed(seed: int, head: list[str], folders: list[str], count: int) -> str:
@@ -98,8 +95,8 @@ def scripts() -> list[Row]:
     caches = ["servers 4", "votes 1,1,1,1/2/3", "root 1000 100 775", "cache 64 32 4"]
     uneven = ["servers 5", "votes 2,1,0,1,1/2/4", "root 1000 100 777", "cache 4096 4096 16"]
     return [
-        ("files.script", 4, [], example("files.script")),
-        ("sweepers.script", 2, [], example("sweepers.script")),
+        ("files.script", 4, [], text_of("examples", "serve", "files.script")),
+        ("sweepers.script", 2, [], text_of("examples", "serve", "sweepers.script")),
         ("three servers", 4, [(6, "crash 0 0"), (12, "return 0 0"), (20, "crash 2 0")], mixed(1, three, [], 24)),
         (
             "small caches",

@@ -12,7 +12,6 @@ clicks   the same by hand, in a headless Chromium: what the page shows is what t
 """
 from __future__ import annotations
 
-import argparse
 import contextlib
 import json
 import os
@@ -26,13 +25,13 @@ import typing
 
 import browser
 import played
-import spoken
 from played import Tally
 from shown_page import SEEN
 
-import show
+from common import tool
+from show import show
 
-DOOR = [sys.executable, os.path.join(played.TOP, "tools", "show.py"), "--live"]
+DOOR = tool("show", "--live")
 OWN = ["--root", "1000:100:755"]
 # What is told in the first stories, and what is no part of the script of it.
 STORY = ["# the owner makes a plan", "begin 0 1000 100 0 file /plan u::rw,u:2000:r,g::-,m::r,o::- ; write /plan 6869",
@@ -210,13 +209,6 @@ def tells(tally: Tally, folder: str) -> None:
         tally.holds(live.script() == file.read().splitlines(), "a script is begun with", live.script())
 
 
-def is_there(process: int) -> bool:
-    with contextlib.suppress(OSError):
-        with open(f"/proc/{process}/stat", encoding="ascii") as file:
-            return file.read().rpartition(") ")[2][0] != "Z"
-    return False
-
-
 def ends(tally: Tally) -> None:
     with Live(*OWN) as live:
         live.tell("begin 0 1000 100 0 file /a 644")
@@ -233,7 +225,7 @@ def ends(tally: Tally) -> None:
         live.child.send_signal(number)
         _, said = live.child.communicate(timeout=60)
         tally.holds(live.child.returncode == 0 and "Traceback" not in said, number.name, live.child.returncode, said)
-        tally.holds(time.monotonic() - begun < 20 and not is_there(session), number.name, "the session goes on")
+        tally.holds(time.monotonic() - begun < 20 and not played.is_alive(session), number.name, "the session goes on")
 
 
 class Hand:
@@ -299,7 +291,7 @@ def clicks(tally: Tally, driver: browser.Browser, folder: str, shots: str | None
         for line in ("begin 0 2000 2000 0 file /a</script><img/src=x> 644", "run 0", "</script><img/src=x>"):
             driver.type("#line", line)
             driver.press("Enter")
-            hand.until(f"document.getElementById('line').value === ''"
+            hand.until("document.getElementById('line').value === ''"
                        " || document.getElementById('told').className === 'bad'")
         tally.holds("fault line" in hand.told() and driver.value("document.images.length") == 0, "a fault", hand.told())
         # letters that are keys of the page are typed as they are
@@ -339,11 +331,10 @@ def same_as_saved(tally: Tally, driver: browser.Browser, live: Live, folder: str
     rows = driver.value("JSON.stringify(Page.run.rows)")
     script = driver.value("document.getElementById('script').innerText")
     driver.value("Page.go(Page.run.last)")
-    other = driver.ask("Target.createTarget", {"url": f"file://{path}"})["targetId"]
-    before, driver.session = driver.session, driver.ask("Target.attachToTarget", {"targetId": other, "flatten": True})[
-        "sessionId"]
-    while driver.value("document.readyState") != "complete":
-        time.sleep(0.02)
+    other = driver.ask("Target.createTarget", {"url": "about:blank"})["targetId"]
+    attached = driver.ask("Target.attachToTarget", {"targetId": other, "flatten": True})
+    before, driver.session = driver.session, attached["sessionId"]
+    driver.open(path)
     theirs = [driver.value(f"(Page.go({place}), {SEEN})") for place in moments]
     for one in theirs:
         one["last"] -= 1
@@ -356,23 +347,14 @@ def same_as_saved(tally: Tally, driver: browser.Browser, live: Live, folder: str
 
 
 def main() -> int:
-    read = argparse.ArgumentParser()
-    read.add_argument("--shots")
-    given = read.parse_args()
-    tally, path = Tally(most=20, width=600), browser.program()
+    tally, shots = Tally(most=20, width=600), browser.shots()
     asks(tally)
     with tempfile.TemporaryDirectory() as folder:
         tells(tally, folder)
         ends(tally)
-        if path:
-            driver = browser.Browser(path)
-            try:
-                clicks(tally, driver, folder, given.shots)
-                tally.holds(not driver.faults, "the console has faults", driver.faults[:3])
-            finally:
-                driver.close()
-    if not path:
-        print("skipped: no chromium")
+        with browser.opened(tally) as driver:
+            if driver:
+                clicks(tally, driver, folder, shots)
     return tally.told("looked at")
 
 

@@ -26,7 +26,7 @@ import time
 
 import played
 
-import console
+from common import console
 
 FILES = os.path.join(played.TOP, "examples", "serve", "files.script")
 SERVERS, AGENTS, JOBS, FOLDERS, NAMES = 16, 64, 100_000, 96, 64

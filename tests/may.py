@@ -21,7 +21,7 @@ import tempfile
 import played
 from played import Tally
 
-import console
+from common import console, tool
 from may import changes, everybody, lint, lists, mounts, people, program, saying
 from may.people import Caller
 
@@ -82,7 +82,7 @@ def plays_rows(tally: Tally) -> None:
 def asks(tally: Tally, words: list[str], status: int, last: str, strict: bool = False) -> None:
     """The command, its status, and what its last line has."""
     env = {**os.environ, **({"PYTHONIOENCODING": "utf-8:strict", "LC_ALL": "C"} if strict else {})}
-    command = [sys.executable, os.path.join(played.TOP, "tools", "may", "__main__.py"), *words]
+    command = tool("may", *words)
     done = subprocess.run(
         command, env=env, stdin=subprocess.DEVNULL, stdout=subprocess.PIPE, stderr=subprocess.PIPE, text=True
     )

@@ -11,8 +11,10 @@ from collections.abc import Sequence
 
 import played
 
+from common import tool
+
 SUITES = os.path.join(played.TOP, "suites")
-DOOR = [sys.executable, os.path.join(played.TOP, "tools", "mount")]
+DOOR = tool("mount")
 # Another session than that of these sources, as a command: SUITES_SESSION names it.
 SESSION = os.environ.get("SUITES_SESSION")
 # Where syncs wait for no disk, which may be busy with much else.

@@ -1,5 +1,7 @@
 """The program that a test plays, the rows of crates/rows/stdin, and what tests count."""
+import contextlib
 import os
+import shutil
 import signal
 import subprocess
 import sys
@@ -10,26 +12,34 @@ signal.signal(signal.SIGINT, signal.default_int_handler)
 TOP = os.path.realpath(os.path.join(os.path.dirname(os.path.abspath(__file__)), ".."))
 # What tests import of the tools, before what of tests has the same name: the one edit of where modules are looked for.
 sys.path.insert(0, os.path.join(TOP, "tools"))
-from read_rows import Row, examples, rows, said  # noqa: E402, F401
+from common import built  # noqa: E402
+from common.read_rows import Row, examples, rows, said  # noqa: E402, F401
 
 
 def program(named: str | None = None) -> str:
     """The program that the words of a test name, or the one that `./suites` runs, which is built where there is none;
     ends the test without it.
     """
-    if named:
-        path = os.path.abspath(named)
-    else:
-        chosen = subprocess.run(
-            [sys.executable, os.path.join(TOP, "tools", "choose.py")],
-            stdin=subprocess.DEVNULL,
-            stdout=subprocess.PIPE,
-            text=True,
-        )
-        path = os.path.join(TOP, chosen.stdout.split()[-1]) if chosen.returncode == 0 else ""
+    path = os.path.abspath(named) if named else built.chosen("suites")[1]
     if not os.path.exists(path):
         sys.exit(f"there is no program to be played{': ' + path if path else ''}")
     return path
+
+
+def library(name: str, folder: str) -> str | None:
+    """The library that stands before calls of the system, made of a file here: tests/fail.c has them fail,
+    tests/refuse.c refuses memory; none where there is no compiler.
+    """
+    path = os.path.join(folder, f"{name}.so")
+    words = ["cc", "-shared", "-fPIC", "-O1", "-o", path, os.path.join(TOP, "tests", f"{name}.c"), "-ldl"]
+    return path if shutil.which("cc") and subprocess.run(words, stderr=subprocess.DEVNULL).returncode == 0 else None
+
+
+def is_alive(process: int) -> bool:
+    with contextlib.suppress(OSError):
+        with open(f"/proc/{process}/stat", encoding="ascii") as file:
+            return file.read().rpartition(") ")[2][0] != "Z"
+    return False
 
 
 class Tally:

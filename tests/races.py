@@ -1,7 +1,7 @@
 #!/usr/bin/env python3
 """tests/races.py [RUNS]
 
-Looks for data races among agents in threads: builds the program as tools/trial.py does, but with each function of its
+Looks for data races among agents in threads: builds the program as front/trial.py does, but with each function of its
 module under clang's ThreadSanitizer and linked with gcc's libtsan (the package libgcc-12-dev), and runs scripts of
 `serve` with 2 to 64 agents, RUNS times each (default 2). A report is a race; what is printed has to be what `serve`
 prints.
@@ -11,7 +11,7 @@ was written as, so that nothing that one thread wrote is ordered before what ano
 else nothing is looked at. Status 1 where a race was reported, and where the control has none.
 
 Both programs stay in out/ until a source changes; `rt` is needed to build them, some minutes, and `clang` is the kit's.
-Where MODULE names a module that was made before (the one of tools/trial.py), they are made of that one.
+Where MODULE names a module that was made before (the one of tools/front/trial.py), they are made of that one.
 """
 import os
 import re
@@ -22,9 +22,8 @@ import time
 
 import played
 
-import console  # noqa: E402
-import sources  # noqa: E402
-import trial  # noqa: E402
+from common import console
+from front import sources, trial
 
 AGENTS = (2, 4, 8, 16, 32, 64)
 SCRIPTS = ("files", "sweepers", "revocation")

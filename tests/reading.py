@@ -8,7 +8,7 @@ import re
 
 import played  # noqa: F401
 
-import forms
+from common import forms
 
 NUMBER = re.compile(r"[0-9]+")
 KINDS = {"u": "u", "user": "u", "g": "g", "group": "g", "m": "m", "mask": "m", "o": "o", "other": "o"}

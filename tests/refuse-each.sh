@@ -21,7 +21,7 @@
 set -u
 here=$(cd "$(dirname "$0")/.." && pwd)
 # The program that `./suites` runs, or with `trace` the one of `./suites trace`: proved, or a checked build, which is made where it is wanting.
-chosen() { SUITES_PROGRAM=$1 python3 "$here/tools/choose.py" < /dev/null | while read -r kind path; do [ "$kind" = trial ] || echo "$here/$path"; done; }
+chosen() { SUITES_PROGRAM=$1 python3 "$here/tools" choose < /dev/null | while read -r kind path; do [ "$kind" = trial ] || echo "$here/$path"; done; }
 most=${MOST:-2000} every=${EVERY:-1}
 [ $# -ne 1 ] || { sed -n '2s/^# /usage: /p' "$0" >&2; exit 2; }
 program=${SUITES:-$(chosen suites)} tracer=

@@ -12,6 +12,7 @@ import re
 import shlex
 import shutil
 import subprocess
+import sys
 import tempfile
 import typing
 
@@ -19,8 +20,7 @@ import explored
 import played
 from played import Tally
 
-import beside
-import console
+from common import built, console
 
 # The scripts that are explored, each with its words, where none is named.
 STORIES = (
@@ -48,16 +48,15 @@ class Refused:
     """The program with the allocator behind tests/refuse.c."""
 
     def __init__(self, folder: str) -> None:
-        self.library, self.mark = os.path.join(folder, "refuse.so"), os.path.join(folder, "mark")
-        source = os.path.join(played.TOP, "tests", "refuse.c")
-        subprocess.run(["cc", "-O1", "-shared", "-fPIC", "-o", self.library, source, "-ldl"], check=True)
+        self.mark = os.path.join(folder, "mark")
+        self.library = played.library("refuse", folder) or sys.exit("tests/refuse.c is not compiled")
 
     def run(self, words: list[str], script: bytes, first: int = 0, last: int = 0) -> Run:
         """Runs the program, where the allocations from the first to the last of these are refused."""
         reach = {"REFUSE_FROM": str(first), "REFUSE_TO": str(last), "REFUSE_MARK": self.mark}
         setting = {"LD_PRELOAD": self.library, **reach}
         done = subprocess.run(
-            [beside.program("explore"), *words],
+            [built.program("explore"), *words],
             input=script,
             capture_output=True,
             env={**os.environ, **(setting if first else {})},

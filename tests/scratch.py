@@ -2,7 +2,7 @@
 on.
 
 Tests want nothing proved (`built`): their programs stand in tests/programs, are built unproved, with checks at run
-time, as tools/trial.py builds `suites`, and cost the gate nothing. What is built stays in out/ until a source of the
+time, as front/trial.py builds `suites`, and cost the gate nothing. What is built stays in out/ until a source of the
 crates that it stands on changes. Times are measured of proved programs (`runs`): those stand in bench/, and `rt run`
 makes them.
 """
@@ -16,7 +16,7 @@ import tempfile
 import typing
 
 TOP = os.path.realpath(os.path.join(os.path.dirname(os.path.abspath(__file__)), ".."))
-BUILD = "import sys, trial; trial.build(sys.argv[1], lambda: None)"
+BUILD = "import sys; from front import trial; trial.build(sys.argv[1], lambda: None)"
 PARTS = ("src", "specs", "proofs")
 
 

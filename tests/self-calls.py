@@ -8,14 +8,13 @@ would call themselves. Status 1 where one is found that is not in the table, or 
 """
 import os
 import re
-import sys
 import typing
 
 import played
 from played import Tally
 
-import console
-import sources
+from common import console
+from front import sources
 
 # The functions that may call themselves: by crate, type (where it has one) and name, with why they are not deep.
 MAY = {
@@ -28,7 +27,6 @@ FEWEST = 2500
 # Comments, texts and characters, of which nothing is a call.
 SILENT = re.compile(r'//[^\n]*|b?"(?:[^"\\]|\\.)*"|b?\'(?:\\[^\n\']+|[^\\\'\n])\'', re.S)
 BLOCK = re.compile(r"^(?:pub(?:\([^)]*\))? )?(?:impl|trait)\b(?P<head>.*)$")
-FUNCTION = re.compile(r"^(?P<indent> *)(?:pub(?:\([^)]*\))? )?(?:const )?(?:unsafe )?fn (?P<name>\w+)")
 TYPE = re.compile(r"^(?:pub(?:\([^)]*\))? )?(?:struct|enum) (?P<name>\w+)")
 # What stands before a call: a path, or what it is called on; and the name that is called.
 CALL = re.compile(r"(?P<path>(?:\w+::)+)?(?P<on>[\w)\]?]\s*\.\s*)?\b(?P<name>[a-z_]\w*)(?:::<[^()]*>)?\(")
@@ -61,7 +59,7 @@ def functions_in(text: str, file: str) -> typing.Iterator[Function]:
     """The functions of a file that have a body, as it is laid out by `rt fmt`."""
     lines, of, place = SILENT.sub(" ", text).split("\n"), "", 0
     while place < len(lines):
-        block, found = BLOCK.match(lines[place]), FUNCTION.match(lines[place])
+        block, found = BLOCK.match(lines[place]), sources.FUNCTION.match(lines[place])
         if block:
             of = type_of(block["head"])
         elif lines[place] == "}":
@@ -70,7 +68,8 @@ def functions_in(text: str, file: str) -> typing.Iterator[Function]:
             indent, first = found["indent"], place
             while place < len(lines) and not is_opened(lines[place], indent, place == first):
                 place += 1
-                if place < len(lines) and (FUNCTION.match(lines[place]) or lines[place].startswith(indent[4:] + "}")):
+                after = lines[place] if place < len(lines) else ""
+                if sources.FUNCTION.match(after) or after.startswith(indent[4:] + "}"):
                     break
             if place < len(lines) and is_opened(lines[place], indent, place == first):
                 last = place

@@ -33,8 +33,8 @@ import standing
 from played import Tally
 from spoken import HEAD, HEADER, Talk, ran, text_of
 
-import beside
-import dump
+from common import built
+from session import dump
 
 STORY = (
     *HEADER,
@@ -176,7 +176,7 @@ def is_full(path: str, tally: Tally, folder: str) -> None:
 
 def fails(path: str, tally: Tally, folder: str) -> None:
     """Each call of the system fails in turn."""
-    library = spoken.failing(folder)
+    library = played.library("fail", folder)
     if not library:
         return
     whole = HEAD + text_of(KEPT)
@@ -214,7 +214,7 @@ def fails(path: str, tally: Tally, folder: str) -> None:
 
 def lacks_memory(path: str, tally: Tally, folder: str) -> None:
     """Each allocation is refused in turn: it is told, and all lines behind it are answered."""
-    library = spoken.refusing(folder)
+    library = played.library("refuse", folder)
     if not library:
         return
     marks = marks_of(len(STORY) + len(PROBE) + len(ASKED))
@@ -410,7 +410,7 @@ def main() -> int:
     read.add_argument("program", nargs="?")
     given = read.parse_args()
     path, tally = spoken.program(given.program), Tally(most=20, width=600)
-    setattr(beside, "program", lambda name: path)
+    setattr(built, "program", lambda name: path)
     with tempfile.TemporaryDirectory(prefix="suites-") as folder:
         answers(path, tally)
         goes_on(path, tally)

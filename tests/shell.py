@@ -22,10 +22,11 @@ import time
 
 import mounted
 import played
+
+from common import tool
 from mount import lists
 from shell import changing
 
-SHELL, IMPORT = (os.path.join(played.TOP, "tools", *one) for one in (("shell",), ("mount", "importing.py")))
 SESSION = [mounted.SESSION] if mounted.SESSION else [mounted.SUITES, "session"]
 STORY = os.path.join(played.TOP, "examples", "shell", "revocation.shell")
 MOUNTED = os.path.join(played.TOP, "examples", "mount", "revocation.sh")
@@ -88,7 +89,7 @@ class Terminal:
         self.child, self.leader = pty.fork()
         if self.child == 0:
             env = {**os.environ, "XDG_STATE_HOME": room, "TERM": "xterm", "INPUTRC": "/dev/null", "COLUMNS": "200"}
-            os.execve(sys.executable, [sys.executable, SHELL, *own_session(), *words], env)
+            os.execve(sys.executable, tool("shell", *own_session(), *words), env)
 
     def shows(self, text: str, seconds: float = PATIENCE) -> bool:
         """Whether a text is shown, within so many seconds, behind what was looked for before."""
@@ -151,15 +152,17 @@ def on_terminals(tally: played.Tally) -> None:
         again.shows("root> ")
         again.type("quit\n")
         tally.holds(again.ended() == 0, "quit ends it")
+    # that its programs are checked builds is told once a day, where no terminal is
+    subprocess.run(tool("shell", *own_session()), input=b"", capture_output=True)
     env = {**os.environ, "TERM": "xterm"}
-    done = subprocess.run([sys.executable, SHELL, *own_session()], input=b"cat /no\n", capture_output=True, env=env)
+    done = subprocess.run(tool("shell", *own_session()), input=b"cat /no\n", capture_output=True, env=env)
     told = b"root> cat /no\nNo such file or folder (refused F4 op 1)\n"
     tally.holds((done.stdout, done.stderr) == (told, b""), "no terminal", done.stdout, done.stderr)
 
 
 def shell(story: str, *words: str) -> list[str]:
     done = subprocess.run(
-        [sys.executable, SHELL, *own_session(), *words], input=story, stdout=subprocess.PIPE, stderr=subprocess.STDOUT,
+        tool("shell", *own_session(), *words), input=story, stdout=subprocess.PIPE, stderr=subprocess.STDOUT,
         text=True,
     )
     return done.stdout.splitlines()
@@ -221,7 +224,7 @@ def changes_lists(tally: played.Tally) -> None:
 
 
 def imported(folder: str, *words: str) -> tuple[int, str, str]:
-    done = subprocess.run([sys.executable, IMPORT, folder, *words], capture_output=True, text=True)
+    done = subprocess.run(tool("import", folder, *words), capture_output=True, text=True)
     return done.returncode, done.stdout, done.stderr
 
 

@@ -1,7 +1,7 @@
 #!/usr/bin/env python3
 """tests/shown_page.py [--shots FOLDER]
 
-Opens the pages of tools/show.py in a headless Chromium, steps through them by keys, and looks whether what they say is
+Opens the pages of ./suites show in a headless Chromium, steps through them by keys, and looks whether what they say is
 what `trace` tells in lines. Without Chromium it prints "skipped: no chromium" and ends with 0. With --shots it leaves
 pictures of some pages in a folder. Status 1 where something differs.
 
@@ -15,7 +15,6 @@ hands    keys, clicks, what is explained to whoever points at it, a file through
 many     five servers and 300 requests, and 2,000 events: each step takes no longer than a picture of a film (processor
          time)
 """
-import argparse
 import dataclasses
 import json
 import os
@@ -29,11 +28,10 @@ import browser
 import played
 from played import Tally
 
-import console
-import retold
-import scenario
-import show
-import trace
+from common import console
+from compare import scenario
+from show import show
+from trace import states, trace
 
 STORIES = os.path.join(played.TOP, "examples", "play")
 HEADER = ["servers 3", "agents 2", "votes 1,1,1/2/2", "root 1000 100 777", "cache 4096 4096 16"]
@@ -150,7 +148,7 @@ def ended(lines: list[str]) -> list[dict]:
 
 def agents_at(events: list[dict], place: int) -> list[dict]:
     """What agents do and keep behind an event, as the page shows it, which puts a site's entries together."""
-    agents = retold.Retold(events[0])
+    agents = states.Retold(events[0])
     for event in events[1:place + 1]:
         agents.hear(event)
     shown = []
@@ -333,28 +331,17 @@ def many(tally: Tally, pages: Pages, shots: str | None) -> None:
 
 
 def main() -> int:
-    read = argparse.ArgumentParser()
-    read.add_argument("--shots")
-    given = read.parse_args()
-    tally, path = Tally(most=20, width=600), browser.program()
+    tally, shots = Tally(most=20, width=600), browser.shots()
     models(tally)
     refused(tally)
-    if path:
-        driver = browser.Browser(path)
-        try:
-            with tempfile.TemporaryDirectory() as folder:
-                pages = Pages(driver, folder)
-                whole(tally, pages, given.shots)
-                for part in (hostile, hands):
-                    part(tally, pages)
-                many(tally, pages, given.shots)
-            tally.holds(not driver.faults, "the console has faults", driver.faults[:3])
-        finally:
-            driver.close()
-    if not path:
-        print("skipped: no chromium")
-    tally.told("looked at")
-    return 1 if tally.wrong else 0
+    with browser.opened(tally) as driver, tempfile.TemporaryDirectory() as folder:
+        if driver:
+            pages = Pages(driver, folder)
+            whole(tally, pages, shots)
+            for part in (hostile, hands):
+                part(tally, pages)
+            many(tally, pages, shots)
+    return tally.told("looked at")
 
 
 if __name__ == "__main__":

@@ -22,8 +22,7 @@ import explored
 import played
 import wrapper
 
-import beside
-import console
+from common import built, console
 
 # The script; how much address space it may take, in KiB: so many limits, so far apart, and one that is wide enough.
 STORY, RISES, STEP, ENOUGH = "revocation-crash", 18, 500, 400_000
@@ -104,7 +103,7 @@ def by_the_tool(program: str, tally: played.Tally) -> None:
 def main() -> int:
     read = console.words(__doc__)
     read.add_argument("--program")
-    program, tally = read.parse_args().program or beside.program("explore"), played.Tally()
+    program, tally = read.parse_args().program or built.program("explore"), played.Tally()
     rising(program, tally)
     by_the_tool(program, tally)
     return tally.told("answers")

@@ -17,8 +17,7 @@ import explored
 import played
 from played import Tally
 
-import beside
-import console
+from common import built, console
 
 STACK = 1 << 20
 ABOVE, SERVERS, BELOW, LONG = 400, 32, 200, 2000
@@ -71,7 +70,7 @@ def compare_rows(tally: Tally) -> None:
 
 def compare_explored(tally: Tally) -> None:
     """Ways are told as they are kept, and of long scripts."""
-    program = beside.program("explore")
+    program = built.program("explore")
     for name, words, text in explored.kept():
         with open(os.path.join(explored.KEPT, f"{name}.ways"), "rb") as file:
             wanted = file.read()
@@ -92,7 +91,7 @@ def compare_explored(tally: Tally) -> None:
 def compare_long(tally: Tally) -> None:
     """A long script is answered as with a stack of any size."""
     long = script(*head(3, 2), *jobs(LONG))
-    for words in ([played.program(None), "play"], [beside.program("trace")], [beside.program("forms")]):
+    for words in ([played.program(None), "play"], [built.program("trace")], [built.program("forms")]):
         small, large = (answer(words, long, is_small) for is_small in (True, False))
         about = f"{words}: status {small[0]} for a long script, and not {large[0]}"
         tally.holds(small == large and small[0] >= 0, about)

@@ -8,7 +8,7 @@ from collections.abc import Iterable, Mapping, Sequence
 
 import played
 
-import beside
+from common import built
 
 # The first line of each journal.
 HEAD = b"# journal of suites session, 1\n"
@@ -18,7 +18,7 @@ PATIENCE = 60
 
 
 def program(named: str | None = None) -> str:
-    return os.path.abspath(named) if named else beside.program("session")
+    return os.path.abspath(named) if named else built.program("session")
 
 
 def text_of(lines: Iterable[bytes]) -> bytes:
@@ -90,23 +90,3 @@ def journal(folder: str, content: bytes | None = None) -> str:
 def content(path: str) -> bytes:
     with open(path, "rb") as file:
         return file.read()
-
-
-def failing(folder: str) -> str | None:
-    """The library that has calls of the system fail (tests/fail.c); none where there is no compiler."""
-    path = os.path.join(folder, "fail.so")
-    words = ["cc", "-shared", "-fPIC", "-O1", "-o", path, os.path.join(played.TOP, "tests", "fail.c"), "-ldl"]
-    try:
-        return path if subprocess.run(words, stderr=subprocess.DEVNULL).returncode == 0 else None
-    except FileNotFoundError:
-        return None
-
-
-def refusing(folder: str) -> str | None:
-    """The library that refuses memory (tests/refuse.c); none where there is no compiler."""
-    path = os.path.join(folder, "refuse.so")
-    words = ["cc", "-shared", "-fPIC", "-O1", "-o", path, os.path.join(played.TOP, "tests", "refuse.c"), "-ldl"]
-    try:
-        return path if subprocess.run(words, stderr=subprocess.DEVNULL).returncode == 0 else None
-    except FileNotFoundError:
-        return None

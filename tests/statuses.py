@@ -10,7 +10,7 @@ import sys
 
 import played
 
-import beside
+from common import built
 
 RUN = b"servers 1\nagents 1\nvotes 1/1/1\nroot 1 1 777\ncache 0 0 0\nbegin 0 1 1 0 list /\nrun 0\n"
 LONG = b"#" * (16 * 1024 * 1024 + 1)
@@ -33,12 +33,12 @@ ENDS: tuple[tuple[str, str, bytes, int, bytes], ...] = (
 def main() -> int:
     tally = played.Tally()
     for name, words, given, status, begins in ENDS:
-        done = subprocess.run([beside.program(name), *words.split()], input=given, capture_output=True, check=False)
+        done = subprocess.run([built.program(name), *words.split()], input=given, capture_output=True, check=False)
         is_so = done.returncode == status and done.stdout.startswith(begins) and (begins or not done.stdout)
         tally.holds(is_so, name, words, done.returncode, done.stdout[:60], "and not", status, begins)
         if status == 0:
             with open("/dev/full", "wb") as full:
-                done = subprocess.run([beside.program(name), *words.split()], input=given, stdout=full, check=False)
+                done = subprocess.run([built.program(name), *words.split()], input=given, stdout=full, check=False)
             tally.holds(done.returncode == 6, name, words, "a write that fails", done.returncode)
     return tally.told("ends of programs")
 

@@ -15,6 +15,8 @@ import typing
 
 import played
 
+from common import text_of
+
 PROGRAMS = os.path.join(played.TOP, "tests", "programs")
 
 
@@ -40,11 +42,6 @@ PLAYS = Program(
 )
 
 
-def source(name: str) -> str:
-    with open(os.path.join(PROGRAMS, f"{name}.rt.txt"), encoding="utf-8") as file:
-        return file.read()
-
-
 def take(folder: str, direct: str) -> subprocess.CompletedProcess[str]:
     words = [sys.executable, os.path.join(played.TOP, "tools", "take.py"), "--into", folder, *direct.split()]
     return subprocess.run(words, capture_output=True, text=True, check=False)
@@ -57,7 +54,7 @@ def tried(tally: played.Tally, program: Program, folder: str) -> None:
     crate = os.path.join(folder, "crates", program.name)
     os.makedirs(os.path.join(crate, "src"))
     with open(os.path.join(crate, "src", "main.rt"), "w", encoding="utf-8") as file:
-        file.write(source(program.name))
+        file.write(text_of(PROGRAMS, f"{program.name}.rt.txt"))
     with open(os.path.join(folder, "crates.txt"), "a", encoding="utf-8") as file:
         file.write(f"{program.name}: {program.direct}\n")
     given = subprocess.DEVNULL

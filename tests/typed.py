@@ -15,7 +15,7 @@ import typing
 
 import played
 
-import shown
+from pages import shown
 
 DOCUMENTS = ("README.md", "docs/FAULTS.md", "docs/SCRIPTS.md")
 COMMAND = re.compile(r"\$ (.*)|(?:\./suites |\.ci/run\b).*")

@@ -9,7 +9,7 @@ import typing
 
 import played
 
-import votes
+from votes import votes
 
 SECTION = re.compile(
     r"(read|write|read and write): \d+ of \d+ votes\n    may be lost +(.*)\n    stopped by +([^:]*)\n    blocked"

@@ -14,7 +14,6 @@ Status 1 where something differs. `./suites --test` runs it.
 import argparse
 import fractions
 import itertools
-import os
 import random
 import subprocess
 import sys
@@ -23,9 +22,8 @@ import tempfile
 import played
 import voted
 
-import shapes
-import trace
-import votes
+from common import console, tool
+from votes import shapes, votes
 
 OPENING = (
     "servers 4\nagents {}\nvotes 1,1,1/2/2\nroot 1000 100 777\ncache 0 0 0\nbegin 0 1000 100 0 file /a 644\nrun 0\n"
@@ -50,12 +48,8 @@ def told_of_script(script: str) -> subprocess.CompletedProcess[str]:
     with tempfile.NamedTemporaryFile("w", suffix=".script", newline="") as file:
         file.write(script)
         file.flush()
-        return subprocess.run(
-            [sys.executable, os.path.join(trace.TOOLS, "votes.py"), "--script", file.name],
-            stdout=subprocess.PIPE,
-            stderr=subprocess.DEVNULL,
-            text=True,
-        )
+        words = tool("votes", "--script", file.name)
+        return subprocess.run(words, stdout=subprocess.PIPE, stderr=subprocess.DEVNULL, text=True)
 
 
 def check_scripts(_: argparse.Namespace, __: random.Random) -> tuple[int, list[str]]:
@@ -162,7 +156,7 @@ def check_shapes(given: argparse.Namespace, __: random.Random) -> tuple[int, lis
 
 
 def main() -> int:
-    read = argparse.ArgumentParser(description=__doc__, formatter_class=argparse.RawDescriptionHelpFormatter)
+    read = console.words(__doc__)
     checks = {"scripts": check_scripts, "searches": check_moved, "shapes": check_shapes}
     return voted.run_checks(read, checks)
 

@@ -30,8 +30,8 @@ import typing
 import played
 import voted
 
-import explain
-import votes
+from explain import explain
+from votes import votes
 
 HEADER = "agents 1\nvotes {}/1/{}\nroot 1000 100 777\ncache 0 0 0\n"
 CHANCES = ["0.99", "0.9", "0.5", "0.995"]

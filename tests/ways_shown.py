@@ -9,7 +9,6 @@ does. Without Chromium the page alone is looked at.
 """
 from __future__ import annotations
 
-import argparse
 import json
 import os
 import re
@@ -23,11 +22,11 @@ import played
 from played import Tally
 from shown_page import SEEN
 
-import asked
-import show
-import ways_page
+from common import tool
+from explore import queries
+from show import show, ways_page
 
-EXPLORE = [sys.executable, os.path.join(played.TOP, "tools", "explore.py")]
+EXPLORE = tool("explore")
 STORIES = os.path.join(played.TOP, "examples", "explore")
 # Stories with their options, and questions.
 SHOWN: tuple[tuple[str, list[str], list[str]], ...] = (
@@ -106,10 +105,10 @@ def clicked(tally: Tally, driver: browser.Browser, name: str, ways: dict[int, li
     for place in range(answers):
         driver.click(f"#answers li:nth-child({place + 1}) button")
         text = driver.value(f"document.querySelector('#answers li:nth-child({place + 1})').innerText")
-        question = asked.read(text.partition(": ")[2])
+        question = queries.read(text.partition(": ")[2])
         marked = [one["number"] for one in driver.value(TREE) if one["asked"]]
         wanted = [one for one, lines in ways.items()
-                  if question.holds(next(asked.ways_in([f"way {one} x", *lines])))]
+                  if question.holds(next(queries.ways_in([f"way {one} x", *lines])))]
         tally.holds(sorted(marked) == wanted, name, text, "what is marked", marked, wanted)
 
 
@@ -160,22 +159,10 @@ def large(tally: Tally) -> None:
 
 
 def main() -> int:
-    read = argparse.ArgumentParser()
-    read.add_argument("--shots")
-    given = read.parse_args()
-    tally, path = Tally(most=20, width=600), browser.program()
-    driver = browser.Browser(path) if path else None
-    try:
-        with tempfile.TemporaryDirectory() as folder:
-            pages(tally, driver, folder, given.shots)
-        if driver:
-            tally.holds(not driver.faults, "the console has faults", driver.faults[:3])
-    finally:
-        if driver:
-            driver.close()
+    tally, shots = Tally(most=20, width=600), browser.shots()
+    with browser.opened(tally) as driver, tempfile.TemporaryDirectory() as folder:
+        pages(tally, driver, folder, shots)
     large(tally)
-    if not path:
-        print("skipped: no chromium")
     return tally.told("looked at")
 
 

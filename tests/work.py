@@ -15,7 +15,7 @@ import typing
 
 import played
 
-import console
+from common import console
 
 # A script with so many jobs to be counted.
 Script = typing.Callable[[int], str]

@@ -84,7 +84,7 @@ printf '{EXPLORED}'
 TYPED = (b"hi\nbegin 0 1 1 0 list /\nsweep 0 1\nstep 1 3\nrun 0\n", b"\x04")
 SILENT = ("line 3 did nothing: agent 0 has a job (line 2)", "line 4 did nothing: agent 1 has no job",
           "agent 0 has a job that has not ended (line 2); run 0 ends it")
-KEEP = "import choose, sources; choose.keep_record('checked', sources.Sources(), sources.Kit())"
+KEEP = "from front import choose, sources; choose.keep_record('checked', sources.Sources(), sources.Kit())"
 WORLDS = re.compile(r"suites: explore is at work: [1-6]0,000 worlds, \d{1,2},\d00 a second, \d+ s")
 
 
@@ -114,12 +114,7 @@ class Copy(Tally):
         """What standard error says of an answer with these standard streams, as a shell writes them."""
         line = f"exec ./suites {words} {streams}"
         return subprocess.run(
-            ["sh", "-c", line],
-            cwd=self.top,
-            stdin=subprocess.DEVNULL,
-            stdout=subprocess.PIPE,
-            stderr=subprocess.PIPE,
-            text=True,
+            ["sh", "-c", line], cwd=self.top, stdin=subprocess.DEVNULL, capture_output=True, text=True
         )
 
     def at_once(self, words: list[str]) -> tuple[int, str, str]:
@@ -223,8 +218,8 @@ def answers_at_once(copy: Copy) -> None:
     for words in ("help", "-h"):
         copy.holds(copy.answer([words]) == copy.answer(["--help"]), f"{words} is another text than --help")
     copy.holds(copy.at_once(["explain", "S1"])[0] == 0, "explain S1")
-    done = subprocess.run([sys.executable, "tools/compare.py"], cwd=copy.top, capture_output=True, text=True)
-    is_told = done.stderr.startswith("tools/compare.py SCRIPT..")
+    done = subprocess.run([sys.executable, "tools", "compare"], cwd=copy.top, capture_output=True, text=True)
+    is_told = done.stderr.startswith("python3 tools compare SCRIPT..")
     copy.holds((done.returncode, done.stdout) == (2, "") and is_told, f"compare.py without words: {done}")
     copy.holds(copy.at_once(["--is-fresh"])[0] == 1, "a program is fresh that is not there")
 
@@ -232,8 +227,8 @@ def answers_at_once(copy: Copy) -> None:
 def says_once_a_day(copy: Copy) -> None:
     """A sentence that is said once a day is not said a second time."""
     code = (
-        "import console, os\nfor _ in 'ab': console.say_once_a_day('told', 'hello')\nos.utime('told', (0, 0));"
-        " console.say_once_a_day('told', 'again')"
+        "import os\nfrom common import console\nfor _ in 'ab': console.say_once_a_day('told', 'hello')\n"
+        "os.utime('told', (0, 0)); console.say_once_a_day('told', 'again')"
     )
     with tempfile.TemporaryDirectory(prefix="suites-") as room:
         done = subprocess.run(

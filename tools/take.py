@@ -9,12 +9,10 @@ more: a folder with src/main.rt, and a line in crates.txt that names what it use
 import filecmp
 import os
 import shutil
-import sys
 import typing
 
-import console
+from common import TOP, console
 
-TOP = os.path.dirname(os.path.dirname(os.path.abspath(__file__)))
 PARTS = ("src", "specs", "proofs")
 
 

@@ -1,5 +1,5 @@
 #!/bin/sh
-# An NFS 4 server for tools/record.py. As root, with nfs-ganesha, nfs-ganesha-vfs and libnfs13: examples/judge/ganesha.sh FOLDER
+# An NFS 4 server for tools/judge/record.py. As root, with nfs-ganesha, nfs-ganesha-vfs and libnfs13: examples/judge/ganesha.sh FOLDER
 # It exports FOLDER by nfs://127.0.0.1/data?version=4&nfsport=20490, and ends when its input ends.
 set -e
 room=$(mktemp -d)

@@ -1,5 +1,5 @@
 #!/bin/sh
-# GlusterFS without its daemon: three bricks and two mounts of them on one machine, for tools/record.py. As root, with
+# GlusterFS without its daemon: three bricks and two mounts of them on one machine, for tools/judge/record.py. As root, with
 # glusterfs-server and glusterfs-client: examples/judge/glusterfs.sh FOLDER SECONDS [OPTION..]
 # Readers' answers stay SECONDS old at most; the options are those of `glusterfs` for both mounts. It leaves the mounts
 # FOLDER/owner and FOLDER/readers, and ends them when its input ends.

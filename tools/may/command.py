@@ -54,7 +54,7 @@ import os
 import sys
 from typing import Iterator, NoReturn, Optional
 
-import console
+from common import console
 from may import changes, everybody, lint, names, people, telling, under
 from may.lists import BITS, Bad, Unread, quoted
 from may.saying import SAYER

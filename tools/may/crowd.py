@@ -1,7 +1,7 @@
 """Many people at once: whom of them Linux lets, as bits of a number, of which the first account is the lowest."""
 from __future__ import annotations
 
-from typing import Iterable, Iterator, NamedTuple, Optional
+from typing import Iterable, Iterator, NamedTuple
 
 from may import linux
 from may.lists import GROUP, USER, Unread
@@ -127,8 +127,3 @@ class Crowd:
 def ended(end: Unread, every: int) -> Seen:
     """Whom Linux lets where a way ends before its path."""
     return Seen(0) if is_refused(end) else Seen(0, every, str(end))
-
-
-def unjudged_in(seen: Seen, among: Optional[int] = None) -> Optional[str]:
-    """Why some are not judged, if some are."""
-    return seen.why if seen.unjudged & (-1 if among is None else among) else None

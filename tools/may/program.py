@@ -7,8 +7,7 @@ import re
 import subprocess
 from typing import Iterable, NamedTuple
 
-import beside
-import console
+from common import built, console
 from may.lists import (
     GROUP,
     GROUP_OBJ,
@@ -68,7 +67,7 @@ def program() -> str:
     if os.environ.get("MAY"):
         return os.environ["MAY"]
     try:
-        return beside.program("may")
+        return built.program("may")
     except SystemExit:
         raise Unread("there is no program `may`") from None
 
@@ -82,7 +81,7 @@ def asked(lines: list[str]) -> dict[str, str]:
             [program()],
             input="".join(f"{line}\n" for line in left).encode(),
             stdout=subprocess.PIPE,
-            env=beside.setting("may"),
+            env=built.setting("may"),
         )
         given = done.stdout.decode().splitlines()
         faulty = re.fullmatch(r"fault line (\d+): (.*)", given[0]) if done.returncode == 3 and len(given) == 1 else None

@@ -120,10 +120,3 @@ class Under:
             except Unread as error:
                 yield Told(row.path, None, str(error))
             self.stops.append(self.stop(row, self.before(self.tree.above) if is_top else stopped))
-
-
-def rows_under(caller: Caller, wanted: int, top: str) -> list[Told]:
-    """What is told of each path of a tree."""
-    tree = Tree(top)
-    under = Under(caller, wanted, tree)
-    return [told for part in tree.parts() for told in under.rows(part)]

@@ -8,8 +8,8 @@ import shlex
 import time
 from collections.abc import Iterator
 
-import forms
-from console import Stop
+from common import forms
+from common.console import Stop
 from mount import words
 from mount.talking import Ended, Session
 

@@ -18,11 +18,10 @@ import re
 import stat
 import sys
 
-sys.path[0] = os.path.dirname(os.path.dirname(os.path.abspath(__file__)))
 
-import console  # noqa: E402
-from mount import lists, making, rows, words  # noqa: E402
-from mount.making import Thing  # noqa: E402
+from common import console
+from mount import lists, making, rows, words
+from mount.making import Thing
 
 NAME = re.compile(r"[A-Za-z0-9._-]{1,64}")
 DEEPEST, MOST_NAMES = 8, 1024
@@ -135,7 +134,3 @@ def main() -> int:
     for line in [*words.header(given), *making.making(things)]:
         print(line)
     return 1 if reader.left_out else 0
-
-
-if __name__ == "__main__":
-    console.run(main, "stopped")

@@ -30,7 +30,7 @@ INIT_IN, INIT_OUT = struct.Struct("<IIII"), struct.Struct("<IIIIHHIIHHI28x")
 ATTRIBUTES, ENTRY, ATTRIBUTE_OUT = struct.Struct("<6Q10I"), struct.Struct("<QQQQII"), struct.Struct("<QII")
 OPENED, ENTRY_NAME, STATUS = struct.Struct("<QII"), struct.Struct("<QQII"), struct.Struct("<5Q4I24x")
 SETTING = struct.Struct("<IIQQQQQQIIIIIIII")
-INIT, DESTROY, FORGET, INTERRUPT, FORGET_MANY = 26, 38, 2, 36, 42
+INIT, FORGET, INTERRUPT, FORGET_MANY = 26, 2, 36, 42
 UNANSWERED = (FORGET, INTERRUPT, FORGET_MANY)
 
 

@@ -6,11 +6,11 @@ import errno
 import os
 import shlex
 
-import console
-from console import Stop
+from common import console
+from common.console import Stop
 
 from mount import beginning, calls, kernel, making, rows
-from mount.talking import Ended, Session
+from mount.talking import Ended
 from mount.tree import Tree
 
 WANTED = "mount needs fuse3, on Debian: apt-get install -y fuse3"

@@ -6,7 +6,7 @@ import subprocess
 from collections.abc import Sequence
 from typing import NamedTuple
 
-import console
+from common import console
 
 # How often a transaction is tried whose home is down, or that met another's lock: each time it has another home.
 TRIES = 8

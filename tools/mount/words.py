@@ -44,9 +44,9 @@ import argparse
 import os
 import re
 
-from console import Bad
+from common import TOP
+from common.console import Bad
 
-TOP = os.path.realpath(os.path.join(os.path.dirname(os.path.abspath(__file__)), "..", ".."))
 SERVERS, AGENTS = 3, 2
 # The session of these sources.
 SESSION = os.path.join(TOP, "suites") + " session"

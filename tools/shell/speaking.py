@@ -13,7 +13,8 @@ import subprocess
 import sys
 import tempfile
 
-from mount import beginning, lists, rows, talking, words
+from common import TOP
+from mount import beginning, rows, talking
 from mount.talking import Ended, Outcome, User
 from shell import changing
 
@@ -313,7 +314,7 @@ class Shell(cmd.Cmd):
         with tempfile.NamedTemporaryFile("w", suffix=".script", encoding="utf-8") as file:
             file.write(self.script())
             file.flush()
-            explain = [os.path.join(words.TOP, "suites"), "explain", self.last, file.name]
+            explain = [os.path.join(TOP, "suites"), "explain", self.last, file.name]
             subprocess.run(explain, stdin=subprocess.DEVNULL)
 
     def do_save(self, text: str) -> None:
@@ -322,7 +323,7 @@ class Shell(cmd.Cmd):
             file.write(self.script())
 
     def do_help(self, arg: str) -> None:
-        import shell.__main__ as door
+        from shell import shell as door
 
         self.say((door.__doc__ or "").split("\n\n", 2)[2].strip("\n"))
 

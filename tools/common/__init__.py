@@ -1,0 +1,17 @@
+"""What the tools of several rooms use, and where the repository is."""
+import os
+import sys
+
+TOOLS = os.path.dirname(os.path.dirname(os.path.abspath(__file__)))
+TOP = os.path.dirname(TOOLS)
+
+
+def tool(name: str, *words: str) -> list[str]:
+    """The command that starts a tool."""
+    return [sys.executable, TOOLS, name, *words]
+
+
+def text_of(*path: str) -> str:
+    """The text of a file, by its path from the top of the repository."""
+    with open(os.path.join(TOP, *path), encoding="utf-8") as file:
+        return file.read()

@@ -1,0 +1,25 @@
+"""A page of docs/ that a tool writes, or only looks at."""
+import difflib
+import os
+
+from common import TOP, console, text_of
+
+
+def is_check(doc: str) -> bool:
+    """Whether the page is only looked at, by the words of the tool."""
+    read = console.words(doc)
+    read.add_argument("--check", action="store_true")
+    return read.parse_args().check
+
+
+def written(name: str, text: str, faults: list[str], source: str, only_looks: bool) -> int:
+    """Writes the page, or tells how it differs, with what is wrong besides; the status of the tool."""
+    path, changes = os.path.join(TOP, name), list[str]()
+    if only_looks:
+        there = text_of(name) if os.path.exists(path) else ""
+        changes = list(difflib.unified_diff(there.split("\n"), text.split("\n"), name, source, lineterm="", n=0))
+    else:
+        with open(path, "w", encoding="utf-8") as file:
+            file.write(text)
+    print(*faults, *changes, sep="\n", end="\n" if faults or changes else "")
+    return 1 if faults or changes else 0

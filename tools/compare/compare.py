@@ -1,0 +1,192 @@
+"""python3 tools compare SCRIPT..
+python3 tools compare --seeds COUNT [--from SEED] [--lines LINES]
+
+Plays a script of `suites play`, writes the transactions that it decided as a script of `suites table`, in the order of
+their decisions (as `./suites trace` shows them), and compares the answers of both: every reply, every refusal, every
+denial with its entry, and the servers' audits. Numbers of what was made differ, since they come of the number of the
+transaction, and are mapped. A transaction whose agent stopped after it was decided has no answer in `play`: of it is
+compared whether it was answered or refused. With --seeds it does so for scripts of scenario.py. Status 1 where
+something differs, or a script cannot be played.
+"""
+import argparse
+import collections
+import itertools
+import os
+import re
+import subprocess
+import sys
+
+from common import TOP, console, numbers
+from compare import scenario
+from trace import trace
+
+SUITES = os.path.join(TOP, "suites")
+DECIDE = re.compile(r"t (\d+) decide (?:answered|refused)$")
+NUMBERED = re.compile(r"\b(made|suite) (\d+)")
+HEADER = {"servers", "agents", "votes", "root", "cache", "user", "group"}
+
+
+class Job:
+    """A transaction that was begun: its line, whose it is, and what became of it."""
+
+    def __init__(self, words: list[str]) -> None:
+        self.uid, self.groups, self.ops = words[2], words[3], " ".join(words[5:])
+        self.ending: str | None = None
+        self.verdict: str | None = None
+        self.home: int | None = None
+
+
+def output(command: str, script: str) -> list[str]:
+    done = subprocess.run(
+        [SUITES, command], input=script.encode("latin1"), stdout=subprocess.PIPE, stderr=subprocess.DEVNULL
+    )
+    if done.returncode != 0:
+        raise console.Stop(f"{console.ended('suites', done.returncode)}: {done.stdout.decode('latin1').strip()}")
+    return done.stdout.decode("latin1").splitlines()
+
+
+class Run:
+    """A run as its trace shows it: its transactions, those that were decided in their order, and the audits."""
+
+    def __init__(self, lines: list[str]) -> None:
+        self.jobs: dict[int, Job] = {}
+        self.decided: list[int] = []
+        self.audits: dict[int, list[str]] = {}
+        self.played: list[str] = []
+        counts: collections.Counter[int] = collections.Counter()
+        for head, block in trace.blocks(lines):
+            if head[0] != ">":
+                break
+            words = head[2:].split()
+            if words[0] in ("begin", "sweep") and not any(line.startswith("  nothing") for line in block):
+                agent = int(words[1])
+                if words[0] == "begin":
+                    self.jobs[numbers.transaction(agent, counts[agent])] = Job(words)
+                counts[agent] += 1
+            for line in block:
+                self.take(line)
+            self.played += [line for line in block if not line.startswith("  ")]
+            if words[0] == "audit":
+                self.audits[int(words[1])] = block[1:]
+
+    def take(self, line: str) -> None:
+        """Keeps what a line tells. Of the audits those count that come after the last decision, and so tell all
+        denials.
+        """
+        request, outcome = trace.REQUEST.match(line), trace.OUTCOME.match(line)
+        decide = request and DECIDE.match(request[3])
+        if decide and request[4] in ("verdict answered", "verdict refused"):
+            job = self.jobs[int(decide[1])]
+            job.verdict, job.home = request[4].split()[1], int(request[2])
+            self.decided.append(int(decide[1]))
+            self.audits.clear()
+        elif outcome:
+            job = self.jobs.get(numbers.transaction(int(outcome[1]), int(outcome[2])))
+            if job:
+                job.ending = outcome[4]
+
+
+def with_votes(ops: str, votes: str) -> str:
+    """Operations in which each that makes something says with which votes."""
+    return " ; ".join(
+        f"{op} {votes}" if op.split()[0] in ("file", "folder") and len(op.split()) == 3 else op
+        for op in ops.split(" ; ")
+    )
+
+
+def table_script(script: str, run: Run) -> str:
+    """The decided transactions as a script of `table`, of which the first gives the root folder its votes."""
+    said = [line.split() for line in script.splitlines() if line.strip() and not line.startswith("#")]
+    votes = next(words[1] for words in said if words[0] == "votes")
+    root = next(words for words in said if words[0] == "root")
+    lines = [" ".join(root)] + [" ".join(words) for words in said if words[0] in ("user", "group")]
+    lines.append(f"do {root[1]} {root[2]} setvotes / {votes}")
+    lines += [f"do {run.jobs[t].uid} {run.jobs[t].groups} {with_votes(run.jobs[t].ops, votes)}" for t in run.decided]
+    return "\n".join(lines) + "\n"
+
+
+def mapped(text: str, places: dict[int, int]) -> str:
+    """A text of `play` with the numbers that `table` gave to what was made."""
+    def number(found: re.Match[str]) -> str:
+        suite = int(found[2])
+        if not suite:
+            return found[0]
+        t, place = numbers.maker_of(suite)
+        return f"{found[1]} {numbers.suite(places[t], place) if t in places else f'of t {t}'}"
+    return NUMBERED.sub(number, text)
+
+
+def differences(script: str) -> tuple[list[str], collections.Counter[str]]:
+    """What differs between a script's run and the plain table; and what there was to compare."""
+    lines = trace.traced(script.encode("latin1"))
+    run = Run(lines)
+    wrong = [] if output("play", script) == run.played else ["play and trace print different lines"]
+    found, told = differences_of(run, output("table", table_script(script, run)))
+    told["requests"] = sum(bool(trace.REQUEST.match(line)) for line in lines)
+    told.update(
+        f"events: {line.split()[1]}"
+        for line in lines
+        if line.startswith("> ") and line.split()[1] in ("crash", "return", "sweep", "forget")
+    )
+    return wrong + found, told
+
+
+def differences_of(run: Run, table: list[str]) -> tuple[list[str], collections.Counter[str]]:
+    """What differs between a run and what the plain table prints of its decided transactions; and what there was to
+    compare.
+    """
+    told: collections.Counter[str] = collections.Counter()
+    wrong = list[str]()
+    answers = [line.partition(" ")[2] for line in table][1:]
+    places = {t: place for place, t in enumerate(run.decided, 1)}
+    audits: dict[int, list[str]] = {server: [] for server in run.audits}
+    if len(answers) != len(run.decided):
+        wrong.append(f"{len(run.decided)} transactions are decided, and table answers {len(answers)}")
+    for t, answer in zip(run.decided, answers):
+        job = run.jobs[t]
+        told[f"decided: {answer.split()[0]}"] += 1
+        if job.ending is None:
+            told["decided, and the agent stopped"] += 1
+        if mapped(job.ending or "", places) != (answer if job.ending else ""):
+            wrong.append(f"t {t}: play says {job.ending}, and table {answer}")
+        if (job.verdict == "answered") != answer.startswith("answered"):
+            wrong.append(f"t {t}: decided {job.verdict}, and table says {answer}")
+        if answer.startswith("denied") and job.home in audits:
+            audits[job.home].append(f"t {t} uid {job.uid} {answer[len('denied '):]}")
+    for t, job in run.jobs.items():
+        if t not in places:
+            told[f"undecided {job.ending.split()[1]}" if job.ending else "undecided, and the agent stopped"] += 1
+            if job.ending and not job.ending.startswith("undecided"):
+                wrong.append(f"t {t}: ended as {job.ending}, and was never decided")
+    for server, items in audits.items():
+        if [mapped(item, places) for item in run.audits[server]] != items:
+            wrong.append(f"audit {server}: {run.audits[server]}, wanted {items}")
+    told["audits"] = len(audits)
+    return wrong, told
+
+
+def main() -> int:
+    read = argparse.ArgumentParser(description=__doc__, formatter_class=argparse.RawDescriptionHelpFormatter)
+    read.add_argument("scripts", nargs="*")
+    read.add_argument("--seeds", type=int, default=0)
+    read.add_argument("--from", type=int, default=0, dest="first")
+    read.add_argument("--lines", type=int, default=120)
+    given = read.parse_args()
+    if not given.scripts and not given.seeds:
+        print(__doc__.partition("\n\n")[0], file=sys.stderr)
+        return 2
+    scripts = [(name, open(name, encoding="latin1").read()) for name in given.scripts]
+    seeds = range(given.first, given.first + given.seeds)
+    total: collections.Counter[str] = collections.Counter()
+    wrong = 0
+    written = ((f"seed {seed}", scenario.Scenario(seed, given.lines).script()) for seed in seeds)
+    for name, script in itertools.chain(scripts, written):
+        found, told = differences(script)
+        total.update(told)
+        for line in found:
+            print(f"{name}: {line}")
+        wrong += bool(found)
+    print(f"{len(scripts) + len(seeds)} scripts, {wrong} differ")
+    for what in sorted(total):
+        print(f"  {total[what]:8} {what}")
+    return 1 if wrong else 0

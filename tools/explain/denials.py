@@ -1,0 +1,118 @@
+"""Which list guarded a file or folder when an operation was denied, and how it came to that: by the plain table.
+
+The transactions before are played by `suites table`, and after them the list is asked for by its owner, who lets
+itself in.
+"""
+import re
+import subprocess
+import typing
+
+from common import built
+from explain import faults
+
+OPEN = "u::rwx,g::rwx,o::rwx"
+# What is told of an operation that was denied.
+DENIED = re.compile(r"op (\d+) suite (\d+) wants (\S+) by (\S+)")
+
+
+class Asked(typing.NamedTuple):
+    """A transaction: a user, the user's groups, and operations."""
+
+    uid: str
+    groups: str
+    operations: list[str]
+
+    def line(self) -> str:
+        return f"do {self.uid} {self.groups} {' ; '.join(self.operations)}"
+
+
+def table(lines: list[str]) -> list[str]:
+    """What `suites table` prints of a script; nothing where it has a fault."""
+    text = "".join(f"{line}\n" for line in lines)
+    words = [built.chosen("suites")[1], "table"]
+    done = subprocess.run(words, input=text.encode("latin1"), stdout=subprocess.PIPE, stderr=subprocess.DEVNULL)
+    return done.stdout.decode("latin1").splitlines() if done.returncode == 0 else []
+
+
+def owners(root: list[str], jobs: list[Asked], answers: list[str]) -> dict[str, tuple[str, str]]:
+    """The owner and the group of each path that was made last, and of the root folder."""
+    found = {"/": (root[1], root[2])}
+    for job, answer in zip(jobs, answers):
+        for operation in job.operations if answer.split()[1:2] == ["answered"] else ():
+            verb, path = operation.split()[:2]
+            if verb in ("file", "folder"):
+                found[path] = job.uid, job.groups.split(",")[0]
+    return found
+
+
+def above(path: str) -> list[str]:
+    """The folders on the way to a path, the root folder first."""
+    parts = [part for part in path.split("/") if part]
+    return ["/" + "/".join(parts[:count]) for count in range(len(parts))]
+
+
+def header_of(script: str) -> list[str]:
+    """The lines of a script of which a script of `table` has the same: its root folder and its names."""
+    said = [line.split() for line in faults.lines_of(script) if line.split() and not line.startswith("#")]
+    root = next(words for words in said if words[0] == "root")
+    return [" ".join(root), *(" ".join(words) for words in said if words[0] in ("user", "group"))]
+
+
+def answers(script: str, jobs: list[Asked]) -> list[str]:
+    """What the plain table answers these transactions, one after the other."""
+    return table([*header_of(script), *(job.line() for job in jobs)])
+
+
+def list_then(script: str, jobs: list[Asked], path: str) -> tuple[str, str, str] | None:
+    """The owner, the group and the list of a path after these transactions."""
+    header = header_of(script)
+    lines = [*header, *(job.line() for job in jobs)]
+    owner = owners(header[0].split(), jobs, table(lines))
+    if path not in owner or any(folder not in owner for folder in above(path)):
+        return None
+    lines += [f"do {owner[folder][0]} {owner[folder][1]} setacl {folder} {OPEN}" for folder in above(path)]
+    answers = table([*lines, f"do {owner[path][0]} {owner[path][1]} getacl {path}"])
+    found = re.fullmatch(r"\d+ answered acl (\S+)", answers[-1]) if answers else None
+    return (*owner[path], found[1]) if found else None
+
+
+def entries(text: str) -> list[tuple[str, str, str]]:
+    """The entries of a list as `play` writes it: the letter of the kind, whom it names, and the permissions."""
+    found = [item.split(":") for item in text.split(",") if not item.startswith(("d:", "default:"))]
+    return [(fields[0][0], fields[1], fields[2]) for fields in found]
+
+
+def case_of(text: str, owner: str, group: str, caller: Asked) -> str:
+    """Which entries of a list a caller is judged by, by acl(5)."""
+    listed = entries(text)
+    if caller.uid == owner:
+        return "is the owner, so the owner's entry alone counts, user::"
+    if any(kind == "u" and who == caller.uid for kind, who, _ in listed):
+        return f"is named by an entry, user:{caller.uid}, which counts with the mask"
+    groups = caller.groups.split(",")
+    named = [who or group for kind, who, _ in listed if kind == "g" and (who or group) in groups]
+    if named:
+        return (
+            f"is neither the owner nor named, but in group {' and '.join(named)}, whose entries count with the mask, if"
+            " there is one"
+        )
+    return "is neither the owner, nor named, nor in a group of the list, so the entry of all others counts, other::"
+
+
+def told(script: str, before: list[Asked], caller: Asked, place: int, path: str, decider: str) -> typing.Iterator[str]:
+    """The sentences about the list, the owner, and the caller of a transaction whose operation at this place was
+    denied.
+    """
+    jobs = before + ([caller._replace(operations=caller.operations[: place - 1])] if place > 1 else [])
+    found = list_then(script, jobs, path)
+    if not found:
+        return
+    owner, group, text = found
+    yield f"Its list was then {text}, its owner user {owner}, and its group {group}."
+    if decider == "owner":
+        yield f"User {caller.uid} is not the owner, and nobody else may do that."
+    else:
+        yield (
+            f"User {caller.uid} of groups {caller.groups} {case_of(text, owner, group, caller)}. What decided is"
+            f" {decider}."
+        )

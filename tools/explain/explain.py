@@ -1,0 +1,320 @@
+"""./suites explain [--of COMMAND] LINE [FILE]
+
+Prints what docs/FAULTS.md says of a code, or of a line as the program, `votes` or `may` printed it; what a word
+means; and what a line of a script says, word by word. Where the script or the list is named that a line was printed
+of: of a fault the very line or item, and what is wrong with it; of how a job ended what happened, for which the
+script is played once more.
+
+    ./suites explain S1
+    ./suites explain 'fault line 3: S2' SCRIPT
+    ./suites explain 'fault A9 item 2' LIST
+    ./suites explain '1.2 9 denied op 1 suite 1 wants r-- by other::' SCRIPT
+    ./suites explain 'begin 0 1000 100 0 file /a 644 ; write /a 6869'
+    ./suites explain prefix
+    ./suites explain 'status 6'
+
+Which command a script is of is told by its lines, or by --of play, --of serve or --of table. A script of - is
+standard input.
+"""
+import argparse
+import io
+import os
+import re
+import shlex
+import sys
+import textwrap
+import typing
+
+from common import console, forms, numbers, quoted, text_of
+from explain import explore_lines, faults, judge_lines, meanings, misfits, play_lines, table_lines, tool_lines
+
+
+CODE = re.compile(r"\b([SAVNGFUsavngfu](?:1[0-3]|[1-9]))\b")
+SPAN = r"`([^`]*)`"
+# The lines of an example, the last line that it prints, and what is told of that.
+EXAMPLE = re.compile(rf"({SPAN}(?:, {SPAN})*) prints {SPAN}(?: \({SPAN}\))?")
+STATUS = re.compile(r"(?:status |exit )?(\d)$|(?:status |exit )(\d{2,3})$")
+FAULT = re.compile(r"fault (?:line (\d+): )?([SAVNG]\d+(?: A\d+)?(?: item \d+)?)(?: (.+))?$")
+EXPLORED = re.compile(
+    r"way \d+(?: in \d+ of \d+ ends|: \d+ (?:worlds at the end|runs), \d+ of them so)$"
+    r"|(?:(?:not )?all|sampled):? \d+ ways, \d+ (?:worlds|runs)$|\d+\.\d+ -$|decided(?: \d+\.\d+)*$"
+)
+# What begins the line of an outcome: an agent and its job, or a job, and how many requests it took; or a transaction.
+# An outcome of `explore` tells no requests.
+# What a session tells besides what its lines print.
+SPOKEN = re.compile(r"= (?:restored \d+ lines|\d+)$|(?:row|content|copies|locks|room) |(?:copies|room)$")
+VOTES = re.compile(r"(?:\d+,|-,)*\d+/\d+/\d+$")
+MARKED = re.compile(r"= (\d+)$")
+FRONT = re.compile(r"(?:(\d+)\.(\d+)(?: (\d+))?|(\d+) (\d+)|(\d+)) (?=answered|denied|refused|undecided|swept)")
+# The number of what was made, or of a transaction.
+NUMBERED = re.compile(r"\b(?:(made) ([1-9]\d*)|(?:holder|t) (\d+))\b")
+TRACED = re.compile(r"> |= server|nothing happens|\d+ -> s\d+|t \d+ suite|\S*suite \d+ \w+ prefix")
+ENTRY = re.compile(r"(?:default:)?(?:user|group|mask|other):\d*:[r-][w-][x-]")
+REPLIES = ("made", "wrote", "read", "list", "dropped", "acl", "votes", "set")
+# The part of the page about a line that begins with a word, where it is not called by that word.
+PARTS = {**dict.fromkeys(REPLIES, "answered"), "t": "audit", "denied": "F3"}
+WHOLE = ("answered", "swept", "audit", "refused", "undecided", "certified", "mismatch", "trace", "transaction")
+# What stands in front of a sentence on standard error, and what is told of one of which nothing else is told.
+SAYS = "suites: "
+OF_ITSELF = "A sentence of `./suites` or of one of its tools, on standard error, which says itself what it means."
+FAULTS = ("fault command line", "fault memory", "fault word", "fault journal")
+
+
+def page() -> typing.Iterator[tuple[str, str, str, list[str]]]:
+    """The parts of the page: the title of its group, where to read on, its code, and its lines."""
+    group = more = code = ""
+    lines: list[str] = []
+    for line in [*text_of("docs", "FAULTS.md").splitlines(), "## "]:
+        if line.startswith("#"):
+            if code:
+                yield group, more, code, lines
+            code, lines = "", []
+            if line.startswith("### "):
+                code = line[4:]
+            else:
+                group, more = line.lstrip("# "), ""
+        elif not code and "Read on: " in line:
+            more = line[line.index("Read on: "):]
+        elif code:
+            lines.append(line)
+
+
+def codes_in(text: str) -> list[str]:
+    """The parts of the page about a text, the whole before its parts, and about numbers in it."""
+    status, front = STATUS.match(text), FRONT.match(text)
+    if status:
+        return [f"status {status[1] or ('128' if int(status[2]) >= 128 else status[2])}"]
+    explored = EXPLORED.match(text)
+    if explored:
+        return ["all" if " ways, " in text else "way"]
+    if SPOKEN.match(text):
+        return ["session"]
+    if TRACED.match(text) or ENTRY.match(text):
+        return ["trace" if TRACED.match(text) else "entry"]
+    rest = text[front.end() :] if front else text
+    first = rest.partition(" ")[0]
+    found = (
+        [PARTS.get(first, first)]
+        if first in (*PARTS, *WHOLE)
+        else [words for words in FAULTS if rest.startswith(words)]
+    )
+    if first in ("refused", "undecided") or not found:
+        found += [code.upper() for code in CODE.findall(rest)]
+    return found + (["transaction"] if NUMBERED.search(rest) else [])
+
+
+def counted(number: str) -> str:
+    return f"{number} request{'s' if int(number) != 1 else ''}"
+
+
+def worked_out(text: str) -> list[str]:
+    """What the numbers of a line say, one by one."""
+    front = FRONT.match(text)
+    told = []
+    if front and front[1]:
+        took = f"; it took {counted(front[3])}" if front[3] else ""
+        told.append(f"Job {front[2]} of agent {front[1]}, both counted from 0{took}.")
+    elif front and front[4]:
+        told.append(f"Job {front[4]} of the script, counted from 0; it took {counted(front[5])}.")
+    elif front:
+        told.append(f"Transaction {front[6]} of the script, counted from 0.")
+    for made, suite, t in NUMBERED.findall(text):
+        if made:
+            t, place = numbers.maker_of(int(suite))
+            is_made = f"made by operation {place + 1} of transaction {t}"
+            told.append(f"{suite} = {numbers.OPERATIONS} * {t} + {place + 1}: {is_made}.")
+        if not (front and front[6]):
+            agent, job = numbers.job_of(int(t))
+            is_of = f"in play and serve transaction {t} is job {job} of agent {agent}"
+            told.append(f"{t} = {numbers.AGENTS} * {job} + {agent}: {is_of}.")
+    return list(dict.fromkeys(told))
+
+
+def filled(text: str, first: str = "", after: str = "") -> str:
+    return textwrap.fill(
+        text, 100, initial_indent=first, subsequent_indent=after, break_long_words=False, break_on_hyphens=False
+    )
+
+
+def shown(line: str) -> str:
+    """A line of the page as a terminal is to show it: of an example each line and what it prints by itself."""
+    if not line.startswith("- "):
+        return filled(line)
+    line = re.sub(r"^- whole (\w+):", r"- \1, from the first line on:", line)
+    told, place, first = [], 2, "  - "
+    for found in EXAMPLE.finditer(line):
+        told.append(filled(line[place : found.start()].strip(), first, "    "))
+        told += [f"        {given}" for given in re.findall(SPAN, found[1])]
+        told += ["    prints", f"        {found[4]}", *([filled(found[5] + ".", "    ", "    ")] if found[5] else [])]
+        place, first = found.end(), "    "
+    rest = line[place:].strip().lstrip(".,; ")
+    return "\n".join([part for part in told if part.strip(" -")] + ([filled(rest, first, "    ")] if rest else []))
+
+
+def about(lines: list[str], text: str) -> list[str]:
+    """The lines of a part, and of those that tell of a word each only those whose word is in the text, where there are
+    some.
+    """
+    words = set(re.findall(r"[a-z=]+", text))
+    kept = [
+        line
+        for line in lines
+        if not line.startswith("- `") or words & set(re.findall(r"[a-z=]+", re.search(SPAN, line)[1])[:1])
+    ]
+    return kept if any(line.startswith("- ") for line in kept) else lines
+
+
+def explained(text: str) -> str:
+    """What there is to say of a text: the page's part, or what its words say; or nothing."""
+    as_printed, text = text, " ".join(text.split())
+    if text.startswith(SAYS) and not tool_lines.of_making(text):
+        return explained(text.removeprefix(SAYS)) or OF_ITSELF
+    line = meanings.own_line(text) if text else None
+    # a line of a trace begins with the line of the script
+    line = line or (meanings.own_line(text[2:]) if text.startswith("> ") and text[2:] else None)
+    if line:
+        return line
+    word = meanings.one_word(text)
+    if word and " " in text:
+        return word
+    if VOTES.match(text):
+        return filled(f"{meanings.meant('VOTES', text)}.")
+    inner = tool_lines.within(text)
+    if inner:
+        return f"A sentence of `./suites shell`, with the session's own words behind it.\n\n{explained(inner)}"
+    of_tool = tool_lines.of_tools(as_printed.rstrip()) if not EXPLORED.match(text) and not TRACED.match(text) else None
+    if of_tool or text.startswith("#"):
+        return of_tool or "A comment, which says nothing to the program."
+    parts = {code: (group, more, lines) for group, more, code, lines in page()}
+    told = []
+    for code in codes_in(text):
+        if code in parts:
+            group, more, lines = parts[code]
+            lines = about(lines, text) if code in ("answered", "trace") else lines
+            told += [
+                f"{code} ({group[0].lower() + group[1:]})",
+                "",
+                *map(shown, "\n".join(lines).strip().split("\n")),
+                "",
+            ]
+            told += [shown(more), ""] if more else []
+    worked = worked_out(text) if told else []
+    return "\n".join([*([word, ""] if word else []), *worked, *([""] if worked else []), *told]).rstrip()
+
+
+def meaning(code: str) -> str:
+    """What a code means, in a few sentences: the first lines of its part of the page."""
+    lines: list[str] = next((lines for _, _, found, lines in page() if found == code), [])
+    return filled(next((line for line in lines if line), ""), f"{code}: ") if lines else ""
+
+
+def of_file(fault: re.Match[str], path: str, language: str | None) -> str:
+    """The line of a script or the item of a list that has a fault, what is wrong with it, and what the code means."""
+    name, given = read_file(path)
+    text, code = given.decode("latin1"), fault[2]
+    if fault[1] and judge_lines.is_history(text):
+        told, is_found = judge_lines.of_fault(text, name, int(fault[1]), code), True
+    elif fault[1]:
+        told, is_found = faults.of_script(name, text, int(fault[1]), code, language)
+        hints = list(explore_lines.of_together(text, int(fault[1]), quoted.plain(name)))
+        told += ["", *hints] if hints else []
+    else:
+        told, is_found = faults.of_list(name, text, code)
+    told = [line if line.startswith("    ") else filled(line) for line in told]
+    meant = [meaning(part) for part in CODE.findall(code)]
+    more = f"./suites explain {code.split()[0]} tells"
+    rest = [*meant, "", f"{more} more."] if is_found else [f"{more} of this code."]
+    return "\n".join([*told, "", *rest]).strip()
+
+
+def asked(words: list[str]) -> argparse.Namespace:
+    """The words of the command line: a command, and the text with what follows it."""
+    read = argparse.ArgumentParser(prog="./suites explain", add_help=False)
+    read.add_argument("--of", choices=forms.COMMANDS)
+    read.add_argument("-h", "--help", action="store_true")
+    read.add_argument("text", nargs="*")
+    return read.parse_args(words)
+
+
+def read_file(path: str) -> tuple[str, bytes]:
+    """The name of a script or list and its bytes; - is standard input."""
+    if path == "-":
+        return "standard input", sys.stdin.buffer.read()
+    with open(path, "rb") as file:
+        return path, file.read()
+
+
+def of_session(marked: re.Match[str], script: str, name: str) -> str:
+    """What is told of the mark behind what a session printed for a line of its script."""
+    lines = faults.lines_of(script)
+    number = int(marked[1])
+    if not 0 < number <= len(lines):
+        return f"{name} has {len(lines)} lines. Was it changed?"
+    return f"What is printed for line {number} of {name} ends here: {quoted.plain(lines[number - 1])}"
+
+
+def of_printed(text: str, path: str, language: str | None) -> str:
+    """What happened behind a line that was printed of a script: what stands in the script, and for `play` how it came
+    to it.
+    """
+    name, given = read_file(path)
+    script, shown = given.decode("latin1"), quoted.plain(name)
+    if judge_lines.is_history(script):
+        return "\n".join(filled(line) for line in judge_lines.of_line(" ".join(text.split()), script, shown))
+    marked = MARKED.match(text)
+    if marked or tool_lines.of_session(text):
+        return filled(of_session(marked, script, shown)) if marked else ""
+    kind = language or misfits.in_script(script, 1)[0].command
+    if explore_lines.is_explored(script) and (kind == "play" or EXPLORED.match(text)):
+        told = list(explore_lines.of_line(text, script, shown))
+    elif tool_lines.of_tools(text):
+        told = []
+    elif kind == "play":
+        told = play_lines.of_line(text, given, shown)
+    else:
+        told = table_lines.of_line(text, script, shown, kind)
+    return "\n".join(filled(line) for line in told)
+
+
+def with_name(told: str, path: str) -> str:
+    """What is told, where the script is known: it stands in the commands that are to be typed."""
+    name = "SCRIPT" if path == "-" else shlex.quote(path)
+    told = re.sub(r"(?<=< )SCRIPT\b", lambda _: name, told)
+    return re.sub(r"(?<=--script )FILE\b", lambda _: name, told)
+
+
+def answer(words: list[str]) -> str:
+    """What is printed for the words of the command line."""
+    given = asked(words)
+    text = " ".join(given.text)
+    if given.help or not text:
+        return __doc__.strip()
+    fault = FAULT.match(text)
+    if fault and fault[3]:
+        return of_file(fault, fault[3], given.of)
+    path = given.text[-1]
+    if len(given.text) == 2 and not os.path.isfile(path) and path != "-" and explained(given.text[0]):
+        raise console.Stop(f"there is no file {quoted.plain(path)}")
+    if len(given.text) > 1 and (path == "-" or os.path.isfile(path)):
+        text = " ".join(given.text[:-1]).rstrip()
+        told = "\n\n".join(filter(None, [of_printed(text, path, given.of), explained(text)]))
+        return with_name(told, path)
+    told = explained(text)
+    if not told:
+        near = quoted.nearest(text, meanings.words())
+        like = f"; near {'are' if len(near) > 1 else 'is'} {quoted.either(near, 'and')}" if near else ""
+        said = f"nothing that is printed is called so: {quoted.plain(text)}{like} (docs/FAULTS.md has all codes)"
+        raise console.Stop(said)
+    if fault and fault[1]:
+        line = f"Line {fault[1]} of the script, counted from 1 with empty lines and comments."
+        line += " With the name of the script behind it this command shows what is wrong there."
+        told = f"{filled(line)}\n\n{told}"
+    return told
+
+
+def main() -> int:
+    # a script may have bytes that this terminal cannot show
+    if isinstance(sys.stdout, io.TextIOWrapper):
+        sys.stdout.reconfigure(errors="backslashreplace")
+    print(quoted.safe(answer(sys.argv[1:])))
+    return 0 if sys.argv[1:] else 2

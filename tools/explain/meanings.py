@@ -1,0 +1,149 @@
+"""What a line of a script says, word by word, as its reader wrote it; and what the words of this service mean.
+
+The sentences are those of the table of forms, of docs/WORDS.md, and of the field's words in docs/ARCHITECTURE.md, so
+that each stands once.
+"""
+import itertools
+import re
+import textwrap
+
+from common import forms, text_of
+from explain import misfits
+from common.quoted import either, letters, plain, short
+
+ROW = re.compile(r"\| (.*) \| (.*) \|$")
+# Slanted words, and no sign of multiplication.
+SLANTED = re.compile(r"\*(\w(?:[^*]*\w)?)\*")
+WIDE, INDENT = 100, 4
+
+
+def words() -> dict[str, str]:
+    """The words of docs/WORDS.md, each with what it means; a word that is explained with another one has its row."""
+    found: dict[str, str] = {}
+    rows = [row for row in map(ROW.match, text_of("docs", "WORDS.md").split("\n")) if row and row[1].startswith("*")]
+    for row in rows:
+        for word in re.findall(r"\*([^*]+)\*", row[1]):
+            found[word] = f"{upright(row[1])}: {upright(row[2])}"
+    for row in rows:
+        for word in SLANTED.findall(row[2]):
+            found.setdefault(word.lower(), f"{upright(row[1])}: {upright(row[2])}")
+    for word, told in of_field().items():
+        found.setdefault(word, told)
+    return found
+
+
+def of_field() -> dict[str, str]:
+    """The words of the code and those of the field, each with the other."""
+    table = text_of("docs", "ARCHITECTURE.md").partition("| Here | In the field |\n")[2].partition("\n\n")[0]
+    found: dict[str, str] = {}
+    for row in filter(None, map(ROW.match, table.split("\n"))):
+        here, field = row[1].replace("`", ""), row[2]
+        for word in re.split(r"[;,] ", f"{here}; {field}"):
+            found.setdefault(re.sub(r"^(?:an?|the|its) ", "", word), f"{here}; in the field: {field}")
+    return found
+
+
+def upright(text: str) -> str:
+    """A text without the marks of slanted words; a sign of multiplication stays."""
+    return SLANTED.sub(r"\1", text)
+
+
+def meant(place: str, word: str) -> str:
+    """What a word in its place means."""
+    place = place.strip("[]")
+    text = f"{place}, {forms.PLACES[place].means}" if place in forms.PLACES else place
+    if place == "INIT" and re.fullmatch("[0-7]{3}", word):
+        entries = (f"{kind}::{letters(int(digit))}" for kind, digit in zip("ugo", word))
+        return f"{text}: the mode of the list {','.join(entries)}"
+    if place == "HEX" and word != "-":
+        plain = bytes.fromhex(word).decode("latin1")
+        return (
+            f"{text}: the text {plain}"
+            if plain.isprintable() and plain.isascii()
+            else f"{text}: {len(word) // 2} bytes"
+        )
+    if place == "VOTES":
+        fields, r, w = word.split("/")
+        shares = ", ".join(
+            f"{field} of server {server}" for server, field in enumerate(fields.split(",")) if field != "-"
+        )
+        return f"VOTES: {shares}; a read collects {r}, and a write {w}"
+    return text
+
+
+def rows_of(places: list[str], given: list[str]) -> list[tuple[str, str]]:
+    """Words with what each means, up to the end of a line or of an operation."""
+    return [(word, meant(place, word)) for place, word in zip(places, given)]
+
+
+def told_words(first: str, form: list[str], given: list[str]) -> list[tuple[str, str]]:
+    """The words of a line behind its first one, with what each means."""
+    plain = [place for place in form if place != "OPERATIONS"]
+    rows = rows_of(plain, given[: len(plain)])
+    rest, count = given[len(plain) :], 1
+    while rest and len(plain) < len(form):
+        end = rest.index(";") if ";" in rest else len(rest)
+        verb = rest[0]
+        rows.append((verb, f"operation {count}: {forms.OPERATIONS[verb].does}"))
+        rows += rows_of(forms.OPERATIONS[verb].places.split(), rest[1:end])
+        rows += [(";", "and in the same transaction")] if end < len(rest) else []
+        rest, count = rest[end + 1 :], count + 1
+    return rows
+
+
+def has_fault(language: str, given: list[str]) -> bool:
+    """Whether a line of these words does not fit by itself; names and sizes are not known."""
+    header = misfits.header(language)
+    above = itertools.takewhile(lambda line: line.split()[0] != given[0], header)
+    found = misfits.of_line(language, list(above), " ".join(given))
+    return bool(found) and not found.code.startswith("A10")
+
+
+def own_line(text: str) -> str | None:
+    """A line of a script, or an operation of one, told word by word; nothing where the text is none."""
+    given = text.split()
+    for language in forms.COMMANDS:
+        line = forms.lines_of(language).get(given[0])
+        if line and (len(given) > 1 or not line.places) and not has_fault(language, given):
+            head = f"A line of a script of `{language}`: {line.does}."
+            return shown(head, told_words(given[0], line.places.split(), given[1:]))
+    if given[0] in forms.OPERATIONS and len(given) > 1 and given[1].startswith("/"):
+        if not has_fault("table", ["do", "1", "1", *given]):
+            return shown("An operation of a transaction.", told_words("do", ["OPERATIONS"], given))
+    return None
+
+
+def one_word(word: str) -> str | None:
+    """What one word means: of the service, of a line, or of an operation."""
+    told = []
+    known = words()
+    meaning = known.get(word) or known.get(word.removesuffix("s"))
+    if meaning:
+        told.append(filled(f"{meaning[0].upper()}{meaning[1:]}."))
+    lines: dict[tuple[str, str], list[str]] = {}
+    for line in forms.LINES:
+        if line.word == word:
+            lines.setdefault((line.form(), line.does), []).append(f"`{line.command}`")
+    told += [
+        filled(f"{form}: a line of a script of {either(of, 'and')}: {said}.")
+        for (form, said), of in lines.items()
+    ]
+    if word in forms.OPERATIONS:
+        told.append(filled(f"{forms.OPERATIONS[word].form()}: an operation: {forms.OPERATIONS[word].does}."))
+    return "\n\n".join(told) or None
+
+
+def filled(text: str, first: str = "", after: str = "") -> str:
+    return textwrap.fill(
+        text, WIDE, initial_indent=first, subsequent_indent=after, break_long_words=False, break_on_hyphens=False
+    )
+
+
+def shown(head: str, rows: list[tuple[str, str]]) -> str:
+    """A sentence, and a table of words."""
+    cut = [(short(word) if len(word) <= 24 else f"{plain(word[:22])}..", told) for word, told in rows]
+    wide = max((len(word) for word, _ in cut), default=0)
+    lines = [
+        filled(told.replace("`", ""), f"{' ' * INDENT}{word:{wide}}  ", " " * (INDENT + wide + 2)) for word, told in cut
+    ]
+    return "\n".join([filled(head.replace("..", ".")), "", *lines]).rstrip()

@@ -1,0 +1,187 @@
+"""The sentences about words that do not fit: one for each reason that the program `forms` tells."""
+from common import forms
+from explain.misfits import Why
+from common.quoted import LONG, either, letters, nearest, quoted, short
+
+# What the most number of a place is, and of a part of votes.
+MOST = {
+    "SERVERS": "the most servers", "AGENTS": "the most agents", "BUDGET": "the most bytes of a cache",
+    "QUOTA": "the most bytes of a site", "SLOTS": "the most entries of a cache", "SITE": "the last site",
+    "N": "the most steps of a line", "UID": "the last user", "GID": "the last group", "GIDS": "the last group",
+    "A": "the last agent", "S": "the last server", "OLD": "the last server", "255": "the most votes of a server",
+    "65535": "the most votes that can be collected",
+}
+# Places of which one speaks in another way.
+DUE = {"GIDS": "GIDS are due", "OLD": "servers are due", "VOTES": "VOTES are due"}
+OPERATION_ENDS = {"line-ends": "where the line ends", "operation-ends": "before the semicolon"}
+KINDS = ("user", "group", "mask", "other")
+OF_KIND = {"user": "the owner", "group": "the file's group", "other": "all others", "mask": "the mask"}
+MARKS = {
+    "\xef\xbb\xbf": "a byte order mark (UTF-8)",
+    "\xff\xfe": "the byte order mark of UTF-16",
+    "\xfe\xff": "the byte order mark of UTF-16",
+}
+# Reasons of which faults.py tells, with what it knows of the script.
+LAID_OUT = ("elsewhere", "unknown", "names-below", "behind-header", "few")
+# The sentence of each reason, with the parts of `Of` and the data of the reason.
+SENTENCES = {
+    "due": "{of.stands}",
+    "line-ends": "the line ends, and {of.due}",
+    "operation-ends": "the operation ends, and {of.due}",
+    "comment": "a comment stands in a line of its own, which begins with '#'",
+    "semicolon": "{of.part} has a semicolon; between operations it stands alone, with a space on each side",
+    # numbers
+    "no-number": "{of.stands}",
+    "named": "{of.stands} (the number of {of.quoted} is {0}; names are for lists)",
+    "below": "{of.short} is below {0}",
+    "above": "{of.short} is above {0}{of.most}",
+    "gap": "{of.quoted} has a comma without a number beside it; there are no spaces among the groups",
+    "many": "{of.many}",
+    # votes
+    "no-votes": "{of.stands}",
+    "no-share": "{of.no_share}",
+    "no-collected": "{of.part} stands where it is due how many votes are collected",
+    "no-server": "{of.quoted} lists no server",
+    "beyond-last": "{of.quoted} lists server {0}, and the last one is {1}",
+    "all-zero": "all votes in {of.quoted} are 0",
+    "read-collects": "a read collects {0}, and all votes together are {1}",
+    "write-collects": "a write collects {0}, and all votes together are {1}",
+    "read-misses-write": "here r + w is {0}, and N, all votes together, is {1}: a read could miss a write; r + w has to"
+    " be above N",
+    "writes-disjoint": "here 2w is {0}, and N, all votes together, is {1}: two writes could miss one another; 2w has to"
+    " be above N",
+    # bytes and names
+    "odd-digits": "{of.quoted} has {0} hexadecimal digits, and two make a byte",
+    "no-digits": "{of.quoted} is not made of hexadecimal digits{of.as_digits}",
+    "length": "the name has {0} bytes, and at most {1} are allowed",
+    "no-name-byte": "{of.part} stands in no name{of.escape}",
+    "all-digits": "{of.quoted} is a number, and stands where a name is due",
+    "taken": "{of.first} {of.quoted} has a number already, by line {0}",
+    # items of lists
+    "no-keyword": "a word is due before the first colon: user, group, mask or other",
+    "unknown-keyword": "{of.part} is no kind of entry; {of.near}",
+    "no-colon": "a colon is missing behind {of.part}",
+    "one-colon": "a colon is missing: {0[0]}::{of.short} is the entry of {of.kind}",
+    "colons": "it has {0} colons, and an entry has two",
+    "names-somebody": "the entry of {of.kind} names nobody, and here it names {of.part}",
+    "digit": "{of.part} is a digit; in a list permissions are letters: {of.letters}",
+    "no-permission": "{of.part} is no permission; r, w and x are{of.capital}",
+    "twice": "{of.part} stands twice",
+    "hyphens": "there are more than three hyphens",
+    "marked-nothing": "behind {of.part} an entry is due, as d:u::rwx",
+    "nobody": "no {0} is named {of.part}",
+    "of-other-kind": "no {0} is named {of.part}; a {of.other} is",
+    # lists
+    "carriage-return": "{of.quoted} has a carriage return",
+    "no-list": "{of.quoted} stands where a list is due, with colons in it",
+    "no-mode": "{of.quoted} is no mode, which has three octal digits",
+    "lacks": "no item is the entry of {of.kind}, {0[0]}::",
+    "doubled": "items {of.items} are of {of.whom}",
+    "unmasked": "item {0} names somebody, and no item is a mask, m::",
+    # first words
+    "blank": "the line has spaces or tabs alone; an empty line has nothing at all",
+    "mark": "the file begins with {of.mark}, which an editor put there; save it as plain ASCII",
+    "word-missing": "the word with which the line begins is missing before {of.quoted}",
+    "stands-above": "it stands above, in line {0}",
+    "again": "{of.quoted} stands in line {0} already",
+    # form 1 of the root folder
+    "old-default": "the root folder has a default list, which form 1 does not hold",
+    "old-entries": "the root folder's list has {0} entries, and form 1 holds {1}",
+    "old-server": "the votes list server {0}, and form 1 holds those below {1}",
+}
+
+
+class Of:
+    """What a sentence is about: a reason, the word, the place in which it stands, and the word that begins the form.
+    Each property is a part of sentences.
+    """
+
+    def __init__(self, why: Why, word: str = "", place: str = "", first: str = "") -> None:
+        self.why, self.word, self.place, self.first = why, word, place, first
+        self.quoted, self.part, self.short = quoted(word), quoted(why.part), short(why.part)
+
+    def text(self) -> str:
+        """The sentence."""
+        if self.place == "OPERATION" and self.why.reason in OPERATION_ENDS:
+            return f"an operation is due {OPERATION_ENDS[self.why.reason]}"
+        return SENTENCES[self.why.reason].format(*self.why.data, of=self)
+
+    @property
+    def due(self) -> str:
+        means = forms.PLACES[self.place].means if self.place in forms.PLACES else ""
+        return DUE.get(self.place, f"{self.place} is due") + (f", {means}" if means else "")
+
+    @property
+    def stands(self) -> str:
+        parts = ": of each server, and behind slashes what a read and a write collect" * (self.place == "VOTES")
+        if self.place == "END":
+            return f"{self.quoted} is a word too many"
+        return f"{self.quoted} stands where {self.due}{parts}"
+
+    @property
+    def most(self) -> str:
+        most = MOST.get(self.why.data[0] if self.place == "VOTES" else self.place)
+        return f", {most}" if most else ""
+
+    @property
+    def many(self) -> str:
+        count, most = map(int, self.why.data)
+        if self.place == "GIDS":
+            return f"{count} groups; there are at most {most}, the user's own and {most - 1} others"
+        what = f"votes of {count} servers" if self.place == "VOTES" else f"there are {count} entries"
+        return f"{what}; there are at most {most}"
+
+    @property
+    def no_share(self) -> str:
+        if self.why.part:
+            return f"{self.part} is neither a server's votes nor -"
+        return f"{self.quoted} has nothing where a server's votes or - are due"
+
+    @property
+    def as_digits(self) -> str:
+        return f"; as a text it is {self.word.encode('latin1').hex()}" if len(self.word) <= LONG / 2 else ""
+
+    @property
+    def escape(self) -> str:
+        is_one = self.why.part == "\\" and self.place != "NAME"
+        return "; a name with an escape, as getfacl prints it, is not read: write its number" if is_one else ""
+
+    @property
+    def near(self) -> str:
+        known = nearest(self.why.part, KINDS)
+        return f"{quoted(known[0])} is near" if known else "user, group, mask and other are"
+
+    @property
+    def kind(self) -> str:
+        return OF_KIND[self.why.data[0]]
+
+    @property
+    def other(self) -> str:
+        return "user" if self.why.data[0] == "group" else "group"
+
+    @property
+    def letters(self) -> str:
+        return letters(int(self.why.part))
+
+    @property
+    def capital(self) -> str:
+        return ", and X is of setfacl alone" if self.why.part == "X" else ""
+
+    @property
+    def items(self) -> str:
+        return either(self.why.data[1:], "and")
+
+    @property
+    def whom(self) -> str:
+        return f"{self.why.data[0]} {self.short}" if self.why.part else self.kind
+
+    @property
+    def mark(self) -> str:
+        return MARKS[self.why.part]
+
+
+def of_item(code: str, reason: str, item: str, told: str) -> str:
+    """What is told of a fault of a list: of an item with that, and of the default list with that."""
+    if " item " in code and reason not in ("due", "no-list", "no-mode"):
+        return f"item {code.rpartition(' ')[2]} is {quoted(item)}: {told}"
+    return f"{told}, in the default list (d:)" if code.startswith("A13") else told

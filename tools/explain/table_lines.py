@@ -1,0 +1,100 @@
+"""What stands in a script behind a line that `table` or `serve` printed: which line it is of, whose, and which path a
+number is.
+"""
+import re
+import typing
+
+from common import console, numbers
+from explain import denials, faults, refusals
+
+OUTCOME = re.compile(r"(\d+) (?:(\d+) )?(answered|denied|refused|undecided|swept)\b ?(.*)")
+REFUSED = re.compile(r"(F\d+) op (\d+)")
+# What `serve` says of all jobs together.
+WHOLE = re.compile(r"certified \d+ steps$|mismatch$")
+# The places of the user, the groups and the first operation in the words of a job.
+FIRST = {"table": 3, "serve": 4}
+
+
+class Job(typing.NamedTuple):
+    """A transaction or a sweep of a script, and the number of its line."""
+
+    number: int
+    words: list[str]
+    operations: list[str]
+    script: str
+
+    def about(self) -> str:
+        if self.words[0] == "sweep":
+            return f"line {self.number}, a sweep of server {self.words[1]}"
+        return f"line {self.number}, for user {self.words[1]} of groups {self.words[2]}: {' ; '.join(self.operations)}"
+
+
+def jobs_of(script: str, language: str) -> list[Job]:
+    """The transactions and sweeps of a script, in their order."""
+    found = []
+    for number, line in enumerate(faults.lines_of(script), 1):
+        words = line.split()
+        if words[:1] == ["do"] or (words[:1] == ["sweep"] and language == "serve"):
+            found.append(Job(number, words, " ".join(words[FIRST[language] :]).split(" ; "), script))
+    return found
+
+
+def path_of(suite: int, jobs: list[Job]) -> str:
+    """The path of what a script of `table` made, with its number."""
+    t, place = numbers.maker_of(suite)
+    if suite == 0:
+        return "/"
+    return (
+        jobs[t].operations[place].split()[1] if t < len(jobs) and place < len(jobs[t].operations) else f"suite {suite}"
+    )
+
+
+def whole(script: str, jobs: list[Job], name: str) -> str:
+    """How many jobs a script of `serve` has, and how they are done."""
+    lines = [line.split() for line in faults.lines_of(script)]
+    at = lines.index(["together"]) if ["together"] in lines else len(lines)
+    alone = sum(job.number <= at for job in jobs)
+    return (
+        f"{name} has {len(jobs)} jobs. Agent 0 does the first {alone} alone, one after the other, and all agents at"
+        f" once do the other {len(jobs) - alone}; it is said of all of them together."
+    )
+
+
+def why_refused(found: re.Match[str], job: Job, before: list[Job], language: str) -> list[str]:
+    """Which operation was refused; for `table`, which does one after the other, also what was there."""
+    code, place = found[1], int(found[2])
+    told = [f"Operation {place} is `{job.operations[place - 1]}`."] if place else []
+    if language == "table":
+        asked = [denials.Asked(one.words[1], one.words[2], one.operations) for one in before]
+        answers = denials.answers(job.script, asked)
+        those = [one.operations for one, answer in zip(before, answers) if answer.split()[1:2] == ["answered"]]
+        why = refusals.why(code, place, job.operations, those)
+        told += [f"{why}."] if why else []
+    return told
+
+
+def of_line(text: str, script: str, name: str, language: str) -> list[str]:
+    """What is told of a line that a script of this command printed."""
+    outcome, jobs = OUTCOME.match(text), jobs_of(script, language)
+    if language == "serve" and WHOLE.match(text):
+        return [whole(script, jobs, name)]
+    if not outcome or int(outcome[1]) >= len(jobs) or (outcome[2] is None) == (language == "serve"):
+        raise console.Stop(f"{name}, a script of `{language}`, prints no line as this one. Was it changed?")
+    job, rest = jobs[int(outcome[1])], outcome[4]
+    told = [f"It is of {job.about()}." + (" Which agent did it is chance." if language == "serve" else "")]
+    if outcome[3] == "answered":
+        told += [f"Operation {place}, `{operation}`: {reply}."
+                 for place, (operation, reply) in enumerate(zip(job.operations, rest.split("; ")), 1)]
+    refusal = REFUSED.match(rest)
+    if outcome[3] == "refused" and refusal:
+        told += why_refused(refusal, job, jobs[: int(outcome[1])], language)
+    found = denials.DENIED.match(rest)
+    if found:
+        place, suite = int(found[1]), int(found[2])
+        path = path_of(suite, jobs) if language == "table" else f"suite {suite}"
+        told.append(f"Operation {place}, `{job.operations[place - 1]}`, came to {path}, and wanted {found[3]} there.")
+        if language == "table":
+            before = [denials.Asked(one.words[1], one.words[2], one.operations) for one in jobs[: int(outcome[1])]]
+            caller = denials.Asked(job.words[1], job.words[2], job.operations)
+            told += denials.told(script, before, caller, place, path, found[4])
+    return told

@@ -1,0 +1,1 @@
+"""The ways in which jobs may end, and questions of them."""

@@ -1,0 +1,287 @@
+"""./suites explore [OPTIONS] < SCRIPT
+
+Tells every way in which the jobs below the line `together` of a script of events may end; help/explore.txt tells all
+of it. The program `explore` does the work. Here its words are looked at, questions of the ways that it tells are
+answered (`asked`), and on a terminal it is told how many worlds it has looked at, and what its exit status means.
+"""
+import argparse
+import contextlib
+import os
+import re
+import resource
+import shlex
+import subprocess
+import sys
+import tempfile
+import threading
+import time
+import typing
+
+from common import built, console
+from explore import queries
+from gate import gate
+from trace import trace
+
+# The options that tell a number, with the least and the most that each may be.
+NUMBERS = {
+    "--crashes": (0, 255),
+    "--returns": (0, 255),
+    "--forgets": (0, 255),
+    "--stops": (0, 255),
+    "--worlds": (1, 4_294_967_295),
+    "--way": (1, 4_294_967_295),
+}
+DONE, COMMAND_LINE, FAULTY, NO_MEMORY, NO_STREAM, NOT_ALL = 0, 2, 3, 4, 6, 7
+# The options with which the jobs are told at once: every agent may stop where it is.
+AT_ONCE = ["--worlds", "1", "--stops", "255"]
+# The most bytes of a script, and one that is too many.
+MOST_READ = (16 << 20) + 1
+# How often it is looked whether the program has ended, in seconds.
+PAUSE = 0.1
+# What is left to others of the memory that is free, in bytes.
+LEFT = 256 << 20
+# What the program says of how far it is, where it is asked to by this word.
+PROGRESS, LOOKED = "--progress", re.compile(rb"(\d+) worlds\n")
+
+
+class Parser(argparse.ArgumentParser):
+    def error(self, message: str) -> typing.NoReturn:
+        raise console.Bad(f"{message} (./suites explore --help)")
+
+
+def number_of(option: str) -> typing.Callable[[str], int]:
+    """Reads the number of an option."""
+    least, most = NUMBERS[option]
+
+    def read(word: str) -> int:
+        if not (word.isascii() and word.isdigit() and len(word) <= 10 and least <= int(word) <= most):
+            raise argparse.ArgumentTypeError(f"a number of {least} to {most} is told, and not {word}")
+        return int(word)
+
+    return read
+
+
+def read(words: list[str]) -> argparse.Namespace:
+    """The words of the command line."""
+    parser = Parser(prog="./suites explore", add_help=False, allow_abbrev=False)
+    parser.add_argument("-h", "--help", action="store_true")
+    parser.add_argument("--brief", action="store_true")
+    for option in NUMBERS:
+        parser.add_argument(option, type=number_of(option))
+    parser.add_argument("--ask", type=queries.read, action="append")
+    parser.add_argument("--page", action="store_true")
+    parser.add_argument("files", nargs="*")
+    given = parser.parse_args(words)
+    if given.ask and (given.brief or given.way is not None):
+        raise console.Bad("--ask is asked of all ways as they are, without --brief and --way (./suites explore --help)")
+    if given.page and given.way is not None:
+        raise console.Bad("a page has all ways: it is asked for without --way (./suites explore --help)")
+    if given.files and not given.help:
+        name = shlex.quote(given.files[0])
+        raise console.Bad(f"a script is read from standard input: ./suites explore < {name}")
+    return given
+
+
+def words_of(given: argparse.Namespace) -> list[str]:
+    """The words for the program: each option once."""
+    told = [
+        word
+        for option in NUMBERS
+        for number in [getattr(given, option.strip("-"))]
+        if number is not None
+        for word in (option, str(number))
+    ]
+    return told + (["--brief"] if given.brief else [])
+
+
+def advice(status: int, given: argparse.Namespace, last: str) -> str:
+    """What an exit status means, where it says more than the line that is printed."""
+    if status == COMMAND_LINE and given.way is not None:
+        is_found = "was not found" if last.startswith("not all") else "is not there"
+        return f"way {given.way} {is_found}: {last}"
+    if status == FAULTY:
+        return f"./suites explain {shlex.quote(last)} tells what it means"
+    if status == NO_STREAM:
+        return "the input is above 16 MiB, or a read or a write failed (./suites explain 'status 6')"
+    if status == NOT_ALL:
+        why = "as many worlds as --worlds tells were looked at, or " if given.worlds is not None else ""
+        return f"each way told is one, and others may be missing: {why}memory ran out"
+    return ""
+
+
+class Looked(threading.Thread):
+    """Hears from the program how many worlds it has looked at. What else it says on standard error is passed on."""
+
+    def __init__(self, said: typing.IO[bytes]) -> None:
+        super().__init__(daemon=True)
+        self.said = said
+        # When it told of them first and last, and how many these were.
+        self.first: tuple[float, int] | None = None
+        self.last: tuple[float, int] | None = None
+        self.start()
+
+    def run(self) -> None:
+        for line in self.said:
+            found = LOOKED.fullmatch(line)
+            if found:
+                now = time.monotonic(), int(found[1])
+                self.first, self.last = self.first or now, now
+            else:
+                console.Teller().clear()
+                sys.stderr.buffer.write(line.removesuffix(b"\n") + b"\n")
+                sys.stderr.flush()
+
+    def told(self) -> str:
+        """How many worlds these are, and how many a second, to three digits."""
+        if not self.first or not self.last or self.first == self.last:
+            return ""
+        (begun, before), (now, worlds) = self.first, self.last
+        rate = (worlds - before) / (now - begun)
+        return f": {worlds:,} worlds, {float(f'{rate:.3g}'):,.0f} a second"
+
+
+def watched(process: subprocess.Popen[bytes]) -> None:
+    """Waits until the program has ended, and says meanwhile how far it is."""
+    progress, looked = trace.Progress(), Looked(process.stderr)
+    try:
+        while process.poll() is None:
+            with contextlib.suppress(subprocess.TimeoutExpired):
+                process.wait(PAUSE)
+            progress.say(f"explore is at work{looked.told()}")
+        looked.join()
+    finally:
+        progress.end()
+
+
+def limit_memory() -> None:
+    """Lets this process take no more memory than is free: the program then says `not all`, before the system kills
+    it."""
+    most = max(gate.free() - LEFT, LEFT)
+    soft, hard = resource.getrlimit(resource.RLIMIT_AS)
+    limits = [one for one in (most, soft, hard) if one != resource.RLIM_INFINITY]
+    resource.setrlimit(resource.RLIMIT_AS, (min(limits), hard))
+
+
+def status_of(options: list[str], printed: typing.IO[bytes], script: typing.IO[bytes] | None = None) -> int:
+    """Runs the program with these options on a script, or on standard input. It prints into a file. On a terminal it is
+    watched.
+    """
+    is_watched = sys.stderr.isatty()
+    words = [built.program("explore"), *options, *([PROGRESS] if is_watched else [])]
+    errors = subprocess.PIPE if is_watched else None
+    process = subprocess.Popen(words, stdin=script, stdout=printed, stderr=errors, preexec_fn=limit_memory)
+    try:
+        if is_watched:
+            watched(process)
+        return process.wait()
+    finally:
+        if process.poll() is None:
+            process.terminate()
+            process.wait()
+
+
+def told_of(options: list[str], script: typing.IO[bytes]) -> tuple[int, typing.IO[bytes]]:
+    """The exit status of the program for a script, and what it printed, as a file."""
+    printed = tempfile.TemporaryFile()
+    script.seek(0)
+    status = status_of(options, printed, script)
+    printed.seek(0)
+    return status, printed
+
+
+def lines_of(printed: typing.IO[bytes]) -> typing.Iterator[str]:
+    """The lines of a file."""
+    for line in printed:
+        yield line.decode("latin1")
+
+
+def answer(given: argparse.Namespace) -> int:
+    """Answers questions of the ways that the program tells, and tells how many these are."""
+    with tempfile.TemporaryFile() as script:
+        script.write(sys.stdin.buffer.read(MOST_READ))
+        status, printed = told_of(AT_ONCE, script)
+        with printed:
+            if status not in (DONE, NOT_ALL):
+                return ended(given, status, printed.read())
+            jobs = next(queries.ways_in(lines_of(printed)))
+        wrong = queries.unknown(given.ask, jobs)
+        if wrong:
+            raise console.Bad(wrong)
+        status, printed = told_of(words_of(given), script)
+        with printed:
+            if status not in (DONE, NOT_ALL):
+                return ended(given, status, printed.read())
+            answers, count = [queries.Answer(question) for question in given.ask], 0
+            for count, way in enumerate(queries.ways_in(lines_of(printed)), 1):
+                for one in answers:
+                    one.look(count, way)
+            printed.seek(0)
+            last = printed.read().rpartition(b"\nnot all: " if status == NOT_ALL else b"\nall ")
+    said = "".join(one.told(count, status == DONE, lambda way: command_of(given, way)) for one in answers)
+    head = b"not all: " if status == NOT_ALL else b"all "
+    return ended(given, status, said.encode("latin1") + head + last[2].removeprefix(head))
+
+
+def page(given: argparse.Namespace) -> int:
+    """Prints a page of the ways, each with a run that leads to it."""
+    from show import ways_page
+
+    with tempfile.TemporaryFile() as script:
+        script.write(sys.stdin.buffer.read(MOST_READ))
+
+        def told(options: list[str]) -> tuple[int, bytes]:
+            status, printed = told_of(options, script)
+            with printed:
+                return status, printed.read()
+
+        def leads(way: int) -> bytes:
+            status, text = told([*words_of(given), "--way", str(way)])
+            if status not in (DONE, NOT_ALL):
+                raise console.Stop(f"the run of way {way} is not told: status {status}")
+            return text
+
+        status, text = told(words_of(given))
+        if status not in (DONE, NOT_ALL):
+            return ended(given, status, text)
+        made = ways_page.page_of(text.decode("latin1"), given.ask or [], leads, lambda way: command_of(given, way))
+    sys.stdout.buffer.write(made.encode())
+    return status
+
+
+def command_of(given: argparse.Namespace, way: int) -> str:
+    """What prints the script that leads to a way."""
+    name = "SCRIPT"
+    with contextlib.suppress(OSError):
+        path = os.readlink("/proc/self/fd/0")
+        name = shlex.quote(os.path.relpath(path)) if os.path.isfile(path) else name
+    return " ".join(["./suites explore", *words_of(given), f"--way {way}", "<", name])
+
+
+def run(given: argparse.Namespace) -> int:
+    """Runs the program, and prints what it prints once it has ended."""
+    with tempfile.TemporaryFile() as printed:
+        status = status_of(words_of(given), printed)
+        printed.seek(0)
+        return ended(given, status, printed.read())
+
+
+def ended(given: argparse.Namespace, status: int, text: bytes) -> int:
+    """Prints what the program printed, and on a terminal what its exit status means."""
+    sys.stdout.buffer.write(text)
+    sys.stdout.flush()
+    if status < 0:
+        console.Teller().say(console.ended("explore", status))
+    told = advice(status, given, text.decode("latin1").rstrip("\n").rpartition("\n")[2])
+    if told and (sys.stderr.isatty() or status == COMMAND_LINE):
+        console.Teller().say(told)
+    return console.status_of(status)
+
+
+def main() -> int:
+    given = read(sys.argv[1:])
+    if given.help:
+        return console.print_help("explore")
+    console.tell_reading()
+    if given.page:
+        return page(given)
+    return answer(given) if given.ask else run(given)

@@ -1,0 +1,208 @@
+"""Questions of the ways that `explore` tells: how they are read, and in which ways what they ask for is so.
+
+A question joins atoms by `and`, `or`, `not` and brackets. An atom is a job and how it ended, as `0.1 answered`, with as
+many words of its line behind that as are wanted. What cannot stand in a line of that job is a fault, so that nothing is
+said never to be by a slip.
+"""
+import re
+import typing
+
+from common import console
+
+# What a word of a line may be.
+NUMBER, LIST = r"\d+", r"\S+"
+# The lines of jobs that ended, word by word: each of these is how a job may have ended. Of an answered one see REPLIES.
+SHAPES: tuple[tuple[str, ...], ...] = (
+    ("denied", "op", "[1-8]", "suite", NUMBER, "wants", "[r-][w-][x-]", "by", LIST),
+    ("refused", r"F(?:[1-9]|1[0-2])", "op", "[1-8]"),
+    ("undecided", "U1", "suite", NUMBER, "got", NUMBER, "of", NUMBER),
+    ("undecided", "U2", "server", NUMBER, "holder", NUMBER),
+    ("undecided", "U[36]", "server", NUMBER),
+    ("undecided", "U[457]"),
+    ("swept", NUMBER, NUMBER, NUMBER),
+    ("decided",),
+    ("stopped",),
+)
+# What an operation that was done replies; the replies of a transaction stand with `;` between them.
+REPLIES: tuple[tuple[str, ...], ...] = (
+    ("made", NUMBER),
+    ("read", "(?:-|(?:[0-9a-f]{2})+)"),
+    ("wrote",),
+    ("dropped",),
+    ("set",),
+    ("list", LIST),
+    ("acl", LIST),
+    ("votes", LIST),
+)
+ENDINGS = "answered, denied, refused, undecided, swept, decided (answered, denied or refused) and stopped"
+# Endings that say that a transaction was decided.
+DECIDED = ("answered", "denied", "refused")
+JOB = re.compile(r"(\d{1,3})\.(\d{1,20})")
+JOINED = {"and", "or", "not", "(", ")"}
+# The most words of a question.
+MOST = 200
+
+# How the jobs of a way ended: the words behind each job's number.
+Way = dict[str, tuple[str, ...]]
+
+
+class Question(typing.NamedTuple):
+    """A question: its text, the jobs that it names, and whether what it asks for is so in a way."""
+
+    text: str
+    jobs: list[str]
+    holds: typing.Callable[[Way], bool]
+
+
+def words_of(text: str) -> list[str]:
+    """The words of a question or of a line, of which brackets and `;` are words by themselves."""
+    return re.sub(r"([();])", r" \1 ", text).split()
+
+
+def fits(words: typing.Sequence[str], shape: typing.Sequence[str]) -> bool:
+    """Whether words may stand at the head of a line of this shape."""
+    return len(words) <= len(shape) and all(re.fullmatch(one, word) for one, word in zip(shape, words))
+
+
+def are_replies(words: typing.Sequence[str]) -> bool:
+    """Whether words may stand behind `answered`."""
+    for shape in REPLIES:
+        end = len(shape)
+        if fits(words, shape) or fits(words[:end], shape) and words[end : end + 1] == [";"] and are_replies(
+            words[end + 1 :]
+        ):
+            return True
+    return not words
+
+
+def may_end(words: typing.Sequence[str]) -> bool:
+    """Whether a job may end so."""
+    return words[0] == "answered" and are_replies(words[1:]) or any(fits(words, shape) for shape in SHAPES)
+
+
+def is_ended(told: typing.Sequence[str], wanted: typing.Sequence[str]) -> bool:
+    """Whether a job that ended as it is told ended so."""
+    if wanted[0] == "decided":
+        return told[0] in DECIDED
+    if wanted[0] == "stopped":
+        return told[0] == "-"
+    return list(told[: len(wanted)]) == list(wanted)
+
+
+class Reader:
+    """Reads a question from its first word to its last."""
+
+    def __init__(self, text: str) -> None:
+        self.text, self.words, self.place = text, words_of(text), 0
+        self.jobs: list[str] = []
+
+    def fault(self, why: str) -> typing.NoReturn:
+        raise console.Bad(f"--ask '{self.text}': {why} (./suites explore --help)")
+
+    def next(self) -> str | None:
+        """The next word, without taking it; nothing behind the last one."""
+        return self.words[self.place] if self.place < len(self.words) else None
+
+    def takes(self, word: str) -> bool:
+        """Takes this word, where it is the next one."""
+        is_next = self.next() == word
+        self.place += is_next
+        return is_next
+
+    def either(self) -> typing.Callable[[Way], bool]:
+        parts = [self.both()]
+        while self.takes("or"):
+            parts.append(self.both())
+        return lambda way: any(part(way) for part in parts)
+
+    def both(self) -> typing.Callable[[Way], bool]:
+        parts = [self.one()]
+        while self.takes("and"):
+            parts.append(self.one())
+        return lambda way: all(part(way) for part in parts)
+
+    def one(self) -> typing.Callable[[Way], bool]:
+        if self.takes("not"):
+            part = self.one()
+            return lambda way: not part(way)
+        if self.takes("("):
+            inner = self.either()
+            if not self.takes(")"):
+                self.fault("a bracket is not closed")
+            return inner
+        return self.atom()
+
+    def atom(self) -> typing.Callable[[Way], bool]:
+        """A job and how it ended."""
+        job = self.next()
+        if job is None or not JOB.fullmatch(job):
+            self.fault(f"a job such as 0.1 stands here, and not {'nothing' if job is None else job}")
+        self.place += 1
+        first = self.place
+        while (word := self.next()) is not None and word not in JOINED:
+            self.place += 1
+        ending = self.words[first : self.place]
+        if not ending:
+            self.fault(f"behind {job} is told how it ended: {ENDINGS}")
+        if not may_end(ending):
+            self.fault(f"no job ends so: {' '.join(ending)}; it ends {ENDINGS}, with words of its line behind")
+        if job not in self.jobs:
+            self.jobs.append(job)
+        return lambda way: is_ended(way[job], ending)
+
+
+def read(text: str) -> Question:
+    """The question that a text is."""
+    reader = Reader(text)
+    if len(reader.words) > MOST:
+        reader.fault(f"a question has at most {MOST} words")
+    holds = reader.either()
+    if reader.next() is not None:
+        reader.fault(f"and, or, or the end stands here, and not {reader.next()}")
+    return Question(text, reader.jobs, holds)
+
+
+class Answer:
+    """In which of the ways that were looked at so far what a question asks for is so."""
+
+    def __init__(self, question: Question) -> None:
+        self.question, self.ways, self.first = question, 0, 0
+
+    def look(self, number: int, way: Way) -> None:
+        """Looks at the way of this number."""
+        if self.question.holds(way):
+            self.ways += 1
+            self.first = self.first or number
+
+    def told(self, ways: int, is_all: bool, command: typing.Callable[[int], str]) -> str:
+        """The lines of the answer, where so many ways were told; the command that shows one of them."""
+        so_far, asked = "" if is_all else " so far", self.question.text
+        if not self.ways:
+            return f"never{so_far}: {asked}\n"
+        if self.ways == ways:
+            return f"always{so_far}: {asked}\n"
+        return f"sometimes, in {self.ways} of {ways} ways: {asked}\n  the shortest: {command(self.first)}\n"
+
+
+def ways_in(lines: typing.Iterable[str]) -> typing.Iterator[Way]:
+    """The ways that are told in these lines."""
+    way: Way | None = None
+    for line in lines:
+        head, _, rest = line.rstrip("\n").partition(" ")
+        if head == "way":
+            if way is not None:
+                yield way
+            way = {}
+        elif way is not None and JOB.fullmatch(head):
+            way[head] = tuple(words_of(rest))
+    if way is not None:
+        yield way
+
+
+def unknown(questions: typing.Sequence[Question], jobs: typing.Collection[str]) -> str | None:
+    """What is wrong with questions, where the script has these jobs; nothing, where nothing is."""
+    for question in questions:
+        for job in question.jobs:
+            if job not in jobs:
+                return f"--ask '{question.text}': there is no job {job} below together, but {', '.join(jobs)}"
+    return None

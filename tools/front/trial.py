@@ -1,0 +1,170 @@
+"""python3 tools trial WORD...
+
+All that a checked build rests on inside the kit: `rt try` makes the program as a file of LLVM's, `module.bc`, in a
+folder below TMPDIR, with its checks at run time; the kit's clang compiles it, and the kit's linker links it with its
+C libraries.
+
+Where a kit does it otherwise, no module is found. Then this file as a command stands in for the program: it runs
+`rt try -- WORD...` on its standard input, which compiles the program each time.
+"""
+import os
+import subprocess
+import sys
+import tempfile
+import time
+import typing
+
+from common import console
+from front import sources
+
+FOLDER = os.path.join(sources.CRATES, sources.PROGRAM)
+MODULE = "module.bc"
+# What is in the module of the program, and not in the small one with which `rt try` tries its compiler.
+MARK = f"{sources.PROGRAM}::main".encode()
+# As the kit itself compiles: these keep passes of clang out that are known to err.
+CAREFUL = [
+    "-no-trap-after-noreturn",
+    "-trap-unreachable",
+    "-no-x86-call-frame-opt",
+    "-disable-machine-licm",
+    "-disable-postra-machine-licm",
+]
+CAREFUL = [word for option in [*CAREFUL, "-sink-common-insts=false"] for word in ("-mllvm", option)]
+LEVEL = "-O1"
+
+
+class Hidden(console.Stop):
+    """The kit shows no module, or lacks what makes a program of it. This alone is kept: whatever else fails is tried
+    again next time."""
+
+    def __init__(self, what: str) -> None:
+        super().__init__(f"this kit has no {what}")
+
+
+def is_whole(module: bytes) -> bool:
+    """Whether bytes are a module to its end: blocks, each with its length behind four bytes, until they are used up."""
+    place = 4
+    while place + 8 <= len(module):
+        place += 8 + 4 * int.from_bytes(module[place + 4 : place + 8], "little")
+    return place == len(module) and MARK in module
+
+
+def found(scratch: str) -> bytes | None:
+    """The program's module below this folder, once it is whole."""
+    for place, _, names in os.walk(scratch):
+        if MODULE in names:
+            try:
+                with open(os.path.join(place, MODULE), "rb") as file:
+                    module = file.read()
+            except FileNotFoundError:
+                continue
+            if is_whole(module):
+                return module
+    return None
+
+
+def module_into(folder: str, tick: typing.Callable[[], None]) -> str:
+    """Writes the program's module into this folder; `tick` is called while that lasts. Answers its path. A kit that
+    shows none shows none a second time: on a busy machine one may be missed."""
+    try:
+        return module_once(folder, "scratch", tick)
+    except Hidden:
+        return module_once(folder, "again", tick)
+
+
+def module_once(folder: str, name: str, tick: typing.Callable[[], None]) -> str:
+    """Looks for the module once."""
+    scratch = os.path.join(folder, name)
+    os.mkdir(scratch)
+    with tempfile.TemporaryFile() as log:
+        trial = console.start(["rt", "try", "--", "--help"], FOLDER, log, env={**os.environ, "TMPDIR": scratch})
+        try:
+            module = None
+            while module is None and trial.poll() is None:
+                tick()
+                time.sleep(0.2)
+                module = found(scratch)
+        finally:
+            console.stop(trial)
+        if module is None:
+            log.seek(0)
+            said = log.read().decode("utf-8", "replace")
+            if trial.returncode == 0 and "run=ended" in said:
+                raise Hidden("module of the program")
+            if trial.returncode < 0:
+                raise console.Stop(f"{console.ended('rt', trial.returncode)}; the next time it is tried again")
+            raise console.Stop("the sources do not compile:\n" + console.tail(said).rstrip())
+    path = os.path.join(folder, MODULE)
+    with open(path, "wb") as file:
+        file.write(module)
+    return path
+
+
+def kit() -> str:
+    """The folder of the kit, whose first page `rt doc` names."""
+    said = subprocess.run(["rt", "doc"], stdin=subprocess.DEVNULL, capture_output=True, text=True)
+    if said.returncode != 0 or not said.stdout.strip():
+        raise console.Stop(f"where the kit is, was not told: {console.ended('rt', said.returncode)}")
+    return os.path.dirname(said.stdout.strip())
+
+
+def clang() -> str:
+    return os.path.join(kit(), "toolchain", "bin", "clang")
+
+
+def libraries() -> list[str]:
+    """The C libraries that a program is linked with."""
+    return [os.path.join(kit(), "c", name) for name in ("libos_c.a", "liblibc_c.a")]
+
+
+def done(words: list[str], folder: str, tick: typing.Callable[[], None]) -> None:
+    """Runs a command in this folder, which has to end well; `tick` is called while it lasts."""
+    if not os.path.exists(words[0]):
+        raise Hidden(words[0])
+    with tempfile.TemporaryFile() as log:
+        process = console.start(words, folder, log)
+        try:
+            while process.poll() is None:
+                tick()
+                time.sleep(0.2)
+        finally:
+            console.stop(process)
+        log.seek(0)
+        said = console.tail(log.read().decode("utf-8", "replace"))
+    if process.returncode != 0:
+        why = console.ended(os.path.basename(words[0]), process.returncode)
+        raise console.Stop(f"the checked build failed, and the next time it is tried again: {why}\n{said}".rstrip())
+
+
+def build(target: str, tick: typing.Callable[[], None]) -> None:
+    """Builds the program to this file, with its checks at run time, and looks whether it runs."""
+    home = kit()
+    with tempfile.TemporaryDirectory(prefix="suites-") as folder:
+        lacking = next((path for path in libraries() if not os.path.exists(path)), None)
+        if lacking:
+            raise Hidden(lacking)
+        module = module_into(folder, tick)
+        made, program = os.path.join(folder, "module.o"), os.path.join(folder, sources.PROGRAM)
+        done([clang(), LEVEL, "-fPIE", *CAREFUL, "-w", "-c", module, "-o", made], folder, tick)
+        link = [os.path.join(home, "bin", "rattle-link"), "--target", "x86_64-unknown-linux-gnu"]
+        link += ["--toolchain", os.path.join(home, "toolchain"), "-o", program, made, *libraries()]
+        done(link, folder, tick)
+        done([program, "--help"], folder, tick)
+        with open(program, "rb") as built, open(target, "wb") as kept:
+            kept.write(built.read())
+    os.chmod(target, 0o755)
+
+
+def main() -> int:
+    """Runs the program by `rt try`."""
+    console.Teller().say(
+        "this kit hands out no module, so `rt try` compiles the program anew for this run, some four minutes; not"
+        " proved"
+    )
+    process = subprocess.Popen(["rt", "try", "--", *sys.argv[1:]], cwd=FOLDER)
+    try:
+        return process.wait()
+    except KeyboardInterrupt:
+        process.terminate()
+        process.wait()
+        raise

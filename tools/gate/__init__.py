@@ -1,0 +1,1 @@
+"""The gate, its tests, and what its steps cost."""

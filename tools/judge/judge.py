@@ -1,0 +1,202 @@
+"""./suites judge [--order | --small] < HISTORY
+
+Tells whether a history is one plain table's; help/judge.txt tells all of it. The program `judge` does the work. Here
+its words are looked at, and it is told what stands around the line that fits no order (--small: in as few calls as may
+be), or the script that answers so.
+"""
+import argparse
+import os
+import shlex
+import subprocess
+import sys
+import typing
+
+from common import built, console
+
+DONE, NO_ORDER, FAULTY, NO_STREAM = 0, 1, 3, 6
+MOST = 16 << 20
+# So many calls that ran beside the one that is told are told with it.
+MOST_BESIDE = 12
+READS = {"read", "list", "getacl", "getvotes"}
+
+
+class Parser(argparse.ArgumentParser):
+    def error(self, message: str) -> typing.NoReturn:
+        raise console.Bad(f"{message} (./suites judge --help)")
+
+
+class Told(typing.NamedTuple):
+    """A call: the lines, counted from 0, on which it was made and told; its own name; what it asks for."""
+
+    made: int
+    told: int | None
+    name: str
+    asks: str
+
+
+def read(words: list[str]) -> argparse.Namespace:
+    """The words of the command line."""
+    parser = Parser(prog="./suites judge", add_help=False, allow_abbrev=False)
+    parser.add_argument("-h", "--help", action="store_true")
+    either = parser.add_mutually_exclusive_group()
+    either.add_argument("--order", action="store_true")
+    either.add_argument("--small", action="store_true")
+    parser.add_argument("files", nargs="*")
+    given = parser.parse_args(words)
+    if given.files and not given.help:
+        raise console.Bad(f"a history is read from standard input: ./suites judge < {shlex.quote(given.files[0])}")
+    return given
+
+
+def judged(text: bytes, *words: str) -> tuple[int, str]:
+    """The exit status of the program for a history, and what it printed."""
+    done = subprocess.run([built.program("judge"), *words], input=text, stdout=subprocess.PIPE)
+    return done.returncode, done.stdout.decode("latin1")
+
+
+def calls_of(lines: list[str]) -> list[Told]:
+    """The calls of a history that has no fault."""
+    calls, named = list[Told](), dict[str, int]()
+    for place, line in enumerate(lines):
+        kind, *words = ("" if line.startswith("#") else line).split() or [""]
+        if kind == "do":
+            calls.append(Told(place, place, "", " ".join(words)))
+        elif kind == "call":
+            named[words[0]] = len(calls)
+            calls.append(Told(place, None, words[0], " ".join(words[1:])))
+        elif kind == "ret":
+            at = named.pop(words[0])
+            calls[at] = calls[at]._replace(told=place)
+    return calls
+
+
+def around(lines: list[str], number: int) -> list[str]:
+    """What stands around the line that fits no order: the line, its call, and what ran beside that."""
+    calls = calls_of(lines)
+    call = next(call for call in calls if call.told == number)
+    beside_it = [
+        other
+        for other in calls
+        if other is not call and other.made < number and (other.told is None or other.told > call.made)
+    ]
+    shown = [f"  line {number + 1}: {lines[number].strip()}"]
+    if call.made != number:
+        shown.append(f"  called at line {call.made + 1}: {lines[call.made].strip()}")
+    for other in beside_it[-MOST_BESIDE:]:
+        ending = "never told" if other.told is None else f"told at line {other.told + 1}"
+        shown.append(f"  beside it, line {other.made + 1}: {lines[other.made].strip()} ({ending})")
+    if len(beside_it) > MOST_BESIDE:
+        shown.append(f"  and {len(beside_it) - MOST_BESIDE} more")
+    return shown
+
+
+def line_of(said: str) -> int:
+    """The line, counted from 0, that the program says fits no order."""
+    return int(said.split()[2]) - 1
+
+
+def without(lines: list[str], calls: typing.Iterable[Told]) -> list[str]:
+    """The history without some calls: their lines are empty, so that the others keep their numbers."""
+    gone = {place for call in calls for place in (call.made, call.told)}
+    return ["" if place in gone else line for place, line in enumerate(lines)]
+
+
+def paths(call: Told) -> set[str]:
+    return {operation.split()[1] for operation in call.asks.partition(" ")[2].partition(" ")[2].split(" ; ")}
+
+
+def are_near(one: str, other: str) -> bool:
+    """Whether a path leads through another, or to it."""
+    return (one + "/").startswith(other.rstrip("/") + "/") or (other + "/").startswith(one.rstrip("/") + "/")
+
+
+def changes_nothing(call: Told, lines: list[str]) -> bool:
+    """Whether a call only reads, or was refused: a history that has an order has one without it."""
+    verbs = {operation.split()[0] for operation in call.asks.partition(" ")[2].partition(" ")[2].split(" ; ")}
+    was_refused = call.told is not None and lines[call.told].split()[2:3] in (["denied"], ["refused"])
+    return was_refused or verbs <= READS
+
+
+def is_refuted(lines: list[str]) -> tuple[bool, list[str]]:
+    """Whether a history has no order, and its lines up to the one that fits none."""
+    status, said = judged("\n".join([*lines, ""]).encode("latin1"))
+    return status == NO_ORDER, lines[: line_of(said) + 1] if status == NO_ORDER else lines
+
+
+def far_off(lines: list[str]) -> list[Told]:
+    """The calls that have nothing to do with the one that fits no order: their paths are near none of those that do."""
+    calls = calls_of(lines)
+    near = paths(next(call for call in calls if call.told == len(lines) - 1))
+    while True:
+        beside_them = [call for call in calls if any(are_near(one, other) for one in paths(call) for other in near)]
+        more = near.union(*map(paths, beside_them))
+        if more == near:
+            return [call for call in calls if not paths(call) & near]
+        near = more
+
+
+def smaller(lines: list[str], number: int) -> list[str]:
+    """The history up to that line, without calls that change nothing and without those that have to do with other
+    files, as long as there is no order: first many at once. Where there is none of what is left, there is none of all.
+    """
+    lines = lines[: number + 1]
+    is_so, fewer = is_refuted(without(lines, far_off(lines)))
+    lines = fewer if is_so else lines
+    size = max(1, len(calls_of(lines)) // 2)
+    while size:
+        place = 0
+        while quiet := [call for call in calls_of(lines) if call.name and changes_nothing(call, lines)][place:]:
+            is_so, fewer = is_refuted(without(lines, quiet[:size]))
+            if is_so:
+                lines = fewer
+            place += 0 if is_so else size
+        size //= 2
+    return lines
+
+
+def script(lines: list[str], order: list[int]) -> list[str]:
+    """The script of `table` that answers as the clients were told, with each line's answer below it."""
+    calls = {call.made: call for call in calls_of(lines)}
+    told = [next(line for line in lines if line.split()[:1] == ["root"])]
+    told += [f"do {calls[place].asks}" for place in order]
+    played = subprocess.run(
+        [built.program("suites"), "table"], input="\n".join([*told, ""]).encode("latin1"), stdout=subprocess.PIPE
+    )
+    answers = played.stdout.decode("latin1").splitlines()
+    return [told[0], *(part for line, answer in zip(told[1:], answers) for part in (line, f"# {answer}"))]
+
+
+def run(given: argparse.Namespace) -> int:
+    text = sys.stdin.buffer.read(MOST + 1)
+    status, said = judged(text, *(["--order"] if given.order else []))
+    first, _, rest = said.partition("\n")
+    lines = text.decode("latin1").splitlines()
+    told = [first] if first else []
+    if status == NO_ORDER:
+        number = line_of(first)
+        if given.small:
+            told = [line for line in smaller(lines, number) if line and not line.startswith("#")]
+            told.append(f"# {judged(chr(10).join([*told, '']).encode('latin1'))[1].strip()}")
+        else:
+            told += around(lines, number)
+    elif status == DONE and given.order:
+        told = [f"# {first}", *script(lines, [int(one) - 1 for one in rest.split()])]
+    sys.stdout.write("\n".join([*told, ""]) if told else "")
+    sys.stdout.flush()
+    if status == FAULTY and sys.stderr.isatty():
+        console.Teller().say(f"./suites explain {shlex.quote(first)} tells what it means")
+    if status < 0:
+        console.Teller().say(console.ended("judge", status))
+    return console.status_of(status)
+
+
+def main() -> int:
+    given = read(sys.argv[1:])
+    if given.help:
+        return console.print_help("judge")
+    console.tell_reading()
+    try:
+        return run(given)
+    except BrokenPipeError:
+        os.dup2(os.open(os.devnull, os.O_WRONLY), sys.stdout.fileno())
+        return NO_STREAM

@@ -1,0 +1,84 @@
+"""python3 tools forms_page [--check]
+
+Writes the tables of operations, events and jobs in docs/SCRIPTS.md from the table of forms (crates/forms/stdout). With
+--check it writes nothing, and tells what differs. In both it tells where a text of help/, which the program prints,
+says a form or a sentence otherwise than the table. Status 1 where something differs.
+"""
+import os
+import re
+import typing
+
+from common import TOP, console, forms, page, text_of
+from front import sources
+
+PAGE, HELP = os.path.join(TOP, "docs", "SCRIPTS.md"), os.path.join(TOP, "help")
+# The heads of the tables of the page, and what stands in them.
+TABLES: dict[str, list[forms.Line] | list[forms.Operation]] = {
+    "| Operation | Does |": list(forms.OPERATIONS.values()),
+    "| Event | What happens |": list(forms.lines_of("play", "own").values()),
+    "| Line | What it asks for |": list(forms.lines_of("serve", "own").values()),
+}
+# A line of help that tells the form of a line: words, two spaces, and what it does; and where the rest stands.
+ROWS = re.compile(r"\A(?:[|].*\n)*")
+TOLD, REST = re.compile(r"  ([a-z]+)((?: [^ ]+)*?)(?:  +(\S.*))?$"), " " * 20
+# Places that help writes in its own way.
+OWN_WAY = {"SERVER,SERVER,..": "S,S,..", "OPERATION ; OPERATION ..": "OPERATION ; .."}
+OPERATIONS_IN = "table"
+
+
+def written(text: str) -> str:
+    """The page with its tables as the table of forms has them."""
+    for head, rows in TABLES.items():
+        front, found, rest = text.partition(f"{head}\n|---|---|\n")
+        if not found:
+            raise console.Stop(f"docs/SCRIPTS.md has no table {head}")
+        body = "".join(f"| `{row.form()}` | {row.does} |\n" for row in rows)
+        text = front + found + body + ROWS.sub("", rest, 1)
+    return text
+
+
+def told_in(command: str) -> dict[str, tuple[str, str]]:
+    """The form and the sentence of each line that a text of help tells."""
+    found: dict[str, tuple[str, str]] = {}
+    last = ""
+    for line in text_of(os.path.join(HELP, f"{command}.txt")).partition("\nExample:")[0].split("\n"):
+        told = TOLD.match(line)
+        if told and told[1] in forms.lines_of(command):
+            last = told[1]
+            found[last] = f"{told[1]}{told[2]}", told[3] or ""
+        elif last and line.startswith(REST):
+            found[last] = found[last][0], f"{found[last][1]} {line.strip()}"
+        else:
+            last = ""
+    return found
+
+
+def differing(command: str) -> typing.Iterator[str]:
+    """Where a text of help says a line otherwise; of a name it says only the form."""
+    told = told_in(command)
+    for word, line in forms.lines_of(command).items():
+        form, does = told.get(word, ("", ""))
+        for own, way in OWN_WAY.items():
+            form = form.replace(own, way)
+        if form != line.form() or not (line.part == "name" or does.startswith(line.does)):
+            yield f"help/{command}.txt has not: {line.form()}  {line.does}"
+    if command == OPERATIONS_IN:
+        text = text_of(os.path.join(HELP, f"{command}.txt"))
+        known = [one.form() for one in forms.OPERATIONS.values()]
+        lacking = [form for form in known if not re.search(rf"  {re.escape(form)}(?:  |\n)", text)]
+        yield from (f"help/{command}.txt has not the operation {form}" for form in lacking)
+
+
+def main() -> int:
+    only_looks, text = page.is_check(__doc__), text_of(PAGE)
+    new = written(text)
+    wrong = [line for command in forms.COMMANDS for line in differing(command)]
+    if only_looks and new != text:
+        wrong += [f"docs/SCRIPTS.md lacks: {line}" for line in new.split("\n") if line not in text.split("\n")]
+        wrong.append("docs/SCRIPTS.md has other tables than the table of forms: tools/pages/forms_page.py writes them")
+    elif new != text:
+        sources.write_whole(PAGE, new)
+    print(*wrong, sep="\n", end="\n" if wrong else "")
+    rows = len(forms.LINES) + len(forms.OPERATIONS)
+    print(f"{rows} forms, {len(wrong)} differ")
+    return 1 if wrong or not rows else 0

@@ -1,0 +1,1 @@
+"""Pages on which a run, a session or all ways are watched."""

@@ -1,0 +1,251 @@
+"""./suites show [--open] [--from LINE] [--to LINE] < SCRIPT > run.html
+./suites show --live [--open] [--journal FILE] [--script FILE] [--servers N] [--agents N] [--votes V] [--root U:G:MODE]
+
+Plays a script of events as `suites play` does, and writes a page on which the run can be watched: the requests and
+replies as a picture, what each server and agent has at the moment that is looked at, and the script. The page stands
+alone: it needs a browser, and neither a network nor these tools.
+
+    --open        writes the page into a new file, and opens that in a browser
+    --from LINE   shows the run from this line of the script on
+    --to LINE     shows it to the end of this line. A page shows 60,000 events at most; of a longer run show a part
+    --live        serves the page of a session, and prints its address: what comes next is clicked on the page, as a
+                  step of an agent, a crash, a new job, and is a line of the session. The address is one of this machine
+                  alone and has a random token. The session is as `./suites mount --help` has it: of 3 servers and 2
+                  agents where nothing is told, kept in a journal, begun by a script. The script so far can be saved
+                  there. Ctrl-C ends it
+
+On the page: the arrow keys, Home and End go through the run, PageUp and PageDown by its rows, `b` and `n` by its jobs,
+and space plays it. `p` is for who presents: large type, and nothing of what is still to come. A sentence says what
+happens at the moment. A click on an arrow goes there, one on a folded phase opens it, and one on a path shows the file
+through time. What has dots below it is explained to whoever points at it.
+"""
+import argparse
+import base64
+import dataclasses
+import hashlib
+import json
+import os
+import re
+import subprocess
+import sys
+import tempfile
+import typing
+import webbrowser
+from collections.abc import Iterator
+
+from common import TOOLS, console, quoted, text_of
+from explain import explain
+from trace import states, trace
+
+PARTS = os.path.join(TOOLS, "show")
+# What stands for what in the page.
+FILES = {"STYLE": "style.css", "MODEL": "model.js", "SAYING": "saying.js", "DRAWING": "drawing.js", "PAGE": "page.js"}
+# Words of the page that are explained elsewhere than their like.
+OWN = {
+    "stale": "A copy is stale where one of a newer version is in effect elsewhere:"
+    " stored, or left by a decided transaction.",
+    "exclusive": "A lock to write: it keeps all others out.",
+    "shared": "A lock to read: others may have one too, but none to write.",
+    "gathering": "The agent asks for locks of a file or folder, until they have the votes of a quorum.",
+    "fetching": "The agent asks a server for a content, which its site's cache does not have.",
+    "widening": "A file or folder gets other votes: the agent asks for locks at the servers that get them.",
+    "preparing": "The agent asks each server that it locked to prepare: to take what is to be left there.",
+    "deciding": "The agent asks the home of the transaction to decide how it ends.",
+    "finishing": "The agent tells each server that it locked how the transaction ended.",
+    "listing": "A sweep asks a server which locks it has.",
+    "resolving": "A sweep asks the home of a transaction how it ended.",
+    "telling": "A sweep tells the server how a transaction ended.",
+    "breaking": "A sweep breaks a lock of which nothing was prepared.",
+    "in doubt": "The home of the transaction is down, and nobody else can tell how it ends: the lock stands till then.",
+}
+# So many events are shown on a page at most, and what is said of more.
+MOST_EVENTS = 60_000
+TOO_MANY = (
+    "this run has more than {:,} events, as many as a page shows, before the end of line {}: show a part of it, by"
+    " lines of the script, as with --from 1 --to 100"
+)
+LINE = re.compile(r'{"event":\d+,"line":(\d+),')
+FAULTY = 3
+CODES = [*(f"F{number}" for number in range(1, 13)), *(f"U{number}" for number in range(1, 8))]
+
+
+def meanings() -> dict[str, str]:
+    """What `explain` knows of the words and codes that the page shows."""
+    known = {code: explain.meaning(code) for code in CODES}
+    for _, _, code, lines in explain.page():
+        for line in lines:
+            found = re.match(r"- `([a-z=]+)[^`]*`[^:]*: (.*)", line)
+            if found and code in ("answered", "trace"):
+                known[found[1]] = f"{found[1]}: {found[2]}".replace("`", "")
+        if code in ("answered", "refused", "undecided", "swept", "audit"):
+            known[code] = explain.meaning(code).replace("`", "")
+    known["denied"] = explain.meaning("F3").replace("F3: ", "denied: ").replace("`", "")
+    return {word: " ".join(text.split()) for word, text in {**known, **OWN}.items() if text}
+
+
+@dataclasses.dataclass
+class Shown:
+    """The events of a run, or of a part of one, as lines; and what a part has to know of what was before."""
+
+    events: list[str]
+    before: dict | None = None
+
+
+class Besides(typing.NamedTuple):
+    """What a page has besides its run: a script of its own, the name of its data, and these; and whether it asks for
+    more.
+    """
+
+    file: str
+    name: str
+    data: dict
+    asks: bool = False
+
+
+class Player:
+    """The program `trace`, which tells the events of a script one after another."""
+
+    def __init__(self, script: bytes) -> None:
+        self.given = tempfile.TemporaryFile()
+        self.given.write(script)
+        self.given.seek(0)
+        self.fault = ""
+        words = [trace.program(), "--json"]
+        self.run = subprocess.Popen(words, stdin=self.given, stdout=subprocess.PIPE, env=trace.ENV)
+
+    def __enter__(self) -> "Player":
+        return self
+
+    def __exit__(self, *_: object) -> None:
+        self.run.kill()
+        self.run.communicate()
+        self.given.close()
+
+    def lines(self) -> Iterator[str]:
+        """The events; ends the tool where the script has a fault."""
+        assert self.run.stdout
+        for line in self.run.stdout:
+            if not line.startswith(b"{"):
+                self.fault = line.decode("latin1")
+                sys.stdout.write(self.fault)
+            else:
+                yield line.decode("latin1").rstrip("\n")
+        status = self.run.wait()
+        if status < 0:
+            console.Teller().say(console.ended("trace", status))
+        elif status and sys.stderr.isatty():
+            self.explain(status)
+        if status:
+            sys.exit(console.status_of(status))
+
+    def explain(self, status: int) -> None:
+        """Says on a terminal what is wrong."""
+        if status == FAULTY:
+            console.Teller().say(console.shows(self.fault.strip()))
+        elif status in trace.EXPLAINED:
+            console.Teller().say(trace.EXPLAINED[status])
+
+
+def events_of(script: bytes) -> list[str]:
+    """All events of a script, as the program `trace` tells them; ends the tool where the script has a fault."""
+    with Player(script) as player:
+        return [*player.lines()]
+
+
+def shown_of(script: bytes, first: int, last: int) -> Shown:
+    """The events of lines of a script: all, where the first is 0."""
+    with Player(script) as player:
+        lines = player.lines()
+        opening = next(lines)
+        before, kept = states.Part(json.loads(opening)), [opening]
+        for line in lines:
+            at = int(LINE.match(line)[1])
+            if at > last:
+                break
+            if at < first:
+                before.take(line)
+                continue
+            kept.append(line)
+            if len(kept) > MOST_EVENTS:
+                raise console.Stop(TOO_MANY.format(MOST_EVENTS, at))
+    return Shown([before.opening(), *kept[1:]], before.before()) if first > 1 else Shown(kept)
+
+
+def embedded(data: object) -> str:
+    """Data as JSON, in which nothing can end the element of the page that it stands in."""
+    text = json.dumps(data, ensure_ascii=True, separators=(",", ":"))
+    return text.replace("<", "\\u003c").replace(">", "\\u003e").replace("&", "\\u0026")
+
+
+def digest(text: str) -> str:
+    """The digest of a script or a style, by which alone a browser lets it run."""
+    return f"'sha256-{base64.b64encode(hashlib.sha256(text.encode()).digest()).decode()}'"
+
+
+def page_of(script: bytes, shown: Shown, besides: Besides | None = None) -> str:
+    """The page of a run, or of a part of one, and what it has besides."""
+    lines = script.decode("utf-8", "replace").split("\n")
+    if lines[-1] == "":
+        lines.pop()
+    data = {"script": [line.removesuffix("\r") for line in lines], **dataclasses.asdict(shown), "meanings": meanings()}
+    parts = {name: text_of(PARTS, file) for name, file in FILES.items()}
+    styles = [digest(parts["STYLE"])]
+    scripts = [digest(text) for name, text in parts.items() if name != "STYLE"]
+    parts |= {"MORE": "", "CONNECT": ""}
+    if besides:
+        data[besides.name], text = besides.data, text_of(PARTS, besides.file)
+        scripts.append(digest(text))
+        parts["MORE"] = f"<script>{text}</script>\n"
+        parts["CONNECT"] = "; connect-src 'self'" if besides.asks else ""
+    parts |= {"DATA": embedded(data), "STYLES": " ".join(styles), "SCRIPTS": " ".join(scripts)}
+    return re.sub(r"@([A-Z]+)@", lambda found: parts[found[1]], text_of(PARTS, "page.html"))
+
+
+def opened(page: str) -> None:
+    """Opens a page in a browser, in a file that stays."""
+    with tempfile.NamedTemporaryFile("w", encoding="utf-8", prefix="run-", suffix=".html", delete=False) as file:
+        file.write(page)
+    console.Teller().say(f"the page is {file.name}")
+    if not webbrowser.open(f"file://{file.name}"):
+        raise console.Stop("no browser is found here: open the file with one")
+
+
+def served(read: argparse.ArgumentParser) -> int:
+    """The page of a session."""
+    from show import live
+
+    read.add_argument("--live", action="store_true")
+    live.options(read)
+    given = read.parse_args()
+    if given.help:
+        print(__doc__.strip())
+        return 0
+    if given.file is not None or given.first or given.last != sys.maxsize:
+        raise console.Bad("a page of a session has neither --from nor --to; a script is told by --script FILE")
+    return live.main(given)
+
+
+def main() -> int:
+    read = argparse.ArgumentParser(prog="./suites show", add_help=False, allow_abbrev=False)
+    read.add_argument("--open", action="store_true")
+    read.add_argument("--from", dest="first", type=int, default=0)
+    read.add_argument("--to", dest="last", type=int, default=sys.maxsize)
+    read.add_argument("-h", "--help", action="store_true")
+    read.add_argument("file", nargs="?")
+    if "--live" in sys.argv[1:]:
+        return served(read)
+    given = read.parse_args()
+    if given.help:
+        print(__doc__.strip())
+        return 0
+    if given.file is not None:
+        raise console.Bad(f"a script is read from standard input: {read.prog} < {quoted.plain(given.file)}")
+    script = trace.script()
+    if not 0 <= given.first <= given.last:
+        raise console.Bad("--from and --to are lines of the script, the first before the last")
+    page = page_of(script, shown_of(script, given.first, given.last))
+    if given.open:
+        opened(page)
+    else:
+        sys.stdout.buffer.write(page.encode())
+    return 0

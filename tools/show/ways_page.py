@@ -1,0 +1,147 @@
+"""The ways of a script of `explore` as a page: a tree of how the jobs end, what was asked of them, and the run that
+leads to each, which is stepped as on the page of `show`.
+
+The program tells the ways, and the script that leads to each (`--way K`); `trace` tells the events of that. In which
+order transactions were decided there is told by these. The events that all runs have at first stand in the page once.
+"""
+from __future__ import annotations
+
+import json
+import os
+import re
+import sys
+import typing
+from collections.abc import Callable, Sequence
+
+from common import console, numbers
+from explore import queries
+from show import show
+
+# So many runs are on a page at most, those of the first ways; what is to be typed for another one stands there.
+MOST_RUNS = 100
+HEAD = re.compile(r"way (\d+) ?(.*)")
+
+
+class Way(typing.NamedTuple):
+    """A way as it is told: its number, what stands behind that, and a line for each job, and others."""
+
+    number: int
+    about: str
+    lines: list[str]
+
+
+class Run(typing.NamedTuple):
+    """A run that leads to a way: its script, its events, and the jobs in the order in which they were decided."""
+
+    script: list[str]
+    events: list[str]
+    decided: list[str]
+    asked: dict[str, str]
+
+
+def ways_of(lines: Sequence[str]) -> list[Way]:
+    """The ways that these lines tell."""
+    ways = list[Way]()
+    for line in lines:
+        head = HEAD.fullmatch(line)
+        if head:
+            ways.append(Way(int(head[1]), head[2], []))
+        elif ways and not re.match(r"(all|not all:) ", line):
+            ways[-1].lines.append(line)
+    return ways
+
+
+def decided_in(events: Sequence[str]) -> list[str]:
+    """The jobs whose transactions were decided in a run, in that order, by their names: of each its first verdict."""
+    found = dict[int, str]()
+    for line in events:
+        event = json.loads(line)
+        is_decided = event.get("request", {}).get("asks") == "decide" and event["reply"].get("says") == "verdict"
+        if is_decided and event["reply"]["verdict"] != "aborted":
+            t = event["request"]["t"]
+            found.setdefault(t, "{}.{}".format(*numbers.job_of(t)))
+    return [*found.values()]
+
+
+def asked_in(events: Sequence[str]) -> dict[str, str]:
+    """What the jobs of a run ask, by their names."""
+    found = dict[str, str]()
+    for line in events:
+        event = json.loads(line)
+        words = event.get("text", "").split()
+        if "by" in event and "nothing" not in event and words[:1] in (["begin"], ["sweep"]):
+            is_sweep = words[0] == "sweep"
+            text = f"a sweep of server {words[2]}" if is_sweep else f"user {words[2]}: {' '.join(words[5:])}"
+            found[f"{event['by']['agent']}.{event['by']['jobs'] - 1}"] = text
+    return found
+
+
+def run_of(script: bytes) -> Run:
+    """The run of a script, to its end."""
+    events = show.shown_of(script, 0, sys.maxsize).events
+    return Run(script.decode("utf-8", "replace").splitlines(), events, decided_in(events), asked_in(events))
+
+
+def runs_of(ways: Sequence[Way], leads: Callable[[int], bytes], say: Callable[[str], None]) -> dict[int, Run]:
+    """The runs that lead to the first ways, as many as a page holds."""
+    runs, count = dict[int, Run](), 0
+    for way in ways[:MOST_RUNS]:
+        say(f"way {way.number} of {len(ways)}")
+        run = run_of(leads(way.number))
+        count += len(run.events)
+        if runs and count > show.MOST_EVENTS:
+            break
+        runs[way.number] = run
+    return runs
+
+
+def data_of(ways: Sequence[Way], runs: dict[int, Run], command: Callable[[int], str]) -> list[dict[str, object]]:
+    """The ways as the page has them: of events those that not all runs have at first, of other ways what is typed."""
+    shared = len(os.path.commonprefix([run.events for run in runs.values()]))
+    told = list[dict[str, object]]()
+    for way in ways:
+        about: dict[str, object] = {"number": way.number, "about": way.about, "lines": way.lines}
+        run = runs.get(way.number)
+        if run:
+            own = [job for job in run.decided if any(line.startswith(f"{job} ") for line in way.lines)]
+            about |= {"shared": shared, "events": run.events[shared:], "script": run.script, "decided": own}
+        else:
+            about["command"] = command(way.number)
+        told.append(about)
+    return told
+
+
+def answers_to(questions: Sequence[queries.Question], lines: Sequence[str], is_all: bool) -> list[dict[str, object]]:
+    """What was asked, how often it is so, and in which ways."""
+    ways = list(enumerate(queries.ways_in(lines), 1))
+    told = list[dict[str, object]]()
+    for question in questions:
+        found = [number for number, way in ways if question.holds(way)]
+        kind = "never" if not found else "always" if len(found) == len(ways) else "sometimes"
+        so_far = "" if is_all or kind == "sometimes" else " so far"
+        count = f", in {len(found)} of {len(ways)} ways" if kind == "sometimes" else ""
+        told.append({"text": f"{kind}{so_far}{count}: {question.text}", "kind": kind, "ways": found})
+    return told
+
+
+def page_of(
+    printed: str, questions: Sequence[queries.Question], leads: Callable[[int], bytes], command: Callable[[int], str]
+) -> str:
+    """The page of what the program printed; what leads to a way, and what is typed for it."""
+    lines = printed.splitlines()
+    ways, teller = ways_of(lines), console.Teller()
+    if not ways:
+        raise console.Stop(f"there is no way to be shown: {lines[-1] if lines else 'nothing was told'}")
+    wrong = queries.unknown(questions, next(queries.ways_in(lines)))
+    if wrong:
+        raise console.Bad(wrong)
+    runs = runs_of(ways, leads, lambda text: teller.say(text, False))
+    teller.clear()
+    first = runs[ways[0].number]
+    more = {
+        "ways": data_of(ways, runs, command), "last": lines[-1],
+        "jobs": {job: text for run in reversed(runs.values()) for job, text in run.asked.items()},
+        "answers": answers_to(questions, lines, not lines[-1].startswith("not all")),
+    }
+    script = "".join(f"{line}\n" for line in first.script).encode()
+    return show.page_of(script, show.Shown(first.events), show.Besides("ways.js", "ways", more))

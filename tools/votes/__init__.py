@@ -1,0 +1,1 @@
+"""Which servers votes may lose."""

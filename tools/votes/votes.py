@@ -1,0 +1,438 @@
+"""./suites votes VOTES [--servers N] [--up P]
+./suites votes --script FILE [--up P]
+./suites votes --of N [--lose-read A] [--lose-write B] [--up P]
+
+Tells which servers a file or folder with these votes may lose, and how often it is blocked. VOTES is written as in
+scripts: `1,1,1/2/2` is a vote each of servers 0, 1 and 2, and two votes that a read and a write collect. With --script
+it tells this of every file and folder that a script of `play` leaves, dropped or not, with the votes that are in effect
+at its end. With --of it tells which votes N servers may have, so that reads go on without any A servers, and writes
+without any B.
+
+    --servers N      how many servers there are; else as many as VOTES has fields
+    --up P           the chance that a server is up, each by itself; else 0.99
+    --lose-read A    so many servers, whichever they are, may be lost for reads; else 0
+    --lose-write B   the same for writes; else 0
+
+Of a read and of a write:
+
+    may be lost   so many servers, whichever they are, may be down: the others have the votes
+    stopped by    the least sets of servers whose loss leaves too few votes (without one of a set the votes are up
+                  again), the smallest first, up to twenty of them
+    blocked       the chance that too few votes are up, exact and told in two digits. It is of votes alone: neither
+                  locks nor homes nor votes that are not found are in it
+    not found     with --script, of votes that were moved: the least sets of servers with which down the votes are up,
+                  and an agent without a hint, which begins at the opening votes, does not find them (U1 by older
+                  votes). Of more than twelve servers only sets of up to three are tried
+    U5 at first   of the cases in which the votes are up, those in which the home of the transaction is down, so that it
+                  ends U5: over jobs in a row each of the N servers is the home equally often, so this is the mean
+                  share of servers that are down. Begun again it has the next server as its home
+
+All of it is of one file or folder alone. A path leads through the root folder and on, and of each folder on the way
+the votes of a read have to be up too. To make or drop a name is a write of its folder; to set votes collects those of
+a write twice, of the old votes and of the new ones.
+
+Of --of there is a line for each way to share votes, the best first: no other one in the table is as good in all.
+There a read and a write are requests, as `play` counts them without a cache, of a file in the root folder that has
+the same votes, where all servers are up.
+"""
+import argparse
+import collections
+import decimal
+import fractions
+import functools
+import itertools
+import re
+import sys
+import textwrap
+import typing
+
+from common import console, quoted
+from explain import explain, reasons
+from trace import trace
+from votes import search, shapes
+from explain.misfits import Why
+
+MOST_SERVERS, MOST_VOTES, MOST_COLLECTED, MOST_AGENTS = 32, 255, 65535, 64
+# How many sets of servers, and how many names, are told at most.
+TOLD = 20
+ABOUT = (
+    (
+        "Of one file or folder alone: of each folder on its path, from the root folder on, the votes of a read have to"
+        " be up too."
+    ),
+    (
+        "And of votes alone. Any server may be the home of a transaction, also one without a vote. If it is lost in the"
+        " middle of one that has prepared, what that one locked is in doubt: others end U2 there, until this server is"
+        " back and a sweep is made."
+    ),
+)
+MISSED = (
+    "Where these servers are down the votes are up and are not found: an agent without a hint in its cache begins at"
+    " the opening votes, {}, and ends U1 by them. So nothing can leave its opening servers entirely, and least of all"
+    " the root folder."
+)
+AGENTS = re.compile(rb"^([ \t]*agents[ \t]+)(\d+)", re.M)
+OPENING = re.compile(rb"^[ \t]*votes[ \t]+(\S+)", re.M)
+WIDE = 110
+FORM = """VOTES are written as 1,1,1/2/2: the votes of servers 0, 1, .. with commas between them (- for one that is left
+out), behind a slash r, the votes that a read collects, and behind another one w, those of a write. With N votes in all,
+r and w are at most N, r + w is above N, and so is 2w."""
+
+# The votes of each server from 0 on, none of one that is not listed, and how many a read and a write collect.
+Votes = collections.namedtuple("Votes", "shares r w")
+
+
+class Fault(Exception):
+    """What is asked has a fault, of this code; and why, in the words of the program `forms`."""
+
+    def __init__(self, code: str, reason: str, *data: int, part: str = "") -> None:
+        super().__init__(code)
+        self.why = Why(reason, [str(number) for number in data], part)
+
+
+def number(word: str, most: int, reason: str) -> int:
+    """The number that a word writes down."""
+    digits = word.lstrip("0") or "0"
+    if not re.fullmatch("[0-9]+", word):
+        raise Fault("S1", reason, part=word)
+    if len(digits) > len(str(most)) or int(digits) > most:
+        raise Fault("S1", "above", most, part=word)
+    return int(digits)
+
+
+def votes_of(word: str, servers: int | None) -> Votes:
+    """The votes that a word writes down, where there are so many servers; as many as it has fields, if that is not
+    said.
+    """
+    parts = word.split("/")
+    fields = parts[0].split(",")
+    if len(parts) != 3 or not parts[0]:
+        raise Fault("S1", "no-votes")
+    if len(fields) > MOST_SERVERS:
+        raise Fault("S1", "many", len(fields), MOST_SERVERS)
+    listed = [None if field == "-" else number(field, MOST_VOTES, "no-share") for field in fields]
+    r, w = (number(part, MOST_COLLECTED, "no-collected") for part in parts[1:])
+    total = sum(share or 0 for share in listed)
+    last = max((server for server, share in enumerate(listed) if share is not None), default=-1)
+    collects, count = ("write-collects", w) if 0 < r <= total else ("read-collects", r)
+    faults: tuple[tuple[str, bool, str, list[int]], ...] = (
+        ("V1", last < 0, "no-server", []),
+        ("V2", servers is not None and last >= servers, "beyond-last", [last, (servers or 0) - 1]),
+        ("V4", total == 0, "all-zero", []),
+        ("V5", not (0 < r <= total and 0 < w <= total), collects, [count, total]),
+        ("V6", r + w <= total, "read-misses-write", [r + w, total]),
+        ("V7", 2 * w <= total, "writes-disjoint", [2 * w, total]),
+    )
+    for code, is_so, reason, data in faults:
+        if is_so:
+            raise Fault(code, reason, *data)
+    shares = [share or 0 for share in listed][:servers]
+    return Votes(shares + [0] * ((servers or 0) - len(shares)), r, w)
+
+
+def chances(
+    shares: typing.Sequence[int], needed: int, up: fractions.Fraction
+) -> tuple[fractions.Fraction, fractions.Fraction]:
+    """The chance that fewer votes are up than are needed; and the mean share of servers that are down in all other
+    cases.
+    """
+    weights = up.numerator, up.denominator - up.numerator
+    # by the votes that are up: how many cases there are, and how many servers are down in them together
+    cases = {0: (1, 0)}
+    for share in shares:
+        after: dict[int, tuple[int, int]] = collections.defaultdict(lambda: (0, 0))
+        for votes, (count, down) in cases.items():
+            for is_down, weight in enumerate(weights):
+                to = votes if is_down else min(needed, votes + share)
+                before = after[to]
+                after[to] = before[0] + weight * count, before[1] + weight * (down + is_down * count)
+        cases = after
+    count, down = cases[needed]
+    return 1 - fractions.Fraction(count, up.denominator ** len(shares)), fractions.Fraction(down, count * len(shares))
+
+
+class LeastSets:
+    """The least sets of servers that have at least so many votes: without any one of a set the others have fewer."""
+
+    def __init__(self, shares: typing.Sequence[int], votes: int) -> None:
+        self.voters = [(server, share) for server, share in enumerate(shares) if share]
+        self.values = sorted({share for _, share in self.voters})
+        self.votes = votes
+
+    def count(self) -> int:
+        """How many there are: of each set, the last in falling order of votes is the one that is least to be spared."""
+        ways, total = collections.Counter({0: 1}), 0
+        for share in sorted((share for _, share in self.voters), reverse=True):
+            total += sum(sets for votes, sets in ways.items() if votes + share >= self.votes)
+            for votes, sets in list(ways.items()):
+                if votes + share < self.votes:
+                    ways[votes + share] += sets
+        return total
+
+    def __iter__(self) -> typing.Iterator[tuple[int, ...]]:
+        """The sets, the smallest first, and those of a size in the order of their servers."""
+        for size in range(1, len(self.voters) + 1):
+            yield from self.of_size(0, size, 0, self.values[-1])
+
+    def of_size(self, place: int, size: int, has: int, least: int) -> typing.Iterator[tuple[int, ...]]:
+        """What completes a set that has these votes, the fewest of one server among them, by so many of the servers
+        from a place on.
+        """
+        if size == 0:
+            yield ()
+            return
+        for at in range(place, len(self.voters)):
+            server, share = self.voters[at]
+            rest = at + 1, size - 1, has + share, min(least, share)
+            if self.is_completed(*rest):
+                for others in self.of_size(*rest):
+                    yield (server, *others)
+
+    def is_completed(self, place: int, size: int, has: int, least: int) -> bool:
+        """Whether anything does so: with a server of some votes as the least one, the set has less than these to
+        spare.
+        """
+        wanting = max(self.votes - has, 0)
+        for value in self.values:
+            spare = self.votes + value - has - wanting
+            if value <= least and spare > 0 and self.sums(place, size, value) >> wanting & ((1 << spare) - 1):
+                return True
+        return False
+
+    @functools.cache
+    def sums(self, place: int, size: int, least: int) -> int:
+        """The sums of votes that so many of the servers from a place on have, each with at least so many, as bits."""
+        if size == 0 or place == len(self.voters):
+            return int(size == 0)
+        share = self.voters[place][1]
+        with_it = self.sums(place + 1, size - 1, least) << share if share >= least else 0
+        return self.sums(place + 1, size, least) | with_it
+
+
+def chance_text(chance: fractions.Fraction) -> str:
+    """A chance with two digits, as 2.0e-4."""
+    return f"{decimal.Decimal(chance.numerator) / chance.denominator:.1e}" if chance else "0"
+
+
+def listed(first: str, words: list[str], count: int) -> str:
+    """Words behind a first one in lines, and how many more there are."""
+    rest = f" and {count - len(words):,} more" if count > len(words) else ""
+    text = " ".join(word.replace(" ", "\0") for word in words) + rest
+    after = " " * len(first)
+    lines = textwrap.fill(
+        text, WIDE, initial_indent=first, subsequent_indent=after, break_long_words=False, break_on_hyphens=False
+    )
+    return lines.replace("\0", " ")
+
+
+def set_text(servers: typing.Iterable[int]) -> str:
+    return f"{{{','.join(map(str, sorted(servers)))}}}"
+
+
+def filled(text: str) -> str:
+    """A sentence in lines."""
+    return textwrap.fill(text, WIDE, break_long_words=False, break_on_hyphens=False)
+
+
+def told_of(kind: str, shares: typing.Sequence[int], needed: int, up: fractions.Fraction) -> list[str]:
+    """The lines about a read or a write, which collects so many votes."""
+    total = sum(shares)
+    blocking = LeastSets(shares, total - needed + 1)
+    least = list(itertools.islice(blocking, TOLD))
+    blocked, home_down = chances(shares, needed, up)
+    may_be_lost = len(least[0]) - 1
+    return [
+        f"{kind}: {needed} of {total} votes",
+        f"    may be lost   {f'any {may_be_lost}' if may_be_lost else 'none'}",
+        listed("    stopped by    ", [f"{{{','.join(map(str, servers))}}}" for servers in least], blocking.count()),
+        f"    blocked       {chance_text(blocked)}",
+        f"    U5 at first   {chance_text(home_down)}",
+    ]
+
+
+def told(votes: Votes, up: str) -> list[str]:
+    """The lines about votes, where this is written for the chance that a server is up."""
+    by_share = collections.defaultdict(list)
+    for server, share in enumerate(votes.shares):
+        by_share[share].append(str(server))
+    lines = [f"{len(votes.shares)} server{'s' * (len(votes.shares) > 1)}, each up with chance {up}"]
+    for share in sorted(by_share, reverse=True):
+        servers = by_share[share]
+        have = f"{share} vote{'s' * (share > 1)}" if share else "no vote"
+        lines.append(listed(f"    {have:<13} ", [f"server{'s' * (len(servers) > 1)}", *servers], 0))
+    kinds = [("read and write", votes.r)] if votes.r == votes.w else [("read", votes.r), ("write", votes.w)]
+    return lines + [
+        line for kind, needed in kinds for line in told_of(kind, votes.shares, needed, fractions.Fraction(up))
+    ]
+
+
+def told_of_word(word: str, servers: int | None = None, up: str = "0.99") -> list[str]:
+    """All that is told of votes as a word writes them down."""
+    return [*told(votes_of(word, servers), up), *map(filled, ABOUT)]
+
+
+def swept(script: bytes, servers: int) -> tuple[bytes, int]:
+    """A script at whose end all servers are up and one more agent sweeps each, so that what is in effect is stored
+    there.
+    """
+    agents = int(AGENTS.search(script)[2])
+    agent = min(agents, MOST_AGENTS - 1)
+    events = [f"return {server}" for server in range(servers)]
+    events += [event for server in range(servers) for event in (f"sweep {agent} {server}", f"run {agent}")]
+    return AGENTS.sub(rb"\g<1>%d" % (agent + 1), script, count=1) + "\n".join(["", *events, ""]).encode(), len(events)
+
+
+class Left(typing.NamedTuple):
+    """What a script leaves: how many servers there are, the opening votes, and of each file and folder its path and
+    copies.
+    """
+
+    servers: int
+    opening: str
+    paths: dict[int, str]
+    suites: dict[int, search.Suite]
+
+
+def left_by(script: bytes) -> Left:
+    """What a script leaves once all servers are up and all is swept."""
+    lines = trace.traced(script)
+    servers = sum(line.startswith("= server ") for line in lines)
+    longer, count = swept(script, servers)
+    ended = trace.traced(longer)
+    heads = [(head, block) for head, block in trace.blocks(ended) if head.startswith(">")][-count:]
+    if any(head.startswith("> sweep") and block[:1] and block[0].startswith("  nothing") for head, block in heads):
+        text = f"agent {MOST_AGENTS - 1} has a job at the end of the script, and is needed to sweep"
+        raise console.Stop(f"{text}: let its job end, or have fewer agents")
+    opening = OPENING.search(script)[1].decode()
+    suites: dict[int, search.Suite] = {}
+    server = 0
+    for line in ended:
+        server = int(line.split()[2].rstrip(":")) if line.startswith("= server ") else server
+        found = trace.COPY.match(line)
+        if found:
+            suite = suites.setdefault(int(found[1]), search.Suite(search.word_of(opening), {}))
+            suite.copies[server] = int(found[3]), search.word_of(found[5])
+    return Left(servers, opening, trace.paths(lines), dict(sorted(suites.items())))
+
+
+def missed_by(suite: search.Suite, is_read: bool) -> list[str]:
+    """The least sets of servers with which down the votes are up and not found, each with what is then told."""
+    told = ((down, suite.search(down, is_read)) for down in suite.missed(is_read))
+    return [f"{set_text(down)}: got {found.got} of {found.needed};" for down, found in itertools.islice(told, TOLD + 1)]
+
+
+def missed_of(suite: search.Suite) -> tuple[str, ...]:
+    """The lines about where the votes of a file or folder are up and not found."""
+    read, write = missed_by(suite, True), missed_by(suite, False)
+    kinds = [("read and write", read)] if read == write else [("read", read), ("write", write)]
+    lines = []
+    for kind, words in kinds:
+        if words:
+            lines += [f"{kind}: votes that were moved"]
+            lines += [listed("    not found     ", words[:TOLD], len(words)).rstrip(";")]
+    return tuple(lines)
+
+
+def told_of_script(script: bytes, up: str) -> list[str]:
+    """All that is told of what a script leaves."""
+    left, alike, lines = left_by(script), collections.defaultdict(list), []
+    for number, suite in left.suites.items():
+        name = f"{left.paths[number]}=suite {number}" if number in left.paths else f"suite {number}"
+        alike[suite.newest().text(), missed_of(suite)].append(name)
+    for (word, missed), names in alike.items():
+        lines.append(
+            listed("", [f"votes {word} of", *(f"{name}," for name in names[:TOLD])], len(names) + 1).rstrip(",")
+        )
+        lines += [*told(votes_of(word, left.servers), up), *missed]
+        lines += [filled(MISSED.format(left.opening)), ""] if missed else [""]
+    return [*lines, *map(filled, ABOUT)]
+
+
+def told_of_shapes(servers: int, lose: tuple[int, int], up: str) -> list[str]:
+    """A table of the votes that so many servers may have, where reads and writes may lose so many of them."""
+    chance = fractions.Fraction(up)
+    found = shapes.best(servers, lose, chance)
+    if not found:
+        text = f"no votes of {servers} servers let reads lose {lose[0]} of them and writes {lose[1]}"
+        raise console.Stop(f"{text}: a read needs one server, and a write more than half of all votes")
+    wide = max(len("votes"), *(len(shape.word) for shape in found[:TOLD]))
+    heads = ("requests", "may be lost", "blocked", "blocked or home down")
+    lines = [
+        (
+            f"{servers} server{'s' * (servers > 1)}, each up with chance {up}: reads go on without any {lose[0]},"
+            f" writes without any {lose[1]}"
+        ),
+        "",
+        f"{'':{wide}}  {heads[0]:12} {heads[1]:12} {heads[2]:18} {heads[3]}",
+        f"{'votes':{wide}}  {'read  write':12} {'read  write':12} {'read':8} {'write':9} {'read':8} write",
+    ]
+    for shape in found[:TOLD]:
+        votes = search.word_of(shape.word)
+        shares = tuple(share or 0 for share in votes.shares)
+        first = [chance_text(shapes.not_at_first(shares, needed, chance)) for needed in (votes.r, votes.w)]
+        chances = [*map(chance_text, shape.blocked), *first]
+        numbers = " ".join(f"{one:<5} {other:<6}" for one, other in (shape.requests, shape.lost))
+        lines.append(f"{shape.word:{wide}}  {numbers} {chances[0]:8} {chances[1]:9} {chances[2]:8} {chances[3]}")
+    lines += [f"and {len(found) - TOLD} more"] if len(found) > TOLD else []
+    return [*lines, "", *map(filled, ABOUT)]
+
+
+def asked(words: list[str]) -> argparse.Namespace:
+    """The words of the command line. A word of votes may begin with a hyphen, as that of no option does."""
+    read = argparse.ArgumentParser(
+        prog="./suites votes", add_help=False, usage=__doc__.split("\n\n")[0].replace("\n", "\n       ")
+    )
+    read.add_argument("votes", nargs="?")
+    read.add_argument("--script")
+    read.add_argument("--servers", type=int)
+    read.add_argument("--of", type=int)
+    read.add_argument("--lose-read", type=int, default=0)
+    read.add_argument("--lose-write", type=int, default=0)
+    read.add_argument("--up", default="0.99")
+    read.add_argument("-h", "--help", action="store_true")
+    hyphened = [word for word in words if re.match(r"-(?!-).*[,/]", word)]
+    given = read.parse_args([word for word in words if word not in hyphened] + (["--", *hyphened] if hyphened else []))
+    if given.help:
+        print(__doc__.strip())
+        sys.exit(0)
+    ways = [given.votes is not None, given.script is not None, given.of is not None]
+    if (
+        sum(ways) != 1
+        or (given.servers is not None and not ways[0])
+        or (given.lose_read or given.lose_write)
+        and not ways[2]
+    ):
+        read.error("either VOTES are named, or --script FILE, or --of N")
+    if ways[2] and not (1 <= given.of <= MOST_SERVERS and min(given.lose_read, given.lose_write) >= 0):
+        read.error(f"--of is a number from 1 to {MOST_SERVERS}, and none of them is lost more than once")
+    if not re.fullmatch(r"[01]?(\.[0-9]{1,12})?", given.up) or not 0 < fractions.Fraction(given.up or "0") <= 1:
+        read.error("--up is a number above 0 and at most 1, as 0.99")
+    return given
+
+
+def main() -> int:
+    given = asked(sys.argv[1:])
+    if given.script is not None:
+        with open(given.script, "rb") as file:
+            lines = told_of_script(file.read(), given.up)
+        sys.stdout.buffer.write("".join(f"{line}\n" for line in lines).encode("latin1"))
+        return 0
+    if given.of is not None:
+        print("\n".join(told_of_shapes(given.of, (given.lose_read, given.lose_write), given.up)))
+        return 0
+    try:
+        if given.servers is not None and not 1 <= given.servers <= MOST_SERVERS:
+            raise Fault("G1", "due")
+        lines = told_of_word(given.votes, given.servers, given.up)
+    except Fault as fault:
+        print(fault_text(given.votes, fault))
+        return 3
+    print("\n".join(lines))
+    return 0
+
+
+def fault_text(word: str, fault: Fault) -> str:
+    """What is told of faulty votes: the rule with its numbers, the form, and what the page says of the code."""
+    code = str(fault)
+    told = [quoted.sentence(reasons.Of(fault.why, word, "VOTES").text()), "", FORM, ""] if code != "G1" else []
+    return "\n".join([f"fault {code}", "", *told, *([explain.explained(code)] if code != "S1" else [])]).rstrip()

@@ -1,0 +1,1 @@
+"""The edits that the prover must refuse, and their page."""

@@ -1,0 +1,176 @@
+"""Writes docs/WRONG-BODIES.md: each wrong body of crates/NAME/must-fail and crates/NAME/wrong, crate by crate.
+
+    python3 tools wrong_bodies_page           writes the page
+    python3 tools wrong_bodies_page --check   writes nothing; tells what differs, with status 1
+
+The first line of an edit says what it makes wrong (`why: ..`), the second which function refuses it and by which
+clause (`refused by: ..`). ./suites --test runs --check.
+"""
+import os
+import typing
+
+from common import TOP, page, text_of
+from wrong_bodies import wrong_bodies
+
+PAGE = os.path.join("docs", "WRONG-BODIES.md")
+SHOWN = os.path.join(TOP, "docs", "wrong-bodies-shown.txt")
+PLACES = ((wrong_bodies.GATE, "gate"), (wrong_bodies.BESIDE, "beside"))
+HEAD = """# Wrong bodies
+
+Each line is an edit that makes a function, a definition or a condition wrong. The prover must refuse it: if it does
+not, a contract is too weak. `python3 tools wrong_bodies_page` writes this page from the edits, so change the edits and
+not the page.
+
+An edit marked `gate` stands in `crates/NAME/must-fail`, and the gate tries it whenever its crate changes. The gate
+has the edits that break a rule of the service, those that were once let through, and those that a reader would try
+first. An edit marked `beside` stands in `crates/NAME/wrong`. It was refused when it was last tried, or its last
+column says that it was not tried yet; `python3 tools wrong_bodies NAME` tries it again. Try those of a crate before a
+change of its public contracts or its definitions lands.
+
+The last column names the function, and in brackets the clause or the definition that the edit breaks. A function with
+one clause is named alone.
+
+The gate has none of seven crates of laws, of the programs but `may`, of `event_json`, `suite_cli`, `suite_args`,
+`suite_script` and `suite_play` (the rows of `crates/rows` show what the last four print), and but for `gives_up` none
+of the crates that the others only build on (`suite_content`, `byte_streams`, `script_text`, `acl_text`, `file_exec`):
+the proof of a crate above fails where it needs a clause that was weakened. Nobody looked whether each of their
+clauses is needed above.
+"""
+
+# The bodies that a reader of the service's rules asks for first, by their plain names, and of those that no clause can
+# refuse the test that does.
+ASKED = """
+    joined_groups mask_on_owner mask_on_other groups_after_user always_other decided_by_cache stale_content
+    evicts_newest chain_keeps_evicted own_prefix_cached votes_to_new_quorum_only write_quorums_apart
+    version_before_quorum polled_again invented_cause never_decides always_unavailable denial_without_decision
+    copies_changed_at_prepare prepared_lost_in_crash prepare_under_shared_lock second_decide_overwrites
+    job_run_whole_at_begin decode_accepts_disorder decode_accepts_rest fresh_server_each_time
+    answer_from_fresh_server another_request_served dropped_write opening_kept always_certified never_certified
+    decisions_by_finish lost_job doubled_job invented_ending
+""".split()
+BY_TESTS = {
+    "one_lock_for_all": "`a_list_overlaps_a_sweep` of `run_tests`: two servers are asked at one time",
+    "always_memory": "the rows of `crates/rows`, each of which has its status and its lines",
+}
+BY_NAME = """## By name
+
+The bodies that a reader of the service's rules asks for first. No clause can refuse the last two, so a test does.
+
+| Wrong body | Its edit |
+|---|---|
+"""
+WOULD_DO = """## What they would do
+
+Those of the crates that all runs go through, each taken in an unproved build in the place of the right function, as
+`bench/harm.py` saw it: {count} of them. It has `explore` tell the ways of the stories in `examples/explore` and
+`tests/explored`, or plays the scripts of the right ways, and compares what was decided with the plain table, in the
+order of the decisions. Of {answer} a story has an answer that is not the table's: told is the smallest such story, the
+script with the fewest events that shows it there (`begin 0`: agent 0 begins its next job of the story), and what
+differs. Of {ways} the stories have other ways, or the search goes on or ends; {none} no story shows. The last column
+counts the rows of `play` in `crates/rows` that are answered otherwise (`-`: not counted); {unseen} neither a story nor
+a row shows: of most of these no command tells what they are about.
+
+| Wrong body | What comes of it | Story | Fewest events | Rows |
+|---|---|---|---|---:|
+"""
+
+
+def words_of(text: str) -> dict[str, str]:
+    """What the lines `why: ..` and `refused by: ..` of an edit say."""
+    parted = (line.partition(": ") for line in text.split("\n"))
+    return {word: rest for word, _, rest in parted if word in wrong_bodies.TOLD}
+
+
+def crates() -> list[str]:
+    """The crates, in the order of crates.txt: bottom up."""
+    lines = text_of("crates.txt").split("\n")
+    return [line.split(":")[0].split()[0] for line in (line.partition("#")[0] for line in lines) if ":" in line]
+
+
+def rows(crate: str, faults: list[str]) -> typing.Iterator[str]:
+    """The lines of the table of a crate. What is wrong with its edits is added to the faults."""
+    for folder, place in PLACES:
+        for edit in wrong_bodies.edits(crate, folder):
+            name = f"{crate}/{wrong_bodies.name_of(edit)}"
+            words = words_of(text_of(edit))
+            faults += [f"{name}: it has no line '{word}: ..'" for word in wrong_bodies.TOLD if not words.get(word)]
+            if any("|" in text for text in words.values()):
+                faults.append(f"{name}: a word has a |, which a table cannot show")
+            yield (
+                f"| `{wrong_bodies.name_of(edit)}` | {place} | {words.get('why', '')} | {words.get('refused by', '')} |"
+            )
+
+
+def by_name(faults: list[str]) -> str:
+    """The table of the bodies that are asked for first. One without an edit is added to the faults."""
+    places: dict[str, list[str]] = {name: [] for name in ASKED}
+    for crate in crates():
+        for folder, place in PLACES:
+            for edit in wrong_bodies.edits(crate, folder):
+                name = wrong_bodies.name_of(edit)
+                if name in places:
+                    places[name].append(f"`{crate}` ({place})")
+    faults += [f"{name}: there is no such edit" for name, found in places.items() if not found]
+    lines = [f"| `{name}` | {', '.join(found)} |" for name, found in places.items()]
+    lines += [f"| `{name}` | {test} |" for name, test in BY_TESTS.items()]
+    return BY_NAME + "\n".join(lines) + "\n"
+
+
+def would_do(faults: list[str]) -> str:
+    """The table of what wrong bodies would do. One without an edit is added to the faults."""
+    known = {
+        f"{crate}/{wrong_bodies.name_of(edit)}"
+        for crate in crates()
+        for folder, _ in PLACES
+        for edit in wrong_bodies.edits(crate, folder)
+    }
+    told = []
+    for piece in text_of(SHOWN).strip().split("\n\n"):
+        name, _, rest = piece.partition("\n")
+        words = dict(line.split(": ", 1) for line in rest.split("\n"))
+        if name not in known:
+            faults.append(f"{name}: there is no such edit, though {os.path.relpath(SHOWN, TOP)} has it")
+        told.append((name, words))
+    counts = {
+        "count": len(told),
+        "answer": sum(words["shows"] == "answer" for _, words in told),
+        "ways": sum(words["shows"] in ("ways", "end") for _, words in told),
+        "none": sum(words["shows"] == "nothing" for _, words in told),
+        "unseen": sum(words["shows"] == "nothing" and words["rows"] == "0" for _, words in told),
+    }
+    lines = [
+        f"| `{name}` | {words['comes']} | {words.get('story', '')} | {words.get('script', '')} | {words['rows']} |"
+        for name, words in told
+    ]
+    return WOULD_DO.format(**counts) + "\n".join(lines) + "\n"
+
+
+def whole_page() -> tuple[str, list[str]]:
+    """The page, and what is wrong with the edits."""
+    parts, counts = [HEAD], {place: 0 for _, place in PLACES}
+    faults: list[str] = []
+    for crate in crates():
+        lines = list(rows(crate, faults))
+        for place in counts:
+            counts[place] += sum(line.split(" | ")[1] == place for line in lines)
+        if lines:
+            parts.append(
+                "\n".join(
+                    [
+                        f"## `{crate}`\n",
+                        "| Wrong body | Tried | What it makes wrong | Refused by |",
+                        "|---|---|---|---|",
+                        *lines,
+                        "",
+                    ]
+                )
+            )
+    parts.append(by_name(faults))
+    parts.append(would_do(faults))
+    parts.insert(1, f"There are {counts['gate']} in the gate and {counts['beside']} beside it.\n")
+    return "\n".join(parts), faults
+
+
+def main() -> int:
+    only_looks = page.is_check(__doc__)
+    return page.written(PAGE, *whole_page(), "from the edits", only_looks)
