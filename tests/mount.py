@@ -250,6 +250,10 @@ def is_controlled(tally: played.Tally) -> None:
         put(f"{top}/b", b"", mode=0o600)
         tally.holds("size 2" in mount.control("row /a"), "row is not told")
         tally.holds(mount.control("crash 1", "row /b").startswith("row /b file"), "two lines are not told")
+        told = mount.control("copies /a", "locks", "room").splitlines()
+        words = [line.split(" ", 1)[0] for line in told]
+        is_told = words == ["copies"] * 3 + ["locks"] * 3 + ["room"] * 3 and " server 1 down " in told[1]
+        tally.holds(is_told, f"servers are not told: {told}")
         tally.holds(mount.control("nonsense").startswith("fault line "), "a faulty line is not told")
         tally.holds(mount.control("sweep 0 0").split(" ")[2:3] == ["swept"], "a sweep of agent 0 is not carried out")
         tally.holds(got(f"{top}/a") == b"hi", "with one server down a file is not read")

@@ -10,8 +10,9 @@ is too long and bytes that are no text are told and the session goes on; what a 
 nothing is carried out, and it is gone from the file. A file that is no journal, a journal with a faulty line and one
 that another session has open are refused and left as they are. A journal that may not grow is told, and the session
 goes on. Each read, write, append, sync and cut is refused in turn, and each allocation (`cc`). Of a session that is
-killed each line that was answered is in its journal, once, and no line that was not given. With --long it kills 200
-times instead of 20, and hears ten million lines instead of 200 thousand.
+killed each line that was answered is in its journal, once, and no line that was not given. What is told of servers is
+what was worked out by hand, and what a trace ends with (tests/standing.py). With --long it kills 200 times instead of
+20, and hears ten million lines instead of 200 thousand.
 """
 from __future__ import annotations
 
@@ -28,6 +29,7 @@ import time
 
 import played
 import spoken
+import standing
 from played import Tally
 from spoken import HEAD, HEADER, Talk, ran, text_of
 
@@ -45,6 +47,7 @@ STORY = (
     b"run 1",
 )
 KEPT = [line for line in STORY if not line.startswith(b"#")]
+ASKED = (b"copies /a", b"locks", b"room", b"row /a", b"content /a")
 PROBE = (b"return 2", b"begin 0 1000 100 0 read /a", b"run 0", b"audit 0")
 LONGEST = 16 * 1024 * 1024
 
@@ -214,14 +217,14 @@ def lacks_memory(path: str, tally: Tally, folder: str) -> None:
     library = played.library("refuse", folder)
     if not library:
         return
-    marks = marks_of(len(STORY) + len(PROBE))
+    marks = marks_of(len(STORY) + len(PROBE) + len(ASKED))
     for is_kept in (False, True):
         for call in range(1, 5000):
             mark = os.path.join(folder, f"memory-{is_kept}-{call}")
             name = spoken.journal(folder)
             settings = {"LD_PRELOAD": library, "REFUSE_FROM": str(call), "REFUSE_TO": str(call), "REFUSE_MARK": mark}
             given = ["--marks", *(["--journal", name] if is_kept else [])]
-            status, told = ran(path, given, text_of((*STORY, *PROBE)), settings)
+            status, told = ran(path, given, text_of((*STORY, *PROBE, *ASKED)), settings)
             if not os.path.exists(mark):
                 break
             lines = told.splitlines()
@@ -376,6 +379,9 @@ def tells_stories(path: str, tally: Tally, folder: str) -> None:
 
     told = ran(path, [], text_of(story("revocation")))[1].splitlines()
     tally.holds(b"1.1 11 denied op 1 suite 1 wants r-- by user:1001:" in told, "revocation", told)
+    have = (b"up prefix 1 content 1 behind prefix", b"down prefix 2 content 1", b"up prefix 2 content 0 behind content")
+    lines = standing.of_copies(b"/plan", 1, *have)
+    tally.holds([line for line in told if line.startswith(b"copies ")] == lines, "revocation", told, lines)
     tally.holds(told[-1].startswith(b"row /plan file") and b"user:1001:---" in told[-1], "revocation", told)
     name = spoken.journal(folder)
     lines = story("killed")
@@ -392,8 +398,10 @@ def tells_stories(path: str, tally: Tally, folder: str) -> None:
     name = spoken.journal(folder)
     first = ran(path, ["--journal", name], text_of(story("full")))[1].splitlines()
     dump.compact(name)
-    again = ran(path, ["--journal", name], b"row /\nrow /kept\n")[1].splitlines()
+    again = ran(path, ["--journal", name], b"room\nrow /\nrow /kept\n")[1].splitlines()
     tally.holds(lasting(first[-1]) == lasting(again[-1]) and first[-2] != again[-2], "full", first, again)
+    rooms = [lines[-3:-2] for lines in (first, again)]
+    tally.holds(rooms == [standing.of_room((5, 3)), standing.of_room((2, 0))], "full", rooms)
 
 
 def main() -> int:
@@ -406,6 +414,7 @@ def main() -> int:
     with tempfile.TemporaryDirectory(prefix="suites-") as folder:
         answers(path, tally)
         goes_on(path, tally)
+        standing.stands(path, tally)
         restores(path, tally, folder)
         refuses(path, tally, folder)
         is_full(path, tally, folder)

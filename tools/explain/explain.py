@@ -42,7 +42,7 @@ EXPLORED = re.compile(
 # What begins the line of an outcome: an agent and its job, or a job, and how many requests it took; or a transaction.
 # An outcome of `explore` tells no requests.
 # What a session tells besides what its lines print.
-SPOKEN = re.compile(r"= (?:restored \d+ lines|\d+)$|(?:row|content|copies|locks?|room) ")
+SPOKEN = re.compile(r"= (?:restored \d+ lines|\d+)$|(?:row|content|copies|locks|room) |(?:copies|room)$")
 VOTES = re.compile(r"(?:\d+,|-,)*\d+/\d+/\d+$")
 MARKED = re.compile(r"= (\d+)$")
 FRONT = re.compile(r"(?:(\d+)\.(\d+)(?: (\d+))?|(\d+) (\d+)|(\d+)) (?=answered|denied|refused|undecided|swept)")

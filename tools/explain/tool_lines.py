@@ -134,6 +134,30 @@ ASKS: tuple[tuple[str, str], ...] = (
     ),
     (r"content (\S+) nothing$", "the table of this run has no file at {0}"),
     (r"content (\S+) (\S+)$", "the bytes of the file that the table of this run has at {0}. No access is checked"),
+    (r"copies (\S+) nothing$", "no name leads to {0}, so no server has anything of it"),
+    (
+        r"copies (\S+) suite (\d+) server (\d+) (up|down) nothing(?: prepared)?$",
+        "{0} is suite {1}, and server {2}, which is {3}, has no copy of it. Where `prepared` stands behind that, a"
+        " transaction is prepared there and has not ended there",
+    ),
+    (
+        r"copies (\S+) suite (\d+) server (\d+) (up|down) prefix (\d+) content (\d+)(?: behind [a-z ]+?)?"
+        r"(?: prepared)?$",
+        "{0} is suite {1}, and server {2}, which is {3}, has a copy of it, with version {4} of the prefix (kind, owner,"
+        " group, lists and votes) and {5} of the content. `behind` tells what of it is older than the newest copy that"
+        " a server has, `prepared` that a transaction is prepared there and has not ended there",
+    ),
+    (r"locks server (\d+) nothing$", "server {0} has no lock"),
+    (
+        r"locks server (\d+) t (\d+) suite (\d+) (shared|exclusive)(?: prepared| in doubt)?$",
+        "at server {0} transaction {1} has a lock on suite {2}, which is {3}. It is `prepared` once the server has what"
+        " to change, and `in doubt` while the home of a prepared one is down: nobody else can tell how it ended",
+    ),
+    (
+        r"room server (\d+) taken (\d+) of (\d+) unnamed (\d+)$",
+        "server {0} has copies of {1} suites, and each keeps one of its {2} places for ever. {3} of them are reached by"
+        " no name any more: `--compact` makes their places free",
+    ),
 )
 # A line of `shell`, and what it says.
 SHELL: tuple[tuple[str, str], ...] = (

@@ -146,7 +146,7 @@ PARTS = (
     Part("the mount against the kernel", test("mount-against-the-kernel.py"), [PROGRAM, SESSION]),
     Part("the shell, import and stories", test("shell.py"), [PROGRAM, TRACE, FORMS, SESSION]),
     Part("programs on the mount", test("mount-programs.py", "--well"), [PROGRAM, SESSION]),
-    Part("sessions and their journals", test("session.py"), [PROGRAM, SESSION]),
+    Part("sessions and their journals", test("session.py"), [PROGRAM, TRACE, SESSION]),
     Part("what votes tells", test("votes.py"), [PROGRAM, TRACE]),
     Part("what votes tells of scripts", test("votes-left.py"), [PROGRAM, TRACE]),
     Part("pictures", test("drawn.py"), [TRACE]),
@@ -167,7 +167,7 @@ LONG = (
     Part("the mount, long", test("mount-against-the-kernel.py", "--calls", "200000"), [PROGRAM, SESSION]),
     Part("programs on the mount, and servers that crash", test("mount-programs.py"), [PROGRAM, SESSION]),
     Part("faults of the mount", test("mount-faults.py"), [PROGRAM, SESSION]),
-    Part("sessions that are killed", test("session.py", "--long"), [PROGRAM, SESSION]),
+    Part("sessions that are killed", test("session.py", "--long"), [PROGRAM, TRACE, SESSION]),
     Part("lies about runs", test("lies.py", "1000"), [TRACE]),
     Part(
         "refused allocations",

@@ -15,8 +15,8 @@ transaction by that user, with all its groups; the session decides it, and nothi
     --allow-other    others than who mounts may come to it too
     --foreground     stays in the foreground
     --control        gives the session of the mount at DIR lines, and prints what it tells: `crash 1`, `return 1`,
-                     `sweep 0 1`, `row /a`, `audit 0`, `compact`. Only root and who mounted may. Agent 0 is the mount's
-                     own, agent 1 is free.
+                     `sweep 0 1`, `row /a`, `copies /a`, `locks`, `room`, `audit 0`, `compact`. Only root and who
+                     mounted may. Agent 0 is the mount's own, agent 1 is free.
 
 What calls are answered:
     EACCES        denied by a list (F3)               ENOENT     no such name (F4)

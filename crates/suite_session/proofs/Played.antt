@@ -43,14 +43,34 @@ record IsBelow (open_service : OpenService) (first : Word) : Type 0 where
   heads : heads (service.Open open_service) first ≡ false
   asks : asks first ≡ false
 
-below_by : (P : Word → Bool) (open_service : OpenService) (first : Word) → P first ≡ true → P (codes "old") ≡ false → P (codes "row") ≡ false → P (codes "content") ≡ false → IsBelow open_service first
-below_by P open_service first holds old row content = record {
-  heads = no_head open_service.is_fresh (bytes_eq first (codes "old")) (other_word P first (codes "old") holds old);
-  asks = rw (other_word P first (codes "row") holds row, other_word P first (codes "content") holds content) refl;
-}
+-- words that are told from those that begin such a line
+record TellsApart (P : Word → Bool) : Type 0 where
+  old : P (codes "old") ≡ false
+  row : P (codes "row") ≡ false
+  content : P (codes "content") ≡ false
+  copies : P (codes "copies") ≡ false
+  locks : P (codes "locks") ≡ false
+  room : P (codes "room") ≡ false
+
+commands_apart : TellsApart is_command
+commands_apart = record { old = refl; row = refl; content = refl; copies = refl; locks = refl; room = refl }
+
+users_apart : TellsApart is_user
+users_apart = record { old = refl; row = refl; content = refl; copies = refl; locks = refl; room = refl }
+
+groups_apart : TellsApart is_group
+groups_apart = record { old = refl; row = refl; content = refl; copies = refl; locks = refl; room = refl }
+
+below_by : (P : Word → Bool) (open_service : OpenService) (first : Word) → P first ≡ true → TellsApart P → IsBelow open_service first
+below_by P open_service first holds apart =
+    let other : (word : Word) → P word ≡ false → bytes_eq first word ≡ false = λ word fails. other_word P first word holds fails in
+    record {
+      heads = no_head open_service.is_fresh (bytes_eq first (codes "old")) (other (codes "old") apart.old);
+      asks = rw (other (codes "row") apart.row, other (codes "content") apart.content, other (codes "copies") apart.copies, other (codes "locks") apart.locks, other (codes "room") apart.room) refl;
+    }
 
 command_below : (open_service : OpenService) (first : Word) → is_command first ≡ true → IsBelow open_service first
-command_below open_service first is = below_by is_command open_service first is refl refl refl
+command_below open_service first is = below_by is_command open_service first is commands_apart
 
 -- a name that a line gives, whether a command came before or not
 record GivesName (open_service : OpenService) (names : Tables) (first : Word) (later : List Word) (given : Tables) : Type 0 where
@@ -60,8 +80,8 @@ record GivesName (open_service : OpenService) (names : Tables) (first : Word) (l
 name_given : (open_service : OpenService) (names : Tables) (first : Word) (later : List Word) (given : Tables) (user group : Bool) → is_user first ≡ user → is_group first ≡ group
     → (if user then user_line names later else if group then group_line names later else Err (misplaced is_known first)) ≡ Ok given
     → IsBelow open_service first
-name_given open_service names first later given true group first_is is_other is = below_by is_user open_service first first_is refl refl refl
-name_given open_service names first later given false true first_is is_other is = below_by is_group open_service first is_other refl refl refl
+name_given open_service names first later given true group first_is is_other is = below_by is_user open_service first first_is users_apart
+name_given open_service names first later given false true first_is is_other is = below_by is_group open_service first is_other groups_apart
 name_given open_service names first later given false false first_is is_other is = absurd cc
 
 gives_name : (open_service : OpenService) (names : Tables) (first : Word) (later : List Word) (given : Tables) (begun : Bool) → name_line is_known begun names first later ≡ Ok given → GivesName open_service names first later given

@@ -132,7 +132,7 @@ own_made : (state : PlayService) (events : List Event) (command : Command) → L
 own_made (service.Heading heading) events command valid made = absurd made
 own_made (service.Open open_service) events command valid made =
     let opened = open_service.world in
-    goes_on opened events (events_in command) (played (fixed_of opened.given) opened.world command).world made valid (line_world (fixed_of opened.given) opened.world command)
+    (goes_on opened events (events_in command) (played (fixed_of opened.given) opened.world command).world made.0 valid (line_world (fixed_of opened.given) opened.world command), made.1)
 
 below_made : (desk : ScriptDesk PlayService) (events : List Event) (line : Result (Said Command) LineFault) → IfOk line SaidIsValid → IsMadeBy desk.service events
     → IsMadeBy (next_in desk (below ways desk line)).service (events ++ events_said line)
@@ -169,12 +169,12 @@ line_made desk events line made false other = words_made desk events (words line
 moments : (state : PlayService) (events : List Event) → IsMadeBy state events → IsPromisedOf state events
 moments (service.Heading heading) events made = tt
 moments (service.Open open_service) events made = λ before later parts.
-    let can = front open_service.world.given before later (subst (CanBe open_service.world.given) parts made.can_be) in
+    let can = front open_service.world.given before later (subst (CanBe open_service.world.given) parts made.0.can_be) in
     (can, promised open_service.world.given before can)
 
 pub session_promised : SessionIsPromised
 session_promised = record {
-  opens = λ settings accepted c0. opens (opened_of settings).world accepted c0 refl;
+  opens = λ settings accepted c0. (opens (opened_of settings).world accepted c0 refl, refl);
   goes_on = λ desk events line made other. line_made desk events line made (is_skipped line) other;
   promised = moments;
 }

@@ -1,6 +1,10 @@
+pub mod Copies
 pub mod Headings
+pub mod HeldLocks
+pub mod Places
 pub mod Played
 pub mod Promised
 pub mod Questions
 pub mod Rows
 pub mod Services
+pub mod TableRows

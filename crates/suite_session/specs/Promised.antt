@@ -44,10 +44,10 @@ events_by desk (first ∷ later) = if heads desk.service first then [] else if a
 abbrev pub events_of_line : ScriptDesk PlayService → List ℕ → List Event
 events_of_line desk line = if is_skipped line then [] else events_by desk (words line)
 
--- there is a world, and these events made it
+-- there is a world, of the settings that the header tells, and these events made it
 abbrev pub IsMadeBy : PlayService → List Event → Type 0
 IsMadeBy (service.Heading heading) events = ⊥
-IsMadeBy (service.Open open_service) events = IsRunOf open_service.world events
+IsMadeBy (service.Open open_service) events = IsRunOf open_service.world events × (open_service.world.given ≡ open_service.settings)
 
 -- of the events that made it all is promised, at each moment
 abbrev pub IsPromisedOf : PlayService → List Event → Type 0

@@ -1,4 +1,4 @@
--- What stands at a path, as the newest of all stored copies have it, of servers that are down too.
+-- What stands at a path, as the newest of all copies have it, of servers that are down too.
 use Rattle.std.specs.Prelude.{ℕ, zero, suc, nat_lt, if◌then◌else◌, List, [], ◌∷◌, ◌++◌, codes, decimal, length, Option, Some, None}
 use Rattle.std.specs.Ordering.{nat_cmp}
 use Rattle.acl_text.specs.Writing.{short_text}
@@ -33,6 +33,14 @@ abbrev pub stored_by : Option State → ℕ → Option Replica
 stored_by (Some st) suite = get nat_cmp st.store.copies suite
 stored_by None suite = None
 
+-- copies by server and suite: where a server has none there is none
+abbrev pub Copies : Type 0
+Copies = ℕ → ℕ → Option Replica
+
+-- those that are stored
+abbrev pub stored_in : World → Copies
+stored_in world server suite = stored_by (server_at world server) suite
+
 -- the newer of two copies, and the first where they are as new
 abbrev pub newer : Side → Option Replica → Option Replica → Option Replica
 newer one None other = other
@@ -40,9 +48,9 @@ newer one (Some copy) None = Some copy
 newer one (Some copy) (Some other) = if nat_lt (version_of one copy) (version_of one other) then Some other else Some copy
 
 -- the newest copy of a suite at the first so many servers
-unfoldable pub newest : Side → World → ℕ → ℕ → Option Replica
-newest one world suite zero = None
-newest one world suite (suc count) = newer one (newest one world suite count) (stored_by (server_at world count) suite)
+unfoldable pub newest : Side → Copies → ℕ → ℕ → Option Replica
+newest one copies suite zero = None
+newest one copies suite (suc count) = newer one (newest one copies suite count) (copies count suite)
 
 -- ---- the way
 
@@ -60,13 +68,13 @@ found_on (Some suite) later = later suite
 found_on None later = None
 
 -- the suite to which names lead from a folder, over the first so many servers
-abbrev pub found : World → ℕ → ℕ → List (List ℕ) → Option ℕ
-found world count suite [] = Some suite
-found world count suite (name ∷ names) = found_on (child_in (newest side.Content world suite count) name) (λ next. found world count next names)
+abbrev pub found : Copies → ℕ → ℕ → List (List ℕ) → Option ℕ
+found copies count suite [] = Some suite
+found copies count suite (name ∷ names) = found_on (child_in (newest side.Content copies suite count) name) (λ next. found copies count next names)
 
-abbrev pub found_at : World → ℕ → Option (List (List ℕ)) → Option ℕ
-found_at world count (Some names) = found world count root names
-found_at world count None = None
+abbrev pub found_at : Copies → ℕ → Option (List (List ℕ)) → Option ℕ
+found_at copies count (Some names) = found copies count root names
+found_at copies count None = None
 
 -- ---- what stands there: a suite with its newest prefix and its newest content
 
@@ -80,13 +88,13 @@ abbrev pub shown_by : ℕ → Option Replica → Option Replica → Option Shown
 shown_by suite (Some head) (Some body) = unless_absent head.prefix.kind (record { suite = suite; prefix = head.prefix; dver = body.dver; content = body.content })
 shown_by suite head body = None
 
-abbrev pub shown_for : World → ℕ → Option ℕ → Option Shown
-shown_for world count (Some suite) = shown_by suite (newest side.Prefix world suite count) (newest side.Content world suite count)
-shown_for world count None = None
+abbrev pub shown_for : Copies → ℕ → Option ℕ → Option Shown
+shown_for copies count (Some suite) = shown_by suite (newest side.Prefix copies suite count) (newest side.Content copies suite count)
+shown_for copies count None = None
 
 -- what stands at a path; at a text that is none nothing does
-abbrev pub shown_at : World → ℕ → List ℕ → Option Shown
-shown_at world count text = shown_for world count (found_at world count (names_of text))
+abbrev pub shown_at : Copies → ℕ → List ℕ → Option Shown
+shown_at copies count text = shown_for copies count (found_at copies count (names_of text))
 
 -- ---- how it is told
 

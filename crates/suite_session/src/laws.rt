@@ -2,6 +2,7 @@
 
 ghost use Rattle.suite_session.specs.Played.{LinesBelowArePlayed, SessionIsPlay};
 ghost use Rattle.suite_session.specs.Promised.{SessionIsPromised};
+ghost use Rattle.suite_session.specs.TableRows.{RowsAreTheTables};
 
 /// A law: at each moment the world of a session is that of its events so far, so all is promised of it that is promised
 /// of a run. It does nothing.
@@ -20,4 +21,11 @@ pub fn lines_below_are_played()
 /// nothing.
 pub fn session_is_play()
     ensures { SessionIsPlay }
+{}
+
+/// A law: what `row` tells of a path, by the copies in effect, is the row of the run's one table, with its versions, for
+/// every run and path. By the stored copies it is so once all that was decided of the file and of the folders on its way
+/// is finished, as it is where no server is prepared to change them. It does nothing.
+pub fn rows_are_the_tables()
+    ensures { RowsAreTheTables }
 {}

@@ -11,22 +11,31 @@
 //! a run (`session_is_promised`). A session over a text that `play` reads without a fault is told what `play` prints
 //! for it (`session_is_play`), and lines below a header are as well (`lines_below_are_played`).
 //!
-//! `row PATH` tells what stands at a path, and `content PATH` the bytes of the file there, as the newest of all stored
-//! copies have it (`specs/Rows.antt`), without an access check: they are for whoever looks after the servers, and
-//! change nothing. What a transaction prepared and its home has decided is seen once it is finished at a server.
+//! Lines that ask are for whoever looks after the servers: they check no access, and change nothing. `row PATH` tells
+//! what stands at a path, and `content PATH` the bytes of the file there, as the newest of all stored copies have it
+//! (`specs/Rows.antt`). That is the row of the run's one table where `copies` tells nothing prepared of it and of the
+//! folders on its way, and by the copies in effect always (`rows_are_the_tables`): what a home has decided is seen once it
+//! is finished at a server.
+//! `copies PATH` tells what each server has of it (`specs/Copies.antt`), `locks` who holds what lock at which server
+//! (`specs/HeldLocks.antt`), and `room` how many places of each server are taken, and by how many things that no folder
+//! names any more (`specs/Places.antt`). A place that a prepared transaction takes is counted once it is finished.
 //!
 //! **The caller owes** nothing. Names are looked up by fixed keys, since no text is there from which keys could come.
 //!
 //! **Files**: `heading` (a header so far), `open_service` (a world below a header), `play_service`, `question`
-//! (lines that ask), `newest` (the newest copies of a suite), `side`, `shown` (what stands at a path), `laws`,
-//! `start`.
-//! **Definitions** (`specs/`): `Headings`, `Services`, `Questions`, `Rows`, `Promised`, `Played`.
+//! (lines that ask), `newest` (the newest copies of a suite), `side`, `shown` (what stands at a path), `copies` (what
+//! each server has of it), `held_locks`, `places`, `laws`, `start`.
+//! **Definitions** (`specs/`): `Headings`, `Services`, `Questions`, `Rows`, `TableRows`, `Copies`, `HeldLocks`,
+//! `Places`, `Promised`, `Played`.
 #![tactic(auto)]
 
+mod copies;
 mod heading;
+mod held_locks;
 mod laws;
 mod newest;
 mod open_service;
+mod places;
 mod play_service;
 mod question;
 mod shown;
@@ -34,7 +43,7 @@ mod side;
 mod start;
 
 pub use heading::Heading;
-pub use laws::{lines_below_are_played, session_is_play, session_is_promised};
+pub use laws::{lines_below_are_played, rows_are_the_tables, session_is_play, session_is_promised};
 pub use open_service::OpenService;
 pub use play_service::PlayService;
 pub use start::first_desk;

@@ -5,7 +5,7 @@ ghost use Rattle.std.specs.Ordering.{nat_cmp};
 ghost use Rattle.rep_core.specs.code.Planning.{copies_in};
 ghost use Rattle.run_core.specs.Worlds.{server_at};
 ghost use Rattle.sorted_map.specs.SortedMap.{get};
-ghost use Rattle.suite_session.specs.Rows.{newer, newest, stored_by, version_of};
+ghost use Rattle.suite_session.specs.Rows.{newer, newest, stored_by, stored_in, version_of};
 
 use crate::side::Side;
 use rep_core::Server;
@@ -14,7 +14,8 @@ use std::alloc::{AllocError, Global};
 use suite_prefix::{Replica, StoredCopy};
 
 impl Side {
-    fn version(self, copy: &Replica) -> u64
+    /// The version of this side of a copy.
+    pub(crate) fn version(self, copy: &Replica) -> u64
         ensures { result ≡ version_of self copy.now }
     {
         match self {
@@ -42,7 +43,7 @@ fn copy_among(
 }
 
 /// The copy of a suite at a server, where it has one.
-fn copy_at(
+pub(crate) fn copy_at(
     alloc: Global,
     world: &World,
     server: u8,
@@ -88,7 +89,7 @@ pub(crate) fn newest(
     side: Side,
     suite: u64,
 ) -> Result<Option<Replica>, AllocError>
-    ensures { IfOk result (λ copy. copy ≡ newest side world.now.world suite count) }
+    ensures { IfOk result (λ copy. copy ≡ newest side (stored_in world.now.world) suite count) }
 {
     let mut best = None;
     for server in 0..count {

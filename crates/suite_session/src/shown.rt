@@ -2,7 +2,7 @@
 
 ghost use Rattle.std.specs.Prelude.{◌≡◌, ◌++◌, Some, IfOk, OnOk};
 ghost use Rattle.file_ops.specs.Paths.{names_of};
-ghost use Rattle.suite_session.specs.Rows.{bytes_shown, child_in, content_line, content_text, found, found_at, kind_text, lists_text, owner_text, row_line, shown_at, shown_by, shown_text, size_of, versions_text};
+ghost use Rattle.suite_session.specs.Rows.{bytes_shown, child_in, content_line, content_text, found, found_at, kind_text, lists_text, owner_text, row_line, shown_at, shown_by, shown_text, size_of, stored_in, versions_text};
 
 use crate::newest::newest;
 use crate::side::Side;
@@ -41,7 +41,7 @@ fn child_in(copy: &Option<Replica>, name: &Name) -> Option<u64>
 
 /// The suite to which names lead from the root folder.
 fn found(alloc: Global, world: &World, count: u8, names: &[Name]) -> Result<Option<u64>, AllocError>
-    ensures { IfOk result (λ suite. suite ≡ found world.now.world count 0 names.now) }
+    ensures { IfOk result (λ suite. suite ≡ found (stored_in world.now.world) count 0 names.now) }
 {
     let mut suite = ROOT;
     for name in names {
@@ -55,8 +55,13 @@ fn found(alloc: Global, world: &World, count: u8, names: &[Name]) -> Result<Opti
 }
 
 /// The suite at a path; a text that is none leads to nothing.
-fn found_at(alloc: Global, world: &World, count: u8, text: &[u8]) -> Result<Option<u64>, AllocError>
-    ensures { IfOk result (λ suite. suite ≡ found_at world.now.world count (names_of text.now)) }
+pub(crate) fn found_at(
+    alloc: Global,
+    world: &World,
+    count: u8,
+    text: &[u8],
+) -> Result<Option<u64>, AllocError>
+    ensures { IfOk result (λ suite. suite ≡ found_at (stored_in world.now.world) count (names_of text.now)) }
 {
     let path = PathText::new(alloc, text)?;
     match path.names() {
@@ -90,7 +95,7 @@ pub(crate) fn standing_at(
     count: u8,
     text: &[u8],
 ) -> Result<Option<Shown>, AllocError>
-    ensures { IfOk result (λ shown. shown ≡ shown_at world.now.world count text.now) }
+    ensures { IfOk result (λ shown. shown ≡ shown_at (stored_in world.now.world) count text.now) }
 {
     let Some(suite) = found_at(alloc, world, count, text)? else {
         return Ok(None);

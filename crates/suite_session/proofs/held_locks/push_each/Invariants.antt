@@ -1,0 +1,9 @@
+use Rattle.std.proofs.Common.{◌≡◌, ◌++◌, drop}
+use Rattle.std.specs.List.{flat_map}
+use Rattle.suite_session.specs.HeldLocks.{lock_line}
+use Rattle.suite_session.proofs.held_locks.push_each.Given as goal
+
+abbrev pub invariant-loop-lock : goal.invariant-loop-lock
+invariant-loop-lock l =
+    l.text.items ++ flat_map (lock_line l.service.settings l.service.world.world l.number) (drop l.lock-index l.locks)
+    ≡ l.fn.text.items ++ flat_map (lock_line l.service.settings l.service.world.world l.number) l.locks

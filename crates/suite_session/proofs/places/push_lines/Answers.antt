@@ -1,0 +1,19 @@
+use Rattle.std.proofs.Common.{◌++◌, ◌∙◌, ap, sym}
+use Rattle.std.proofs.lemmas.List.{append_assoc, append-nil}
+use Rattle.run_core.specs.Worlds.{server_at}
+use Rattle.suite_session.proofs.OneMore.{no_room, room_more}
+use Rattle.suite_session.specs.Places.{room_line, room_lines}
+use Rattle.suite_session.proofs.places.push_lines.Goals as goal
+
+pub loop-number-init : goal.loop-number-init
+loop-number-init c = rw (no_room c.args.named.now c.args.world.now.world) (sym (append-nil c.args.text.now.items))
+
+pub loop-number-preserved : goal.loop-number-preserved
+loop-number-preserved c =
+    let world = c.args.world.now.world in
+    let line = room_line c.args.named.now c.loop-number.number (server_at world c.loop-number.number) in
+    let lines = room_lines c.args.named.now world c.loop-number.number in
+    c.in_ok-push_room_at.ensures
+    ∙ ap (λ text. text ++ line) c.loop-number.invariant
+    ∙ append_assoc c.args.text.now.items lines line
+    ∙ ap (λ more. c.args.text.now.items ++ more) (sym (room_more c.args.named.now world c.loop-number.number))
