@@ -80,7 +80,7 @@ module _ (given : Opening) (events later : List Event) (agent t : ℕ) (caller :
   same_service = service_stays (rows.opening given) (decisions given events)
 
   abbrev pub Right : Ending → Type 0
-  Right ended = EndsRight fixed first its_sight table task actor.agent.cache ended
+  Right ended = (suites : Suites) × EndsRight fixed first its_sight table task actor.agent.cache suites ended
 
   abbrev pub PhaseIn : Suites → Cache → Phase → Type 0
   PhaseIn suites now phase = PhaseStands fixed first its_sight table task actor.agent.cache Was' (ground given events later agent t caller site ops actor goes) suites now phase

@@ -73,10 +73,10 @@ module _ (given : Opening) (events later : List Event) (agent t : ℕ) (caller :
           (subst (λ task. Good given events later agent t caller site ops actor goes (lack_step task (Finishing tells_now.servers tells_now.v tells_now.ending))) (sym r'.at.0)
           (of tells_now.servers (subst (PhaseIn given events later agent t caller site ops actor goes r'.txn_run.suites c.here.agent.cache) tells_now.is r'.at.1)))
         where
-          of : (servers : List ℕ) → Right given events later agent t caller site ops actor goes tells_now.ending
+          of : (servers : List ℕ) → PhaseIn given events later agent t caller site ops actor goes r'.txn_run.suites c.here.agent.cache (Finishing servers tells_now.v tells_now.ending)
               → Good given events later agent t caller site ops actor goes (lack_step its_task (Finishing servers tells_now.v tells_now.ending))
-          of [] right = right
-          of (first ∷ []) right = right
+          of [] right = (r'.txn_run.suites, right)
+          of (first ∷ []) right = (r'.txn_run.suites, right)
           of (first ∷ (next ∷ servers)) right = (refl, right)
 
       here_lack : lacks.new.agent ≡ (with_step c.here.agent (lack_step r'.txn_run.task r'.txn_run.phase)).agent

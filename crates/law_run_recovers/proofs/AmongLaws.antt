@@ -180,7 +180,7 @@ module _ (given : Opening) (events later : List Event) (agent t : ℕ) (caller :
 
   pub among_by_votes : (job : EndedJob) → EndsThen given events later agent t caller site ops job → EndsByOpenVotes given events t caller site ops actor.agent.cache goes.near job
   among_by_votes job ends =
-      let right = among_ends given events later agent t caller site ops actor goes job ends.there ends.of_it in
+      let right = (among_ends given events later agent t caller site ops actor goes job ends.there ends.of_it).1 in
       let its_sight' = sight given events later agent t caller site ops actor goes in
       record {
         start = right.start;

@@ -53,13 +53,13 @@ none_of true b = refl
 none_of false b = refl
 
 -- before its end is fixed none was
-none_done : (past : List Exchange) (n : ℕ) → n < 3 → ((one : Exchange) → Has past one → stage one.request ≤ n) → (server : ℕ) → was_done past server ≡ false
+pub none_done : (past : List Exchange) (n : ℕ) → n < 3 → ((one : Exchange) → Has past one → stage one.request ≤ n) → (server : ℕ) → was_done past server ≡ false
 none_done [] n few all server = refl
 none_done (one ∷ past) n few all server =
     ap (λ b. ((one.server == server) && b) || was_done past server) (not_finish one.request n few (all one (inl refl)))
     ∙ none_of (one.server == server) (was_done past server) ∙ none_done past n few (λ other has. all other (inr has)) server
 
-done_of : (past : List Exchange) (server : ℕ) → Has (sent_to is_finish past) server → was_done past server ≡ true
+pub done_of : (past : List Exchange) (server : ℕ) → Has (sent_to is_finish past) server → was_done past server ≡ true
 done_of past server has =
     let one = has_map (λ (one : Exchange). one.server) (filter (λ (one : Exchange). is_finish one.request) past) server has in
     let there = has_filter (λ (one : Exchange). is_finish one.request) past one.0 one.1 in
@@ -80,7 +80,7 @@ wants_it z request.Crash is = absurd (false≢true is)
 wants_it z request.Return is = absurd (false≢true is)
 
 -- who gave a lock is one of those that hold one
-locked_of : (past : List Exchange) (z server : ℕ) → was_held past z server ≡ true → was_locked past server ≡ true
+pub locked_of : (past : List Exchange) (z server : ℕ) → was_held past z server ≡ true → was_locked past server ≡ true
 locked_of past z server is =
     let one = any_has (λ (one : Exchange). (one.server == server) && locks z one.request && says_held one.response) past is in
     let parts = and_parts ((one.0.server == server) && locks z one.0.request) (says_held one.0.response) one.2 in

@@ -1,14 +1,15 @@
--- Transactions side by side: all along nobody meets any, each that is busy runs one, and each lock is of one that runs and asks for it.
+-- Transactions side by side: all along nobody meets any, each that is busy runs one, and each lock at a server that is up is of one that runs and asks for it.
+use Rattle.law_run_recovers.proofs.Vocabulary.{and_from, and_parts, length, list_all, ◌==◌}
 use Rattle.law_run_recovers.proofs.Vocabulary.{◌≡◌, ℕ, Bool, true, false, List, [], ◌∷◌, ◌++◌, append-nil, append_assoc, Option, Some, None, refl, sym, ap, subst, ◌∙◌, ◌%◌, ◌&&◌, ◌||◌, not, Contains, list_any, false≢true, none-some}
 use Rattle.law_run_recovers.proofs.Vocabulary.{same_Some, Opening, IsAccepted, LockMode, Request, State, has_from, has_any, Transaction, Task, Doing, request_in, Agent, fixed_of, is_idle, next_in, next_of, Event, Begin, Actor, World}
-use Rattle.law_run_recovers.proofs.Vocabulary.{actor_at, has_no_job, step, run, names, CanBe, clear_servers, names_mine, can_front, run_more, AllServers, clashes, clash, Begun, its_asks, GoSideBySide, runs, running_in, is_running}
+use Rattle.law_run_recovers.proofs.Vocabulary.{actor_at, has_no_job, step, run, names, CanBe, clear_servers, names_mine, can_front, run_more, clashes, clash, Begun, its_asks, GoSideBySide, GoSideBySideWhileDown, runs, running_in, is_running, server_at}
 use Rattle.law_run_recovers.proofs.Vocabulary.{asks_for}
 use Rattle.rep_core.specs.declared.request.Request.TheVariants as request
 use Rattle.law_run_recovers.proofs.AtWork.{mine_where}
 use Rattle.law_run_recovers.proofs.Keeps.{OfAsks}
 use Rattle.law_run_recovers.proofs.NearGround.{its}
 use Rattle.law_run_recovers.proofs.Owned.{AllOwned, MayLock}
-use Rattle.law_run_recovers.proofs.Sides.{its_agent, AllUp, up_next}
+use Rattle.law_run_recovers.proofs.Sides.{its_agent, AllUp, up_next, up_same}
 use Rattle.law_run_recovers.proofs.AmongAsks.{of_its_asks}
 use Rattle.law_run_recovers.proofs.AmongCourse.{Course, runs_it}
 use Rattle.law_run_recovers.proofs.BesideUnmet.{IsUnmet, world_then, then_is, steady_of, ran}
@@ -53,7 +54,52 @@ pub clash_of : (asked others : List (ℕ × LockMode)) (one other : ℕ × LockM
 clash_of asked others one other has there is =
     has_any (λ one. list_any (clashes one) others) asked one (has_from asked one has) (has_any (clashes one) others other (has_from others other there) is)
 
+-- ---- where all servers are up they stay up
+
+run_after : (given : Opening) (events so_far : List Event) (event : Event) → run given (events ++ (so_far ++ event ∷ [])) ≡ (step (fixed_of given) (run given (events ++ so_far)) event).world
+run_after given events so_far event = ap (run given) (sym (append_assoc events so_far (event ∷ []))) ∙ run_more given (events ++ so_far) event
+
+free_where_up : (servers : List State) → list_all (λ (st : State). length st.locks == 0) servers ≡ true → list_all (λ (st : State). not st.up || (length st.locks == 0)) servers ≡ true
+free_where_up [] all = refl
+free_where_up (st ∷ servers) all =
+    let parts = and_parts (length st.locks == 0) (list_all (λ (st : State). length st.locks == 0) servers) all in
+    and_from (not st.up || (length st.locks == 0)) (list_all (λ (st : State). not st.up || (length st.locks == 0)) servers) (or_so (not st.up) (length st.locks == 0) parts.0) (free_where_up servers parts.1)
+  where
+    or_so : (a b : Bool) → b ≡ true → (a || b) ≡ true
+    or_so true b is = refl
+    or_so false b is = is
+
 module _ (given : Opening) (events later : List Event) (go : GoSideBySide given events later) where
+  up_first : AllUp given go.can.accepted (run given (events ++ []))
+  up_first = subst (λ all. AllUp given go.can.accepted (run given all)) (sym (append-nil events)) (λ s st at. (clear_servers 0 (run given events) go.up go.free s st at).0)
+
+  up_along : (todo so_far rest : List Event) → later ≡ (so_far ++ todo) ++ rest → AllUp given go.can.accepted (run given (events ++ so_far)) → AllUp given go.can.accepted (run given (events ++ (so_far ++ todo)))
+  up_along [] so_far rest split up = subst (λ so_far. AllUp given go.can.accepted (run given (events ++ so_far))) (sym (append-nil so_far)) up
+  up_along (event ∷ todo) so_far rest split up =
+      let more : (so_far ++ event ∷ []) ++ todo ≡ so_far ++ event ∷ todo = append_assoc so_far (event ∷ []) todo in
+      let next = subst (AllUp given go.can.accepted) (sym (run_after given events so_far event))
+      (up_next given go.can.accepted (events ++ so_far) event (go.unspoiled so_far (todo ++ rest) event (split ∙ append_assoc so_far (event ∷ todo) rest)) up) in
+      subst (λ so_far. AllUp given go.can.accepted (run given (events ++ so_far))) more (up_along todo (so_far ++ event ∷ []) rest (split ∙ ap (λ so_far. so_far ++ rest) (sym more)) next)
+
+  pub up_at : (so_far rest : List Event) → later ≡ so_far ++ rest → AllUp given go.can.accepted (run given (events ++ so_far))
+  up_at so_far rest split = up_along so_far [] rest split up_first
+
+  -- so they go side by side as where some are down
+  pub as_down : GoSideBySideWhileDown given events later
+  as_down = record {
+    can = go.can;
+    idle = go.idle;
+    free = free_where_up (run given events).servers go.free;
+    stays = λ before after split server.
+        up_same given go.can.accepted (events ++ before) events (up_at before after split)
+        (subst (λ all. AllUp given go.can.accepted (run given all)) (append-nil events) up_first) server;
+    unspoiled = go.unspoiled;
+    apart = go.apart;
+  }
+
+-- ---- all along
+
+module _ (given : Opening) (events later : List Event) (go : GoSideBySideWhileDown given events later) where
   pub accepted : IsAccepted given
   accepted = go.can.accepted
 
@@ -64,22 +110,7 @@ module _ (given : Opening) (events later : List Event) (go : GoSideBySide given 
   can_at so_far rest split = can_front given (events ++ so_far) rest (subst (CanBe given) (ap (λ later. events ++ later) split ∙ sym (append_assoc events so_far rest)) go.can)
 
   pub run_next : (so_far : List Event) (event : Event) → run given (events ++ (so_far ++ event ∷ [])) ≡ (step (fixed_of given) (run given (events ++ so_far)) event).world
-  run_next so_far event = ap (run given) (sym (append_assoc events so_far (event ∷ []))) ∙ run_more given (events ++ so_far) event
-
-  -- ---- servers stay up
-
-  up_first : AllUp given accepted (run given (events ++ []))
-  up_first = subst (λ all. AllUp given accepted (run given all)) (sym (append-nil events)) (λ s st at. (clear_servers 0 (run given events) go.up go.free s st at).0)
-
-  up_along : (todo so_far rest : List Event) → later ≡ (so_far ++ todo) ++ rest → AllUp given accepted (run given (events ++ so_far)) → AllUp given accepted (run given (events ++ (so_far ++ todo)))
-  up_along [] so_far rest split up = subst (λ so_far. AllUp given accepted (run given (events ++ so_far))) (sym (append-nil so_far)) up
-  up_along (event ∷ todo) so_far rest split up =
-      let more : (so_far ++ event ∷ []) ++ todo ≡ so_far ++ event ∷ todo = append_assoc so_far (event ∷ []) todo in
-      let next = subst (AllUp given accepted) (sym (run_next so_far event)) (up_next given accepted (events ++ so_far) event (go.unspoiled so_far (todo ++ rest) event (split ∙ append_assoc so_far (event ∷ todo) rest)) up) in
-      subst (λ so_far. AllUp given accepted (run given (events ++ so_far))) more (up_along todo (so_far ++ event ∷ []) rest (split ∙ ap (λ so_far. so_far ++ rest) (sym more)) next)
-
-  pub up_at : (so_far rest : List Event) → later ≡ so_far ++ rest → AllUp given accepted (run given (events ++ so_far))
-  up_at so_far rest split = up_along so_far [] rest split up_first
+  run_next so_far event = run_after given events so_far event
 
   -- ---- transactions of a part
 
@@ -115,7 +146,7 @@ module _ (given : Opening) (events later : List Event) (go : GoSideBySide given 
   pub record Sides (so_far : List Event) : Type 0 where
     pub unmet : (one : Begun given events so_far) → IsUnmet given events one.before one.agent one.t one.caller one.site one.ops one.after
     pub busy : (i : ℕ) (here : Actor) → actor_at (run given (events ++ so_far)) i ≡ Some here → is_idle here.agent.doing ≡ false → Busy so_far i here.agent.doing
-    pub locks : AllServers (λ (st : State). AllOwned (Owned so_far) st.locks) (run given (events ++ so_far))
+    pub locks : (server : ℕ) (st : State) → server_at (run given (events ++ so_far)) server ≡ Some st → st.up ≡ true → AllOwned (Owned so_far) st.locks
 
   -- its world after all of these events is theirs
   pub last_is : (so_far : List Event) (one : Begun given events so_far) → world_then given events one.before one.agent one.t one.caller one.site one.ops one.after ≡ run given (events ++ so_far)

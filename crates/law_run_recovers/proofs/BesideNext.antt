@@ -3,16 +3,16 @@ use Rattle.law_run_recovers.proofs.Vocabulary.{◌≡◌, ◌≢◌, ⊎_elim, �
 use Rattle.law_run_recovers.proofs.Vocabulary.{Contains, false≢true, and_parts, and_from, eqb-true, eq-eqb, same_Some, Opening, LockMode, is_exclusive, Lock, Request, in_the_way, conflicts, State, Has, find_some, Job, Transaction}
 use Rattle.law_run_recovers.proofs.Vocabulary.{Response, Task, TransactionRun, Doing, Running, RunningSweep, After, GoesOn, Ends, is_decide, said_by, after_response, Agent, fixed_of, is_idle, left, next_in, take_in, Served, Event}
 use Rattle.law_run_recovers.proofs.Vocabulary.{Begin, Step, Crash, Return, Forget, Lack, World, server_at, actor_at, has_no_job, step, run, Decided, names, IsAt, Leaves, leaves_response, begins_job, IsMine, MayAsk, asks_servers}
-use Rattle.law_run_recovers.proofs.Vocabulary.{clashes, clash, Begun, its_asks, spoils, GoSideBySide, asks_for, is_way_met, way_in, in_its_way, GoesAmongLocks, locks_in, locks_at, runs, is_running, is_telling, takes, up_and, of_up}
+use Rattle.law_run_recovers.proofs.Vocabulary.{clashes, clash, Begun, its_asks, spoils, GoSideBySideWhileDown, up_in, is_up, asks_for, is_way_met, way_in, in_its_way, GoesAmongLocks, locks_in, locks_at, runs, is_running, is_telling, takes, up_and, of_up}
 use Rattle.law_run_recovers.proofs.Vocabulary.{robs, hinders_itself, StandsOpen}
 use Rattle.law_run_recovers.proofs.Keeps.{step_asks}
 use Rattle.law_run_recovers.proofs.Owned.{AllOwned, MayLock, owned_stays}
-use Rattle.law_run_recovers.proofs.Sides.{compared, names_one, takes_named, up_same}
+use Rattle.law_run_recovers.proofs.Sides.{compared, names_one, takes_named}
 use Rattle.law_run_recovers.proofs.AmongCourse.{parted, course_runs}
 use Rattle.law_run_recovers.proofs.Steady.{steady}
 use Rattle.law_run_recovers.proofs.AmongLeft.{left_at}
 use Rattle.law_run_recovers.proofs.BesideUnmet.{IsUnmet, world_then, unmet_more, among_of, ran_then, everywhere}
-use Rattle.law_run_recovers.proofs.BesideAll.{own_served, others_none, not_both, no_job_of, clash_of, accepted, run_next, up_at, onward, Owned, Sides, last_is, can_of, same_agent, busy_one, one_named, may_lock}
+use Rattle.law_run_recovers.proofs.BesideAll.{own_served, others_none, not_both, no_job_of, clash_of, run_next, onward, Owned, Sides, last_is, can_of, same_agent, busy_one, one_named, may_lock}
 
 -- ---- who runs a transaction and takes a response runs it still, or nothing
 
@@ -53,7 +53,7 @@ or_same true false is = refl
 or_same false true is = refl
 or_same false false is = is
 
-module _ (given : Opening) (events later : List Event) (go : GoSideBySide given events later) (so_far rest : List Event) (event : Event) (split : later ≡ so_far ++ event ∷ rest) (sides : Sides given events later go so_far) where
+module _ (given : Opening) (events later : List Event) (go : GoSideBySideWhileDown given events later) (so_far rest : List Event) (event : Event) (split : later ≡ so_far ++ event ∷ rest) (sides : Sides given events later go so_far) where
   abbrev w : World
   w = run given (events ++ so_far)
 
@@ -143,9 +143,12 @@ module _ (given : Opening) (events later : List Event) (go : GoSideBySide given 
   may_ask (Forget i site) = tt
   may_ask (Lack i why) = tt
 
-  locks_were : (server : ℕ) (st : State) → server_at (step (fixed_of given) (run given (events ++ so_far)) event).world server ≡ Some st → AllOwned (Owned given events later go so_far) st.locks
-  locks_were = asks_servers (fixed_of given) (λ s st. AllOwned (Owned given events later go so_far) st.locks) (λ s asked. MayLock (Owned given events later go so_far) asked)
-      (λ s st asked may all. owned_stays (Owned given events later go so_far) st asked may all) w sides.locks event (may_ask event)
+  -- at a server that was up all along
+  locks_were : (server : ℕ) (st : State) → server_at (step (fixed_of given) (run given (events ++ so_far)) event).world server ≡ Some st → is_up (run given events) server ≡ true → AllOwned (Owned given events later go so_far) st.locks
+  locks_were =
+      asks_servers (fixed_of given) (λ s st. is_up (run given events) s ≡ true → AllOwned (Owned given events later go so_far) st.locks) (λ s asked. MayLock (Owned given events later go so_far) asked)
+      (λ s st asked may all up. owned_stays (Owned given events later go so_far) st asked may (all up)) w
+      (λ server st at up. sides.locks server st at (sym (ap up_in at) ∙ go.stays so_far (event ∷ rest) split server ∙ up)) event (may_ask event)
 
   -- one that runs no more has left none
   module _ (one : Begun given events so_far) (runs_not : is_running (run given (events ++ (so_far ++ event ∷ []))) one.agent one.t ≡ false) where
@@ -171,9 +174,10 @@ module _ (given : Opening) (events later : List Event) (go : GoSideBySide given 
         (λ over. over.1 server lock.suite (record { lock = lock; has = subst (λ locks. Has locks lock) (sym (ap (λ w. locks_at w server) last ∙ ap locks_in at)) has; of_it = of_it; on_it = refl }))
         (left_at given (events ++ one.before) (one.after ++ event ∷ []) one.agent one.t one.caller one.site one.ops unmet_on.actor goes (one.after ++ event ∷ []) [] (sym (append-nil (one.after ++ event ∷ []))))
 
-  pub locks_now : (server : ℕ) (st : State) → server_at (run given (events ++ (so_far ++ event ∷ []))) server ≡ Some st → AllOwned (Owned given events later go (so_far ++ event ∷ [])) st.locks
-  locks_now server st at lock has =
-      let was = locks_were server st (ap (λ w. server_at w server) (sym (run_next given events later go so_far event)) ∙ at) lock has in
+  pub locks_now : (server : ℕ) (st : State) → server_at (run given (events ++ (so_far ++ event ∷ []))) server ≡ Some st → st.up ≡ true → AllOwned (Owned given events later go (so_far ++ event ∷ [])) st.locks
+  locks_now server st at up lock has =
+      let was = locks_were server st (ap (λ w. server_at w server) (sym (run_next given events later go so_far event)) ∙ at)
+      (sym (go.stays (so_far ++ event ∷ []) rest split_on server) ∙ ap up_in at ∙ up) lock has in
       of was (is_running (run given (events ++ (so_far ++ event ∷ []))) was.one.agent was.one.t) refl
     where
       of : (was : Owned given events later go so_far lock.t lock.suite lock.mode) (b : Bool)
@@ -251,24 +255,22 @@ module _ (given : Opening) (events later : List Event) (go : GoSideBySide given 
     where
       of : (found : Option State) → server_at (run given (events ++ (so_far ++ event ∷ []))) server ≡ found → is_way_met (way_in other.t one.0 one.1 found) ≡ false
       of None at = refl
-      of (Some st) at = by st.up (in_the_way other.t one.0 one.1 st.locks) refl
+      of (Some st) at = by st.up refl (in_the_way other.t one.0 one.1 st.locks) refl
         where
-          by : (up : Bool) (found : Option Lock) → in_the_way other.t one.0 one.1 st.locks ≡ found → is_way_met (cond up (Some (option_map (λ (lock : Lock). lock.t) found)) None) ≡ false
-          by false found is = refl
-          by true None is = refl
-          by true (Some lock) is =
+          by : (up : Bool) → st.up ≡ up → (found : Option Lock) → in_the_way other.t one.0 one.1 st.locks ≡ found → is_way_met (cond up (Some (option_map (λ (lock : Lock). lock.t) found)) None) ≡ false
+          by false up found is = refl
+          by true up None is = refl
+          by true up (Some lock) is =
               let some = find_some (conflicts other.t one.0 one.1) st.locks lock is in
               let parts = conflict_parts other.t one.0 one.1 lock some.1 in
-              let own = locks_now server st at lock some.0 in
+              let own = locks_now server st at up lock some.0 in
               absurd (never_clash own.one other (λ same. false≢true (sym parts.1 ∙ eq-eqb lock.t other.t (sym own.number ∙ same))) own.running running (lock.suite, lock.mode) one own.asks has
               (and_from (lock.suite == one.0) (is_exclusive lock.mode || is_exclusive one.1) (eq-eqb lock.suite one.0 parts.0) (or_same (is_exclusive one.1) (is_exclusive lock.mode) parts.2)))
 
   stands_now : (other : BegunNow) → is_running (run given (events ++ (so_far ++ event ∷ []))) other.agent other.t ≡ true
       → StandsOpen (run given (events ++ other.before)) (run given (events ++ (so_far ++ event ∷ []))) other.t (asks_for given (events ++ other.before) other.t other.caller other.ops) everywhere
   stands_now other running = record {
-    up = λ server near.
-        up_same given (accepted given events later go) (events ++ (so_far ++ event ∷ [])) (events ++ other.before) (up_at given events later go (so_far ++ event ∷ []) rest split_on)
-        (up_at given events later go other.before (Begin other.agent (Transaction other.caller other.site other.ops) ∷ (other.after ++ rest)) (to_last other).parts) server;
+    up = λ server near. go.stays (so_far ++ event ∷ []) rest split_on server ∙ sym (go.stays other.before (Begin other.agent (Transaction other.caller other.site other.ops) ∷ (other.after ++ rest)) (to_last other).parts server);
     way = λ server one near has. way_free other running one has server;
   }
 

@@ -1,8 +1,9 @@
 -- Transactions side by side: so nobody meets any, at each moment.
-use Rattle.law_run_recovers.proofs.Vocabulary.{◌≡◌, ⊎_elim, ℕ, suc, true, false, List, [], ◌∷◌, ◌++◌, append-nil, append_assoc, Option, Some, None, is_some, refl, sym, ap, subst, ◌∙◌, arith, length, ◌==◌, false≢true, eqb-true}
+use Rattle.law_run_recovers.proofs.Vocabulary.{◌≡◌, ⊎_elim, ℕ, suc, true, false, List, [], ◌∷◌, ◌++◌, append-nil, append_assoc, Option, Some, None, is_some, refl, sym, ap, subst, ◌∙◌, arith, length, ◌==◌, ◌||◌, not, false≢true, eqb-true}
 use Rattle.law_run_recovers.proofs.Vocabulary.{none-some, same_Some, Identity, Opening, Op, Lock, State, Request, Has, all_at, Job, Transaction, Sweep, Response, Doing, fixed_of, is_idle, next_of, take_in, Event, Begin, Step, Crash}
 use Rattle.law_run_recovers.proofs.Vocabulary.{Return, Forget, Lack, Actor, World, server_at, actor_at, step, run, decisions, begins_now, holds_of, same_or, agent_of, CanBe, begins_job, at_has, doing_of, doing_at, with_job, all_none}
-use Rattle.law_run_recovers.proofs.Vocabulary.{BeginsNone, none_begins, event_doing, Begun, spoils, GoSideBySide, asks_for, running_in, is_running, StandsOpen}
+use Rattle.law_run_recovers.proofs.Vocabulary.{BeginsNone, none_begins, event_doing, Begun, spoils, GoSideBySideWhileDown, asks_for, running_in, is_running, StandsOpen}
+use Rattle.law_run_recovers.proofs.Found.{or_rest}
 use Rattle.law_run_recovers.proofs.Open.{begun_runs}
 use Rattle.law_run_recovers.proofs.AmongCourse.{parted, nil_cons}
 use Rattle.law_run_recovers.proofs.BesideUnmet.{IsUnmet, world_then, unmet_more, nil_front, begins_there, everywhere}
@@ -17,7 +18,7 @@ job_same given w k job pair = of (begins_now (fixed_of given) k job (actor_at w 
     of None is = absurd (none-some pair is)
     of (Some u) is = ap (λ (pair : ℕ × Job). pair.1) (same_Some (u, job) pair is)
 
-module _ (given : Opening) (events later : List Event) (go : GoSideBySide given events later) where
+module _ (given : Opening) (events later : List Event) (go : GoSideBySideWhileDown given events later) where
   module _ (so_far rest : List Event) (event : Event) (split : later ≡ so_far ++ event ∷ rest) (sides : Sides given events later go so_far) where
     abbrev w : World
     w = run given (events ++ so_far)
@@ -136,9 +137,10 @@ module _ (given : Opening) (events later : List Event) (go : GoSideBySide given 
     unmet = λ one. absurd (nil_cons one.before (Begin one.agent (Transaction one.caller one.site one.ops)) one.after one.parts);
     busy = λ i here there busy.
         absurd (false≢true (sym busy ∙ ap is_idle (sym (ap doing_of (ap (λ all. actor_at (run given all) i) (sym (append-nil events)) ∙ there)) ∙ all_none (run given events).agents go.idle i)));
-    locks = λ server st at lock has. absurd
-        (none st.locks (all_at (λ (st : State). length st.locks == 0) (run given events).servers st go.free
-        (at_has (run given events).servers server st (ap (λ all. server_at (run given all) server) (sym (append-nil events)) ∙ at))) lock has);
+    locks = λ server st at up lock has. absurd
+        (none st.locks (or_rest (not st.up) (length st.locks == 0) (ap not up)
+        (all_at (λ (st : State). not st.up || (length st.locks == 0)) (run given events).servers st go.free
+        (at_has (run given events).servers server st (ap (λ all. server_at (run given all) server) (sym (append-nil events)) ∙ at)))) lock has);
   }
     where
       none : (locks : List Lock) → (length locks == 0) ≡ true → (lock : Lock) → Has locks lock → ⊥

@@ -11,10 +11,10 @@ use Rattle.law_suite_machine.specs.Machine.{World}
 
 -- ---- votes of those that have some
 
-abbrev has_vote : List Representative → ℕ → Bool
+abbrev pub has_vote : List Representative → ℕ → Bool
 has_vote reps x = list_any (λ (rep : Representative). (rep.0 == x) && nat_lt 0 rep.1) reps
 
-abbrev voting : List Representative → (ℕ → Bool) → ℕ → Bool
+abbrev pub voting : List Representative → (ℕ → Bool) → ℕ → Bool
 voting reps set x = set x && has_vote reps x
 
 pub none_left : (n : ℕ) → nat_lt 0 n ≡ false → n ≡ 0
@@ -36,7 +36,7 @@ votes_only all set (rep ∷ reps) within =
     here true = ⊎_elim (λ some. ap (λ b. cond b rep.1 0) (with_vote some)) (λ none. no_vote (has_vote all rep.0) (none_left rep.1 none)) (cases_Bool (nat_lt 0 rep.1))
     here false = refl
 
-still_quorum : (votes : Configuration) (set : ℕ → Bool) → IsQuorum votes set → IsQuorum votes (voting votes.reps set)
+pub still_quorum : (votes : Configuration) (set : ℕ → Bool) → IsQuorum votes set → IsQuorum votes (voting votes.reps set)
 still_quorum votes set quorum =
     let same = sym (votes_only votes.reps set votes.reps (λ rep has. has)) in
     ⊎_elim
@@ -116,7 +116,7 @@ module _ (given : Opening) (z : ℕ) (w : World) (world : worlds.World) (inv : I
 
 module _ (given : Opening) (z : ℕ) (w : World) (world : worlds.World) (inv : Inv (beginning z given) w) (answers : ℕ → Bool) (answering : Answering (fixed_of given) world z w answers) where
   -- of the voting members that answer none shows a newer prefix
-  none_newer : (prefix : Prefix) → newer_by (fixed_of given) world answers z prefix ≡ None → (i : ℕ) → voting prefix.votes.reps answers i ≡ true → (effect w i).prefix.pver ≤ prefix.pver
+  pub none_newer : (prefix : Prefix) → newer_by (fixed_of given) world answers z prefix ≡ None → (i : ℕ) → voting prefix.votes.reps answers i ≡ true → (effect w i).prefix.pver ≤ prefix.pver
   none_newer prefix none i is =
       let parts = and_parts (answers i) (has_vote prefix.votes.reps i) is in
       let some = any_has (λ (rep : Representative). (rep.0 == i) && nat_lt 0 rep.1) prefix.votes.reps parts.1 in

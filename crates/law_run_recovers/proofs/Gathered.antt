@@ -7,7 +7,7 @@ use Rattle.law_run_recovers.proofs.Vocabulary.{led_to_by, has_asked}
 use Rattle.rep_core.specs.declared.reply.Verdict.TheVariants as verdict
 use Rattle.txn_core.specs.Transactions.{Step}
 use Rattle.law_run_recovers.proofs.Asking.{onto, held_in, held_if}
-use Rattle.law_run_recovers.proofs.Led.{EndsShort, reached_short, reached_current, reached_settled}
+use Rattle.law_run_recovers.proofs.Led.{EndsShort, reached_short, reached_leads, reached_current, reached_settled}
 use Rattle.law_run_recovers.proofs.Polled.{Sight, finds_at, AllBelow, greatest_below, Refusing, gathering, at_current}
 use Rattle.law_run_recovers.proofs.Downs.{holds_shared}
 use Rattle.law_run_recovers.proofs.Stands.{
@@ -91,7 +91,7 @@ module _ (fixed : Fixed) (world : World) (sight : Sight) (table : PlainTable) (t
     same_start : starts fixed world sight table task cache suites number ≡ g.found.start
     same_start = ap (start_of fixed world sight table task cache) g.there ∙ found_start fixed world sight table task cache Was ground number g.suite g.found
 
-    pub gathering_short : (had wanting : ℕ) (busy : Option (ℕ × ℕ)) → next g.suite.collector ≡ Short had wanting busy → EndsRight fixed world sight table task cache (Undecided (short_cause number had wanting busy))
+    pub gathering_short : (had wanting : ℕ) (busy : Option (ℕ × ℕ)) → next g.suite.collector ≡ Short had wanting busy → EndsRight fixed world sight table task cache suites (Undecided (short_cause number had wanting busy))
     gathering_short had wanting busy is =
         let start = starts fixed world sight table task cache suites in
         let rules = ground.rules number g.found.start g.found.asked g.found.may in
@@ -99,9 +99,18 @@ module _ (fixed : Fixed) (world : World) (sight : Sight) (table : PlainTable) (t
         (reached_short fixed world sight number (Was number) g.found.start rules g.suite.collector g.found.reached had wanting busy is) in
         let short : unmet sight (of_lock fixed world sight start (number, g.mode)) ≡ true =
         ap (λ p. not (is_met (demand_by (sight.opens number g.mode) number g.mode (led p).votes))) same_start ∙ ap not ends.too_few in
-        ends_short fixed world sight table task cache start (may_start fixed world sight table task cache suites g.asks.right) (of_lock fixed world sight start (number, g.mode))
+        ends_short fixed world sight table task cache suites start (may_start fixed world sight table task cache suites g.asks.right) (of_lock fixed world sight start (number, g.mode))
         (short_lock fixed world sight table task cache start g.asked _ (number, g.mode) (g.asks.order ∙ ap (onto g.asked) g.next_is)
         (λ other has. had_met fixed world sight table task cache suites other (g.asks.had other has)) short)
+        (inr (
+          record {
+            suite = g.suite;
+            there = g.there;
+            right = (found_right fixed world sight table task cache Was ground number g.suite g.found).right;
+            leads = reached_leads fixed world sight number (Was number) g.found.start rules g.suite.collector g.found.reached had wanting busy is ∙ sym (ap led same_start);
+          },
+          refl,
+        ))
         number had wanting busy refl
         (ends.had_is ∙ sym (ap (λ p. votes_in (led p).votes.reps (sight.opens number g.mode)) same_start))
         (ends.wanting_is ∙ sym (ap (λ p. needed_of g.mode (led p).votes) same_start))

@@ -340,7 +340,7 @@ module _ (fixed : Fixed) (world : World) (sight : Sight) (table : PlainTable) (t
 
   decides : (suites : Suites) (outcome : doing.Proposal) → HasAll fixed world sight table task cache suites (answer_in fixed world sight table task cache outcome) → (server : ℕ) → server ≡ home_of fixed.service task.t → (said : Reply)
       → ((is_up world server ≡ true) × (said ≡ reply.Verdict (verdict_of (decision_of task outcome)))) ⊎ ((is_up world server ≡ false) × (said ≡ reply.Down))
-      → EndsRight fixed world sight table task cache (txn_run.ending_by (verdict_in said verdict.Aborted) (cause_of_abort said))
+      → EndsRight fixed world sight table task cache suites (txn_run.ending_by (verdict_in said verdict.Aborted) (cause_of_abort said))
   decides suites outcome all server home said right = record {
     start = all.start;
     from = all.from;
@@ -350,6 +350,7 @@ module _ (fixed : Fixed) (world : World) (sight : Sight) (table : PlainTable) (t
         (λ down. ap (λ said. txn_run.ending_by (verdict_in said verdict.Aborted) (cause_of_abort said)) down.1
         ∙ sym (ap (λ up. laws.ending_by None up (answer_to table task)) (ap (is_up world) (sym home) ∙ down.0)))
         right);
+    last = λ want is. absurd (none-some want (sym all.none ∙ is));
   }
     where
       answered : (outcome : doing.Proposal) → answer_in fixed world sight table task cache outcome ≡ answer_to table task
@@ -383,5 +384,5 @@ module _ (fixed : Fixed) (world : World) (sight : Sight) (table : PlainTable) (t
   reply_stands now suites (Deciding outcome) all server asked request said right knows =
       told_stands fixed world sight table task cache Was ground now suites (verdict_in said verdict.Aborted) (txn_run.ending_by (verdict_in said verdict.Aborted) (cause_of_abort said)) (locked_at suites)
       (decides suites outcome all server (sym (ap (λ (asked : ℕ × Request). asked.0) (same_Some _ (server, asked) request))) said right)
-  reply_stands now suites (Finishing [] v ended) ends server asked request said right knows = ends
+  reply_stands now suites (Finishing [] v ended) ends server asked request said right knows = (suites, ends)
   reply_stands now suites (Finishing (first ∷ left) v ended) ends server asked request said right knows = told_stands fixed world sight table task cache Was ground now suites v ended left ends

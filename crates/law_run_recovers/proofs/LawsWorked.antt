@@ -12,7 +12,7 @@ use Rattle.vote_core.specs.Validity.{first_fault}
 use Rattle.vote_core.specs.declared.fault.VotesFault.{VotesFault}
 use Rattle.suite_prefix.specs.SettingsRules.{IsAccepted}
 use Rattle.law_run_recovers.specs.Contending.{one_server}
-use Rattle.law_run_recovers.specs.LawsWorked.{b_locked, a_locked, sweep_up, IsMetByNobody, IsAmongLocks, DoubtsAreLeft, SomeRunsShowTheLaws}
+use Rattle.law_run_recovers.specs.LawsWorked.{b_locked, a_locked, sweep_up, IsMetByNobody, IsAmongLocks, DoubtsAreLeft}
 use Rattle.law_run_recovers.specs.Sweeping.{SweepsAlone}
 use Rattle.law_run_recovers.specs.Worked.{in_the_dark}
 use Rattle.law_runs.specs.Worked.{two_agents, so_many}
@@ -43,7 +43,7 @@ module _ (q : World → Bool) (p : World → Event → Bool) (fixed : Fixed) whe
   later_holds : (w : World) (event : Event) (events : List Event) → holds w (event ∷ events) ≡ true → (p w event ≡ true) × (holds (step fixed w event).world events ≡ true)
   later_holds w event events all = and_parts (p w event) (holds (step fixed w event).world events) (and_parts (q w) (p w event && holds (step fixed w event).world events) all).1
 
-  holds_at : (later so_far rest : List Event) (w : World) → holds w later ≡ true → later ≡ so_far ++ rest → q (after fixed w so_far) ≡ true
+  pub holds_at : (later so_far rest : List Event) (w : World) → holds w later ≡ true → later ≡ so_far ++ rest → q (after fixed w so_far) ≡ true
   holds_at later [] rest w all is = here w later all
   holds_at [] (x ∷ so_far) rest w all is = cc
   holds_at (event ∷ later) (x ∷ so_far) rest w all is =
@@ -68,18 +68,18 @@ not_so false is = refl
 
 -- ---- servers
 
-abbrev same_bool : Bool → Bool → Bool
+abbrev pub same_bool : Bool → Bool → Bool
 same_bool true b = b
 same_bool false b = not b
 
-same_is : (x y : Bool) → same_bool x y ≡ true → x ≡ y
+pub same_is : (x y : Bool) → same_bool x y ≡ true → x ≡ y
 same_is true true is = refl
 same_is true false is = absurd (false≢true is)
 same_is false true is = absurd (false≢true is)
 same_is false false is = refl
 
 -- each stands so at the same server of another world
-abbrev alike : {X : Type 0} → (X → X → Bool) → (State → X) → List State → List State → Bool
+abbrev pub alike : {X : Type 0} → (X → X → Bool) → (State → X) → List State → List State → Bool
 alike same f [] [] = true
 alike same f [] (y ∷ ys) = false
 alike same f (x ∷ xs) [] = false
@@ -96,17 +96,17 @@ alike_at same f none so (x ∷ xs) [] all i = absurd (false≢true all)
 alike_at same f none so (x ∷ xs) (y ∷ ys) all zero = so (f x) (f y) (and_parts (same (f x) (f y)) (alike same f xs ys) all).0
 alike_at same f none so (x ∷ xs) (y ∷ ys) all (suc i) = alike_at same f none so xs ys (and_parts (same (f x) (f y)) (alike same f xs ys) all).1 i
 
-abbrev same_ups : World → World → Bool
+abbrev pub same_ups : World → World → Bool
 same_ups w first = alike same_bool (λ (st : State). st.up) w.servers first.servers
 
-up_same : (w first : World) → same_ups w first ≡ true → (server : ℕ) → is_up w server ≡ is_up first server
+pub up_same : (w first : World) → same_ups w first ≡ true → (server : ℕ) → is_up w server ≡ is_up first server
 up_same w first all server = sym (up_as (server_at w server)) ∙ alike_at same_bool (λ (st : State). st.up) false same_is w.servers first.servers all server ∙ up_as (server_at first server)
   where
     up_as : (found : Option State) → as_in (λ (st : State). st.up) false found ≡ up_in found
     up_as (Some st) = refl
     up_as None = refl
 
-abbrev same_way : Option (Option ℕ) → Option (Option ℕ) → Bool
+abbrev pub same_way : Option (Option ℕ) → Option (Option ℕ) → Bool
 same_way None None = true
 same_way None (Some y) = false
 same_way (Some x) None = false
@@ -115,7 +115,7 @@ same_way (Some None) (Some (Some y)) = false
 same_way (Some (Some x)) (Some None) = false
 same_way (Some (Some x)) (Some (Some y)) = x == y
 
-way_is : (x y : Option (Option ℕ)) → same_way x y ≡ true → x ≡ y
+pub way_is : (x y : Option (Option ℕ)) → same_way x y ≡ true → x ≡ y
 way_is None None is = refl
 way_is None (Some y) is = absurd (false≢true is)
 way_is (Some x) None is = absurd (false≢true is)
@@ -261,7 +261,7 @@ goes_unmet = record {
       (begun_world one_server b_locked 0 owner 0 writes_a) refl split) running;
 }
 
-met_by_nobody : IsMetByNobody
+pub met_by_nobody : IsMetByNobody
 met_by_nobody = record {
   actor = (its_actor b_locked refl).0;
   goes = goes_unmet;
@@ -287,7 +287,7 @@ goes_among = record {
       (begun_world one_server a_locked 0 owner 0 writes_a) refl split) running;
 }
 
-among_locks : IsAmongLocks
+pub among_locks : IsAmongLocks
 among_locks = record {
   actor = (its_actor a_locked refl).0;
   goes = goes_among;
@@ -318,7 +318,7 @@ sweeps_all = record {
   all = covers_up;
 }
 
-doubts_left : DoubtsAreLeft
+pub doubts_left : DoubtsAreLeft
 doubts_left = record {
   sweeps_one = sweeps_one;
   sweeps_all = sweeps_all;
@@ -327,6 +327,3 @@ doubts_left = record {
   is_up_still = refl;
   cannot_either = refl;
 }
-
-pub some_runs_show_the_laws : SomeRunsShowTheLaws
-some_runs_show_the_laws = record { unmet = met_by_nobody; among = among_locks; doubts = doubts_left }

@@ -1,7 +1,7 @@
 -- Where a collector ends to which servers stand as a sight says: at the prefix that its start leads to, with the votes of the servers that are open.
 use Rattle.law_run_recovers.proofs.Vocabulary.{◌≡◌, ◌⊎◌, inl, inr, ℕ, suc, ◌≤◌, Bool, true, false, cond, List, [], ◌∷◌, length, Option, Some, None, refl, sym, ap, subst, ◌∙◌, arith, ◌&&◌, not, nat_lt, nat_le, find, option_map}
 use Rattle.law_run_recovers.proofs.Vocabulary.{false≢true, and_parts, and_from, ltb-false, nat_tests, none-some, Representative, votes_in, votes_in-wider, Prefix, LockMode, Shared, Exclusive, serves, Reply, find_some, Has, Said, Held}
-use Rattle.law_run_recovers.proofs.Vocabulary.{Busy, Down, Told, newer, newest, holds, has_refused, Collector, needed_of, is_left, tell, told_by, Current, Short, next, collect, raise, Opening, fixed_of, Fixed, World, row, WasPrefix}
+use Rattle.law_run_recovers.proofs.Vocabulary.{Busy, Down, Told, newer, newest, holds, has_refused, Collector, all_told, needed_of, is_left, tell, told_by, Current, Short, next, collect, raise, Opening, fixed_of, Fixed, World, row, WasPrefix}
 use Rattle.law_run_recovers.proofs.Vocabulary.{IsQuorum, Inv, beginning, shown_at, shows_newer_by, newer_by, led_so_far_by, led_to_by}
 use Rattle.law_suite_machine.specs.Machine as machine
 use Rattle.law_run_recovers.proofs.Found.{Answering, newest_is_row}
@@ -181,11 +181,18 @@ module _ (fixed : Fixed) (world : World) (sight : Sight) (suite : ℕ) (Known : 
       up_to : (a b c : ℕ) → nat_le a b ≡ true → b ≤ c → nat_le a c ≡ true
       up_to a b c le more = grind (arith, nat_tests)
 
+  none_so : (mode : LockMode) (told : List Told) → Going mode told → find (is_left (gathering start mode told)) (newest start told).votes.reps ≡ None → Settled (newest start told)
+  none_so mode told going nobody = of going.settled
+    where
+      of : (mode ≡ sight.first suite) ⊎ Settled (newest start told) → Settled (newest start told)
+      of (inl first) = subst (λ mode. newer_by fixed world (sight.opens suite mode) suite (newest start told) ≡ None) first (none_shows fixed world sight suite start mode told going.right nobody)
+      of (inr none) = none
+
   ends_short : (mode : LockMode) (told : List Told) → Going mode told → (had wanting : ℕ) (busy : Option (ℕ × ℕ))
       → next (gathering start mode told) ≡ Short had wanting busy → EndsShort mode had wanting busy
   ends_short mode told going had wanting busy is =
       let at = at_short (gathering start mode told) had wanting busy is in
-      let same = ends_at mode told going (none_so at.nobody going.settled) in
+      let same = ends_at mode told going (none_so mode told going at.nobody) in
       let held = held_are_open fixed world sight suite mode told going.right (newest start told).votes.reps at.nobody in
       record {
         had_is = sym at.had_is ∙ held ∙ ap (λ (p : Prefix). votes_in p.votes.reps (sight.opens suite mode)) same;
@@ -195,10 +202,6 @@ module _ (fixed : Fixed) (world : World) (sight : Sight) (suite : ℕ) (Known : 
         refuses = subst (λ (p : Prefix). Refusing fixed world sight suite mode p.votes.reps busy) same
             (subst (Refusing fixed world sight suite mode (newest start told).votes.reps) at.busy_is (refusing fixed world sight suite mode mode told going.right (newest start told).votes.reps at.nobody));
       }
-    where
-      none_so : find (is_left (gathering start mode told)) (newest start told).votes.reps ≡ None → (mode ≡ sight.first suite) ⊎ Settled (newest start told) → Settled (newest start told)
-      none_so nobody (inl first) = subst (λ mode. newer_by fixed world (sight.opens suite mode) suite (newest start told) ≡ None) first (none_shows fixed world sight suite start mode told going.right nobody)
-      none_so nobody (inr none) = none
 
   -- ---- all along, raised or not: step by step, as an invariant of who drives it
 
@@ -248,6 +251,13 @@ module _ (fixed : Fixed) (world : World) (sight : Sight) (suite : ℕ) (Known : 
   pub reached_short : (c : Collector) → Reached c → (had wanting : ℕ) (busy : Option (ℕ × ℕ)) → next c ≡ Short had wanting busy → EndsShort c.mode had wanting busy
   reached_short c at had wanting busy =
       subst (λ (c : Collector). next c ≡ Short had wanting busy → EndsShort c.mode had wanting busy) (sym at.is) (ends_short at.mode at.told at.going had wanting busy)
+
+  -- that is the newest that it was told of
+  pub reached_leads : (c : Collector) → Reached c → (had wanting : ℕ) (busy : Option (ℕ × ℕ)) → next c ≡ Short had wanting busy
+      → newest c.start (all_told c) ≡ led_to_by fixed world (finds_at sight suite) suite start
+  reached_leads c at had wanting busy =
+      subst (λ (c : Collector). next c ≡ Short had wanting busy → newest c.start (all_told c) ≡ led_to_by fixed world (finds_at sight suite) suite start) (sym at.is)
+      (λ is. ends_at at.mode at.told at.going (none_so at.mode at.told at.going (at_short (gathering start at.mode at.told) had wanting busy is).nobody))
 
 -- ---- in a world
 

@@ -91,12 +91,15 @@ pub mod BesideFree
 pub mod BesideLaws
 pub mod ValidEvents
 pub mod BesideWorked
+pub mod RowVotes
+pub mod MeetBehind
 pub mod MeetCount
 pub mod MeetCalm
 pub mod AloneKept
 pub mod Tries
 pub mod Again
 pub mod MeetQuiet
+pub mod MeetHeard
 pub mod MeetCourse
 pub mod MeetRun
 pub mod MeetTold
@@ -111,3 +114,4 @@ pub mod MeetWants
 pub mod MeetLaw
 pub mod MeetWorked
 pub mod LawsWorked
+pub mod ToldWorked

@@ -1,7 +1,7 @@
 -- Of two that meet no two locks that clash stand at one server: what one was granted stands as long as it is at work, and keeps out the other.
 use Rattle.law_run_recovers.proofs.Vocabulary.{◌≡◌, ◌⊎◌, ⊎_elim, ℕ, Bool, true, false, List, [], ◌∷◌, ◌++◌, append_assoc, Some, None, is_some, refl, sym, ap, subst, ◌∙◌, ◌==◌, slice_get, false≢true, eqb-true, eq-eqb, same_Some, Opening}
 use Rattle.law_run_recovers.proofs.Vocabulary.{LockMode, Shared, Exclusive, serves, Request, Stamped, in_the_way, State, served, answer_of, mode_of, Transaction, fixed_of, next_of, Served, Event, Begin, Step, Actor, World, server_at}
-use Rattle.law_run_recovers.proofs.Vocabulary.{actor_at, step, run, puts_in, clashes, Begun, locks_in, locks_at, world_after}
+use Rattle.law_run_recovers.proofs.Vocabulary.{actor_at, step, run, puts_in, clashes, Begun, locks_in, locks_at, begun_world, world_after}
 use Rattle.law_run_recovers.proofs.AmongCourse.{tail_or}
 use Rattle.law_run_recovers.proofs.Keeps.{IsAtWork, step_asks}
 use Rattle.law_run_recovers.proofs.Sides.{compared, names_one}
@@ -13,7 +13,7 @@ use Rattle.law_run_recovers.proofs.MeetEnds.{Fixed}
 use Rattle.law_run_recovers.proofs.MeetLocks.{HasMode, Granted, granted, keeps_out, keeps_to}
 use Rattle.law_run_recovers.proofs.MeetQuiet.{GoesQuietly, next_is}
 use Rattle.law_run_recovers.proofs.MeetRun.{its_actor, goes_of, run_is}
-use Rattle.law_run_recovers.proofs.MeetTold.{for_lock, for_lock_named, says_held, grants, Found, found_in, serves_over, four}
+use Rattle.law_run_recovers.proofs.MeetTold.{for_lock, for_lock_named, says_held, grants, some_step, Found, found_in, there_in, serves_over, four}
 
 -- whichever of two it is, they clash
 pub clashes_back : (y : ℕ) (a b : LockMode) → clashes (y, a) (y, b) ≡ true → clashes (y, b) (y, a) ≡ true
@@ -114,6 +114,40 @@ module _ (given : Opening) (events later : List Event) (one other : Begun given 
     pub more : List Event
     pub room : who.before ++ Begin who.agent (Transaction who.caller who.site who.ops) ∷ fixed.front ≡ part ++ more
     pub mine : (so_far : List Event) (i t : ℕ) → t ≡ who.t → Place given events later one other alone one so_far i t ⊎ Place given events later one other alone other so_far i t → Place given events later one other alone who so_far i t
+
+  -- what it was granted there it was granted since its begin, while it was at work
+  module _ (who : Begun given events later) (room : Room who) (y server : ℕ) (a : LockMode) (is : held_in given events part who.agent who.t y a server ≡ true) where
+    f : Found (grants who.t y a server) who.agent (fixed_of given) (run given events) part
+    f = found_in (grants who.t y a server) who.agent (fixed_of given) (run given events) part is
+
+    served_then : (step (fixed_of given) (run given (events ++ f.front)) (Step who.agent)).done.served ≡ Some f.what
+    served_then = ap (λ w. (step (fixed_of given) w (Step who.agent)).done.served) (sym (world_in given events f.front)) ∙ f.served
+
+    lock_then : for_lock who.t y f.what.request.value ≡ true
+    lock_then = (four (f.what.server == server) (for_lock who.t y f.what.request.value) (says_held f.what.reply.value) (serves (mode_of f.what.request.value) a) f.is).1
+
+    at : Place given events later one other alone who f.front who.agent who.t
+    at = room.mine f.front who.agent who.t refl (place given events later one other alone part rest whole calm.fair f.front f.back who.agent f.parts f.what served_then who.t y lock_then)
+
+    abbrev its_begin : Event
+    its_begin = its_event given events later who
+
+    all_then : part ≡ who.before ++ Begin who.agent (Transaction who.caller who.site who.ops) ∷ (at.mid ++ Step who.agent ∷ f.back)
+    all_then = f.parts ∙ ap (λ xs. xs ++ Step who.agent ∷ f.back) at.parts ∙ append_assoc who.before (its_begin ∷ at.mid) (Step who.agent ∷ f.back)
+
+    front_then : room.fixed.front ≡ at.mid ++ Step who.agent ∷ (f.back ++ room.more)
+    front_then =
+        ap tail_or (cancel who.before (its_begin ∷ room.fixed.front) (its_begin ∷ (at.mid ++ Step who.agent ∷ (f.back ++ room.more)))
+        (room.room ∙ ap (λ part. part ++ room.more) all_then ∙ append_assoc who.before (its_begin ∷ (at.mid ++ Step who.agent ∷ f.back)) room.more
+        ∙ ap (λ xs. who.before ++ its_begin ∷ xs) (append_assoc at.mid (Step who.agent ∷ f.back) room.more)))
+
+    pub granted_since : some_step (grants who.t y a server) who.agent (fixed_of given) (begun_world given (events ++ who.before) who.agent who.caller who.site who.ops) room.fixed.front ≡ true
+    granted_since =
+        subst (λ front. some_step (grants who.t y a server) who.agent (fixed_of given) (begun_world given (events ++ who.before) who.agent who.caller who.site who.ops) front ≡ true) (sym front_then)
+        (there_in (grants who.t y a server) who.agent (fixed_of given) at.mid (f.back ++ room.more) (begun_world given (events ++ who.before) who.agent who.caller who.site who.ops) f.what
+        (ap (λ w. (step (fixed_of given) w (Step who.agent)).done.served)
+        (run_is given events part calm (in_part given events later one other alone part rest whole calm who (at.mid ++ Step who.agent ∷ f.back) all_then) at.mid ∙ ap (λ front. run given (events ++ front)) (sym at.parts))
+        ∙ served_then) f.is)
 
   -- what it was granted keeps out the other from there on
   module _ (who : Begun given events later) (room : Room who) (agent u y server : ℕ) (a b : LockMode) (two : (who.t == u) ≡ false)

@@ -1,8 +1,8 @@
 -- One that meets another and is refused a lock: it asked for it, and a lock of the other was in the way there.
 use Rattle.law_run_recovers.proofs.Vocabulary.{◌≡◌, ◌⊎◌, ℕ, Bool, true, false, cond, List, ◌∷◌, ◌++◌, append_assoc, Option, Some, None, is_some, refl, sym, ap, subst, ◌∙◌, ◌==◌, ◌&&◌, ◌||◌, not, false≢true, and_parts, and_from}
 use Rattle.law_run_recovers.proofs.Vocabulary.{eqb-true, eq-eqb, Opening, LockMode, Exclusive, is_exclusive, serves, Lock, Request, Stamped, in_the_way, conflicts, has_lock, copy_of, State, reply_of, reply_up, reply_down, locking_reply}
-use Rattle.law_run_recovers.proofs.Vocabulary.{answer_of, find_some, Has, mode_of, same_Some, Transaction, fixed_of, next_of, Served, Event, Begin, Step, Actor, World, server_at, actor_at, step, run, clashes, Begun, VotesNeverMovedOf}
-use Rattle.law_run_recovers.proofs.Vocabulary.{asks_for, begun_world}
+use Rattle.law_run_recovers.proofs.Vocabulary.{answer_of, find_some, Has, mode_of, same_Some, Transaction, fixed_of, next_of, Served, Event, Begin, Step, Actor, World, server_at, actor_at, step, run, clashes, Begun}
+use Rattle.law_run_recovers.proofs.Vocabulary.{begun_world}
 use Rattle.rep_core.specs.declared.request.Request.TheVariants as request
 use Rattle.rep_core.specs.declared.reply.Reply.TheVariants as reply
 use Rattle.law_run_recovers.proofs.Keeps.{step_asks}
@@ -78,12 +78,11 @@ refused_way t z st request.Return up lock said = absurd (false≢true lock)
 
 module _ (given : Opening) (events later : List Event) (one other : Begun given events later) (alone : (third : Begun given events later) → (third.before ≡ one.before) ⊎ (third.before ≡ other.before))
     (part rest : List Event) (whole : later ≡ part ++ rest) (calm : Calm given events part)
-    (unmoved : VotesNeverMovedOf given events (asks_for given events one.t one.caller one.ops)) (other_unmoved : VotesNeverMovedOf given events (asks_for given events other.t other.caller other.ops))
     (who : Begun given events later) (after' : List Event) (parts : part ≡ who.before ++ Begin who.agent (Transaction who.caller who.site who.ops) ∷ after')
     (O : ℕ → ℕ → ℕ → LockMode → Type 0)
     (owned : (so_far back : List Event) → part ≡ so_far ++ back → (s : ℕ) (st : State) → server_at (run given (events ++ so_far)) s ≡ Some st → (lock : Lock) → Has st.locks lock → O s lock.t lock.suite lock.mode) where
   abbrev pub AskedBy : Begun given events later → ℕ → ℕ → ℕ → LockMode → Type 0
-  AskedBy who s t y mode = IsAsked given events later one other alone part rest whole calm unmoved other_unmoved who s t y mode
+  AskedBy who s t y mode = IsAsked given events later one other alone part rest whole calm who s t y mode
 
   pub record Barred (y : ℕ) (wanted : LockMode) (server : ℕ) : Type 0 where
     pub mode : LockMode
@@ -147,7 +146,7 @@ module _ (given : Opening) (events later : List Event) (one other : Begun given 
     its_ask : AskedBy one server who.t y (mode_of f.what.request.value) ⊎ AskedBy other server who.t y (mode_of f.what.request.value)
     its_ask =
         subst (λ s. AskedBy one s who.t y (mode_of f.what.request.value) ⊎ AskedBy other s who.t y (mode_of f.what.request.value)) (eqb-true f.what.server server facts.0)
-        (asked_now given events later one other alone part rest whole calm unmoved other_unmoved so_far f.back who.agent split f.what served' who.t y facts.1)
+        (asked_now given events later one other alone part rest whole calm so_far f.back who.agent split f.what served' who.t y facts.1)
 
     pub barred_by : Barred y wanted server
     barred_by = record {

@@ -1,7 +1,7 @@
 -- Two transactions that alone begin in a calm run: where each asks for a lock, what it had before, and that each lock was granted to one of them.
 use Rattle.law_run_recovers.proofs.Vocabulary.{◌≡◌, ◌⊎◌, inl, inr, ⊎_elim, ℕ, suc, Bool, true, List, [], ◌∷◌, ◌++◌, append_assoc, append-nil, Some, refl, sym, ap, subst, ◌∙◌, arith, ◌==◌, length, eqb-true, eq-eqb, same_Some, Opening}
 use Rattle.law_run_recovers.proofs.Vocabulary.{LockMode, serves, Lock, State, Has, all_at, mode_of, Job, Transaction, fixed_of, next_of, Served, Event, Begin, Step, Crash, Return, Forget, Lack, Actor, World, opening, server_at}
-use Rattle.law_run_recovers.proofs.Vocabulary.{actor_at, step, after, run, begins_job, at_has, Begun, VotesNeverMovedOf, asks_for, begun_world}
+use Rattle.law_run_recovers.proofs.Vocabulary.{actor_at, step, after, run, begins_job, at_has, Begun, votes_now, asks_for, begun_world}
 use Rattle.law_run_recovers.proofs.AmongCourse.{head_or, tail_or}
 use Rattle.law_run_recovers.proofs.Keeps.{after_append, step_asks}
 use Rattle.law_run_recovers.proofs.Sides.{names_one}
@@ -162,61 +162,60 @@ module _ (given : Opening) (events later : List Event) (one other : Begun given 
           (there_in p who.agent (fixed_of given) front f.back (run given events) f.what
           (ap (λ w. (step (fixed_of given) w (Step who.agent)).done.served) (world_in given events front ∙ sym (run_is given events part calm (in_part who after' parts) f.front)) ∙ f.served) f.is)
 
-    module _ (unmoved : VotesNeverMovedOf given events (asks_for given events one.t one.caller one.ops)) (other_unmoved : VotesNeverMovedOf given events (asks_for given events other.t other.caller other.ops)) where
-      -- a lock that one of both asked for
-      pub record IsAsked (who : Begun given events later) (s t z : ℕ) (mode : LockMode) : Type 0 where
-        pub number : t ≡ who.t
-        pub reached : Reached given.c0 (asks_for given events who.t who.caller who.ops) (held_in given events part who.agent who.t) (z, mode)
+    -- a lock that one of both asked for
+    pub record IsAsked (who : Begun given events later) (s t z : ℕ) (mode : LockMode) : Type 0 where
+      pub number : t ≡ who.t
+      pub reached : Reached (votes_now given events) (asks_for given events who.t who.caller who.ops) (held_in given events part who.agent who.t) (z, mode)
 
-      pub record IsGranted (who : Begun given events later) (s t z : ℕ) (mode : LockMode) : Type 0 where
-        pub number : t ≡ who.t
-        pub reached : Reached given.c0 (asks_for given events who.t who.caller who.ops) (held_in given events part who.agent who.t) (z, mode)
-        pub held : held_in given events part who.agent who.t z mode s ≡ true
+    pub record IsGranted (who : Begun given events later) (s t z : ℕ) (mode : LockMode) : Type 0 where
+      pub number : t ≡ who.t
+      pub reached : Reached (votes_now given events) (asks_for given events who.t who.caller who.ops) (held_in given events part who.agent who.t) (z, mode)
+      pub held : held_in given events part who.agent who.t z mode s ≡ true
 
-      module _ (so_far back : List Event) (i : ℕ) (split : part ≡ so_far ++ Step i ∷ back) (what : Served)
-          (served : (step (fixed_of given) (run given (events ++ so_far)) (Step i)).done.served ≡ Some what) (t z : ℕ) (lock : for_lock t z what.request.value ≡ true) where
-        asked_by : (who : Begun given events later) → VotesNeverMovedOf given events (asks_for given events who.t who.caller who.ops) → Place who so_far i t
-            → Reached given.c0 (asks_for given events who.t who.caller who.ops) (held_in given events part who.agent who.t) (z, mode_of what.request.value)
-        asked_by who never_moved at =
-            let all : part ≡ who.before ++ its_event given events later who ∷ (at.mid ++ Step who.agent ∷ back) =
-            split ∙ ap (λ i. so_far ++ Step i ∷ back) at.who_is ∙ ap (λ xs. xs ++ Step who.agent ∷ back) at.parts ∙ append_assoc who.before (its_event given events later who ∷ at.mid) (Step who.agent ∷ back) in
-            let its = in_part who (at.mid ++ Step who.agent ∷ back) all in
-            let goes = goes_of given events part calm its in
-            let reached =
-            reaches_now given events (events ++ who.before) (at.mid ++ Step who.agent ∷ back) who.agent who.t who.caller who.site who.ops (its_actor given events part calm its).0 goes (never_decides given events part calm its) never_moved
-            at.mid back refl what (ap (λ w. (step (fixed_of given) w (Step who.agent)).done.served) (run_is given events part calm its at.mid ∙ ap (λ xs. run given (events ++ xs)) (sym at.parts))
-            ∙ ap (λ i. (step (fixed_of given) (run given (events ++ so_far)) (Step i)).done.served) (sym at.who_is) ∙ served) z (subst (λ t. for_lock t z what.request.value ≡ true) at.number lock) in
-            reached_wider given.c0 (asks_for given events who.t who.caller who.ops) _ (held_in given events part who.agent who.t)
-            (λ y mode server is. since_begin who (at.mid ++ Step who.agent ∷ back) all (grants who.t y mode server) is) (z, mode_of what.request.value) reached
+    module _ (so_far back : List Event) (i : ℕ) (split : part ≡ so_far ++ Step i ∷ back) (what : Served)
+        (served : (step (fixed_of given) (run given (events ++ so_far)) (Step i)).done.served ≡ Some what) (t z : ℕ) (lock : for_lock t z what.request.value ≡ true) where
+      asked_by : (who : Begun given events later) → Place who so_far i t
+          → Reached (votes_now given events) (asks_for given events who.t who.caller who.ops) (held_in given events part who.agent who.t) (z, mode_of what.request.value)
+      asked_by who at =
+          let all : part ≡ who.before ++ its_event given events later who ∷ (at.mid ++ Step who.agent ∷ back) =
+          split ∙ ap (λ i. so_far ++ Step i ∷ back) at.who_is ∙ ap (λ xs. xs ++ Step who.agent ∷ back) at.parts ∙ append_assoc who.before (its_event given events later who ∷ at.mid) (Step who.agent ∷ back) in
+          let its = in_part who (at.mid ++ Step who.agent ∷ back) all in
+          let goes = goes_of given events part calm its in
+          let reached =
+          reaches_now given events (events ++ who.before) (at.mid ++ Step who.agent ∷ back) who.agent who.t who.caller who.site who.ops (its_actor given events part calm its).0 goes (never_decides given events part calm its)
+          at.mid back refl what (ap (λ w. (step (fixed_of given) w (Step who.agent)).done.served) (run_is given events part calm its at.mid ∙ ap (λ xs. run given (events ++ xs)) (sym at.parts))
+          ∙ ap (λ i. (step (fixed_of given) (run given (events ++ so_far)) (Step i)).done.served) (sym at.who_is) ∙ served) z (subst (λ t. for_lock t z what.request.value ≡ true) at.number lock) in
+          reached_wider (votes_now given events) (asks_for given events who.t who.caller who.ops) _ (held_in given events part who.agent who.t)
+          (λ y mode server is. since_begin who (at.mid ++ Step who.agent ∷ back) all (grants who.t y mode server) is) (z, mode_of what.request.value) reached
 
-        granted_by : (who : Begun given events later) → VotesNeverMovedOf given events (asks_for given events who.t who.caller who.ops) → says_held what.reply.value ≡ true
-            → Place who so_far i t → IsGranted who what.server t z (mode_of what.request.value)
-        granted_by who never_moved held' at = record {
-          number = at.number;
-          reached = asked_by who never_moved at;
-          held = subst (λ part. some_step (grants who.t z (mode_of what.request.value) what.server) who.agent (fixed_of given) (run given events) part ≡ true) (sym (split ∙ ap (λ i. so_far ++ Step i ∷ back) at.who_is))
-              (there_in (grants who.t z (mode_of what.request.value) what.server) who.agent (fixed_of given) so_far back (run given events) what
-              (ap (λ w. (step (fixed_of given) w (Step who.agent)).done.served) (world_in given events so_far) ∙ ap (λ i. (step (fixed_of given) (run given (events ++ so_far)) (Step i)).done.served) (sym at.who_is) ∙ served)
-              (four_from (what.server == what.server) (for_lock who.t z what.request.value) (says_held what.reply.value) (serves (mode_of what.request.value) (mode_of what.request.value)) (eq-eqb what.server what.server refl)
-              (subst (λ t. for_lock t z what.request.value ≡ true) at.number lock) held' (serves_own (mode_of what.request.value))));
-        }
+      granted_by : (who : Begun given events later) → says_held what.reply.value ≡ true
+          → Place who so_far i t → IsGranted who what.server t z (mode_of what.request.value)
+      granted_by who held' at = record {
+        number = at.number;
+        reached = asked_by who at;
+        held = subst (λ part. some_step (grants who.t z (mode_of what.request.value) what.server) who.agent (fixed_of given) (run given events) part ≡ true) (sym (split ∙ ap (λ i. so_far ++ Step i ∷ back) at.who_is))
+            (there_in (grants who.t z (mode_of what.request.value) what.server) who.agent (fixed_of given) so_far back (run given events) what
+            (ap (λ w. (step (fixed_of given) w (Step who.agent)).done.served) (world_in given events so_far) ∙ ap (λ i. (step (fixed_of given) (run given (events ++ so_far)) (Step i)).done.served) (sym at.who_is) ∙ served)
+            (four_from (what.server == what.server) (for_lock who.t z what.request.value) (says_held what.reply.value) (serves (mode_of what.request.value) (mode_of what.request.value)) (eq-eqb what.server what.server refl)
+            (subst (λ t. for_lock t z what.request.value ≡ true) at.number lock) held' (serves_own (mode_of what.request.value))));
+      }
 
-        places : Place one so_far i t ⊎ Place other so_far i t
-        places = place part rest whole calm.fair so_far back i split what served t z lock
+      places : Place one so_far i t ⊎ Place other so_far i t
+      places = place part rest whole calm.fair so_far back i split what served t z lock
 
-        pub asked_now : IsAsked one what.server t z (mode_of what.request.value) ⊎ IsAsked other what.server t z (mode_of what.request.value)
-        asked_now = ⊎_elim
-            (λ at. inl (record { number = at.number; reached = asked_by one unmoved at }))
-            (λ at. inr (record { number = at.number; reached = asked_by other other_unmoved at }))
-            places
+      pub asked_now : IsAsked one what.server t z (mode_of what.request.value) ⊎ IsAsked other what.server t z (mode_of what.request.value)
+      asked_now = ⊎_elim
+          (λ at. inl (record { number = at.number; reached = asked_by one at }))
+          (λ at. inr (record { number = at.number; reached = asked_by other at }))
+          places
 
-        pub granted_now : says_held what.reply.value ≡ true → IsGranted one what.server t z (mode_of what.request.value) ⊎ IsGranted other what.server t z (mode_of what.request.value)
-        granted_now held' = ⊎_elim (λ at. inl (granted_by one unmoved held' at)) (λ at. inr (granted_by other other_unmoved held' at)) places
+      pub granted_now : says_held what.reply.value ≡ true → IsGranted one what.server t z (mode_of what.request.value) ⊎ IsGranted other what.server t z (mode_of what.request.value)
+      granted_now held' = ⊎_elim (λ at. inl (granted_by one held' at)) (λ at. inr (granted_by other held' at)) places
 
-      -- each lock that there is was granted to one of them
-      pub all_granted : (so_far back : List Event) → part ≡ so_far ++ back → (s : ℕ) (st : State) → server_at (run given (events ++ so_far)) s ≡ Some st → (lock : Lock) → Has st.locks lock
-          → IsGranted one s lock.t lock.suite lock.mode ⊎ IsGranted other s lock.t lock.suite lock.mode
-      all_granted so_far back split s st at lock has =
-          owned_at given events part calm (λ s t z mode. IsGranted one s t z mode ⊎ IsGranted other s t z mode)
-          (λ so_far back i split what served t z lock held'. granted_now so_far back i split what served t z lock held')
-          (λ s st at lock has. absurd (none_first given events part calm.fair s st at lock has)) so_far back split s st at lock has
+    -- each lock that there is was granted to one of them
+    pub all_granted : (so_far back : List Event) → part ≡ so_far ++ back → (s : ℕ) (st : State) → server_at (run given (events ++ so_far)) s ≡ Some st → (lock : Lock) → Has st.locks lock
+        → IsGranted one s lock.t lock.suite lock.mode ⊎ IsGranted other s lock.t lock.suite lock.mode
+    all_granted so_far back split s st at lock has =
+        owned_at given events part calm (λ s t z mode. IsGranted one s t z mode ⊎ IsGranted other s t z mode)
+        (λ so_far back i split what served t z lock held'. granted_now so_far back i split what served t z lock held')
+        (λ s st at lock has. absurd (none_first given events part calm.fair s st at lock has)) so_far back split s st at lock has

@@ -3,9 +3,9 @@
 use Rattle.law_run_recovers.proofs.Vocabulary.{◌≡◌, ◌≢◌, ◌⊎◌, inl, inr, ⊎_elim, ℕ, Bool, true, false, cond, List, [], ◌∷◌, ◌++◌, append-nil, append_assoc, Option, Some, None, is_some, refl, sym, ap, subst, ◌∙◌, ◌*◌, ◌+◌, ◌||◌, nat_cmp}
 use Rattle.law_run_recovers.proofs.Vocabulary.{eq-eqb, none-some, same_Some, IsOrdered, Identity, IsValid, Opening, Prefix, LockMode, Shared, Exclusive, Op, PlainTable, row_of, AgreesWith, IsSoAt, Lock, Request, Reply, is_prepared}
 use Rattle.law_run_recovers.proofs.Vocabulary.{in_the_way, copy_of, State, record_of, reply_of, reply_up, reply_down, poll_reply, locking_reply, stands_prepared, can_prepare, recorded, verdict_of, Asked, Poll, Upgrade, request_for}
-use Rattle.law_run_recovers.proofs.Vocabulary.{mode_asked, Cache, forgotten, Ending, Undecided, Cause, Transaction, Replied, Suites, suite_of, known_of, parts_at, Fixed, Task, Phase, Gathering, Fetching, Preparing, Deciding, Finishing}
-use Rattle.law_run_recovers.proofs.Vocabulary.{TransactionRun, Doing, Running, RunningSweep, After, GoesOn, Ends, home_of, execute, given_in, changes_of, decision_of, request_in, after_reply, Agent, Taken, fixed_of, next_in, next_of}
-use Rattle.law_run_recovers.proofs.Vocabulary.{left, with_step, take_in, take, begins, begin, started, forget, exchanges, is_decide, said_by, asks_same, Keeps, nothing_held, plus_all, begin_keeps, after-append, Served, Event, Begin}
+use Rattle.law_run_recovers.proofs.Vocabulary.{mode_asked, Cache, forgotten, Ending, Undecided, Cause, Transaction, Replied, Suites, suite_of, known_of, parts_at, Task, Phase, Gathering, Fetching, Preparing, Deciding, Finishing}
+use Rattle.law_run_recovers.proofs.Vocabulary.{TransactionRun, Running, After, GoesOn, Ends, home_of, execute, given_in, changes_of, decision_of, request_in, after_reply, Agent, Taken, fixed_of, is_idle, next_in, next_of}
+use Rattle.law_run_recovers.proofs.Vocabulary.{left, with_step, take_in, take, begins, begin, started, exchanges, is_decide, said_by, asks_same, Keeps, nothing_held, plus_all, begin_keeps, after-append, Served, Event, Begin}
 use Rattle.law_run_recovers.proofs.Vocabulary.{Step, Actor, World, server_at, actor_at, step, run, decisions, table_of, holds_of, service_stays, agent_of, WasPrefix, beginning, machine_of, CanBe, all_keep, IsMine, can_front, Finds}
 use Rattle.law_run_recovers.proofs.Vocabulary.{Stands, all_consistent, is_resolve, never_resolves, is_up, locks_asked, asks_for, first_mode, runs, world_after}
 use Rattle.file_ops.specs.Rows as rows
@@ -34,11 +34,12 @@ use Rattle.law_run_recovers.proofs.Led.{rules_of}
 use Rattle.law_run_recovers.proofs.Open.{its_begin, number_is, begun_there}
 use Rattle.law_run_recovers.proofs.Polled.{Sight, finds_at, Answers}
 use Rattle.law_run_recovers.proofs.Stands.{Ground, asks_of, locks_on, AfterStands, StepStands, PhaseStands, EndsRight}
-use Rattle.law_run_recovers.proofs.Still.{IsOpen, IsOpenPhase}
+use Rattle.law_run_recovers.proofs.Still.{IsOpen, IsOpenPhase, open_next}
 use Rattle.law_run_recovers.proofs.StepsServed.{OwnTook, own_took}
 use Rattle.law_run_recovers.proofs.Unrobbed.{unrecorded_at, finds_then}
 use Rattle.law_run_recovers.proofs.MeetCalm.{along}
-use Rattle.law_run_recovers.proofs.MeetQuiet.{GoesQuietly, next_is, parts, heard_at, idle_before}
+use Rattle.law_run_recovers.proofs.MeetQuiet.{GoesQuietly, next_is, parts, heard_first, first_untold, heard_at, idle_before}
+use Rattle.law_run_recovers.proofs.MeetHeard.{AllTold, HeardNext, heard_next, told_running, told_none}
 
 either : (a b : Bool) → b ≡ true → (a || b) ≡ true
 either true b is = refl
@@ -99,8 +100,11 @@ module _ (given : Opening) (base events later : List Event) (agent t : ℕ) (cal
     abbrev Good : CourseStep → Type 0
     Good step = StepStands (fixed_of given) (run given base) sight (table_of given base) its actor.agent.cache Known ground step
 
+    abbrev Right_of : Suites → Ending → Type 0
+    Right_of suites ended = EndsRight (fixed_of given) (run given base) sight (table_of given base) its actor.agent.cache suites ended
+
     abbrev pub Right : Ending → Type 0
-    Right ended = EndsRight (fixed_of given) (run given base) sight (table_of given base) its actor.agent.cache ended
+    Right ended = (suites : Suites) × Right_of suites ended
 
     pub record Course (so_far : List Event) : Type 0 where
       pub here : Actor
@@ -115,6 +119,7 @@ module _ (given : Opening) (base events later : List Event) (agent t : ℕ) (cal
     pub record Short : Type 0 where
       pub cause : Cause
       pub right : Right (Undecided cause)
+      pub told : AllTold given base events later agent t caller site ops actor goes right.0
 
     abbrev pub State' : List Event → Type 0
     State' so_far = Course so_far ⊎ ((IsAtWork (world_after given events agent caller site ops so_far) agent t → ⊥) × Short)
@@ -132,12 +137,21 @@ module _ (given : Opening) (base events later : List Event) (agent t : ℕ) (cal
         closed (subst (λ (a : Actor). IsOpen a.agent.doing) (same_Some now.actor here (sym now.there ∙ there)) now.is_open)
 
     -- what a step leaves, of which nothing is decided
-    by_after : (so_far : List Event) (here : Actor) (now : Cache) (after : After TransactionRun) → actor_at (world_after given events agent caller site ops so_far) agent ≡ Some here → here.agent.doing ≡ left Running after
-        → here.agent.cache ≡ now
+    by_after : (so_far rest : List Event) → later ≡ so_far ++ rest → HeardNext given base events later agent t caller site ops actor goes so_far → (here : Actor) (now : Cache) (after : After TransactionRun)
+        → actor_at (world_after given events agent caller site ops so_far) agent ≡ Some here → here.agent.doing ≡ left Running after → here.agent.cache ≡ now
         → AfterStands (fixed_of given) (run given base) sight (table_of given base) its actor.agent.cache Known ground now after → words.Leaves its verdict.Aborted after → State' so_far
-    by_after so_far here now (Ends ended) there does cache stands leaves =
-        inr (closed_rests so_far here there (λ open'. subst IsOpen does open'), record { cause = leaves.0; right = subst Right leaves.1 stands })
-    by_after so_far here now (GoesOn more) there does cache stands leaves = of more.phase refl
+    by_after so_far rest split next here now (Ends ended) there does cache stands leaves =
+        let rests = closed_rests so_far here there (λ open'. subst IsOpen does open') in
+        inr (
+          rests,
+          record {
+            cause = leaves.0;
+            right = (stands.0, subst (Right_of stands.0) leaves.1 stands.1);
+            told = told_none given base events later agent t caller site ops actor goes so_far rest split rests next.heard
+                (ap (λ (a : Actor). is_idle a.agent.doing) (same_Some next.heard.here here (sym next.heard.there ∙ there)) ∙ ap is_idle does) next.early stands.0;
+          },
+        )
+    by_after so_far rest split next here now (GoesOn more) there does cache stands leaves = of more.phase refl
       where
         open_now : IsOpenPhase more.phase → State' so_far
         open_now open' =
@@ -151,8 +165,17 @@ module _ (given : Opening) (base events later : List Event) (agent t : ℕ) (cal
         of (Deciding outcome) is = open_now (subst IsOpenPhase (sym is) tt)
         of (Finishing servers v ended) is =
             let told = subst (words.Tells verdict.Aborted) is leaves.1 in
-            let right : Right ended = subst (PhaseIn more.suites now) is stands.1 in
-            inr (closed_rests so_far here there (λ open'. subst IsOpenPhase is (subst IsOpen does open')), record { cause = told.1.0; right = subst Right (told.1.1) right })
+            let right : Right_of more.suites ended = subst (PhaseIn more.suites now) is stands.1 in
+            let rests = closed_rests so_far here there (λ open'. subst IsOpenPhase is (subst IsOpen does open')) in
+            inr (
+              rests,
+              record {
+                cause = told.1.0;
+                right = (more.suites, subst (Right_of more.suites) (told.1.1) right);
+                told = told_running given base events later agent t caller site ops actor goes so_far rest split rests next.heard more
+                    (ap (λ (a : Actor). a.agent.doing) (same_Some next.heard.here here (sym next.heard.there ∙ there)) ∙ does);
+              },
+            )
 
     -- ---- its begin
 
@@ -162,7 +185,8 @@ module _ (given : Opening) (base events later : List Event) (agent t : ℕ) (cal
     state_first : State' []
     state_first =
         let first = execute (fixed_of given) its (record { suites = []; cache = actor.agent.cache }) in
-        by_after [] (record actor { agent = begin (fixed_of given) actor.agent (Transaction caller site ops) }) first.cache first.after (begun_there given events later agent t caller site ops actor goes.can goes.there goes.begins)
+        let heard = heard_first given base events later agent t caller site ops actor goes in
+        by_after [] later refl (record { heard = heard; early = λ one has. absurd (first_untold given base events later agent t caller site ops actor goes one has) }) (record actor { agent = begin (fixed_of given) actor.agent (Transaction caller site ops) }) first.cache first.after (begun_there given events later agent t caller site ops actor goes.can goes.there goes.begins)
         (ap (λ b. (begin_if b).doing) begun_all.1) (ap (λ b. (begin_if b).cache) begun_all.1)
         (begin_stands (fixed_of given) (run given base) sight (table_of given base) its actor.agent.cache Known ground same_service)
         (words.leaves_begin (fixed_of given) its actor.agent.cache)
@@ -368,7 +392,10 @@ module _ (given : Opening) (base events later : List Event) (agent t : ℕ) (cal
       -- where it does not ask to be decided it goes on, or ends undecided
       own_on : is_decide took.asked.1 ≡ false → State' (so_far ++ Step agent ∷ [])
       own_on undecided =
-          by_after next took.new (step_of its).cache (step_of its).after there_next (ap (λ (a : Agent). a.doing) here_is) (ap (λ (a : Agent). a.cache) here_is) good_step
+          by_after next rest split_on
+          (heard_next given base events later agent t caller site ops actor goes so_far rest split work c.here c.there took
+          (open_next (fixed_of given) c.here.agent.doing took.asked took.next (subst IsOpen (sym c.running) c.is_open)))
+          took.new (step_of its).cache (step_of its).after there_next (ap (λ (a : Agent). a.doing) here_is) (ap (λ (a : Agent). a.cache) here_is) good_step
           (subst (λ b. words.Leaves its (cond b (said_by (Replied said) verdict.Aborted) verdict.Aborted) (step_of its).after) undecided
           (words.leaves_response (fixed_of given) its c.here.agent.cache c.txn_run.suites c.txn_run.phase took.asked.0 took.asked.1 (Replied said) verdict.Aborted request_is (tells_open c.txn_run.phase c.is_open)))
         where

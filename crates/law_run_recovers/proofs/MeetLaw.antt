@@ -1,22 +1,24 @@
 -- Of two that meet at one suite, by votes that are tight, one is decided: else each had been refused by the other, and had votes that the other wanted.
-use Rattle.law_run_recovers.proofs.Vocabulary.{◌≡◌, ◌⊎◌, inl, inr, ⊎_elim, ℕ, ◌<◌, Bool, true, false, List, [], ◌∷◌, ◌++◌, append-nil, append_assoc, Some, refl, sym, ap, subst, ◌∙◌, arith, ◌==◌, ◌||◌, Contains, list_any, false≢true}
-use Rattle.law_run_recovers.proofs.Vocabulary.{eqb-true, eq-eqb, Opening, LockMode, mode_of, Configuration, votes_at, Lock, State, find_some, Has, has_any, has_from, contains_from, Transaction, fixed_of, EndedJob, Served, Event, Begin}
-use Rattle.law_run_recovers.proofs.Vocabulary.{Step, server_at, step, run, table_of, is_decided, clashes, Begun, its_asks, locks_asked, votes_set, EndsThen, VotesNeverMovedOf, first_clash, AreTight, its_votes, TheyMeet}
-use Rattle.law_run_recovers.proofs.Vocabulary.{OneThatMeetsIsDecided, asks_for, world_after}
+use Rattle.law_run_recovers.proofs.Vocabulary.{◌≡◌, ◌⊎◌, inl, inr, ⊎_elim, ℕ, ◌<◌, Bool, true, false, List, [], ◌∷◌, ◌++◌, append-nil, append_assoc, Option, Some, None, refl, sym, ap, subst, ◌∙◌, arith, ◌==◌, ◌||◌, Contains, list_any, false≢true}
+use Rattle.law_run_recovers.proofs.Vocabulary.{eqb-true, eq-eqb, Opening, LockMode, Exclusive, mode_of, Configuration, votes_at, Lock, State, Row, row_of, find_some, Has, has_any, has_from, contains_from, Transaction, fixed_of, EndedJob, Served}
+use Rattle.law_run_recovers.proofs.Vocabulary.{Event, Begin, Step, server_at, step, run, table_of, row, beginning, machine_of, is_decided, clashes, Begun, its_asks, locks_asked, votes_set, votes_of_row, shown_at, EndsThen, HasFirstVotes}
+use Rattle.law_run_recovers.proofs.Vocabulary.{VotesNeverMovedOf, first_clash, AreTight, its_votes, TheyMeet, OneThatMeetsIsDecided, TheyMeetByRows, OneThatMeetsByRowsIsDecided, SetsApart, votes_now, asks_for, world_after}
 use Rattle.law_run_recovers.proofs.AmongCourse.{head_or, tail_or}
 use Rattle.law_run_recovers.proofs.Keeps.{IsAtWork, at_work_before}
-use Rattle.law_run_recovers.proofs.MeetApart.{clashes_back, Room, stand_apart}
+use Rattle.law_run_recovers.proofs.MeetApart.{clashes_back, Room, granted_since, stand_apart}
+use Rattle.law_run_recovers.proofs.MeetAsks.{sets_asked}
 use Rattle.law_run_recovers.proofs.MeetBarred.{barred_by}
+use Rattle.law_run_recovers.proofs.MeetBehind.{reach, bound}
 use Rattle.law_run_recovers.proofs.MeetBoth.{Place, place, its_event, in_part, cancel, held_in, none_first, IsAsked, IsGranted, granted_now, all_granted}
 use Rattle.law_run_recovers.proofs.MeetCalm.{Fair, Calm, table_same}
-use Rattle.law_run_recovers.proofs.MeetCount.{Met, OtherMet, Same, IsRefused, IsRefusedToo, not_both_short}
+use Rattle.law_run_recovers.proofs.MeetCount.{Falls, falls_by, Met, OtherMet, Same, IsRefused, IsRefusedToo, not_both_short}
 use Rattle.law_run_recovers.proofs.MeetEnds.{fronts, Fixed, undecided_not, fixed_at, calmed}
 use Rattle.law_run_recovers.proofs.MeetLocks.{owned_at}
 use Rattle.law_run_recovers.proofs.MeetQuiet.{GoesQuietly}
 use Rattle.law_run_recovers.proofs.MeetReach.{Reached, reaches_asks, reached_first}
 use Rattle.law_run_recovers.proofs.MeetRun.{its_actor, goes_of, run_is}
 use Rattle.law_run_recovers.proofs.MeetTold.{for_lock, says_held, asks_at_work}
-use Rattle.law_run_recovers.proofs.MeetWants.{upto, whole, calm_upto, Wants, wants}
+use Rattle.law_run_recovers.proofs.MeetWants.{upto, whole, calm_upto, goes as its_goes, had, Wants, wants}
 
 -- what one asks for that clashes with some lock of the other's clashes with one of them
 clashes_some : (others : List (ℕ × LockMode)) (one way : ℕ × LockMode) → Contains others way → clashes one way ≡ true → list_any (clashes one) others ≡ true
@@ -24,16 +26,21 @@ clashes_some others one way has is = has_any (clashes one) others way (has_from 
 
 module _ (given : Opening) (events later : List Event) (one other : Begun given events later) (alone : (third : Begun given events later) → (third.before ≡ one.before) ⊎ (third.before ≡ other.before))
     (calm : Calm given events later) (two : (one.t == other.t) ≡ false)
-    (unmoved : VotesNeverMovedOf given events (asks_for given events one.t one.caller one.ops)) (other_unmoved : VotesNeverMovedOf given events (asks_for given events other.t other.caller other.ops))
-    (moves_none : (set : ℕ × Configuration) → Contains (votes_set (table_of given events) one.t one.caller one.ops) set → set.1 ≡ given.c0)
-    (other_moves_none : (set : ℕ × Configuration) → Contains (votes_set (table_of given events) other.t other.caller other.ops) set → set.1 ≡ given.c0)
+    (sets_apart : SetsApart given events (votes_set (table_of given events) one.t one.caller one.ops) (asks_for given events other.t other.caller other.ops))
+    (other_sets_apart : SetsApart given events (votes_set (table_of given events) other.t other.caller other.ops) (asks_for given events one.t one.caller one.ops))
     (z : ℕ) (m k : LockMode)
     (first : first_clash (asks_for given events one.t one.caller one.ops) (asks_for given events other.t other.caller other.ops) ≡ Some (z, m))
     (other_first : first_clash (asks_for given events other.t other.caller other.ops) (asks_for given events one.t one.caller one.ops) ≡ Some (z, k))
     (clash : clashes (z, m) (z, k) ≡ true)
-    (tight : AreTight given.c0 z (asks_for given events one.t one.caller one.ops) (asks_for given events other.t other.caller other.ops))
+    (tight : AreTight (votes_now given events z) z (asks_for given events one.t one.caller one.ops) (asks_for given events other.t other.caller other.ops))
     (f : Fixed given events later one) (other_f : Fixed given events later other)
     (more : List Event) (order : other.before ++ Begin other.agent (Transaction other.caller other.site other.ops) ∷ other_f.front ≡ (one.before ++ Begin one.agent (Transaction one.caller one.site one.ops) ∷ f.front) ++ more) where
+  abbrev shows' : ℕ → ℕ → ℕ
+  shows' y server = (shown_at (fixed_of given) (run given events) y server).pver
+
+  abbrev newest' : ℕ → ℕ
+  newest' y = (row (beginning y given) (machine_of given y events).log).prefix.pver
+
   abbrev mine : List (ℕ × LockMode)
   mine = asks_for given events one.t one.caller one.ops
 
@@ -69,14 +76,14 @@ module _ (given : Opening) (events later : List Event) (one other : Begun given 
   other_held = held_in given events (upto given events later calm one f) other.agent other.t
 
   abbrev Granted' : Begun given events later → ℕ → ℕ → ℕ → LockMode → Type 0
-  Granted' who s t y mode = IsGranted given events later one other alone part rest part_whole part_calm unmoved other_unmoved who s t y mode
+  Granted' who s t y mode = IsGranted given events later one other alone part rest part_whole part_calm who s t y mode
 
   not_two : {X : Type 0} → one.t ≡ other.t → X
   not_two same = absurd (false≢true (sym two ∙ eq-eqb one.t other.t same))
 
   -- ---- locks of both stand apart
 
-  room : Room given events later one other alone part rest part_whole part_calm one
+  abbrev room : Room given events later one other alone part rest part_whole part_calm one
   room = record {
     fixed = f;
     more = [];
@@ -84,7 +91,7 @@ module _ (given : Opening) (events later : List Event) (one other : Begun given 
     mine = λ so_far i t is places. ⊎_elim (λ p. p) (λ (p : Place given events later one other alone other so_far i t). not_two (sym is ∙ p.number)) places;
   }
 
-  other_room : Room given events later one other alone part rest part_whole part_calm other
+  abbrev other_room : Room given events later one other alone part rest part_whole part_calm other
   other_room = record {
     fixed = other_f;
     more = more;
@@ -97,11 +104,22 @@ module _ (given : Opening) (events later : List Event) (one other : Begun given 
 
   -- ---- each was refused by the other
 
-  its_wants : Wants given events later calm one f
-  its_wants = wants given events later calm one f unmoved moves_none
+  its_wants : Wants given events later calm one f (asks_for given events other.t other.caller other.ops)
+  its_wants = wants given events later calm one f theirs sets_apart
 
-  other_wants : Wants given events later calm other other_f
-  other_wants = wants given events later calm other other_f other_unmoved other_moves_none
+  other_wants : Wants given events later calm other other_f (asks_for given events one.t one.caller one.ops)
+  other_wants = wants given events later calm other other_f mine other_sets_apart
+
+  -- what each found it found by what it was granted
+  its_falls : Falls (votes_now given events) held shows' theirs its_wants.suite its_wants.votes its_wants.open'
+  its_falls =
+      falls_by (votes_now given events) (had given events later calm one f) held shows' theirs its_wants.suite its_wants.votes its_wants.open'
+      (λ mode server is. granted_since given events later one other alone part rest part_whole part_calm one room its_wants.suite server mode is) its_wants.falls
+
+  other_falls : Falls (votes_now given events) other_held shows' mine other_wants.suite other_wants.votes other_wants.open'
+  other_falls =
+      falls_by (votes_now given events) (had given events later calm other other_f) other_held shows' mine other_wants.suite other_wants.votes other_wants.open'
+      (λ mode server is. granted_since given events later one other alone part rest part_whole part_calm other other_room other_wants.suite server mode is) other_wants.falls
 
   has_first : Contains mine (z, m)
   has_first = contains_from mine (z, m) (find_some (λ x. list_any (clashes x) theirs) mine (z, m) first).0
@@ -110,29 +128,29 @@ module _ (given : Opening) (events later : List Event) (one other : Begun given 
   has_other_first = contains_from theirs (z, k) (find_some (λ x. list_any (clashes x) mine) theirs (z, k) other_first).0
 
   -- what one asked for that clashes with what the other asks for: it had its first clash before, or this is it
-  before_it : (y : ℕ) (mode way : LockMode) → Reached given.c0 mine held (y, mode) → Contains theirs (y, way) → clashes (y, mode) (y, way) ≡ true
-      → Met mine theirs given.c0 z m k tight has_first has_other_first clash held other_held ⊎ Same (y, mode) (z, m)
-  before_it y mode way reached has is = reached_first given.c0 mine held (λ x. list_any (clashes x) theirs) (y, mode) (z, m) reached (clashes_some theirs (y, mode) (y, way) has is) first
+  before_it : (y : ℕ) (mode way : LockMode) → Reached (votes_now given events) mine held (y, mode) → Contains theirs (y, way) → clashes (y, mode) (y, way) ≡ true
+      → Met mine theirs (votes_now given events) shows' newest' z m k tight has_first has_other_first clash held other_held ⊎ Same (y, mode) (z, m)
+  before_it y mode way reached has is = reached_first (votes_now given events) mine held (λ x. list_any (clashes x) theirs) (y, mode) (z, m) reached (clashes_some theirs (y, mode) (y, way) has is) first
 
-  other_before_it : (y : ℕ) (mode way : LockMode) → Reached given.c0 theirs other_held (y, mode) → Contains mine (y, way) → clashes (y, mode) (y, way) ≡ true
-      → OtherMet mine theirs given.c0 z m k tight has_first has_other_first clash held other_held ⊎ Same (y, mode) (z, k)
-  other_before_it y mode way reached has is = reached_first given.c0 theirs other_held (λ x. list_any (clashes x) mine) (y, mode) (z, k) reached (clashes_some mine (y, mode) (y, way) has is) other_first
+  other_before_it : (y : ℕ) (mode way : LockMode) → Reached (votes_now given events) theirs other_held (y, mode) → Contains mine (y, way) → clashes (y, mode) (y, way) ≡ true
+      → OtherMet mine theirs (votes_now given events) shows' newest' z m k tight has_first has_other_first clash held other_held ⊎ Same (y, mode) (z, k)
+  other_before_it y mode way reached has is = reached_first (votes_now given events) theirs other_held (λ x. list_any (clashes x) mine) (y, mode) (z, k) reached (clashes_some mine (y, mode) (y, way) has is) other_first
 
   abbrev Stands : ℕ → ℕ → ℕ → LockMode → Type 0
   Stands s t y mode = Granted' one s t y mode ⊎ Granted' other s t y mode
 
   stands : (so_far back : List Event) → part ≡ so_far ++ back → (s : ℕ) (st : State) → server_at (run given (events ++ so_far)) s ≡ Some st → (lock : Lock) → Has st.locks lock → Stands s lock.t lock.suite lock.mode
-  stands = all_granted given events later one other alone part rest part_whole part_calm unmoved other_unmoved
+  stands = all_granted given events later one other alone part rest part_whole part_calm
 
-  refused : (server : ℕ) → 0 < votes_at given.c0.reps server → its_wants.open' server ≡ false
-      → IsRefused mine theirs given.c0 z m k tight has_first has_other_first clash held other_held its_wants.suite its_wants.mode server
+  refused : (server : ℕ) → 0 < votes_at its_wants.votes.reps server → its_wants.open' server ≡ false
+      → IsRefused mine theirs (votes_now given events) shows' newest' z m k tight has_first has_other_first clash held other_held its_wants.suite its_wants.mode server
   refused server has_vote shut =
       let y = its_wants.suite in
-      let b = barred_by given events later one other alone part rest part_whole part_calm unmoved other_unmoved one f.front refl Stands stands y its_wants.mode server (its_wants.shut server has_vote shut) in
+      let b = barred_by given events later one other alone part rest part_whole part_calm one f.front refl Stands stands y its_wants.mode server (its_wants.shut server has_vote shut) in
       let its = by_one y server b.mode b.asked in
       let theirs' = by_other y server b.holder b.way b.not_own b.stands in
-      let its_has = reaches_asks given.c0 mine held (y, b.mode) its in
-      let has = reaches_asks given.c0 theirs other_held (y, b.way) theirs'.reached in
+      let its_has = reaches_asks (votes_now given events) mine held (y, b.mode) its in
+      let has = reaches_asks (votes_now given events) theirs other_held (y, b.way) theirs'.reached in
       record {
         mode = b.mode;
         strong = b.strong;
@@ -145,9 +163,9 @@ module _ (given : Opening) (events later : List Event) (one other : Begun given 
       }
     where
       by_one : (y server : ℕ) (mode : LockMode)
-          → IsAsked given events later one other alone part rest part_whole part_calm unmoved other_unmoved one server one.t y mode
-          ⊎ IsAsked given events later one other alone part rest part_whole part_calm unmoved other_unmoved other server one.t y mode
-          → Reached given.c0 mine held (y, mode)
+          → IsAsked given events later one other alone part rest part_whole part_calm one server one.t y mode
+          ⊎ IsAsked given events later one other alone part rest part_whole part_calm other server one.t y mode
+          → Reached (votes_now given events) mine held (y, mode)
       by_one y server mode (inl asked) = asked.reached
       by_one y server mode (inr asked) = not_two asked.number
 
@@ -199,7 +217,7 @@ module _ (given : Opening) (events later : List Event) (one other : Begun given 
     stands_before said =
         let at = ⊎_elim (λ after. absurd (not_after after.0 after.1)) (λ front. in_front front.0 front.1) (fronts part so_far more (Step i ∷ back) (sym order ∙ split)) in
         ⊎_elim (λ granted. inl granted) (λ (granted : Granted' other what.server t y (mode_of what.request.value)). inr granted.number)
-        (granted_now given events later one other alone part rest part_whole part_calm unmoved other_unmoved so_far at.0 i at.1 what served t y lock said)
+        (granted_now given events later one other alone part rest part_whole part_calm so_far at.0 i at.1 what served t y lock said)
 
   stands_too : (so_far back : List Event) → all ≡ so_far ++ back → (s : ℕ) (st : State) → server_at (run given (events ++ so_far)) s ≡ Some st → (lock : Lock) → Has st.locks lock → StandsToo s lock.t lock.suite lock.mode
   stands_too so_far back split s st at lock has =
@@ -210,12 +228,12 @@ module _ (given : Opening) (events later : List Event) (one other : Begun given 
       (place given events later one other alone all other_f.back all_whole all_calm.fair so_far back i split what served t y lock))
       (λ s st at lock has. absurd (none_first given events all all_calm.fair s st at lock has)) so_far back split s st at lock has
 
-  refused_too : (server : ℕ) → 0 < votes_at given.c0.reps server → other_wants.open' server ≡ false
-      → IsRefusedToo mine theirs given.c0 z m k tight has_first has_other_first clash held other_held other_wants.suite other_wants.mode server
+  refused_too : (server : ℕ) → 0 < votes_at other_wants.votes.reps server → other_wants.open' server ≡ false
+      → IsRefusedToo mine theirs (votes_now given events) shows' newest' z m k tight has_first has_other_first clash held other_held other_wants.suite other_wants.mode server
   refused_too server has_vote shut =
       let y = other_wants.suite in
       let b =
-      barred_by given events later one other alone all other_f.back all_whole all_calm unmoved other_unmoved other other_f.front refl StandsToo stands_too y other_wants.mode server (other_wants.shut server has_vote shut) in
+      barred_by given events later one other alone all other_f.back all_whole all_calm other other_f.front refl StandsToo stands_too y other_wants.mode server (other_wants.shut server has_vote shut) in
       let has = asked_by y server b.mode b.asked in
       let its = by_one y server b.holder b.way b.not_own b.stands in
       let back = clashes_back y b.mode b.way b.clashing in
@@ -223,16 +241,17 @@ module _ (given : Opening) (events later : List Event) (one other : Begun given 
         mode = b.mode;
         strong = b.strong;
         way = b.way;
+        asks = reaches_asks (votes_now given events) mine held (y, b.way) its.reached;
         clashing = back;
         by = its.held;
         before = before_it y b.way b.mode its.reached has back;
       }
     where
       asked_by : (y server : ℕ) (mode : LockMode)
-          → IsAsked given events later one other alone all other_f.back all_whole all_calm unmoved other_unmoved one server other.t y mode
-          ⊎ IsAsked given events later one other alone all other_f.back all_whole all_calm unmoved other_unmoved other server other.t y mode → Contains theirs (y, mode)
+          → IsAsked given events later one other alone all other_f.back all_whole all_calm one server other.t y mode
+          ⊎ IsAsked given events later one other alone all other_f.back all_whole all_calm other server other.t y mode → Contains theirs (y, mode)
       asked_by y server mode (inl asked) = not_two (sym asked.number)
-      asked_by y server mode (inr asked) = reaches_asks given.c0 theirs (held_in given events all other.agent other.t) (y, mode) asked.reached
+      asked_by y server mode (inr asked) = reaches_asks (votes_now given events) theirs (held_in given events all other.agent other.t) (y, mode) asked.reached
 
       by_one : (y server t : ℕ) (way : LockMode) → (t ≡ other.t → ⊥) → StandsToo server t y way → Granted' one server t y way
       by_one y server t way not_own (inl granted) = granted
@@ -240,8 +259,10 @@ module _ (given : Opening) (events later : List Event) (one other : Begun given 
 
   pub never_both : ⊥
   never_both =
-      not_both_short mine theirs given.c0 z m k tight has_first has_other_first clash held other_held apart its_wants.suite its_wants.mode its_wants.asks its_wants.open' its_wants.few its_wants.most refused
-      other_wants.suite other_wants.mode other_wants.asks other_wants.open' other_wants.few other_wants.most refused_too
+      let its = its_goes given events later calm one f in
+      not_both_short mine theirs (votes_now given events) shows' newest' z m k tight has_first has_other_first clash held other_held apart (reach given events its.can_base its.free calm.fair.up)
+      (bound given events its.can_base its.free calm.fair.up) its_wants.suite its_wants.mode its_wants.asks its_wants.votes its_wants.open' its_wants.few its_wants.most its_falls refused
+      other_wants.suite other_wants.mode other_wants.asks other_wants.votes other_wants.open' other_wants.few other_wants.most other_falls refused_too
 
 -- ---- the law
 
@@ -249,7 +270,7 @@ tight_back : (votes : Configuration) (suite : ℕ) (asked others : List (ℕ × 
 tight_back votes suite asked others tight mine theirs has there clash =
     let is = tight theirs mine there has (clashes_back suite mine theirs clash) in omega (arith, is)
 
-module _ (given : Opening) (events later : List Event) (one other : Begun given events later) (meets : TheyMeet given events later one other) (job outcome : EndedJob)
+module _ (given : Opening) (events later : List Event) (one other : Begun given events later) (meets : TheyMeetByRows given events later one other) (job outcome : EndedJob)
     (ends : EndsThen given (events ++ one.before) one.after one.agent one.t one.caller one.site one.ops job)
     (other_ends : EndsThen given (events ++ other.before) other.after other.agent other.t other.caller other.site other.ops outcome) where
   fair : Fair given events later
@@ -279,20 +300,16 @@ module _ (given : Opening) (events later : List Event) (one other : Begun given 
     other_first : first_clash (asks_for given events other.t other.caller other.ops) (asks_for given events one.t one.caller one.ops) ≡ Some (meets.suite, meets.theirs)
     other_first = ap (λ asked. first_clash asked (Asks one)) (sym (asks_is other)) ∙ ap (λ others. first_clash (its_asks given events later other) others) (sym (asks_is one)) ∙ meets.other_first
 
-    tight : AreTight given.c0 meets.suite (asks_for given events one.t one.caller one.ops) (asks_for given events other.t other.caller other.ops)
-    tight = subst (λ asked. AreTight given.c0 meets.suite asked (Asks other)) (asks_is one) (subst (λ others. AreTight given.c0 meets.suite (its_asks given events later one) others) (asks_is other) meets.tight)
+    tight : AreTight (votes_now given events meets.suite) meets.suite (asks_for given events one.t one.caller one.ops) (asks_for given events other.t other.caller other.ops)
+    tight =
+        subst (λ asked. AreTight (votes_now given events meets.suite) meets.suite asked (Asks other)) (asks_is one)
+        (subst (λ others. AreTight (votes_now given events meets.suite) meets.suite (its_asks given events later one) others) (asks_is other) meets.tight)
 
-    unmoved : VotesNeverMovedOf given events (asks_for given events one.t one.caller one.ops)
-    unmoved = subst (VotesNeverMovedOf given events) (asks_is one) meets.unmoved
+    sets_apart : SetsApart given events (votes_set (table_of given events) one.t one.caller one.ops) (asks_for given events other.t other.caller other.ops)
+    sets_apart = subst (λ sets. SetsApart given events sets (Asks other)) (votes_is one) (subst (SetsApart given events (its_votes given events later one)) (asks_is other) meets.sets_apart)
 
-    other_unmoved : VotesNeverMovedOf given events (asks_for given events other.t other.caller other.ops)
-    other_unmoved = subst (VotesNeverMovedOf given events) (asks_is other) meets.other_unmoved
-
-    moves_none : (set : ℕ × Configuration) → Contains (votes_set (table_of given events) one.t one.caller one.ops) set → set.1 ≡ given.c0
-    moves_none set has = meets.moves_none set (subst (λ sets. Contains sets set) (sym (votes_is one)) has)
-
-    other_moves_none : (set : ℕ × Configuration) → Contains (votes_set (table_of given events) other.t other.caller other.ops) set → set.1 ≡ given.c0
-    other_moves_none set has = meets.other_moves_none set (subst (λ sets. Contains sets set) (sym (votes_is other)) has)
+    other_sets_apart : SetsApart given events (votes_set (table_of given events) other.t other.caller other.ops) (asks_for given events one.t one.caller one.ops)
+    other_sets_apart = subst (λ sets. SetsApart given events sets (Asks one)) (votes_is other) (subst (SetsApart given events (its_votes given events later other)) (asks_is one) meets.other_sets_apart)
 
     f : Fixed given events later one
     f = fixed_at given events later calm one job ends
@@ -310,12 +327,12 @@ module _ (given : Opening) (events later : List Event) (one other : Begun given 
     pub neither : ⊥
     neither = ⊎_elim
         (λ first_one.
-        never_both given events later one other meets.alone calm meets.two unmoved other_unmoved moves_none other_moves_none meets.suite meets.mine meets.theirs first other_first meets.not_both_raise tight
+        never_both given events later one other meets.alone calm meets.two sets_apart other_sets_apart meets.suite meets.mine meets.theirs first other_first meets.not_both_raise tight
         f other_f first_one.0 first_one.1)
         (λ first_other.
-        never_both given events later other one (λ third. ⊎_elim (λ is. inr is) (λ is. inl is) (meets.alone third)) calm two_back other_unmoved unmoved other_moves_none moves_none
+        never_both given events later other one (λ third. ⊎_elim (λ is. inr is) (λ is. inl is) (meets.alone third)) calm two_back other_sets_apart sets_apart
         meets.suite meets.theirs meets.mine other_first first (clashes_back meets.suite meets.mine meets.theirs meets.not_both_raise)
-        (tight_back given.c0 meets.suite (Asks one) (Asks other) tight) other_f f first_other.0 first_other.1)
+        (tight_back (votes_now given events meets.suite) meets.suite (Asks one) (Asks other) tight) other_f f first_other.0 first_other.1)
         (fronts (upto given events later calm one f) (upto given events later calm other other_f) f.back other_f.back
         (sym (whole given events later calm one f) ∙ whole given events later calm other other_f))
 
@@ -327,5 +344,53 @@ module _ (given : Opening) (events later : List Event) (one other : Begun given 
       of false true one_is other_is = refl
       of false false one_is other_is = absurd (neither one_is other_is)
 
+pub one_that_meets_by_rows_is_decided : OneThatMeetsByRowsIsDecided
+one_that_meets_by_rows_is_decided given events later one other meets job outcome ends other_ends = decided_one given events later one other meets job outcome ends other_ends
+
+-- ---- where votes were never moved those of the rows are the first ones
+
+module _ (given : Opening) (events later : List Event) (one other : Begun given events later) (meets : TheyMeet given events later one other) where
+  first_now : (asked : List (ℕ × LockMode)) → VotesNeverMovedOf given events asked → (suite : ℕ) (mode : LockMode) → Contains asked (suite, mode) → votes_now given events suite ≡ given.c0
+  first_now asked unmoved suite mode has = of (row_of (table_of given events).rows suite) (unmoved events [] (suite, mode) (sym (append-nil events)) has)
+    where
+      of : (found : Option Row) → HasFirstVotes given.c0 found → votes_of_row (fixed_of given) found ≡ given.c0
+      of (Some row) is = is
+      of None is = refl
+
+  suite_first : votes_now given events meets.suite ≡ given.c0
+  suite_first =
+      first_now (its_asks given events later one) meets.unmoved meets.suite meets.mine
+      (contains_from (its_asks given events later one) (meets.suite, meets.mine)
+      (find_some (λ x. list_any (clashes x) (its_asks given events later other)) (its_asks given events later one) (meets.suite, meets.mine) meets.first).0)
+
+  apart_by : (who : Begun given events later) → VotesNeverMovedOf given events (its_asks given events later who) → ((set : ℕ × Configuration) → Contains (its_votes given events later who) set → set.1 ≡ given.c0)
+      → (others : List (ℕ × LockMode)) → SetsApart given events (its_votes given events later who) others
+  apart_by who unmoved moves_none others set has =
+      inl (moves_none set has
+      ∙ sym (first_now (its_asks given events later who) unmoved set.0 Exclusive
+      (contains_from (its_asks given events later who) (set.0, Exclusive)
+      (sets_asked (table_of given (events ++ who.before)) who.t who.caller who.ops set (has_from (its_votes given events later who) set has)))))
+
+  pub by_rows : TheyMeetByRows given events later one other
+  by_rows = record {
+    can = meets.can;
+    idle = meets.idle;
+    up = meets.up;
+    free = meets.free;
+    unspoiled = meets.unspoiled;
+    two = meets.two;
+    alone = meets.alone;
+    suite = meets.suite;
+    mine = meets.mine;
+    theirs = meets.theirs;
+    first = meets.first;
+    other_first = meets.other_first;
+    not_both_raise = meets.not_both_raise;
+    tight = subst (λ votes. AreTight votes meets.suite (its_asks given events later one) (its_asks given events later other)) (sym suite_first) meets.tight;
+    sets_apart = apart_by one meets.unmoved meets.moves_none (its_asks given events later other);
+    other_sets_apart = apart_by other meets.other_unmoved meets.other_moves_none (its_asks given events later one);
+  }
+
 pub one_that_meets_is_decided : OneThatMeetsIsDecided
-one_that_meets_is_decided given events later one other meets job outcome ends other_ends = decided_one given events later one other meets job outcome ends other_ends
+one_that_meets_is_decided given events later one other meets job outcome ends other_ends =
+    one_that_meets_by_rows_is_decided given events later one other (by_rows given events later one other meets) job outcome ends other_ends

@@ -80,7 +80,7 @@ module _ (given : Opening) (base events later : List Event) (agent t : ℕ) (cal
   pub next_is : (so_far : List Event) (event : Event) → world_after given events agent caller site ops (so_far ++ event ∷ []) ≡ (step (fixed_of given) (world_after given events agent caller site ops so_far) event).world
   next_is so_far event = after_append (fixed_of given) so_far (event ∷ []) (begun_world given events agent caller site ops)
 
-  heard_first : Heard []
+  pub heard_first : Heard []
   heard_first = record {
     here = record actor { agent = begin (fixed_of given) actor.agent (Transaction caller site ops) };
     there = begun_there given events later agent t caller site ops actor goes.can goes.there goes.begins;
@@ -92,6 +92,11 @@ module _ (given : Opening) (base events later : List Event) (agent t : ℕ) (cal
       nil_not : (front back : List Event) → [] ≡ front ++ Step agent ∷ back → ⊥
       nil_not [] back is = cc
       nil_not (one ∷ front) back is = cc
+
+  -- at its begin it was told nothing
+  pub first_untold : (one : Exchange) → Has (past_of heard_first.told) one → ⊥
+  unfolding heard_first
+  first_untold one has = has
 
   module _ (so_far rest : List Event) (event : Event) (split : later ≡ so_far ++ event ∷ rest) (work : IsAtWork (world_after given events agent caller site ops so_far) agent t) where
     pub unhindered : hinders_itself given agent (world_after given events agent caller site ops so_far) event ≡ false

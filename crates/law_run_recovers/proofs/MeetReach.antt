@@ -1,29 +1,33 @@
--- A transaction in whose run nothing is decided, where votes were never moved, nor moves it any: whatever lock it asks for, it has had all those before; and where its end
--- is fixed, it was refused too many votes of one.
+-- A transaction in whose run nothing is decided: whatever lock it asks for, it has had all those before, by the votes of the rows; and where its end is fixed, too few votes
+-- were open of one, as they are found.
 use Rattle.law_run_recovers.proofs.Vocabulary.{◌≡◌, ◌⊎◌, inl, inr, ⊎_elim, ℕ, ◌≤◌, ◌<◌, Bool, true, false, cond, List, [], ◌∷◌, ◌++◌, Option, Some, None, Result, Ok, Err, refl, sym, ap, subst, ◌∙◌, arith, ◌==◌, not, nat_le, map, find}
-use Rattle.law_run_recovers.proofs.Vocabulary.{Contains, false≢true, and_parts, eqb-true, nat_tests, none-some, same_Some, Identity, Configuration, votes_in, votes_in-wider, Opening, Prefix, LockMode, Shared, Exclusive, Answer, Op}
-use Rattle.law_run_recovers.proofs.Vocabulary.{Refusal, Request, find_some, Has, has_map, contains_from, Collector, Asked, Poll, Upgrade, needed_of, wanted, mode_of, mode_asked, request_for, Cache, Undecided, Suites, suite_of, parts_at}
+use Rattle.law_run_recovers.proofs.Vocabulary.{Contains, false≢true, and_parts, eqb-true, ltb-false, nat_tests, none-some, same_Some, Identity, Configuration, votes_in, votes_in-wider, Opening, Prefix, LockMode, Shared, Exclusive, serves, Answer, Op}
+use Rattle.law_run_recovers.proofs.Vocabulary.{Refusal, Request, Reply, row_of, needs, transaction, find_some, Has, has_from, has_map, contains_from, holds, newest, Collector, all_told, Asked, Poll, Upgrade, needed_of, wanted, mode_of, mode_asked, request_for, Cache, Undecided, Replied, Suites, suite_of, parts_at}
 use Rattle.law_run_recovers.proofs.Vocabulary.{Phase, Gathering, Fetching, Preparing, Deciding, Finishing, home_of, request_in, asked_for, changes_of, decision_of, fixed_of, next_in, next_of, is_decide, asks_same, Served, Event, Step}
-use Rattle.law_run_recovers.proofs.Vocabulary.{Actor, actor_at, step, run, table_of, machine_of, all_keep, is_up, locks_asked, votes_set, is_met, demand_by, led_to_by, MayStart, ending_by, ending_of, answer_on, VotesNeverMovedOf}
-use Rattle.law_run_recovers.proofs.Vocabulary.{asks_for, Want, world_after}
+use Rattle.law_run_recovers.proofs.Vocabulary.{Actor, actor_at, step, run, table_of, WasPrefix, IsQuorum, beginning, machine_of, row_at, all_keep, is_up, shown_at, newer_by, locks_asked, votes_set, is_met, demand_by, led_to_by, MayStart, ending_by, ending_of, answer_on}
+use Rattle.law_run_recovers.proofs.Vocabulary.{asks_for, Want, first_mode, world_after, says_held, votes_now}
 use Rattle.rep_core.specs.declared.request.Request.TheVariants as request
+use Rattle.rep_core.specs.declared.reply.Reply.TheVariants as reply
 use Rattle.suite_collect.specs.Collecting.{mode_or}
 use Rattle.txn_core.specs.Doing as doing
+use Rattle.txn_core.specs.Suites.{told_in}
 use Rattle.law_one_table.proofs.Effects as effects
 use Rattle.law_run_recovers.proofs.Asked.{onto_left, onto_so_far, asked_exclusive, next_mode}
 use Rattle.law_run_recovers.proofs.Asking.{onto}
 use Rattle.law_run_recovers.proofs.Early.{fetch_is}
+use Rattle.law_run_recovers.proofs.Found.{found_is_row}
 use Rattle.law_run_recovers.proofs.Heard.{asks_for as asked_by}
 use Rattle.law_run_recovers.proofs.Keeps.{IsAtWork}
 use Rattle.law_run_recovers.proofs.Leading.{led}
-use Rattle.law_run_recovers.proofs.Polled.{Sight, finds_at}
-use Rattle.law_run_recovers.proofs.Stands.{IsRight, IsHad, locks_on, sets_on, of_lock, of_votes, unmet, EndsAs}
-use Rattle.law_run_recovers.proofs.Unmoved.{first_votes_at}
+use Rattle.law_run_recovers.proofs.OpenRows.{weaker_first, up_to}
+use Rattle.law_run_recovers.proofs.Polled.{Sight, finds_at, opens_wider, held_open}
+use Rattle.law_run_recovers.proofs.Rows.{row_votes}
+use Rattle.law_run_recovers.proofs.Stands.{IsRight, IsHad, locks_on, sets_on, of_lock, of_votes, unmet, EndsAs, IsLed}
 use Rattle.law_run_recovers.proofs.Widened.{same_mode}
 use Rattle.law_run_recovers.proofs.MeetAsks.{sets_asked}
 use Rattle.law_run_recovers.proofs.MeetCourse.{Course, Short, PhaseIn, its, number, sight, answering, Fits, course_at}
 use Rattle.law_run_recovers.proofs.MeetQuiet.{GoesQuietly}
-use Rattle.law_run_recovers.proofs.MeetTold.{for_lock, asks, asks_at_work, held, opens_held, held_weaker, held_up, held_fits}
+use Rattle.law_run_recovers.proofs.MeetTold.{for_lock, for_lock_named, says_held as held_by, asks, asks_at_work, held, opens_held, held_weaker, held_up, held_fits}
 
 -- ---- lists
 
@@ -55,19 +59,20 @@ find_onto p (b ∷ before) left x is = ⊎_elim (λ has. inl (inr has)) (λ rest
     of true is = inl (inl (same_Some b x is))
     of false is = inr is
 
--- A lock that one asks for, all before which it has had: by who granted them it has enough of these votes.
-pub record Reached (votes : Configuration) (asked : List (ℕ × LockMode)) (held : ℕ → LockMode → ℕ → Bool) (one : ℕ × LockMode) : Type 0 where
+-- A lock that one asks for, all before which it has had: by who granted them it has enough of these votes of each suite.
+pub record Reached (votes : ℕ → Configuration) (asked : List (ℕ × LockMode)) (held : ℕ → LockMode → ℕ → Bool) (one : ℕ × LockMode) : Type 0 where
   pub before : List (ℕ × LockMode)
   pub after : List (ℕ × LockMode)
   pub parts : asked ≡ onto before (one ∷ after)
-  pub had : (other : ℕ × LockMode) → Has before other → needed_of other.1 votes ≤ votes_in votes.reps (held other.0 other.1)
+  pub had : (other : ℕ × LockMode) → Has before other → needed_of other.1 (votes other.0) ≤ votes_in (votes other.0).reps (held other.0 other.1)
 
-module _ (votes : Configuration) (asked : List (ℕ × LockMode)) (held : ℕ → LockMode → ℕ → Bool) where
+module _ (votes : ℕ → Configuration) (asked : List (ℕ × LockMode)) (held : ℕ → LockMode → ℕ → Bool) where
   pub reaches_asks : (one : ℕ × LockMode) → Reached votes asked held one → Contains asked one
   reaches_asks one r = contains_from asked one (subst (λ all. Has all one) (sym r.parts) (onto_left r.before (one ∷ r.after) one (inl refl)))
 
   -- the first that passes a test, if it passes it, was had, or is it
-  pub reached_first : (p : ℕ × LockMode → Bool) (one first : ℕ × LockMode) → Reached votes asked held one → p one ≡ true → find p asked ≡ Some first → (needed_of first.1 votes ≤ votes_in votes.reps (held first.0 first.1)) ⊎ (one ≡ first)
+  pub reached_first : (p : ℕ × LockMode → Bool) (one first : ℕ × LockMode) → Reached votes asked held one → p one ≡ true → find p asked ≡ Some first
+      → (needed_of first.1 (votes first.0) ≤ votes_in (votes first.0).reps (held first.0 first.1)) ⊎ (one ≡ first)
   reached_first p one first r passes is =
       ⊎_elim (λ has. inl (r.had first has))
       (λ rest. inr (same_Some one first (sym (ap (λ b. cond b (Some one) (find p r.after)) passes) ∙ rest)))
@@ -80,8 +85,8 @@ module _ (votes : Configuration) (asked : List (ℕ × LockMode)) (held : ℕ �
     before = r.before;
     after = r.after;
     parts = r.parts;
-    had = λ other has. le_trans (needed_of other.1 votes) (votes_in votes.reps (held other.0 other.1)) (votes_in votes.reps (wider other.0 other.1)) (r.had other has)
-        (votes_in-wider votes.reps (held other.0 other.1) (wider other.0 other.1) (λ server is. more other.0 other.1 server is));
+    had = λ other has. le_trans (needed_of other.1 (votes other.0)) (votes_in (votes other.0).reps (held other.0 other.1)) (votes_in (votes other.0).reps (wider other.0 other.1)) (r.had other has)
+        (votes_in-wider (votes other.0).reps (held other.0 other.1) (wider other.0 other.1) (λ server is. more other.0 other.1 server is));
   }
     where
       le_trans : (a b c : ℕ) → a ≤ b → b ≤ c → a ≤ c
@@ -93,30 +98,71 @@ enough a b c le more = grind (arith, nat_tests)
 too_few : (a b : ℕ) → not (nat_le a b) ≡ true → b < a
 too_few a b is = grind (arith, nat_tests)
 
+says_so : (answer : Reply) → held_by answer ≡ true → says_held (Replied answer) ≡ true
+says_so (reply.Held prefix dver) is = refl
+says_so (reply.Busy holder prepared) is = absurd (false≢true is)
+says_so reply.Lost is = absurd (false≢true is)
+says_so (reply.Given dver content) is = absurd (false≢true is)
+says_so reply.Prepared is = absurd (false≢true is)
+says_so (reply.Verdict v) is = absurd (false≢true is)
+says_so reply.Done is = absurd (false≢true is)
+says_so (reply.Locked all) is = absurd (false≢true is)
+says_so reply.Down is = absurd (false≢true is)
+
 module _ (given : Opening) (base events later : List Event) (agent t : ℕ) (caller : Identity) (site : ℕ) (ops : List Op) (actor : Actor) (goes : GoesQuietly given base events later agent t caller site ops actor)
     (never : (so_far rest : List Event) → later ≡ so_far ++ Step agent ∷ rest → IsAtWork (world_after given events agent caller site ops so_far) agent t → (here : Actor) → actor_at
     (world_after given events agent caller site ops so_far) agent ≡ Some here
-    → (asked : ℕ × Request) → next_of (fixed_of given) here.agent ≡ Some asked → is_decide asked.1 ≡ false)
-    (unmoved : VotesNeverMovedOf given base (asks_for given base t caller ops)) where
+    → (asked : ℕ × Request) → next_of (fixed_of given) here.agent ≡ Some asked → is_decide asked.1 ≡ false) where
   abbrev asked : List (ℕ × LockMode)
   asked = asks_for given base t caller ops
 
   abbrev pub Reaches : ℕ × LockMode → Type 0
-  Reaches one = Reached given.c0 (asks_for given base t caller ops) (held given base events later agent t caller site ops actor goes) one
+  Reaches one = Reached (votes_now given base) (asks_for given base t caller ops) (held given base events later agent t caller site ops actor goes) one
+
+  -- a suite is asked for in the mode in which it is asked for first, or in a stronger one
+  pub wide : (one : ℕ × LockMode) → Contains (asks_for given base t caller ops) one → serves one.1 (first_mode (asks_for given base t caller ops) one.0) ≡ true
+  wide one has = weaker_first [] (needs (row_of (table_of given base).rows) [] (transaction (table_of given base).service t caller ops)) one (has_from asked one has)
 
   module _ (opens : ℕ → LockMode → ℕ → Bool) (weaker : (z server : ℕ) → opens z Exclusive server ≡ true → opens z Shared server ≡ true)
       (opens_up : (z : ℕ) (mode : LockMode) (server : ℕ) → opens z mode server ≡ true → is_up (run given base) server ≡ true) (fits : Fits given base events later agent t caller site ops actor goes opens) where
     abbrev S : Sight
     S = sight given base events later agent t caller site ops actor goes opens weaker opens_up fits
 
-    -- votes that are found are the first ones
-    found_first : (one : ℕ × LockMode) → Contains (asks_for given base t caller ops) one → (start : Prefix) → MayStart (fixed_of given) actor.agent.cache site one.0 start
-        → (led_to_by (fixed_of given) (run given base) (finds_at S one.0) one.0 start).votes ≡ given.c0
-    found_first one has start may =
-        let z = one.0 in
+    -- where its votes are found
+    abbrev found : ℕ → Prefix → Prefix
+    found z start = led_to_by (fixed_of given) (run given base) (finds_at S z) z start
+
+    ends_at : (z : ℕ) (start : Prefix) → MayStart (fixed_of given) actor.agent.cache site z start
+        → (WasPrefix (beginning z given) (machine_of given z base).log (led_to_by (fixed_of given) (run given base) (finds_at S z) z start))
+        × (newer_by (fixed_of given) (run given base) (finds_at S z) z (led_to_by (fixed_of given) (run given base) (finds_at S z) z start) ≡ None)
+    ends_at z start may =
         let end = led given z (machine_of given z base) (run given base) (effects.inv given base (all_keep given base goes.can_base) z) (finds_at S z)
         (answering given base events later agent t caller site ops actor goes opens weaker opens_up fits z) start (goes.starts z start may) in
-        first_votes_at given base goes.can_base z (λ before later parts. unmoved before later one parts has) (led_to_by (fixed_of given) (run given base) (finds_at S z) z start) end.was
+        (end.was, end.last)
+
+    -- where enough of those are open, they are the row's
+    found_row : (one : ℕ × LockMode) → Contains (asks_for given base t caller ops) one → (start : Prefix) → MayStart (fixed_of given) actor.agent.cache site one.0 start
+        → is_met (demand_by (opens one.0 one.1) one.0 one.1 (led_to_by (fixed_of given) (run given base) (finds_at S one.0) one.0 start).votes) ≡ true
+        → (led_to_by (fixed_of given) (run given base) (finds_at S one.0) one.0 start).votes ≡ votes_now given base one.0
+    found_row one has start may met =
+        let z = one.0 in
+        let end = ends_at z start may in
+        let is = found_is_row given z (machine_of given z base) (run given base) (effects.inv given base (all_keep given base goes.can_base) z) (finds_at S z)
+        (answering given base events later agent t caller site ops actor goes opens weaker opens_up fits z) (found z start) end.0 end.1 (quorum one.1 refl met) in
+        ap (λ (prefix : Prefix). prefix.votes) is ∙ row_votes given base goes.can_base z (row_at given base z) refl
+      where
+        votes : Configuration
+        votes = (found one.0 start).votes
+
+        more : (n : ℕ) → nat_le n (votes_in (found one.0 start).votes.reps (opens one.0 one.1)) ≡ true → nat_le n (votes_in (found one.0 start).votes.reps (finds_at S one.0)) ≡ true
+        more n is =
+            up_to n (votes_in (found one.0 start).votes.reps (opens one.0 one.1)) (votes_in (found one.0 start).votes.reps (finds_at S one.0)) is
+            (votes_in-wider (found one.0 start).votes.reps (opens one.0 one.1) (finds_at S one.0)
+            (λ server. opens_wider S one.0 one.1 (first_mode (asks_for given base t caller ops) one.0) server (wide one has)))
+
+        quorum : (mode : LockMode) → one.1 ≡ mode → nat_le (needed_of one.1 (found one.0 start).votes) (votes_in (found one.0 start).votes.reps (opens one.0 one.1)) ≡ true → IsQuorum (found one.0 start).votes (finds_at S one.0)
+        quorum Shared same is = inl (more (found one.0 start).votes.r (subst (λ mode. nat_le (needed_of mode (found one.0 start).votes) (votes_in (found one.0 start).votes.reps (opens one.0 one.1)) ≡ true) same is))
+        quorum Exclusive same is = inr (more (found one.0 start).votes.w (subst (λ mode. nat_le (needed_of mode (found one.0 start).votes) (votes_in (found one.0 start).votes.reps (opens one.0 one.1)) ≡ true) same is))
 
     locks_are : locks_on (table_of given base) (its given base events later agent t caller site ops actor goes) ≡ asks_for given base t caller ops
     locks_are = ap (λ n. locks_asked (table_of given base) n caller ops) (number given base events later agent t caller site ops actor goes)
@@ -126,32 +172,78 @@ module _ (given : Opening) (base events later : List Event) (agent t : ℕ) (cal
 
     -- ---- where its end is fixed
 
+    -- Votes were found by a prefix that the suite had: of its voting members that are open none shows a newer one, nor does any server that granted a lock on the suite.
+    pub record IsFound (suite : ℕ) (votes : Configuration) : Type 0 where
+      pub prefix : Prefix
+      pub is : votes ≡ prefix.votes
+      pub was : WasPrefix (beginning suite given) (machine_of given suite base).log prefix
+      pub last : newer_by (fixed_of given) (run given base) (opens suite (first_mode (asks_for given base t caller ops) suite)) suite prefix ≡ None
+      pub top : (front back : List Event) (what : Served) → later ≡ front ++ Step agent ∷ back → (step (fixed_of given) (world_after given events agent caller site ops front) (Step agent)).done.served ≡ Some what
+          → for_lock t suite what.request.value ≡ true → held_by what.reply.value ≡ true → (shown_at (fixed_of given) (run given base) suite what.server).pver ≤ prefix.pver
+
+    -- too few votes were open of a suite: of those that it sets, or of those that were found
     pub record IsWanting : Type 0 where
       pub suite : ℕ
       pub mode : LockMode
       pub asks : Contains (asks_for given base t caller ops) (suite, mode)
-      pub few : votes_in given.c0.reps (opens suite mode) < needed_of mode given.c0
+      pub votes : Configuration
+      pub few : votes_in votes.reps (opens suite mode) < needed_of mode votes
+      pub how : ((mode ≡ Exclusive) × Contains (votes_set (table_of given base) t caller ops) (suite, votes)) ⊎ IsFound suite votes
 
-    pub wanting : ((set : ℕ × Configuration) → Contains (votes_set (table_of given base) t caller ops) set → set.1 ≡ given.c0) → is_up (run given base) (home_of (fixed_of given).service t) ≡ true
-        → Short given base events later agent t caller site ops actor goes opens weaker opens_up fits → IsWanting
-    wanting moves_none home short = of (find (unmet S) wants) refl short.right.ends
+    pub wanting : is_up (run given base) (home_of (fixed_of given).service t) ≡ true → Short given base events later agent t caller site ops actor goes opens weaker opens_up fits → IsWanting
+    wanting home short = of (find (unmet S) wants) refl short.right.1.ends
       where
+        start : ℕ → Prefix
+        start = short.right.1.start
+
         wants : List Want
         wants =
-            map (of_lock (fixed_of given) (run given base) S short.right.start) (locks_on (table_of given base) (its given base events later agent t caller site ops actor goes))
+            map (of_lock (fixed_of given) (run given base) S short.right.1.start) (locks_on (table_of given base) (its given base events later agent t caller site ops actor goes))
             ++ map of_votes (sets_on (table_of given base) (its given base events later agent t caller site ops actor goes))
 
         undecided_not : (answer : Result (List Answer) Refusal) → Undecided short.cause ≡ ending_of answer → ⊥
         undecided_not (Ok answers) is = cc
         undecided_not (Err refusal) is = cc
 
-        short_of : (one : ℕ × LockMode) (votes : Configuration) → Contains (asks_for given base t caller ops) one → votes ≡ given.c0 → unmet S (record { suite = one.0; mode = one.1; votes = votes }) ≡ true → IsWanting
-        short_of one votes has first few = record {
-          suite = one.0;
-          mode = one.1;
-          asks = has;
-          few = subst (λ (votes : Configuration). votes_in votes.reps (opens one.0 one.1) < needed_of one.1 votes) first (too_few (needed_of one.1 votes) (votes_in votes.reps (opens one.0 one.1)) few);
-        }
+        of_set : (set : ℕ × Configuration) → Has (sets_on (table_of given base) (its given base events later agent t caller site ops actor goes)) set → unmet S (of_votes set) ≡ true → IsWanting
+        of_set set has few =
+            let there = subst (λ all. Has all set) sets_are has in
+            record {
+              suite = set.0;
+              mode = Exclusive;
+              asks = contains_from asked (set.0, Exclusive) (sets_asked (table_of given base) t caller ops set there);
+              votes = set.1;
+              few = too_few set.1.w (votes_in set.1.reps (opens set.0 Exclusive)) few;
+              how = inl (refl, contains_from (votes_set (table_of given base) t caller ops) set there);
+            }
+
+        Led : Want → Type 0
+        Led want = IsLed (fixed_of given) (run given base) S (table_of given base) (its given base events later agent t caller site ops actor goes) actor.agent.cache short.right.0 short.right.1.start want
+
+        of_led : (one : ℕ × LockMode) → Contains (asks_for given base t caller ops) one → Led (of_lock (fixed_of given) (run given base) S short.right.1.start one) → unmet S (of_lock (fixed_of given) (run given base) S short.right.1.start one) ≡ true → IsWanting
+        of_led one has led few =
+            let z = one.0 in
+            let end = ends_at z (short.right.1.start z) (short.right.1.from z) in
+            record {
+              suite = z;
+              mode = one.1;
+              asks = has;
+              votes = (found z (short.right.1.start z)).votes;
+              few = too_few (needed_of one.1 (found z (short.right.1.start z)).votes) (votes_in (found z (short.right.1.start z)).votes.reps (opens z one.1)) few;
+              how = inr (record {
+                prefix = found z (short.right.1.start z);
+                is = refl;
+                was = end.0;
+                last = end.1;
+                top = λ front back what split served lock held'.
+                    let work = asks_at_work given base events later agent t caller site ops actor goes front back split what served z lock in
+                    let told = short.told front back what split work served z (for_lock_named t z what.request.value lock).1 (says_so what.reply.value held') in
+                    let above = held_open (fixed_of given) (run given base) S z led.suite.collector.start Exclusive (all_told led.suite.collector) led.right Shared what.server
+                    (ap (λ found. holds Shared (told_in found) what.server) (sym led.there) ∙ told) in
+                    subst (λ (prefix : Prefix). (shown_at (fixed_of given) (run given base) z what.server).pver ≤ prefix.pver) led.leads
+                    (ltb-false (newest led.suite.collector.start (all_told led.suite.collector)).pver (shown_at (fixed_of given) (run given base) z what.server).pver above.1);
+              });
+            }
 
         of : (found : Option Want) → find (unmet S) wants ≡ found
             → EndsAs (fixed_of given) (run given base) S (table_of given base) (its given base events later agent t caller site ops actor goes) actor.agent.cache (Undecided short.cause) found → IsWanting
@@ -163,17 +255,16 @@ module _ (given : Opening) (base events later : List Event) (agent t : ℕ) (cal
             let some = find_some (unmet S) wants want is in
             ⊎_elim
             (λ lock.
-            let one = has_map (of_lock (fixed_of given) (run given base) S short.right.start) (locks_on (table_of given base) (its given base events later agent t caller site ops actor goes)) want lock in
+            let one = has_map (of_lock (fixed_of given) (run given base) S short.right.1.start) (locks_on (table_of given base) (its given base events later agent t caller site ops actor goes)) want lock in
             let has = contains_from asked one.0 (subst (λ all. Has all one.0) locks_are one.1) in
-            short_of one.0 (led_to_by (fixed_of given) (run given base) (finds_at S one.0.0) one.0.0 (short.right.start one.0.0)).votes has
-            (found_first one.0 has (short.right.start one.0.0) (short.right.from one.0.0)) (ap (unmet S) one.2 ∙ some.1))
+            ⊎_elim
+            (λ set. of_set set.0 set.1 (ap (unmet S) (sym set.2) ∙ some.1))
+            (λ led. of_led one.0 has (subst Led (sym one.2) led.0) (ap (unmet S) one.2 ∙ some.1))
+            (short.right.1.last want is))
             (λ set.
             let one = has_map of_votes (sets_on (table_of given base) (its given base events later agent t caller site ops actor goes)) want set in
-            let there = subst (λ all. Has all one.0) sets_are one.1 in
-            short_of (one.0.0, Exclusive) one.0.1 (contains_from asked (one.0.0, Exclusive) (sets_asked (table_of given base) t caller ops one.0 there))
-            (moves_none one.0 (contains_from (votes_set (table_of given base) t caller ops) one.0 there))
-            (ap (unmet S) one.2 ∙ some.1))
-            (has_append (map (of_lock (fixed_of given) (run given base) S short.right.start) (locks_on (table_of given base) (its given base events later agent t caller site ops actor goes))) _ want some.0)
+            of_set one.0 one.1 (ap (unmet S) one.2 ∙ some.1))
+            (has_append (map (of_lock (fixed_of given) (run given base) S short.right.1.start) (locks_on (table_of given base) (its given base events later agent t caller site ops actor goes))) _ want some.0)
 
   -- ---- what it asks for
 
@@ -191,15 +282,15 @@ module _ (given : Opening) (base events later : List Event) (agent t : ℕ) (cal
   had_held : (suites : Suites) (one : ℕ × LockMode) → Contains (asks_for given base t caller ops) one
       → ((suite : _) → suite_of suites one.0 ≡ Some suite → IsRight (fixed_of given) (run given base) H (table_of given base) (its given base events later agent t caller site ops actor goes) actor.agent.cache one.0 suite)
       → IsHad (fixed_of given) (run given base) H (table_of given base) (its given base events later agent t caller site ops actor goes) actor.agent.cache suites one
-      → needed_of one.1 given.c0 ≤ votes_in given.c0.reps (held given base events later agent t caller site ops actor goes one.0 one.1)
+      → needed_of one.1 (votes_now given base one.0) ≤ votes_in (votes_now given base one.0).reps (held given base events later agent t caller site ops actor goes one.0 one.1)
   had_held suites one has right had =
-      let first = found_first (opens_held given base events later agent t caller site ops actor goes) (held_weaker given base events later agent t caller site ops actor goes)
+      let row = found_row (opens_held given base events later agent t caller site ops actor goes) (held_weaker given base events later agent t caller site ops actor goes)
       (held_up given base events later agent t caller site ops actor goes)
-      (held_fits given base events later agent t caller site ops actor goes) one has had.suite.collector.start (right had.suite had.there).may in
-      enough (needed_of one.1 given.c0) (votes_in given.c0.reps (opens_held given base events later agent t caller site ops actor goes one.0 one.1))
-      (votes_in given.c0.reps (held given base events later agent t caller site ops actor goes one.0 one.1))
-      (subst (λ (votes : Configuration). is_met (demand_by (opens_held given base events later agent t caller site ops actor goes one.0 one.1) one.0 one.1 votes) ≡ true) first had.met)
-      (votes_in-wider given.c0.reps (opens_held given base events later agent t caller site ops actor goes one.0 one.1) (held given base events later agent t caller site ops actor goes one.0 one.1)
+      (held_fits given base events later agent t caller site ops actor goes) one has had.suite.collector.start (right had.suite had.there).may had.met in
+      enough (needed_of one.1 (votes_now given base one.0)) (votes_in (votes_now given base one.0).reps (opens_held given base events later agent t caller site ops actor goes one.0 one.1))
+      (votes_in (votes_now given base one.0).reps (held given base events later agent t caller site ops actor goes one.0 one.1))
+      (subst (λ (votes : Configuration). is_met (demand_by (opens_held given base events later agent t caller site ops actor goes one.0 one.1) one.0 one.1 votes) ≡ true) row had.met)
+      (votes_in-wider (votes_now given base one.0).reps (opens_held given base events later agent t caller site ops actor goes one.0 one.1) (held given base events later agent t caller site ops actor goes one.0 one.1)
       (λ server is. (and_parts (is_up (run given base) server) (held given base events later agent t caller site ops actor goes one.0 one.1 server) is).1))
 
   module _ (so_far rest : List Event) (split : later ≡ so_far ++ Step agent ∷ rest) (what : Served) (served : (step (fixed_of given) (world_after given events agent caller site ops so_far) (Step agent)).done.served ≡ Some what)
@@ -228,7 +319,7 @@ module _ (given : Opening) (base events later : List Event) (agent t : ℕ) (cal
     reaches_by : (y : ℕ) (mode : LockMode) (before after : List (ℕ × LockMode)) → y ≡ z → mode_of what.request.value ≡ mode
         → locks_on (table_of given base) (its given base events later agent t caller site ops actor goes) ≡ onto before ((y, mode) ∷ after)
         → ((other : ℕ × LockMode) → Has before other → Contains (asks_for given base t caller ops) other
-        → needed_of other.1 given.c0 ≤ votes_in given.c0.reps (held given base events later agent t caller site ops actor goes other.0 other.1))
+        → needed_of other.1 (votes_now given base other.0) ≤ votes_in (votes_now given base other.0).reps (held given base events later agent t caller site ops actor goes other.0 other.1))
         → Reaches (z, mode_of what.request.value)
     reaches_by y mode before after at is order had =
         let all : asks_for given base t caller ops ≡ onto before ((y, mode) ∷ after) =

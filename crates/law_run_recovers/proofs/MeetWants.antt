@@ -1,35 +1,28 @@
 -- One that meets another and is not decided wants votes: it asked for a lock, and of who has a vote too few did not refuse it.
-use Rattle.law_run_recovers.proofs.Vocabulary.{◌≡◌, inl, inr, ℕ, ◌+◌, ◌<◌, ◌≤◌, Bool, true, false, cond, List, [], ◌∷◌, ◌++◌, refl, sym, subst, arith, ◌==◌, ◌&&◌, ◌%◌, ◌/◌, not, All, Contains, mod-lt, false≢true, eqb-true, All-contains}
-use Rattle.law_run_recovers.proofs.Vocabulary.{Opening, LockMode, Shared, Exclusive, needed_of, Representative, Configuration, votes_in, votes_at, total_votes, IsValid, Has, contains_from, Transaction, home_of, fixed_of, Event, Begin}
-use Rattle.law_run_recovers.proofs.Vocabulary.{Actor, run, table_of, Begun, votes_set, VotesNeverMovedOf, asks_for, is_up, begun_world}
+use Rattle.law_run_recovers.proofs.Vocabulary.{◌≡◌, inl, inr, ⊎_elim, ℕ, ◌+◌, ◌<◌, ◌≤◌, Bool, true, false, List, [], ◌∷◌, ◌++◌, refl, sym, subst, ◌∙◌, arith, ◌==◌, ◌&&◌, ◌%◌, ◌/◌, not, AllByRecursion, Contains, mod-lt, false≢true, eqb-true}
+use Rattle.law_run_recovers.proofs.Vocabulary.{Opening, LockMode, Shared, Exclusive, serves, needed_of, mode_of, Configuration, votes_in, votes_at, total_votes, IsValid, Service, Has, has_from, Transaction, home_of, fixed_of, Event, Begin}
+use Rattle.law_run_recovers.proofs.Vocabulary.{Actor, run, decisions, table_of, service_stays, EventGivesValidVotes, Begun, votes_set, asks_for, first_mode, is_up, shown_at, begun_world, SetsApart, votes_now}
+use Rattle.file_ops.specs.Rows as rows
 use Rattle.law_run_recovers.proofs.Free.{is_up_of}
 use Rattle.law_run_recovers.proofs.MeetCalm.{Calm, calm_front}
-use Rattle.law_run_recovers.proofs.MeetCourse.{short_at}
+use Rattle.law_run_recovers.proofs.Polled.{closed_wider}
+use Rattle.law_run_recovers.proofs.RowVotes.{ListsKnown, set_so, sets_known, sets_valid, prefix_known}
+use Rattle.law_run_recovers.proofs.MeetBehind.{up_voter, valid_was, row_or_old}
+use Rattle.law_run_recovers.proofs.MeetCount.{Falls}
+use Rattle.law_run_recovers.proofs.MeetCourse.{sight, answering, short_at}
 use Rattle.law_run_recovers.proofs.MeetEnds.{Fixed}
 use Rattle.law_run_recovers.proofs.MeetQuiet.{GoesQuietly}
-use Rattle.law_run_recovers.proofs.MeetReach.{wanting}
+use Rattle.law_run_recovers.proofs.MeetReach.{wide, wanting}
 use Rattle.law_run_recovers.proofs.MeetRun.{part, its_actor, goes_of, never_decides}
-use Rattle.law_run_recovers.proofs.MeetTold.{refuses, some_step, opens_free, free_weaker, free_up, free_fits}
-
--- ---- who has a vote
-
-rep_with : (reps : List Representative) (server : ℕ) → 0 < votes_at reps server → (rep : Representative) × Has reps rep × (rep.0 ≡ server)
-rep_with [] server some = absurd (omega (arith, some))
-rep_with (rep ∷ reps) server some = of (rep.0 == server) refl (rep_with reps server) some
-  where
-    of : (b : Bool) → (rep.0 == server) ≡ b → (0 < votes_at reps server → (one : Representative) × Has reps one × (one.0 ≡ server)) → 0 < cond b rep.1 0 + votes_at reps server
-        → (one : Representative) × Has (rep ∷ reps) one × (one.0 ≡ server)
-    of true is go some = (rep, inl refl, eqb-true rep.0 server is)
-    of false is go some = let rest = go (omega (arith, some)) in (rest.0, inr rest.1, rest.2)
-
-known : (servers : ℕ) (reps : List Representative) (server : ℕ) → All (λ rep. rep.0 < servers) reps → 0 < votes_at reps server → server < servers
-known servers reps server all some =
-    let rep = rep_with reps server some in
-    subst (λ s. s < servers) rep.2 (All-contains (λ (rep : Representative). rep.0 < servers) reps rep.0 all (contains_from reps rep.0 rep.1))
+use Rattle.law_run_recovers.proofs.MeetTold.{for_lock, says_held, grants, refuses, some_step, found_in, four, opens_free, free_weaker, free_up, free_fits}
 
 in_range : (votes : Configuration) (mode : LockMode) → IsValid votes → needed_of mode votes ≤ total_votes votes.reps
 in_range votes Shared valid = valid.r_in_range.1
 in_range votes Exclusive valid = valid.w_in_range.1
+
+at_here : (front : List Event) (event : Event) (back : List Event) → AllByRecursion EventGivesValidVotes (front ++ event ∷ back) → EventGivesValidVotes event
+at_here [] event back all = all.0
+at_here (x ∷ front) event back all = at_here front event back all.1
 
 shut_by : (a b : Bool) → a ≡ true → (a && not b) ≡ false → b ≡ true
 shut_by true true up is = refl
@@ -53,7 +46,7 @@ module _ (given : Opening) (events later : List Event) (calm : Calm given events
   abbrev actor : Actor
   actor = (its_actor given events upto calm_upto it).0
 
-  goes : GoesQuietly given events (events ++ who.before) f.front who.agent who.t who.caller who.site who.ops actor
+  pub goes : GoesQuietly given events (events ++ who.before) f.front who.agent who.t who.caller who.site who.ops actor
   goes = goes_of given events upto calm_upto it
 
   abbrev open_to : ℕ → LockMode → ℕ → Bool
@@ -65,36 +58,100 @@ module _ (given : Opening) (events later : List Event) (calm : Calm given events
   home_up : is_up (run given events) (home_of (fixed_of given).service who.t) ≡ true
   home_up = is_up_of given events calm.fair.up (home_of (fixed_of given).service who.t) (mod-lt (who.t % 64 + who.t / 64) some_servers)
 
+  -- who granted it a lock on a suite, in a mode or in a stronger one
+  abbrev pub had : ℕ → LockMode → ℕ → Bool
+  had y mode server = some_step (grants who.t y mode server) who.agent (fixed_of given) (begun_world given (events ++ who.before) who.agent who.caller who.site who.ops) f.front
+
+  abbrev pub shows : ℕ → ℕ → ℕ
+  shows y server = (shown_at (fixed_of given) (run given events) y server).pver
+
   -- a lock that it asked for, of which it got too few votes
-  pub record Wants : Type 0 where
+  pub record Wants (others : List (ℕ × LockMode)) : Type 0 where
     pub suite : ℕ
     pub mode : LockMode
     pub asks : Contains (asks_for given events who.t who.caller who.ops) (suite, mode)
+    pub votes : Configuration
     pub open' : ℕ → Bool
-    pub few : votes_in given.c0.reps open' < needed_of mode given.c0
-    pub most : needed_of mode given.c0 ≤ total_votes given.c0.reps
-    pub shut : (server : ℕ) → 0 < votes_at given.c0.reps server → open' server ≡ false
+    pub few : votes_in votes.reps open' < needed_of mode votes
+    pub most : needed_of mode votes ≤ total_votes votes.reps
+    pub falls : Falls (votes_now given events) had shows others suite votes open'
+    pub shut : (server : ℕ) → 0 < votes_at votes.reps server → open' server ≡ false
         → some_step (refuses who.t suite mode server) who.agent (fixed_of given) (begun_world given (events ++ who.before) who.agent who.caller who.site who.ops) f.front ≡ true
 
-  module _ (unmoved : VotesNeverMovedOf given events (asks_for given events who.t who.caller who.ops))
-      (moves_none : (set : ℕ × Configuration) → Contains (votes_set (table_of given events) who.t who.caller who.ops) set → set.1 ≡ given.c0) where
-    pub wants : Wants
+  -- ---- what it sets votes of
+
+  service_is : (table_of given events).service ≡ (fixed_of given).service
+  service_is = service_stays (rows.opening given) (decisions given events)
+
+  set_known : (set : ℕ × Configuration) → Has (votes_set (table_of given events) who.t who.caller who.ops) set → ListsKnown given.servers set.1
+  set_known set has =
+      let table = table_of given events in
+      subst (λ (service : Service). ListsKnown service.servers set.1) service_is
+      (set_so (ListsKnown table.service.servers) table who.t who.caller who.ops
+      (sets_known table who.t who.caller who.ops (subst (λ (service : Service). ListsKnown service.servers service.c0) (sym service_is) goes.can_base.accepted.known_servers)) set has)
+
+  set_valid : (set : ℕ × Configuration) → Has (votes_set (table_of given events) who.t who.caller who.ops) set → IsValid set.1
+  set_valid set has =
+      set_so IsValid (table_of given events) who.t who.caller who.ops
+      (sets_valid (table_of given events) who.t who.caller who.ops (subst (λ (service : Service). IsValid service.c0) (sym service_is) goes.can_base.c0)
+      (at_here (events ++ who.before) (Begin who.agent (Transaction who.caller who.site who.ops)) f.front goes.can.votes)) set has
+
+  module _ (others : List (ℕ × LockMode)) (apart : SetsApart given events (votes_set (table_of given events) who.t who.caller who.ops) others) where
+    pub wants : Wants others
     wants =
         let never = never_decides given events upto calm_upto it in
         let weaker = free_weaker given events (events ++ who.before) f.front who.agent who.t who.caller who.site who.ops actor goes in
         let opens_up = free_up given events (events ++ who.before) f.front who.agent who.t who.caller who.site who.ops actor goes in
         let fits = free_fits given events (events ++ who.before) f.front who.agent who.t who.caller who.site who.ops actor goes in
         let short = short_at given events (events ++ who.before) f.front who.agent who.t who.caller who.site who.ops actor goes open_to weaker opens_up fits never f.rests in
-        let one = wanting given events (events ++ who.before) f.front who.agent who.t who.caller who.site who.ops actor goes never unmoved open_to weaker opens_up fits moves_none home_up short in
+        let one = wanting given events (events ++ who.before) f.front who.agent who.t who.caller who.site who.ops actor goes never open_to weaker opens_up fits home_up short in
+        let barred : (server : ℕ) → is_up (run given events) server ≡ true → open_to one.suite one.mode server ≡ false
+        → some_step (refuses who.t one.suite one.mode server) who.agent (fixed_of given) (begun_world given (events ++ who.before) who.agent who.caller who.site who.ops) f.front ≡ true =
+        λ server up is. shut_by (is_up (run given events) server)
+        (some_step (refuses who.t one.suite one.mode server) who.agent (fixed_of given) (begun_world given (events ++ who.before) who.agent who.caller who.site who.ops) f.front) up is in
+        ⊎_elim
+        (λ set.
+        let has = has_from (votes_set (table_of given events) who.t who.caller who.ops) (one.suite, one.votes) set.1 in
         record {
           suite = one.suite;
           mode = one.mode;
           asks = one.asks;
+          votes = one.votes;
           open' = open_to one.suite one.mode;
           few = one.few;
-          most = in_range given.c0 one.mode calm.fair.can.c0;
-          shut = λ server has_vote is.
-              shut_by (is_up (run given events) server)
-              (some_step (refuses who.t one.suite one.mode server) who.agent (fixed_of given) (begun_world given (events ++ who.before) who.agent who.caller who.site who.ops) f.front)
-              (is_up_of given events calm.fair.up server (known given.servers given.c0.reps server calm.fair.can.accepted.known_servers has_vote)) is;
-        }
+          most = in_range one.votes one.mode (set_valid (one.suite, one.votes) has);
+          falls = ⊎_elim (λ same. inl same) (λ none. inr (inr none)) (apart (one.suite, one.votes) set.1);
+          shut = λ server has_vote is. barred server (up_voter given events goes.can_base goes.free calm.fair.up one.votes (set_known (one.suite, one.votes) has) server has_vote) is;
+        })
+        (λ found.
+        let known = prefix_known given goes.can_base.accepted.known_servers events goes.can_base one.suite found.prefix found.was in
+        record {
+          suite = one.suite;
+          mode = one.mode;
+          asks = one.asks;
+          votes = one.votes;
+          open' = open_to one.suite one.mode;
+          few = one.few;
+          most = in_range one.votes one.mode (subst IsValid (sym found.is) (valid_was given events goes.can_base goes.free calm.fair.up one.suite found.prefix found.was));
+          falls = ⊎_elim
+              (λ row. inl (found.is ∙ row))
+              (λ old. inr (inl (record {
+                prefix = found.prefix.pver;
+                server = old.server;
+                has_vote = subst (λ (v : Configuration). 0 < votes_at v.reps old.server) (sym found.is) old.has_vote;
+                shut = closed_wider (sight given events (events ++ who.before) f.front who.agent who.t who.caller who.site who.ops actor goes open_to weaker opens_up fits) one.suite
+                    (first_mode (asks_for given events who.t who.caller who.ops) one.suite) one.mode old.server
+                    (wide given events (events ++ who.before) f.front who.agent who.t who.caller who.site who.ops actor goes never (one.suite, one.mode) one.asks) old.shut;
+                newer = old.newer;
+                below = λ mode other is.
+                    let g = found_in (grants who.t one.suite mode other) who.agent (fixed_of given) (begun_world given (events ++ who.before) who.agent who.caller who.site who.ops) f.front is in
+                    let facts = four (g.what.server == other) (for_lock who.t one.suite g.what.request.value) (says_held g.what.reply.value) (serves (mode_of g.what.request.value) mode) g.is in
+                    subst (λ server. (shown_at (fixed_of given) (run given events) one.suite server).pver ≤ found.prefix.pver) (eqb-true g.what.server other facts.0)
+                    (found.top g.front g.back g.what g.parts g.served facts.1 facts.2);
+              })))
+              (row_or_old given events goes.can_base goes.free calm.fair.up one.suite found.prefix found.was
+              (open_to one.suite (first_mode (asks_for given events who.t who.caller who.ops) one.suite))
+              (answering given events (events ++ who.before) f.front who.agent who.t who.caller who.site who.ops actor goes open_to weaker opens_up fits one.suite) found.last known);
+          shut = λ server has_vote is. barred server (up_voter given events goes.can_base goes.free calm.fair.up one.votes (subst (ListsKnown given.servers) (sym found.is) known) server has_vote) is;
+        })
+        one.how

@@ -1,12 +1,16 @@
 -- Two users meet, by computation.
 use Rattle.law_run_recovers.proofs.Vocabulary.{◌≡◌, ◌⊎◌, inl, inr, ℕ, false, List, [], ◌∷◌, ◌++◌, refl, sym, ap, subst, ◌∙◌, ◌+◌, Contains, list_all, LockMode, Shared, Exclusive, Configuration, total_votes, needed_of, row_of, has_from}
 use Rattle.law_run_recovers.proofs.Vocabulary.{Transaction, fixed_of, owner, a, Event, Begin, opening, run, Decided, decisions, decisions_from, table_after_all, decisions_from-append, EventGivesValidVotes, CanBe, with_caches}
-use Rattle.law_run_recovers.proofs.Vocabulary.{some_run_revokes, Begun, spoils, two_made, turns, puts, HasFirstVotes, VotesNeverMovedOf, two_meet, SomeRunsMeet}
+use Rattle.law_run_recovers.proofs.Vocabulary.{some_run_revokes, Begun, spoils, two_made, turns, puts, HasFirstVotes, VotesNeverMovedOf, two_meet, SomeRunsMeet, votes_moved, SomeRunsMeetByRows}
+use Rattle.law_run_recovers.proofs.Vocabulary.{Bool, true, Some, None, Action, Op, Sweep, Step, Crash, Return, Forget, Lack, GivesValidVotes}
 use Rattle.file_ops.specs.Rows as rows
+use Rattle.file_ops.specs.declared.operation.Action.TheVariants as action
 use Rattle.law_run_recovers.proofs.AmongCourse.{head_or, tail_or}
 use Rattle.law_run_recovers.proofs.BesideWorked.{none_spoils_it, is_step, none_begins}
 use Rattle.law_run_recovers.proofs.ValidEvents.{all_by, event_sets_none, valid_event}
 use Rattle.law_run_recovers.proofs.Keeps.{after_append}
+use Rattle.law_run_recovers.proofs.LawsWorked.{votes_fit, valid_votes}
+use Rattle.law_run_recovers.specs.Contending.{at_the_last}
 use Rattle.law_run_recovers.proofs.MeetCount.{Same}
 
 they_can : CanBe with_caches (two_made ++ two_meet)
@@ -26,8 +30,8 @@ one = record { before = []; after = second ∷ turns 16; agent = 0; t = 64; call
 abbrev other : Begun with_caches two_made two_meet
 other = record { before = first ∷ []; after = turns 16; agent = 1; t = 1; caller = owner; site = 0; ops = puts a 1 ∷ []; parts = refl; begins = refl }
 
-alone : (third : Begun with_caches two_made two_meet) → (third.before ≡ []) ⊎ (third.before ≡ first ∷ [])
-alone third = of third.before refl third.parts
+alone : (events : List Event) (third : Begun with_caches events two_meet) → (third.before ≡ []) ⊎ (third.before ≡ first ∷ [])
+alone events third = of third.before refl third.parts
   where
     of : (before : List Event) → third.before ≡ before → two_meet ≡ before ++ Begin third.agent (Transaction third.caller third.site third.ops) ∷ third.after → (third.before ≡ []) ⊎ (third.before ≡ first ∷ [])
     of [] same parts = inl same
@@ -94,7 +98,7 @@ some_runs_meet = record {
     unspoiled = λ before rest event split.
         subst (λ world. spoils with_caches world event ≡ false) (sym (after_append (fixed_of with_caches) two_made before (opening with_caches))) (none_spoils_it two_meet before event rest (run with_caches two_made) refl split);
     two = refl;
-    alone = alone;
+    alone = alone two_made;
     suite = 1;
     mine = Exclusive;
     theirs = Exclusive;
@@ -107,5 +111,75 @@ some_runs_meet = record {
     moves_none = λ set has. absurd (none_set set has);
     other_moves_none = λ set has. absurd (none_set set has);
   };
+  ends = refl;
+}
+
+-- ---- where votes were moved
+
+abbrev action_fits : Action → Bool
+action_fits (action.Make kind init None) = true
+action_fits (action.Make kind init (Some votes)) = votes_fit votes
+action_fits (action.SetVotes votes) = votes_fit votes
+action_fits _ = true
+
+fits_valid : (one : Action) → action_fits one ≡ true → GivesValidVotes one
+fits_valid (action.Make kind init None) is = tt
+fits_valid (action.Make kind init (Some votes)) is = valid_votes votes is
+fits_valid (action.SetVotes votes) is = valid_votes votes is
+fits_valid _ is = tt
+
+abbrev event_fits : Event → Bool
+event_fits (Begin number (Transaction caller site ops)) = list_all (λ (op : Op). action_fits op.action) ops
+event_fits _ = true
+
+event_valid : (event : Event) → event_fits event ≡ true → EventGivesValidVotes event
+event_valid (Begin number (Transaction caller site ops)) is = all_by (λ (op : Op). GivesValidVotes op.action) (λ op. action_fits op.action) (λ op. fits_valid op.action) ops is
+event_valid (Begin number (Sweep server)) is = tt
+event_valid (Step number) is = tt
+event_valid (Crash server) is = tt
+event_valid (Return server) is = tt
+event_valid (Forget number site) is = tt
+event_valid (Lack number why) is = tt
+
+moved_can : CanBe with_caches (votes_moved ++ two_meet)
+moved_can = record { accepted = some_run_revokes.can_be.accepted; c0 = some_run_revokes.can_be.c0; votes = all_by EventGivesValidVotes event_fits event_valid (votes_moved ++ two_meet) refl }
+
+abbrev first_then : Begun with_caches votes_moved two_meet
+first_then = record { before = []; after = second ∷ turns 16; agent = 0; t = 128; caller = owner; site = 0; ops = puts a 0 ∷ []; parts = refl; begins = refl }
+
+abbrev second_then : Begun with_caches votes_moved two_meet
+second_then = record { before = first ∷ []; after = turns 16; agent = 1; t = 1; caller = owner; site = 0; ops = puts a 1 ∷ []; parts = refl; begins = refl }
+
+last_tight : (mine theirs : LockMode) → needed_of mine at_the_last + needed_of theirs at_the_last ≡ total_votes at_the_last.reps + 1
+last_tight Shared Shared = refl
+last_tight Shared Exclusive = refl
+last_tight Exclusive Shared = refl
+last_tight Exclusive Exclusive = refl
+
+pub some_runs_meet_by_rows : SomeRunsMeetByRows
+some_runs_meet_by_rows = record {
+  one = first_then;
+  other = second_then;
+  meets = record {
+    can = moved_can;
+    idle = refl;
+    up = refl;
+    free = refl;
+    unspoiled = λ before rest event split.
+        subst (λ world. spoils with_caches world event ≡ false) (sym (after_append (fixed_of with_caches) votes_moved before (opening with_caches)))
+        (none_spoils_it two_meet before event rest (run with_caches votes_moved) refl split);
+    two = refl;
+    alone = alone votes_moved;
+    suite = 1;
+    mine = Exclusive;
+    theirs = Exclusive;
+    first = refl;
+    other_first = refl;
+    not_both_raise = refl;
+    tight = λ mine theirs has there clash. last_tight mine theirs;
+    sets_apart = λ set has. absurd (none_set set has);
+    other_sets_apart = λ set has. absurd (none_set set has);
+  };
+  moved = refl;
   ends = refl;
 }

@@ -4,7 +4,7 @@ use Rattle.law_run_recovers.proofs.Vocabulary.{IsAvailable, Lends}
 use Rattle.law_run_recovers.proofs.Again.{one_of_them_is_decided}
 use Rattle.law_run_recovers.proofs.AloneLaws.{ends_are_by_votes, they_end_in_time, decided_where_votes_are}
 use Rattle.law_run_recovers.proofs.AmongLaws.{among_locks_end_by_votes, among_locks_are_decided_where_votes_are}
-use Rattle.law_run_recovers.proofs.BesideLaws.{side_by_side_are_decided, side_by_side_end_in_time, side_by_side_are_told_freely}
+use Rattle.law_run_recovers.proofs.BesideLaws.{side_by_side_are_decided, side_by_side_end_in_time, side_by_side_are_told_freely, side_by_side_are_unmet, side_by_side_end_by_votes}
 use Rattle.law_run_recovers.proofs.Blocking.{blocked_by_doubts, some_server_blocks, one_crash_blocks}
 use Rattle.law_run_recovers.proofs.Calm.{sweeps_keep_effects}
 use Rattle.law_run_recovers.proofs.Free.{no_lock_is_left}
@@ -12,7 +12,7 @@ use Rattle.law_run_recovers.proofs.HadVotes.{decided_had_votes_up}
 use Rattle.law_run_recovers.proofs.Histories.{finished_before_at_server, changes_are_met_at_server}
 use Rattle.law_run_recovers.proofs.Homes.{homes_go_round}
 use Rattle.law_run_recovers.proofs.InTime.{runs_end_by_the_bounds}
-use Rattle.law_run_recovers.proofs.MeetLaw.{one_that_meets_is_decided}
+use Rattle.law_run_recovers.proofs.MeetLaw.{one_that_meets_is_decided, one_that_meets_by_rows_is_decided}
 use Rattle.law_run_recovers.proofs.Rounds.{only_doubts_are_left}
 use Rattle.law_run_recovers.proofs.Rows.{met_demands_are_rows}
 use Rattle.law_run_recovers.proofs.Stored.{all_is_stored}
@@ -51,7 +51,10 @@ available sites given events can = record {
   beside_decided = side_by_side_are_decided given events;
   beside_in_time = side_by_side_end_in_time given events;
   beside_told = side_by_side_are_told_freely given events;
+  beside_unmet = side_by_side_are_unmet given events;
+  beside_ends = side_by_side_end_by_votes given events;
   one_that_meets = one_that_meets_is_decided given events;
+  meets_by_rows = one_that_meets_by_rows_is_decided given events;
   finished = finished_before_at_server given events can;
   changes_met = changes_are_met_at_server given events can;
   homes = homes_go_round given;

@@ -1,6 +1,6 @@
 -- How a transaction stands to which servers stand as a sight says: what it has asked for so far and how that was found, and how it ends.
 use Rattle.law_run_recovers.proofs.Vocabulary.{◌≡◌, ◌⊎◌, inl, inr, ℕ, ◌≤◌, Bool, true, false, cond, List, [], ◌∷◌, ◌++◌, append-nil, Option, Some, None, is_some, Result, Ok, Err, refl, sym, ap, subst, ◌∙◌, ◌==◌, not, nat_lt, find, map}
-use Rattle.law_run_recovers.proofs.Vocabulary.{list_any, nat_cmp, eqb-true, nat_cmp_total, IsOrdered, IsOrdered-insert, Identity, Representative, Configuration, IsValid, max_servers, absent_prefix, Prefix, LockMode, Shared, Exclusive}
+use Rattle.law_run_recovers.proofs.Vocabulary.{list_any, nat_cmp, eqb-true, nat_cmp_total, same_Some, IsOrdered, IsOrdered-insert, Identity, Representative, Configuration, IsValid, max_servers, absent_prefix, Prefix, LockMode, Shared, Exclusive}
 use Rattle.law_run_recovers.proofs.Vocabulary.{serves, Has, Verdict, Answer, Refusal, Op, PlainTable, row_of, Need, Ended, needs, ending, transaction, newest, holds, Collector, all_told, Cache, hint, Ending, Undecided, Unavailable}
 use Rattle.law_run_recovers.proofs.Vocabulary.{ReadPoint, GatheredSuite, Suites, suite_of, with_suite, Fixed, Task, Granted, Phase, Gathering, Fetching, Preparing, Deciding, Finishing, TransactionRun, After, GoesOn, Ends, home_of}
 use Rattle.law_run_recovers.proofs.Vocabulary.{short_cause, tell_end, prepare, Each, EachBut, with_at, each_but, each_with, World, is_up, Demand, demand_by, is_met, newer_by, led_to_by, has_asked, not_asked, locks_asked, votes_set}
@@ -84,15 +84,34 @@ module _ (fixed : Fixed) (world : World) (sight : Sight) (table : PlainTable) (t
       ⊎ ((at : ℕ × ℕ) × (ended ≡ Undecided (Busy at.0 at.1)) × (sight.met want.suite at.0 at.1 ≡ true))
   EndsAs ended None = ended ≡ ending_by None (is_up world (home_of fixed.service task.t)) (answer_to table task)
 
-  pub record EndsRight (ended : Ending) : Type 0 where
+  -- a suite that it wants is among those that it gathered, and the newest prefix that it was told of is where the suite's votes are found
+  pub record IsLed (suites : Suites) (start : ℕ → Prefix) (want : Want) : Type 0 where
+    pub suite : GatheredSuite
+    pub there : suite_of suites want.suite ≡ Some suite
+    pub right : AllRight fixed world sight want.suite Exclusive (all_told suite.collector)
+    pub leads : newest suite.collector.start (all_told suite.collector) ≡ led_to_by fixed world (finds_at sight want.suite) want.suite (start want.suite)
+
+  -- or it is to get votes
+  abbrev pub IsSetOrLed : Suites → (ℕ → Prefix) → Want → Type 0
+  IsSetOrLed suites start want = ((set : ℕ × Configuration) × Has (sets_on table task) set × (want ≡ of_votes set)) ⊎ (IsLed suites start want × (want.votes ≡ (led_to_by fixed world (finds_at sight want.suite) want.suite (start want.suite)).votes))
+
+  -- With these suites gathered it ends so.
+  pub record EndsRight (suites : Suites) (ended : Ending) : Type 0 where
     pub start : ℕ → Prefix
     pub from : MayStartAll fixed cache task.site start
     pub ends : EndsAs ended (find (unmet sight) (wants_of fixed world sight table task.t task.caller task.ops start))
+    pub last : (want : Want) → find (unmet sight) (wants_of fixed world sight table task.t task.caller task.ops start) ≡ Some want → IsSetOrLed suites start want
 
-  pub ends_short : (start : ℕ → Prefix) → MayStartAll fixed cache task.site start → (want : Want) → find (unmet sight) (wants_of fixed world sight table task.t task.caller task.ops start) ≡ Some want
+  pub ends_short : (suites : Suites) (start : ℕ → Prefix) → MayStartAll fixed cache task.site start → (want : Want) → find (unmet sight) (wants_of fixed world sight table task.t task.caller task.ops start) ≡ Some want
+      → IsSetOrLed suites start want
       → (number had wanting : ℕ) (busy : Option (ℕ × ℕ)) → number ≡ want.suite → had ≡ (demand_of sight want).got → wanting ≡ (demand_of sight want).needed → Refusing fixed world sight want.suite want.mode want.votes.reps busy
-      → EndsRight (Undecided (short_cause number had wanting busy))
-  ends_short start from want is number had wanting busy a b c refuses = record { start = start; from = from; ends = subst (EndsAs (Undecided (short_cause number had wanting busy))) (sym is) (of busy refl) }
+      → EndsRight suites (Undecided (short_cause number had wanting busy))
+  ends_short suites start from want is last number had wanting busy a b c refuses = record {
+    start = start;
+    from = from;
+    ends = subst (EndsAs (Undecided (short_cause number had wanting busy))) (sym is) (of busy refl);
+    last = λ other there. subst (IsSetOrLed suites start) (same_Some want other (sym is ∙ there)) last;
+  }
     where
       of : (found : Option (ℕ × ℕ)) → busy ≡ found → EndsAs (Undecided (short_cause number had wanting found)) (Some want)
       of None none = inl (
@@ -317,17 +336,17 @@ module _ (fixed : Fixed) (world : World) (sight : Sight) (table : PlainTable) (t
     PhaseStands suites now (doing.Widening (number ∷ left) granted) = IsWidening suites number left granted
     PhaseStands suites now (Preparing left outcome) = HasAll suites (answer_in outcome)
     PhaseStands suites now (Deciding outcome) = HasAll suites (answer_in outcome)
-    PhaseStands suites now (Finishing left v ended) = EndsRight ended
+    PhaseStands suites now (Finishing left v ended) = EndsRight suites ended
 
     abbrev pub AfterStands : Cache → After TransactionRun → Type 0
     AfterStands now (GoesOn txn_run) = (txn_run.task ≡ task) × PhaseStands txn_run.suites now txn_run.phase
-    AfterStands now (Ends ended) = EndsRight ended
+    AfterStands now (Ends ended) = (suites : Suites) × EndsRight suites ended
 
     abbrev pub StepStands : Step → Type 0
     StepStands step = AfterStands step.cache step.after
 
-    pub told_stands : (now : Cache) (suites : Suites) (v : Verdict) (ended : Ending) (servers : List ℕ) → EndsRight ended → StepStands (tell_end task now suites v ended servers)
-    told_stands now suites v ended [] right = right
+    pub told_stands : (now : Cache) (suites : Suites) (v : Verdict) (ended : Ending) (servers : List ℕ) → EndsRight suites ended → StepStands (tell_end task now suites v ended servers)
+    told_stands now suites v ended [] right = (suites, right)
     told_stands now suites v ended (server ∷ servers) right = (refl, right)
 
     pub prepare_stands : (now : Cache) (suites : Suites) (outcome : doing.Proposal) (servers : List ℕ) → HasAll suites (answer_in outcome) → StepStands (prepare task now suites outcome servers)

@@ -221,7 +221,8 @@ pub use Rattle.law_run_recovers.specs.Alone.{hinders, its_step, own_steps, unhin
 pub use Rattle.law_run_recovers.specs.Among.{AmongLocksAreAnsweredAsBegun, AmongLocksAreDecidedWhereVotesAre, AmongLocksEndByVotes, AmongLocksEndInTime, AmongLocksGatherTheirAsks, AmongLocksHadVotesOpen, AmongLocksLeaveNoLock}
 pub use Rattle.law_run_recovers.specs.Among.{EndsByOpenVotes, EndsOpenly, GathersItsAsks, GoesAmongLocks, StandsStill, UnmetAreAmongLocks, first_wanting, has_votes_open, is_gathered}
 pub use Rattle.law_run_recovers.specs.Beside.{Begun, GoSideBySide, SideBySideAreDecided, SideBySideAreToldFreely, SideBySideEndInTime, clash, clashes, its_asks, spoils}
-pub use Rattle.law_run_recovers.specs.BesideWorked.{SomeRunsGoSideBySide, turns, two_made, two_write}
+pub use Rattle.law_run_recovers.specs.BesideDown.{GoSideBySideWhileDown, SideBySideAreUnmet, SideBySideEndByVotes, SideBySideEndWhileDown}
+pub use Rattle.law_run_recovers.specs.BesideWorked.{SomeRunsGoSideBySide, turns, two_made, two_write, first_down}
 pub use Rattle.law_run_recovers.specs.Blocking.{BlockedByDoubts, DoubtedAt, IsBlocker, OneCrashBlocks, SomeServerBlocks, SweepsAll, WasItsHome, blocks, can_have}
 pub use Rattle.law_run_recovers.specs.Contending.{NoneOfThree, NoneOfTwoCrossed, NoneOfTwoOfWhichOneRaises, NoneOfTwoThatRaise, NoneOfTwoThatSetVotes, NoneOfTwoThatWriteAll, SomeRunsStarve, b, puts}
 pub use Rattle.law_run_recovers.specs.Demands.{Demand, MayStart, MayStartAll, VotesAreUp, all_met, change_in, changes_on, demand, demand_by, demands, demands_of_rows, first_short, has_asked, is_met, led_on, led_so_far_by, led_to, led_to_by}
@@ -232,7 +233,8 @@ pub use Rattle.law_run_recovers.specs.Laws.{DecidedHadVotesUp, DecidedWhereVotes
 pub use Rattle.law_run_recovers.specs.Laws.{answer_on, ending_by, ending_of, goes_again}
 pub use Rattle.law_run_recovers.specs.Local.{EndsThen, NearVotesAreRows, OpenVotesAreRows, UnmetAreDecidedWhereVotesAre, UnmetEndByVotes, UnmetEndInTime, UnmetHadVotesUp, VotesNeverMovedOf, WasDecidedThen, few_steps}
 pub use Rattle.law_run_recovers.specs.Meets.{AreTight, OneThatMeetsIsDecided, TheyMeet, first_clash, its_votes}
-pub use Rattle.law_run_recovers.specs.MeetsWorked.{SomeRunsMeet, two_meet}
+pub use Rattle.law_run_recovers.specs.MeetsByRows.{OneThatMeetsByRowsIsDecided, SetsApart, TheyMeetByRows, votes_now}
+pub use Rattle.law_run_recovers.specs.MeetsWorked.{SomeRunsMeet, SomeRunsMeetByRows, two_meet, votes_moved}
 pub use Rattle.law_run_recovers.specs.Near.{AreNear, asks_for, in_its_way, is_open_at, is_open_way, is_way_met, way_at, way_in}
 pub use Rattle.law_run_recovers.specs.OpenDemands.{Want, first_mode, mode_or, open_demand, open_demands, wants, wants_of_rows}
 pub use Rattle.law_run_recovers.specs.Promises.{IsAvailable, Lends}

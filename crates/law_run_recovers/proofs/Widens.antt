@@ -9,6 +9,7 @@ use Rattle.txn_core.specs.Transactions.{Step}
 use Rattle.law_run_recovers.proofs.Polled.{Sight, AllRight}
 use Rattle.law_run_recovers.proofs.Widened.{WidenedShort, widened_short, widened_current}
 use Rattle.law_run_recovers.proofs.VotesSet.{IsSet}
+use Rattle.law_run_recovers.proofs.Asked.{onto_left}
 use Rattle.law_run_recovers.proofs.Asking.{held_in}
 use Rattle.law_run_recovers.proofs.Stands.{
   IsKept,
@@ -117,12 +118,13 @@ module _ (fixed : Fixed) (world : World) (sight : Sight) (table : PlainTable) (t
 
   -- one is not
   pub set_short : (suites : Suites) (done left : List (ℕ × Configuration)) (one : ℕ × Configuration) (granted : Granted) → Setting suites done (one ∷ left) granted
-      → (had wanting : ℕ) (busy : Option (ℕ × ℕ)) → WidenedShort fixed world sight one.0 one.1 had wanting busy → EndsRight fixed world sight table task cache (Undecided (short_cause one.0 had wanting busy))
+      → (had wanting : ℕ) (busy : Option (ℕ × ℕ)) → WidenedShort fixed world sight one.0 one.1 had wanting busy → EndsRight fixed world sight table task cache suites (Undecided (short_cause one.0 had wanting busy))
   set_short suites done left one granted s had wanting busy short =
       let start = starts fixed world sight table task cache suites in
-      ends_short fixed world sight table task cache start (may_start fixed world sight table task cache suites s.right) (of_votes one)
+      ends_short fixed world sight table task cache suites start (may_start fixed world sight table task cache suites s.right) (of_votes one)
       (short_votes fixed world sight table task cache start s.so_far done left one s.all (λ other has. had_met fixed world sight table task cache suites other (s.had other has))
       s.sets (λ other has. ap not (s.met other has)) (ap not short.too_few))
+      (inl (one, subst (λ sets. Has sets one) (sym s.sets) (onto_left done (one ∷ left) one (inl refl)), refl))
       one.0 had wanting busy refl short.had_is short.wanting_is short.refuses
 
   module _ (Was : ℕ → Prefix → Type 0) (ground : Ground fixed world sight cache task.site (locks_on table task) Was) where

@@ -1,12 +1,13 @@
--- Runs that the laws of who is unmet and among locks are about, and those of sweeps that leave a doubt, by computation.
-use Rattle.std.specs.Prelude.{◌≡◌, ℕ, true, false, List, [], ◌∷◌, ◌++◌}
+-- Runs that the laws of who is unmet, among locks and told as at its begin are about, and those of sweeps that leave a doubt, by computation.
+use Rattle.std.specs.Prelude.{◌≡◌, ℕ, true, false, List, [], ◌∷◌, ◌++◌, Some}
 use Rattle.vote_core.specs.Quorums.{Configuration}
 use Rattle.suite_prefix.specs.declared.lock_mode.LockMode.TheVariants.{Exclusive}
 use Rattle.file_ops.specs.declared.answer.Answer.TheVariants as answer
+use Rattle.file_ops.specs.declared.operation.Action.TheVariants as action
 use Rattle.txn_core.specs.declared.ending.Ending.TheVariants.{Answered, Undecided}
 use Rattle.txn_core.specs.declared.ending.Cause.TheVariants.{Busy}
 use Rattle.txn_core.specs.declared.job.Job.TheVariants.{Transaction}
-use Rattle.txn_core.specs.Runs.{owner, a}
+use Rattle.txn_core.specs.Runs.{owner, a, op}
 use Rattle.run_core.specs.declared.event.Event.{Event}
 use Rattle.run_core.specs.declared.event.Event.TheVariants.{Begin}
 use Rattle.run_core.specs.Worlds.{Actor}
@@ -15,8 +16,10 @@ use Rattle.law_runs.specs.Worked.{two_agents, so_many}
 use Rattle.law_run_alone.specs.Undisturbed.{all_up}
 use Rattle.law_run_recovers.specs.Standing.{is_up}
 use Rattle.law_run_recovers.specs.Sweeping.{sweeps, SweepsAlone}
-use Rattle.law_run_recovers.specs.Unmet.{GoesUnmet}
+use Rattle.law_run_recovers.specs.Near.{way_at}
+use Rattle.law_run_recovers.specs.Unmet.{world_after, GoesUnmet}
 use Rattle.law_run_recovers.specs.Among.{GoesAmongLocks}
+use Rattle.law_run_recovers.specs.Told.{ToldAsAtItsBegin}
 use Rattle.law_run_recovers.specs.OpenDemands.{Want}
 use Rattle.law_run_recovers.specs.Blocking.{SweepsAll, can_have}
 use Rattle.law_run_recovers.specs.BesideWorked.{turns}
@@ -47,6 +50,22 @@ pub record IsAmongLocks : Type 0 where
   pub ends : endings_in one_server (a_locked ++ Begin 0 (Transaction owner 0 (puts a 0 ∷ [])) ∷ so_many 6 0) ≡
       (0, Answered (answer.Made 1 ∷ answer.Made 2 ∷ [])) ∷ (64, Undecided (Busy 0 1)) ∷ []
 
+-- ---- it is told as at its begin, though a lock came in its way and went
+
+-- After its first step another reads `/a`, whose lock would be in its way, and has let it go before it asks for that.
+abbrev pub locks_it : List Event
+locks_it = so_many 1 0 ++ Begin 1 (Transaction owner 0 (op a action.Read ∷ [])) ∷ so_many 3 1
+
+abbrev pub read_between : List Event
+read_between = locks_it ++ so_many 5 1 ++ so_many 7 0
+
+pub record IsToldAsAtItsBegin : Type 0 where
+  pub actor : Actor
+  pub goes : ToldAsAtItsBegin one_server both_made read_between 0 64 owner 0 (puts a 0 ∷ []) actor
+  pub was_in_its_way : way_at (world_after one_server both_made 0 owner 0 (puts a 0 ∷ []) locks_it) 64 1 Exclusive 0 ≡ Some (Some 1)
+  pub ends : endings_in one_server (both_made ++ Begin 0 (Transaction owner 0 (puts a 0 ∷ [])) ∷ read_between) ≡
+      (0, Answered (answer.Made 1 ∷ answer.Made 2 ∷ [])) ∷ (1, Answered (answer.Read [] ∷ [])) ∷ (64, Answered (answer.Wrote ∷ [])) ∷ []
+
 -- ---- a sweep leaves a doubt, which blocks the file
 
 -- the write of an agent that stopped, prepared at servers 0 and 2; its home, server 1, has crashed
@@ -74,4 +93,5 @@ pub record DoubtsAreLeft : Type 0 where
 pub record SomeRunsShowTheLaws : Type 0 where
   pub unmet : IsMetByNobody
   pub among : IsAmongLocks
+  pub told : IsToldAsAtItsBegin
   pub doubts : DoubtsAreLeft

@@ -14,9 +14,11 @@ use Rattle.law_run_recovers.specs.Laws.{EndsAreByVotesAt, EndsInTimeAt, MetDeman
 use Rattle.law_run_recovers.specs.InTime.{RunsEndByTheBoundsAt}
 use Rattle.law_run_recovers.specs.Local.{UnmetEndByVotesAt, UnmetEndInTimeAt, UnmetHadVotesUpAt, UnmetAreDecidedWhereVotesAreAt}
 use Rattle.law_run_recovers.specs.Meets.{OneThatMeetsIsDecidedAt}
+use Rattle.law_run_recovers.specs.MeetsByRows.{OneThatMeetsByRowsIsDecidedAt}
 use Rattle.law_run_recovers.specs.Among.{AmongLocksEndByVotesAt, AmongLocksEndInTimeAt, AmongLocksHadVotesOpenAt, AmongLocksAreDecidedWhereVotesAreAt, AmongLocksAreAnsweredAsBegunAt, AmongLocksGatherTheirAsksAt, AmongLocksLeaveNoLockAt}
 use Rattle.law_run_recovers.specs.Told.{ToldEndByVotesAt, ToldEndInTimeAt, ToldHadVotesOpenAt, ToldAreDecidedWhereVotesAreAt, ToldAreAnsweredAsBegunAt, ToldGatherTheirAsksAt}
 use Rattle.law_run_recovers.specs.Beside.{SideBySideAreDecidedAt, SideBySideEndInTimeAt, SideBySideAreToldFreelyAt}
+use Rattle.law_run_recovers.specs.BesideDown.{SideBySideAreUnmetAt, SideBySideEndByVotesAt}
 use Rattle.law_run_recovers.specs.Histories.{FinishedBeforeAtServerAt, ChangesAreMetAtServerAt}
 use Rattle.law_run_recovers.specs.Blocking.{BlockedByDoubtsAt, SomeServerBlocksAt, OneCrashBlocksAt}
 use Rattle.law_run_recovers.specs.Sweeping.{SweepsLeaveDoubtsAt, SweepsKeepEffectsAt, OnlyDoubtsAreLeftAt, NoLockIsLeftAt, AllIsStoredAt, TakenAwayAreNeverDecidedAt}
@@ -60,8 +62,14 @@ pub record IsAvailable (given : Opening) (events : List Event) : Type 0 where
   pub beside_decided : SideBySideAreDecidedAt given events
   pub beside_in_time : SideBySideEndInTimeAt given events
   pub beside_told : SideBySideAreToldFreelyAt given events
+  -- nobody meets those that go side by side from now on while servers stay down, with no lock at those that are up: each that ends, ends as the votes say that
+  -- are up
+  pub beside_unmet : SideBySideAreUnmetAt given events
+  pub beside_ends : SideBySideEndByVotesAt given events
   -- of two that begin from now on and alone meet, at one suite first and by votes that leave enough to one of them, one is decided once both have ended
   pub one_that_meets : OneThatMeetsIsDecidedAt given events
+  -- so it is where votes were set before, by the votes that are in effect as they begin
+  pub meets_by_rows : OneThatMeetsByRowsIsDecidedAt given events
   -- where a server served the Finish of one transaction before a request of another that is none, the first was decided before the second; so a change whose
   -- Finish says that it was answered is met
   pub finished : FinishedBeforeAtServerAt given events

@@ -22,9 +22,11 @@
 //!   `told_are_answered_as_begun`, `told_gather_their_asks`); one among locks that stay is one
 //!   (`among_locks_are_told_as_begun`).
 //! - So transactions side by side, of which each begins only where it clashes with none that runs, are all decided
-//!   (`side_by_side_are_decided`, `side_by_side_end_in_time`, `side_by_side_are_told_freely`).
+//!   (`side_by_side_are_decided`, `side_by_side_end_in_time`, `side_by_side_are_told_freely`). While servers stay down
+//!   nobody meets them (`side_by_side_are_unmet`, `side_by_side_end_by_votes`, `side_by_side_end_while_down`).
 //! - Of two that alone meet, at one suite first and by votes that leave enough to one of them, one is decided
-//!   (`one_that_meets_is_decided`; a run is in `some_runs_meet`).
+//!   (`one_that_meets_is_decided`; a run is in `some_runs_meet`), also where votes were set before
+//!   (`one_that_meets_by_rows_is_decided`, `some_runs_meet_by_rows`).
 //! - Homes go round. So where the votes are up, of as many tries as there are servers one is decided
 //!   (`homes_go_round`, `one_of_them_is_decided`).
 //! - Sweeps leave only locks in doubt, change no copy in effect, and with all servers up leave none
@@ -43,11 +45,12 @@
 //!
 //! **Files**: `lib`, `meeting`, `promises`, `told`. **Definitions** (`specs/`): `Standing`, `Alone`, `Demands`,
 //! `InTime`, `Laws`, `Sweeping`, `Promises`, `Worked`, `Near`, `Unmet`, `OpenDemands`, `Local`, `Among`, `Told`,
-//! `Beside`, `BesideWorked`, `Meets`, `MeetsWorked`, `Histories`, `Blocking`, `Contending`, `LawsWorked`. The proofs follow
-//! a transaction over its agent's steps (`proofs/Stands.antt`, `Asking.antt`; at each moment `AmongCourse.antt`,
-//! `AmongStep.antt`, `AmongEnds.antt`, of which what goes alone is a case, `AloneLaws.antt`, `Tries.antt`; where two
-//! meet `MeetCourse.antt`, `MeetReach.antt`, `MeetLaw.antt`) and a sweep by its list (`Sweeps.antt`, `Swept.antt`,
-//! `Rounds.antt`).
+//! `Beside`, `BesideDown`, `BesideWorked`, `Meets`, `MeetsByRows`, `MeetsWorked`, `Histories`, `Blocking`, `Contending`,
+//! `LawsWorked`.
+//! The proofs follow a transaction over its agent's steps (`proofs/Stands.antt`, `Asking.antt`; at each moment
+//! `AmongCourse.antt`, `AmongStep.antt`, `AmongEnds.antt`, of which what goes alone is a case, `AloneLaws.antt`,
+//! `Tries.antt`; where two meet `MeetCourse.antt`, `MeetReach.antt`, `MeetLaw.antt`) and a sweep by its list
+//! (`Sweeps.antt`, `Swept.antt`, `Rounds.antt`).
 #![tactic(auto)]
 
 mod meeting;
@@ -58,6 +61,7 @@ ghost use Rattle.law_run_recovers.specs.Laws.{EndsAreByVotes, EndsInTime, MetDem
 ghost use Rattle.law_run_recovers.specs.Local.{AloneAreUnmet, NearVotesAreRows, OpenVotesAreRows, UnmetAreDecidedWhereVotesAre, UnmetEndByVotes, UnmetEndInTime, UnmetHadVotesUp};
 ghost use Rattle.law_run_recovers.specs.Among.{UnmetAreAmongLocks, AmongLocksEndByVotes, AmongLocksEndInTime, AmongLocksHadVotesOpen, AmongLocksAreDecidedWhereVotesAre, AmongLocksAreAnsweredAsBegun, AmongLocksGatherTheirAsks, AmongLocksLeaveNoLock};
 ghost use Rattle.law_run_recovers.specs.Beside.{SideBySideAreDecided, SideBySideEndInTime, SideBySideAreToldFreely};
+ghost use Rattle.law_run_recovers.specs.BesideDown.{SideBySideAreUnmet, SideBySideEndByVotes, SideBySideEndWhileDown};
 ghost use Rattle.law_run_recovers.specs.BesideWorked.{SomeRunsGoSideBySide};
 ghost use Rattle.law_run_recovers.specs.Histories.{FinishedBeforeAtServer, ChangesAreMetAtServer};
 ghost use Rattle.law_run_recovers.specs.InTime.{RunsEndByTheBounds};
@@ -67,7 +71,10 @@ ghost use Rattle.law_run_recovers.specs.Blocking.{BlockedByDoubts, SomeServerBlo
 ghost use Rattle.law_run_recovers.specs.Contending.{SomeRunsStarve};
 ghost use Rattle.law_run_recovers.specs.LawsWorked.{SomeRunsShowTheLaws};
 
-pub use meeting::{one_that_meets_is_decided, some_runs_meet};
+pub use meeting::{
+    one_that_meets_by_rows_is_decided, one_that_meets_is_decided, some_runs_meet,
+    some_runs_meet_by_rows,
+};
 pub use promises::{promise, what_can_be_is_available};
 pub use told::{
     among_locks_are_told_as_begun, told_are_answered_as_begun, told_are_decided_where_votes_are,
@@ -215,6 +222,23 @@ pub fn side_by_side_are_told_freely()
     ensures { SideBySideAreToldFreely }
 {}
 
+/// A law: where servers are down, no server that is up has a lock and no agent has a job, and then each server stays up or
+/// down as it is, nobody sweeps and each request is served: transactions of which each begins only where it clashes with
+/// none that runs are met by nobody. It does nothing.
+pub fn side_by_side_are_unmet()
+    ensures { SideBySideAreUnmet }
+{}
+
+/// A law: so each of them that ends, ends as the votes say that are up. It does nothing.
+pub fn side_by_side_end_by_votes()
+    ensures { SideBySideEndByVotes }
+{}
+
+/// A law: and each ends, within so many steps of its agent as its locks and the servers bound. It does nothing.
+pub fn side_by_side_end_while_down()
+    ensures { SideBySideEndWhileDown }
+{}
+
 /// A law: where votes were never moved, such a transaction is decided exactly where its home and the votes of the rows are
 /// up. It does nothing.
 pub fn decided_where_votes_are()
@@ -306,14 +330,15 @@ pub fn some_runs_starve()
     ensures { SomeRunsStarve }
 {}
 
-/// A law: runs of one that nobody meets while another is at work, and of one that goes among locks and is told of one; and
-/// sweeps that leave a doubt, which blocks a file. It does nothing.
+/// A law: runs of one that nobody meets while another is at work, of one that goes among locks and is told of one, and of
+/// one that is told as at its begin though a lock came in its way and went; and sweeps that leave a doubt, which blocks a
+/// file. It does nothing.
 pub fn some_runs_show_the_laws()
     ensures { SomeRunsShowTheLaws }
 {}
 
-/// A law: a run in which two users go side by side, each with a file of its own, step by step in turn; both are answered. It
-/// does nothing.
+/// A law: a run in which two users go side by side, each with a file of its own, step by step in turn, and one in which they
+/// do so while a server is down; both are answered. It does nothing.
 pub fn some_runs_go_side_by_side()
     ensures { SomeRunsGoSideBySide }
 {}

@@ -1,7 +1,8 @@
 //! Transactions that meet.
 
 ghost use Rattle.law_run_recovers.specs.Meets.{OneThatMeetsIsDecided};
-ghost use Rattle.law_run_recovers.specs.MeetsWorked.{SomeRunsMeet};
+ghost use Rattle.law_run_recovers.specs.MeetsByRows.{OneThatMeetsByRowsIsDecided};
+ghost use Rattle.law_run_recovers.specs.MeetsWorked.{SomeRunsMeet, SomeRunsMeetByRows};
 
 /// A law: two transactions begin, and no other job, where every agent is idle, every server is up and no lock is left,
 /// and nothing spoils what follows. They meet first at one suite, in modes that clash: not both read it and then write
@@ -11,8 +12,21 @@ pub fn one_that_meets_is_decided()
     ensures { OneThatMeetsIsDecided }
 {}
 
+/// A law: of two that meet so one is decided too where votes were set before, or files were made with votes of their own:
+/// the votes of the suite at which they meet are those that are in effect as they begin, which are tight for both, and
+/// neither sets other votes of what the other asks for. It does nothing.
+pub fn one_that_meets_by_rows_is_decided()
+    ensures { OneThatMeetsByRowsIsDecided }
+{}
+
 /// A law: a run in which two users meet, who write one file at once, step by step in turn; one is answered. It does
 /// nothing.
 pub fn some_runs_meet()
     ensures { SomeRunsMeet }
+{}
+
+/// A law: a run in which two users write one file at once whose votes were set before, and one of them looks for it by the
+/// old ones; the other is answered. It does nothing.
+pub fn some_runs_meet_by_rows()
+    ensures { SomeRunsMeetByRows }
 {}
