@@ -1,6 +1,7 @@
 pub mod Places
 pub mod Joining
 pub mod Stepping
+pub mod Taken
 pub mod Reading
 pub mod LinesPlayed
 pub mod Finding
