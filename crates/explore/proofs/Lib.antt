@@ -7,3 +7,4 @@ pub mod LinesPlayed
 pub mod Finding
 pub mod WayLines
 pub mod BegunJobs
+pub mod WordByWord
