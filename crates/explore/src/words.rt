@@ -1,7 +1,7 @@
 //! The command line: what is asked for.
 
 ghost use Rattle.std.specs.Prelude.{◌≡◌, IfSome, option_map, slice_get};
-ghost use Rattle.explore.specs.Words.{asks_help, choice_in, first_reading, first_wish, from_one, large, small, wanted_behind};
+ghost use Rattle.explore.specs.Words.{asks_help, choice_in, first_reading, from_one, large, small, wanted_behind};
 ghost use Rattle.explore.specs.Words.{wanted_by, with_number, with_option, with_word, with_word_behind};
 
 use byte_streams::{Words, read_wanted};
