@@ -1,8 +1,10 @@
 pub mod Places
 pub mod Joining
 pub mod Stepping
+pub mod Taken
 pub mod Reading
 pub mod LinesPlayed
 pub mod Finding
 pub mod WayLines
 pub mod BegunJobs
+pub mod WordByWord

@@ -2,6 +2,7 @@ pub mod Lines
 pub mod Halves
 pub mod Tasks
 pub mod Ways
+pub mod Words
 pub mod Retold
 pub mod Shown
 pub mod Runs

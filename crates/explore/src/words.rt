@@ -1,7 +1,12 @@
 //! The command line: what is asked for.
 
+ghost use Rattle.std.specs.Prelude.{◌≡◌, IfSome, option_map, slice_get};
+ghost use Rattle.explore.specs.Words.{asks_help, choice_in, first_reading, from_one, large, small, wanted_behind};
+ghost use Rattle.explore.specs.Words.{wanted_by, with_number, with_option, with_word, with_word_behind};
+
+use byte_streams::{Words, read_wanted};
 use script_text::read_number;
-use std::env::{Env, FillError};
+use std::env::FillError;
 
 /// How much may happen, and how many worlds are looked at.
 #[derive(Clone, Copy)]
@@ -29,107 +34,195 @@ pub(crate) enum Wanted {
     Nothing,
 }
 
+/// An option that takes a number.
+#[derive(Clone, Copy)]
+pub(crate) enum Choice {
+    Crashes,
+    Returns,
+    Forgets,
+    Stops,
+    Worlds,
+    Way,
+}
+
+/// What words asked for so far, and the option whose number comes next.
+#[derive(Clone, Copy)]
+pub(crate) struct Reading {
+    pub(crate) wish: Wish,
+    pub(crate) tells_progress: bool,
+    pub(crate) option: Option<Choice>,
+}
+
 /// The most words that say something: each option once.
-const MOST: usize = 16;
+const MOST: usize = 14;
 
 /// The most bytes of a word.
 const LONGEST: usize = 16;
 
 /// What the words of the command line ask for.
-pub(crate) fn read_words<R: Env>(rt: &R) -> Wanted {
-    let mut wish = first_wish();
-    let mut tells_progress = false;
-    let mut place = 1;
-    while place < MOST {
-        let mut word = [0; LONGEST];
-        let option = match rt.arg(place, &mut word) {
-            Err(FillError::NotPresent) => {
-                return Wanted::Explore {
-                    wish,
-                    tells_progress,
-                };
-            }
-            Err(_) => return Wanted::Nothing,
-            Ok(length) => word.get(..length).unwrap_or(b""),
+pub(crate) fn read_words<W: Words>(words: &W) -> Wanted
+    ensures { IfSome (W.words words.now) (λ given. result ≡ wanted_by given) }
+{
+    if asks_help(words) {
+        return Wanted::Help;
+    }
+    let mut reading = first_reading();
+    let mut place = 0;
+    while place <= MOST {
+        let Some(said) = read_word(words, place, reading) else {
+            return wanted_of(reading);
         };
-        if place == 1 && option == b"--help".as_slice() {
-            return Wanted::Help;
-        }
-        if stands_alone(option, &mut wish.is_brief, &mut tells_progress) {
-            place += 1;
-            continue;
-        }
-        let mut number = [0; LONGEST];
-        let given = match rt.arg(place + 1, &mut number) {
-            Ok(length) => number.get(..length).unwrap_or(b""),
-            Err(_) => return Wanted::Nothing,
-        };
-        if !takes(&mut wish, option, given) {
+        let Some(next) = said else {
             return Wanted::Nothing;
-        }
-        place += 2;
+        };
+        reading = next;
+        place += 1;
     }
     Wanted::Nothing
 }
 
+/// Whether the first word asks for help.
+fn asks_help<W: Words>(words: &W) -> bool
+    ensures { IfSome (W.words words.now) (λ given. result ≡ asks_help given) }
+{
+    matches!(read_wanted(words), byte_streams::Wanted::Help)
+}
+
 /// All ways, where nothing crashes and nobody stops.
-fn first_wish() -> Wish {
-    Wish {
-        bounds: Bounds {
-            crashes: 0,
-            returns: 0,
-            forgets: 0,
-            stops: 0,
-            worlds: u32::MAX,
+fn first_reading() -> Reading
+    ensures { result ≡ first_reading }
+{
+    Reading {
+        wish: Wish {
+            bounds: Bounds {
+                crashes: 0,
+                returns: 0,
+                forgets: 0,
+                stops: 0,
+                worlds: u32::MAX,
+            },
+            is_brief: false,
+            way: None,
         },
-        is_brief: false,
-        way: None,
+        tells_progress: false,
+        option: None,
     }
 }
 
-/// Takes an option that stands alone; tells whether it is one.
-fn stands_alone(option: &[u8], is_brief: &mut bool, tells_progress: &mut bool) -> bool {
-    match option {
-        b"--brief" => *is_brief = true,
-        b"--progress" => *tells_progress = true,
-        _ => return false,
-    }
-    true
-}
-
-/// Takes an option with its number; tells whether it is one.
-fn takes(wish: &mut Wish, option: &[u8], given: &[u8]) -> bool {
-    let bounds = &mut wish.bounds;
-    match option {
-        b"--crashes" => takes_small(&mut bounds.crashes, given),
-        b"--returns" => takes_small(&mut bounds.returns, given),
-        b"--forgets" => takes_small(&mut bounds.forgets, given),
-        b"--stops" => takes_small(&mut bounds.stops, given),
-        b"--worlds" => match read_number(given, u64::from(u32::MAX)) {
-            Some(number) => {
-                bounds.worlds = number as u32;
-                true
-            }
-            None => false,
-        },
-        b"--way" => match read_number(given, u64::from(u32::MAX)) {
-            Some(number) if number > 0 => {
-                wish.way = Some(number as u32);
-                true
-            }
-            _ => false,
-        },
-        _ => false,
+/// What is asked for with the word at a place, if that says something; nothing, where no word is.
+fn read_word<W: Words>(words: &W, place: usize, reading: Reading) -> Option<Option<Reading>>
+    ensures { IfSome (W.words words.now) (λ given. result ≡ option_map (with_word reading) (slice_get given place)) }
+{
+    let mut word = [0; LONGEST];
+    match words.word(place, &mut word) {
+        Err(FillError::NotPresent) => None,
+        Err(FillError::TooLong) => Some(None),
+        Ok(length) => Some(with_word(reading, word.get(..length).unwrap_or(b""))),
     }
 }
 
-/// Takes a number up to 255; tells whether it is one.
-fn takes_small(place: &mut u8, given: &[u8]) -> bool {
-    match read_number(given, u64::from(u8::MAX)) {
-        Some(number) => {
-            *place = number as u8;
-            true
-        }
-        None => false,
+/// What is asked for with a word more, if it says something.
+fn with_word(reading: Reading, word: &[u8]) -> Option<Reading>
+    ensures { result ≡ with_word_behind reading.option reading word.now }
+{
+    match reading.option {
+        Some(choice) => Some(Reading {
+            wish: with_number(reading.wish, choice, word)?,
+            tells_progress: reading.tells_progress,
+            option: None,
+        }),
+        None => with_option(reading, word),
+    }
+}
+
+/// What is asked for with an option more, if a word is one.
+fn with_option(reading: Reading, word: &[u8]) -> Option<Reading>
+    ensures { result ≡ with_option reading word.now }
+{
+    let mut next = reading;
+    if word == b"--brief".as_slice() {
+        next.wish.is_brief = true;
+    } else if word == b"--progress".as_slice() {
+        next.tells_progress = true;
+    } else {
+        next.option = Some(choice_in(word)?);
+    }
+    Some(next)
+}
+
+/// The option that a word is, of those that take a number.
+fn choice_in(word: &[u8]) -> Option<Choice>
+    ensures { result ≡ choice_in word.now }
+{
+    if word == b"--crashes".as_slice() {
+        Some(Choice::Crashes)
+    } else if word == b"--returns".as_slice() {
+        Some(Choice::Returns)
+    } else if word == b"--forgets".as_slice() {
+        Some(Choice::Forgets)
+    } else if word == b"--stops".as_slice() {
+        Some(Choice::Stops)
+    } else if word == b"--worlds".as_slice() {
+        Some(Choice::Worlds)
+    } else if word == b"--way".as_slice() {
+        Some(Choice::Way)
+    } else {
+        None
+    }
+}
+
+/// What an option and its number ask for, if a word is such a number.
+fn with_number(wish: Wish, choice: Choice, word: &[u8]) -> Option<Wish>
+    ensures { result ≡ with_number wish choice word.now }
+{
+    let mut next = wish;
+    match choice {
+        Choice::Crashes => next.bounds.crashes = small(word)?,
+        Choice::Returns => next.bounds.returns = small(word)?,
+        Choice::Forgets => next.bounds.forgets = small(word)?,
+        Choice::Stops => next.bounds.stops = small(word)?,
+        Choice::Worlds => next.bounds.worlds = large(word)?,
+        Choice::Way => next.way = Some(from_one(large(word)?)?),
+    }
+    Some(next)
+}
+
+/// A number that counts from 1.
+fn from_one(number: u32) -> Option<u32>
+    ensures { result ≡ from_one number }
+{
+    if number == 0 { None } else { Some(number) }
+}
+
+/// A number up to 255.
+fn small(word: &[u8]) -> Option<u8>
+    ensures { result ≡ small word.now }
+{
+    match read_number(word, u64::from(u8::MAX)) {
+        Some(number) => Some(number as u8),
+        None => None,
+    }
+}
+
+/// A number of 32 bits.
+fn large(word: &[u8]) -> Option<u32>
+    ensures { result ≡ large word.now }
+{
+    match read_number(word, u64::from(u32::MAX)) {
+        Some(number) => Some(number as u32),
+        None => None,
+    }
+}
+
+/// What is asked for where no more words come: no option is left without its number.
+fn wanted_of(reading: Reading) -> Wanted
+    ensures { result ≡ wanted_behind reading.option reading }
+{
+    match reading.option {
+        None => Wanted::Explore {
+            wish: reading.wish,
+            tells_progress: reading.tells_progress,
+        },
+        Some(_) => Wanted::Nothing,
     }
 }

@@ -1,5 +1,11 @@
 use Rattle.std.proofs.Common.{◌-◌}
+use Rattle.explore.proofs.WordByWord.{IsReadTo}
 use Rattle.explore.proofs.words.read_words.Given as goal
 
+abbrev pub invariant-loop-place : goal.invariant-loop-place
+invariant-loop-place g l = record {
+  read : IsReadTo (g.W.Words.words l.words) l.place l.reading;
+}
+
 abbrev pub decreases-loop-place : goal.decreases-loop-place
-decreases-loop-place g l = 16 - l.place
+decreases-loop-place g l = 15 - l.place
