@@ -22,13 +22,18 @@
 //! `Fronts`, `Verdicts`; of the search `Searches`, `Reads`, `Deadlines`, `Placing`, `Going`.
 #![tactic(auto)]
 
+mod event;
 mod fits;
 mod front;
+mod hints;
 mod history;
+mod links;
 mod placed;
+mod quiet;
 mod search;
 mod trying;
 mod verdict;
+mod window;
 
 pub use history::{Call, Ops, Seen, Told};
 pub use search::order_of;
