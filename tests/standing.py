@@ -117,12 +117,12 @@ def dropped(path: str, tally: Tally) -> None:
     wanted = [*of_copies(b"/", 0, *old), *of_room((2, 1), (2, 1), (1, 0))]
     tally.holds(told == wanted, "dropped", told, wanted)
     # a folder and what was in it, at one server
-    lines = (
+    alone = (
         b"servers 1", b"agents 1", b"votes 1/1/1", b"root 1000 100 777", b"cache 0 0 0",
         b"begin 0 1000 100 0 folder /d 755 ; file /d/f 644", b"run 0", b"room",
         b"begin 0 1000 100 0 drop /d/f ; drop /d", b"run 0", b"room",
     )
-    rooms = [line for line in ran(path, [], text_of(lines))[1].splitlines() if line.startswith(b"room")]
+    rooms = [line for line in ran(path, [], text_of(alone))[1].splitlines() if line.startswith(b"room")]
     tally.holds(rooms == [*of_room((3, 0)), *of_room((3, 2))], "a folder is dropped", rooms)
 
 
@@ -177,11 +177,11 @@ def same_as_trace(told: Iterable[str], lines: Iterable[str], tally: Tally, name:
     for words in given:
         if words[0] == "copies" and words[2] == "suite":
             most = [max(version) for version in zip(*copies[words[3]].values())]
-            copy = copies[words[3]].get(words[5])
-            behind = [what for what, own, top in zip(("prefix", "content"), copy or (), most) if own < top]
+            has = copies[words[3]].get(words[5])
+            behind = [what for what, own, top in zip(("prefix", "content"), has or (0, 0), most) if has and own < top]
             is_prepared = any((words[5], words[3], "prepared") == (one[0], one[2], one[4]) for one in locks)
             wanted = [
-                ups[words[5]], *(["prefix", str(copy[0]), "content", str(copy[1])] if copy else ["nothing"]),
+                ups[words[5]], *(["prefix", str(has[0]), "content", str(has[1])] if has else ["nothing"]),
                 *(["behind", *behind] if behind else []), *(["prepared"] if is_prepared else []),
             ]
             tally.holds(words[6:] == wanted, os.path.basename(name), words, wanted)
