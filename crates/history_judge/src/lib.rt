@@ -10,25 +10,35 @@
 //! told before it, none for what was told up to it, and none at all (`specs/Verdicts.antt`). It gives up only where
 //! memory is refused. What holds of orders in general stands in `specs/Orders.antt`.
 //!
-//! The search keeps what it has placed so far, and goes on from each: by one call that changes nothing wherever it is
-//! right, where one fits; else by each call that fits. What changes nothing in one state alone is not placed early:
-//! later it may change something. Two that have placed the same calls and come to the same rows are one.
+//! The search takes one event after the other: a call was told, so it stands in each order of what was told up to then,
+//! behind pending calls or not. What it keeps between two events is which pending calls are placed already, with the
+//! table behind them: calls that were told are placed in all, and need no mark. So its work is linear in the length of
+//! the history. A call that changes nothing wherever it is right is placed as soon as it fits. What changes nothing in
+//! one state alone is not: later it may change something. Two that have placed the same calls and come to the same
+//! rows are one. Orders share their beginnings (`links`).
 //!
 //! **The caller owes** fewer than 2^60 calls, and an opening table without a file or folder of a number that a call
 //! of the history would make. A table that was just opened has none.
 //!
-//! **Files**: `history`, `fits` (whether what was told fits), `trying` (a call on a copy of a table), `placed`,
-//! `search`, `front` (what was told before a time), `verdict`. **Definitions** (`specs/`): `Orders`, `Histories`,
-//! `Fronts`, `Verdicts`; of the search `Searches`, `Reads`, `Deadlines`, `Placing`, `Going`.
+//! **Files**: `history`, `fits` (whether what was told fits), `trying` (a call on a copy of a table), `quiet` (calls that
+//! change nothing), `window` (which calls are pending), `links`, `placed`, `hints` and `effects` (where the same may be
+//! found), `event`, `search`, `front` (what was told before a time), `verdict`. **Definitions** (`specs/`): `Orders`,
+//! `Histories`, `Fronts`, `Verdicts`; of the search `Searches`, `Reads`, `Windows`, `Links`, `Placing`, `Events`.
 #![tactic(auto)]
 
+mod effects;
+mod event;
 mod fits;
 mod front;
+mod hints;
 mod history;
+mod links;
 mod placed;
+mod quiet;
 mod search;
 mod trying;
 mod verdict;
+mod window;
 
 pub use history::{Call, Ops, Seen, Told};
 pub use search::order_of;
