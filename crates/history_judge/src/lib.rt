@@ -21,20 +21,12 @@
 //! of the history would make. A table that was just opened has none.
 //!
 //! **Files**: `history`, `fits` (whether what was told fits), `trying` (a call on a copy of a table), `quiet` (calls that
-<<<<<<< HEAD
-//! change nothing), `window` (which calls are pending), `links`, `placed`, `hints`, `event`, `search`, `front` (what was
-//! told before a time), `verdict`. **Definitions** (`specs/`): `Orders`, `Histories`, `Fronts`, `Verdicts`; of the search
-//! `Searches`, `Reads`, `Windows`, `Links`, `Placing`, `Events`.
-#![tactic(auto)]
-
-=======
 //! change nothing), `window` (which calls are pending), `links`, `placed`, `hints` and `effects` (where the same may be
 //! found), `event`, `search`, `front` (what was told before a time), `verdict`. **Definitions** (`specs/`): `Orders`,
 //! `Histories`, `Fronts`, `Verdicts`; of the search `Searches`, `Reads`, `Windows`, `Links`, `Placing`, `Events`.
 #![tactic(auto)]
 
 mod effects;
->>>>>>> 7e98ffda57f433d09c76f8691ccfacb29d21ca98
 mod event;
 mod fits;
 mod front;
