@@ -1,2 +1,3 @@
 mod Parting
 pub mod Changing
+pub mod Owning

@@ -2,11 +2,11 @@
 //! form to whoever reads it.
 //!
 //! **Promises.** Strings, copies, lists of locks and of denials, verdicts and decisions, requests and replies, what an
-//! agent gathered and what its cache keeps are exactly what their definitions give (`specs/`). A number is written as
-//! it is, however large. Locks and entries of a cache that are told as changes are those that went and those that
-//! came: what stayed is the rest of both lists (`specs/Changes.antt`). That a change is told as small as it can be is
-//! not promised. What changed at a server (`Before`), and all that a server has, is put together of these without a
-//! promise, but for its number and whether it is up.
+//! agent gathered, what its cache keeps and all that a server has are exactly what their definitions give (`specs/`).
+//! A number is written as it is, however large. Locks and entries of a cache that are told as changes are those that
+//! went and those that came: what stayed is the rest of both lists (`specs/Changes.antt`). That a change is told as
+//! small as it can be is not promised. Of a server (`Before`) the copies that a Finish left, and the denials that came,
+//! are told beside that.
 //!
 //! **The caller owes** nothing.
 //!
