@@ -156,11 +156,7 @@ fn finished(request: &Request) -> Option<u64>
 }
 
 /// The copy of the suite of a lock, where that is one of a transaction to write.
-fn kept_by<'a>(
-    t: u64,
-    copies: &'a [(u64, StoredCopy)],
-    lock: Lock,
-) -> Option<&'a (u64, StoredCopy)>
+fn kept_by<'a>(t: u64, copies: &'a [(u64, StoredCopy)], lock: Lock) -> Option<&'a (u64, StoredCopy)>
     ensures { option_map (λ own. own.now) result ≡ kept_by t copies.now lock }
 {
     if lock.t == t && lock.mode.is_exclusive() {
@@ -245,11 +241,7 @@ fn push_kept(
     Ok(())
 }
 
-fn push_own(
-    alloc: Global,
-    text: &mut Vec<u8>,
-    own: &(u64, StoredCopy),
-) -> Result<(), AllocError>
+fn push_own(alloc: Global, text: &mut Vec<u8>, own: &(u64, StoredCopy)) -> Result<(), AllocError>
     ensures { OnOk result (text.new.items ≡ text.old.items ++ kept_text own.now) }
 {
     push_copy(alloc, text, own.0, &own.1)
