@@ -10,7 +10,7 @@ use Rattle.suite_script.specs.declared.scope.Scope.{Scope}
 use Rattle.suite_script.specs.declared.form.Forms.{Forms}
 use Rattle.forms.specs.Mends.{AreTold, Before, FitsOne, Instead, IsMissing, IsShift, Path, Missing, Many, IsTooMany, Mends, Without, field, spaced}
 use Rattle.forms.specs.declared.mend.Trial.{Trial}
-use Rattle.forms.specs.code.Trials.{Adds, AddsFields, IsShiftIn, MendsIn}
+use Rattle.forms.specs.code.Trials.{Adds, AddsAllFields, AddsFields, IsShiftIn, MendsIn}
 
 -- what holds of each of two lists holds of each of both
 both_all : {X : Type 0} (P : X → Type 0) (xs ys : List X) → AllByRecursion P xs → AllByRecursion P ys → AllByRecursion P (xs ++ ys)
@@ -88,3 +88,7 @@ fields_added trial at old one two new instead before shift each_instead each_bef
       is = new_is ∙ ap (λ text. text ++ field shift) (two_is ∙ ap (λ text. text ++ field before) one_is ∙ append_assoc old (field instead) (field before))
           ∙ append_assoc old (field instead ++ field before) (field shift);
     }
+
+-- and the last field
+pub all_added : (trial : Trial) (at : ℕ) (old tried new hidden : List ℕ) → AddsFields trial at old tried → new ≡ tried ++ field hidden → AddsAllFields trial at old new
+all_added trial at old tried new hidden fields is = record { tried = tried; hidden = hidden; fields = fields; is = is }

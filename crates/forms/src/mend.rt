@@ -6,7 +6,7 @@ ghost use Rattle.std.specs.List.{flat_map};
 ghost use Rattle.script_text.specs.Words.{words};
 ghost use Rattle.suite_script.specs.Misfits.{line_misfit};
 ghost use Rattle.forms.specs.Mends.{AreTold, FitsOne, all_of, changed, field, or_hyphen, placed, put, put_at, spaced};
-ghost use Rattle.forms.specs.code.Trials.{AddsFields, AddsMany, AddsMends, IsMissingIn, IsShiftIn, MendsIn, change_of};
+ghost use Rattle.forms.specs.code.Trials.{AddsAllFields, AddsFields, AddsMany, AddsMends, IsMissingIn, IsShiftIn, MendsIn, change_of};
 
 use crate::above::Above;
 use crate::first::{FirstReason, mark_of};
@@ -373,11 +373,14 @@ fn is_verb(word: &[u8]) -> bool {
 }
 
 /// Adds the fields `INSTEAD BEFORE SHIFT HIDDEN`, each with a tab behind it.
+#[tactic(auto, using(crate::proofs::Mending::all_added))]
 pub(crate) fn push_mends(
     text: &mut Vec<u8>,
     trial: Trial<'_>,
     found: Found<'_>,
-) -> Result<(), AllocError> {
+) -> Result<(), AllocError>
+    ensures { OnOk result (AddsAllFields trial.entry found.entry.number text.old.items text.new.items) }
+{
     push_tried(text, trial, found)?;
     let unseen = match found.fault {
         Some(LineFault::Form) => hidden(trial.word(found.number), trial.line),

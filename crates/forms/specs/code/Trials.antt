@@ -2,7 +2,7 @@
 use Rattle.std.specs.Prelude.{◌≡◌, ℕ, Bool, List, ◌++◌, Contains}
 use Rattle.suite_script.specs.Words.{Word}
 use Rattle.suite_script.specs.declared.form.Forms.{Forms}
-use Rattle.forms.specs.Mends.{AreMends, AreTold, Edit, Without, Instead, Before, IsMissing, IsShift, IsTooMany, Mends, all_of, placed}
+use Rattle.forms.specs.Mends.{AreMends, AreTold, Edit, Without, Instead, Before, IsMissing, IsShift, IsTooMany, Mends, all_of, field, placed}
 use Rattle.forms.specs.declared.mend.Change.{Change}
 use Rattle.forms.specs.declared.mend.Change.TheVariants as code
 use Rattle.forms.specs.declared.mend.Trial.{Trial}
@@ -48,3 +48,10 @@ pub record AddsFields (trial : Trial) (at : ℕ) (old new : List ℕ) : Type 0 w
   pub added : List ℕ
   pub mends : AreMends trial.reading.now.scope trial.reading.now.forms trial.line.now at added
   pub is : new ≡ old ++ added
+
+-- these three, and the field of what cannot be seen
+pub record AddsAllFields (trial : Trial) (at : ℕ) (old new : List ℕ) : Type 0 where
+  pub tried : List ℕ
+  pub hidden : List ℕ
+  pub fields : AddsFields trial at old tried
+  pub is : new ≡ tried ++ field hidden
