@@ -274,12 +274,16 @@ def is_killed(path: str, tally: Tally, folder: str, times: int) -> None:
         if turn == 0:
             kept += [line for line in given if talk.say(line) == []]
         killer = threading.Timer(seed.uniform(0.0, 0.05), talk.child.kill)
-        killer.start()
+        # each second time once something was answered, so that there is a load on a slow machine too
+        if turn % 2:
+            killer.start()
         for step in range(100_000):
             line = b"begin %d 1000 100 0 file /f%d-%d 644 ; write /f%d-%d 00" % (step % 2, turn, step, turn, step)
             both = (line, b"run %d" % (step % 2))
             asked = [one for one in both if talk.say(one) is not None]
             kept += asked
+            if step == 0 and turn % 2 == 0:
+                killer.start()
             if len(asked) < 2:
                 break
         killer.join()
