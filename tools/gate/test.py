@@ -133,7 +133,7 @@ PARTS = (
     Part("examples of FAULTS", test("explained.py"), [PROGRAM, TRACE, FORMS, EXPLORE]),
     Part("what explain says of every line", test("every_line.py"), [PROGRAM, TRACE, FORMS, EXPLORE, MAY]),
     Part("what explain says of damaged scripts", test("damaged-scripts.py", "--cases", "1000"), [PROGRAM, FORMS]),
-    Part("command lines of documents", test("typed.py"), [PROGRAM, TRACE, FORMS, EXPLORE]),
+    Part("command lines of documents", test("typed.py"), [PROGRAM, TRACE, FORMS, EXPLORE, MAY]),
     Part("verdicts on histories", test("judged.py"), [JUDGE]),
     Part("how programs end", test("statuses.py"), [TRACE, FORMS]),
     Part("answers of may", test("may.py"), [MAY]),
