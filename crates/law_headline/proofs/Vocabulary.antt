@@ -38,7 +38,7 @@ pub use Rattle.file_ops.specs.declared.service.Service.{Service}
 pub use Rattle.law_one_table.proofs.Logs.{LogIs, decision_at, decision_of_actor, event_log}
 pub use Rattle.law_one_table.proofs.Running.{answers_are_one_tables, audit_is_one_tables, owed_is_enough}
 pub use Rattle.law_one_table.proofs.Shown.{FitsAs, fits_kind, is_so, kind_empty, told_as}
-pub use Rattle.law_one_table.specs.Effects.{answered_in, copy_at, was_answered}
+pub use Rattle.law_one_table.specs.Effects.{answered_in, copy_at}
 pub use Rattle.law_one_table.specs.Tables.{AllKeepSides}
 pub use Rattle.law_one_table.specs.Versions.{ContentWas, HadRow, HoldAt, PrefixWas, RowVersions}
 pub use Rattle.law_run_knowledge.proofs.Decided.{known_content, known_prefix, newest_prefix, suite_was}
@@ -104,7 +104,7 @@ pub use Rattle.rep_core.specs.Fits.{is_prepared}
 pub use Rattle.rep_core.specs.Locks.{is_own}
 pub use Rattle.rep_core.specs.Service.{reply_of}
 pub use Rattle.rep_core.specs.Serving.{answer_of, is_full}
-pub use Rattle.rep_core.specs.State.{State, record_of}
+pub use Rattle.rep_core.specs.State.{State, record_of, was_answered}
 pub use Rattle.rep_core.specs.Store.{root_copy}
 pub use Rattle.rep_core.specs.declared.lock.Lock.{Lock}
 pub use Rattle.rep_core.specs.declared.reply.Reply.{Reply}

@@ -58,7 +58,7 @@ pub use Rattle.law_suite_machine.specs.Registers.{Beginning, Change, Entry, Goes
 pub use Rattle.rep_core.specs.Intentions.{Intention}
 pub use Rattle.rep_core.specs.Service.{recorded, reply_of}
 pub use Rattle.rep_core.specs.Serving.{answer_of, is_full}
-pub use Rattle.rep_core.specs.State.{State, record_of}
+pub use Rattle.rep_core.specs.State.{State, record_of, was_answered}
 pub use Rattle.rep_core.specs.Store.{copy_of, left_by, root_copy}
 pub use Rattle.rep_core.specs.declared.reply.Reply.{Reply}
 pub use Rattle.rep_core.specs.declared.request.Part.{Part}
@@ -92,6 +92,6 @@ pub use Rattle.txn_core.specs.declared.job.Job.{Job}
 pub use Rattle.txn_core.specs.declared.response.Response.{Response}
 pub use Rattle.txn_core.specs.declared.response.Response.TheVariants.{Lacked, Replied}
 pub use Rattle.vote_core.specs.Quorums.{Configuration}
-pub use Rattle.law_one_table.specs.Effects.{HasHead, HasOne, IsInEffect, answered_in, copy_at, was_answered}
+pub use Rattle.law_one_table.specs.Effects.{HasHead, HasOne, IsInEffect, answered_in, copy_at}
 pub use Rattle.law_one_table.specs.Tables.{AgentsKnowTheTable, AllKeepSides, AnswersAreOneTables, AuditIsOneTables, OwedIsEnough, RowsAreTheRegisters, register, row_shown}
 pub use Rattle.law_one_table.specs.Versions.{ContentWas, CopyWas, EntryWas, HadRow, HoldAt, PrefixWas, Rise, RowVersions, RowsHaveVersions, content_of, row_at}

@@ -1,14 +1,12 @@
 -- What is in effect at the servers of a run.
-use Rattle.std.specs.Prelude.{◌≡◌, ℕ, Bool, IsTrue, true, false, List, Option, Some, None}
+use Rattle.std.specs.Prelude.{◌≡◌, ℕ, Bool, IsTrue, List}
 use Rattle.suite_prefix.specs.SettingsRules.{Opening}
 use Rattle.suite_prefix.specs.declared.copies.Prefix.{Prefix}
 use Rattle.suite_prefix.specs.declared.copies.Replica.{Replica}
 use Rattle.suite_content.specs.Contents.{kind_of}
 use Rattle.file_ops.specs.Rows.{Row}
-use Rattle.rep_core.specs.declared.reply.Verdict.{Verdict}
-use Rattle.rep_core.specs.declared.reply.Verdict.TheVariants as verdict
 use Rattle.rep_core.specs.Store.{copy_in_effect}
-use Rattle.rep_core.specs.State.{record_of}
+use Rattle.rep_core.specs.State.{record_of, was_answered}
 use Rattle.txn_core.specs.Writing.{prefix_kind}
 use Rattle.run_core.specs.declared.event.Event.{Event}
 use Rattle.run_core.specs.Runs.{run}
@@ -16,12 +14,6 @@ use Rattle.law_suite_machine.specs.Machine.{IsQuorum}
 use Rattle.law_run_machine.specs.Machines.{servers_of, home_in}
 
 -- whether the home of a transaction recorded that it was answered
-abbrev pub was_answered : Option Verdict → Bool
-was_answered (Some (verdict.Answered answers)) = true
-was_answered (Some (verdict.Refused refusal)) = false
-was_answered (Some verdict.Aborted) = false
-was_answered None = false
-
 abbrev pub answered_in : Opening → List Event → ℕ → Bool
 answered_in given events t = was_answered (record_of (servers_of given (run given events) (home_in given t)) t)
 

@@ -20,6 +20,24 @@ some_in f (Some x) = refl
 pub there_in : (pairs : List (ℕ × Planned)) (suite : ℕ) → is_some (get nat_cmp (intentions_in pairs) suite) ≡ is_some (get nat_cmp pairs suite)
 there_in pairs suite = ap is_some (get_in pairs suite) ∙ some_in intention_in (get nat_cmp pairs suite)
 
+-- ---- what is prepared of a suite, seen from what is kept of its intention
+
+abbrev kept_of : Planned → ℕ × Replica
+kept_of planned = (planned.t, planned.left.copy)
+
+abbrev left_in : Replica → Intention → ℕ × Replica
+left_in copy intention = (intention.t, left_by intention.take copy)
+
+prepared_at : (copy : Replica) (found : Option Planned) → ((planned : Planned) → found ≡ Some planned → planned.left ≡ in_form_2 (left_by (take_in planned.whole planned.left.copy) copy))
+    → option_map kept_of found ≡ option_map (left_in copy) (option_map intention_in found)
+prepared_at copy None leaves = refl
+prepared_at copy (Some planned) leaves = ap (λ (left : Kept). Some (kept_of (record planned { left = left }))) (leaves planned refl)
+
+pub prepared_in : (c0 : Configuration) (copies : List (ℕ × Replica)) (pairs : List (ℕ × Planned)) (suite : ℕ) → Leaves copies pairs
+    → option_map kept_of (get nat_cmp pairs suite) ≡ option_map (left_in (copy_in c0 copies suite)) (get nat_cmp (intentions_in pairs) suite)
+prepared_in c0 copies pairs suite leaves =
+    prepared_at (copy_in c0 copies suite) (get nat_cmp pairs suite) (λ planned is. leaves c0 suite planned is) ∙ ap (option_map (left_in (copy_in c0 copies suite))) (sym (get_in pairs suite))
+
 pub length_in : (pairs : List (ℕ × Planned)) → length (intentions_in pairs) ≡ length pairs
 length_in [] = refl
 length_in (e ∷ es) = let rest = length_in es in omega (arith, rest)

@@ -1,5 +1,5 @@
 -- Stored copies, and intentions: what a prepared transaction leaves of a suite once it is decided.
-use Rattle.std.specs.Prelude.{◌≡◌, ℕ, ◌+◌, ◌-◌, ◌^◌, ◌==◌, nat_lt, nat_le, Bool, IsTrue, true, false, ◌&&◌, ◌||◌, not, if◌then◌else◌, List, [], ◌∷◌, length, filter, count_by, unwrap_or, is_some, IfSome, Option, Some, None}
+use Rattle.std.specs.Prelude.{◌≡◌, ℕ, ◌+◌, ◌-◌, ◌^◌, ◌==◌, nat_lt, nat_le, Bool, IsTrue, true, false, ◌&&◌, ◌||◌, not, if◌then◌else◌, List, [], ◌∷◌, length, filter, count_by, unwrap_or, option_map, is_some, IfSome, Option, Some, None}
 use Rattle.std.specs.List.{list_any}
 use Rattle.std.specs.Ordering.{nat_cmp}
 use Rattle.sorted_map.specs.SortedMap.{IsOrdered, get, insert}
@@ -195,6 +195,10 @@ finished t answered store = record store {
 }
 
 -- ---- the copy in effect
+
+-- what is prepared of a suite: the transaction, and what it leaves of the copy
+abbrev pub prepared_of : Store → ℕ → Option (ℕ × Replica)
+prepared_of store suite = option_map (λ intention. (intention.t, left_by intention.take (copy_of store suite))) (get nat_cmp store.intentions suite)
 
 abbrev pub in_effect : Option Intention → (ℕ → Bool) → Replica → Replica
 in_effect None decided copy = copy

@@ -1,6 +1,7 @@
 //! A verdict as a server keeps it, with its long lists packed.
 
 ghost use Rattle.std.specs.Prelude.{◌≡◌, ◌≤◌, length, map, IfOk, IfSome, IsTrue};
+ghost use Rattle.rep_core.specs.Service.{is_answered};
 ghost use Rattle.rep_core.specs.code.KeptVerdicts.{answer_of};
 
 use crate::packed_names::{PackedLists, PackedNames};
@@ -98,6 +99,16 @@ impl KeptVerdict {
                 let replies = told_each(alloc, replies)?;
                 Ok(Verdict::Answered(replies))
             }
+        }
+    }
+
+    /// Whether it is an answer.
+    pub(crate) fn is_answered(&self) -> bool
+        ensures { result ≡ is_answered self.now }
+    {
+        match &self.kept {
+            Kept::Whole(Verdict::Answered(_)) | Kept::Packed(_) => true,
+            Kept::Whole(Verdict::Refused(_) | Verdict::Aborted) => false,
         }
     }
 

@@ -39,7 +39,7 @@
 //! with them, goes through `LockTable`: a few stand in a vector, and many in blocks, with who holds them and which are
 //! not prepared beside them. A verdict keeps a list of 16 names or more as one text, and the same list once.
 //!
-//! **Files**: `lock`, `request`, `reply`, `stamped`, `takes`, `fitting`, `intention`, `store`, `maps`, `copying`,
+//! **Files**: `lock`, `request`, `reply`, `stamped`, `takes`, `fitting`, `intention`, `store`, `opening_copies`, `maps`, `copying`,
 //! `holders`, `few_locks`, `many_locks`, `locks`, `packed_names`, `kept_verdict`, `verdicts`, `sameness`, `step`,
 //! `server_state`, `evaluate`, `answering`, `server`, `effect`, `types_fit`, `laws`.
 //!
@@ -61,6 +61,7 @@ mod lock;
 mod locks;
 mod many_locks;
 mod maps;
+mod opening_copies;
 mod packed_names;
 mod reply;
 mod request;

@@ -1,6 +1,9 @@
 //! A server.
 
-ghost use Rattle.std.specs.Prelude.{◌≡◌, ◌≢◌, ◌↔◌, IfOk, IfSome, OnOk, OnErr, IsTrue, Err, is_some};
+ghost use Rattle.std.specs.Prelude.{◌≡◌, ◌≢◌, ◌↔◌, IfOk, IfSome, OnOk, OnErr, IsTrue, Err, is_some, option_map};
+ghost use Rattle.std.specs.Option.{option_copied};
+ghost use Rattle.std.specs.Ordering.{nat_cmp};
+ghost use Rattle.sorted_map.specs.SortedMap.{get};
 ghost use Rattle.suite_prefix.specs.Copies.{IsCopy};
 ghost use Rattle.rep_core.specs.declared.stamped.Lack.TheVariants.{Full, Memory};
 ghost use Rattle.rep_core.specs.Fits.{fits};
@@ -37,7 +40,7 @@ impl Model for Server {
 }
 
 impl Server {
-    ghost use Rattle.rep_core.specs.State.{opening};
+    ghost use Rattle.rep_core.specs.State.{opening, record_of, was_answered};
 
     /// The server of this number as a service opens.
     pub fn opening(alloc: Global, index: u8, settings: &Settings) -> Result<Server, AllocError>
@@ -127,6 +130,13 @@ impl Server {
         self.held.store.copies()
     }
 
+    /// Lends the copy of a suite that has one.
+    pub fn copy_of(&self, suite: u64) -> Option<&StoredCopy>
+        ensures { option_map (λ kept. kept.copy) (option_copied result) ≡ get nat_cmp self.now.state.store.copies suite }
+    {
+        self.held.store.stored(suite)
+    }
+
     /// Whether it is up.
     pub fn is_up(&self) -> bool
         ensures { result ≡ self.now.state.up }
@@ -175,6 +185,24 @@ impl Server {
         ensures { result ≡ store.form_of self.now.state.store suite }
     {
         self.held.store.form(suite)
+    }
+
+    /// Lends what a prepared transaction leaves of a suite once it is decided with an answer, with the number of that
+    /// transaction, where one is prepared to change the suite. It takes no memory.
+    pub fn prepared(&self, suite: u64) -> Option<(u64, &StoredCopy)>
+        ensures { option_map (λ prepared. (prepared.0, prepared.1.now.copy)) result ≡ store.prepared_of self.now.state.store suite }
+    {
+        self.held.store.prepared(suite)
+    }
+
+    /// Whether it recorded, as the home of a transaction, that this one was answered.
+    pub fn was_answered(&self, transaction: u64) -> bool
+        ensures { result ≡ was_answered (record_of self.now.state transaction) }
+    {
+        match self.held.verdicts.get(transaction) {
+            Some(verdict) => verdict.is_answered(),
+            None => false,
+        }
     }
 
     /// The denials that it recorded, in their order.

@@ -1,12 +1,11 @@
 //! Stored copies and intentions. Nothing else touches them.
 
-ghost use Rattle.std.specs.Prelude.{◌≡◌, ◌++◌, ◌∷◌, ℕ, ◌≤◌, ◌<◌, ◌+◌, ◌==◌, length, [], is_some, option_map, IfOk, OnOk, OnErr, IsTrue, IfSome, true, false, unwrap_or, None, Some, nat_le, nat_lt, min, count_by};
+ghost use Rattle.std.specs.Prelude.{◌≡◌, ◌++◌, ◌∷◌, ℕ, ◌≤◌, ◌<◌, ◌+◌, length, [], is_some, option_map, IfOk, OnOk, OnErr, IsTrue, IfSome, true, false, unwrap_or, None, Some, nat_le, nat_lt, min, count_by};
 ghost use Rattle.std.specs.List.{list_any, list_all};
 ghost use Rattle.std.specs.Option.{option_copied};
 ghost use Rattle.std.specs.Ordering.{nat_cmp};
 ghost use Rattle.sorted_map.specs.SortedMap.{IsOrdered, get};
 ghost use Rattle.suite_prefix.specs.Copies.{IsCopy};
-ghost use Rattle.suite_prefix.specs.SettingsRules.{form_of_root};
 ghost use Rattle.suite_prefix.specs.TestsExact.{CopyFits};
 ghost use Rattle.vote_core.specs.Quorums.{Configuration};
 ghost use Rattle.suite_prefix.specs.declared.copies.Replica.{Replica};
@@ -19,17 +18,16 @@ ghost use Rattle.rep_core.specs.Store as store;
 use crate::copying::copied;
 use crate::intention::Planned;
 use crate::maps::{forget, install, keep_all, keep_content, keep_head};
+use crate::opening_copies::opening_copies;
 use crate::reply::Reply;
 use crate::request::{Part, Take};
 use crate::sameness::{same_copies, same_intentions, same_votes};
 use crate::takes::{any_holds_last, is_keep, is_whole, may_become, take_nothing};
-use file_ops::ROOT;
 use sorted_map::RoomyMap;
 use std::alloc::{AllocError, Global};
 use std::marker::Model;
 use suite_content::{Content, Kind};
 use suite_prefix::{Form, Prefix, PrefixKind, Replica, Settings, SharedPrefix, StoredCopy};
-use vote_core::Votes;
 
 /// The most suites that a server has a copy or an intention of.
 pub const MAX_SUITES: usize = 4_096;
@@ -209,7 +207,7 @@ impl Store {
     /// The copy of a suite that has one. The place of its number is looked at before the others are searched:
     /// there stands a suite that no lower one is missing before, as the root folder, and the first folders
     /// that were made, through which most ways lead. Without that look `play` takes 3 percent more.
-    fn stored(&self, suite: u64) -> Option<&StoredCopy>
+    pub(crate) fn stored(&self, suite: u64) -> Option<&StoredCopy>
         ensures copy { option_map (λ kept. kept.copy) (option_copied result) ≡ get nat_cmp self.now.store.copies suite }
         ensures form { option_map (λ kept. kept.form) (option_copied result) ≡ store.form_of self.now.store suite }
     {
@@ -409,6 +407,16 @@ impl Store {
         }
     }
 
+    /// What a prepared transaction leaves of a suite once it is decided, where one is.
+    pub(crate) fn prepared(&self, suite: u64) -> Option<(u64, &StoredCopy)>
+        ensures { option_map (λ prepared. (prepared.0, prepared.1.now.copy)) result ≡ store.prepared_of self.now.store suite }
+    {
+        match self.intentions.get(&suite) {
+            Some(planned) => Some((planned.t, &planned.left)),
+            None => None,
+        }
+    }
+
     /// Lets the intentions of a transaction go. Where it was answered they become copies.
     #[inline(always)]
     pub(crate) fn finish(&mut self, t: u64, answered: bool)
@@ -420,49 +428,6 @@ impl Store {
             forget(&mut self.intentions, t);
         }
     }
-}
-
-/// The copies of a server as a service opens.
-fn opening_copies(
-    alloc: Global,
-    index: u8,
-    settings: &Settings,
-) -> Result<RoomyMap<u64, StoredCopy>, AllocError>
-    ensures copies { IfOk result (λ made. copies_in made.pairs ≡ (store.opening_store index settings.now).copies) }
-    ensures forms { IfOk result (λ made. forms_in made.pairs ≡ (store.opening_store index settings.now).forms) }
-{
-    let mut copies = RoomyMap::new(alloc);
-    if is_representative(settings.c0(), index) {
-        let root = root_record(alloc, index, settings)?;
-        copies.insert(ROOT, root)?;
-    }
-    Ok(copies)
-}
-
-/// Whether a server is a representative of some votes.
-fn is_representative(votes: &Votes, index: u8) -> bool
-    ensures { result ≡ list_any (λ rep. rep.0 == index) votes.now.reps }
-{
-    votes.reps().iter().any(|rep| rep.0 == index)
-}
-
-/// The root folder as a service opens.
-fn root_copy(alloc: Global, settings: &Settings) -> Result<Replica, AllocError>
-    ensures { IfOk result (λ root. root ≡ store.root_copy settings.now) }
-{
-    let acl = settings.root_acl().clone()?;
-    Ok(Replica {
-        prefix: Prefix {
-            pver: 1,
-            kind: PrefixKind::Folder,
-            owner: settings.root_owner(),
-            group: settings.root_group(),
-            acl,
-            votes: *settings.c0(),
-        },
-        dver: 1,
-        content: Content::empty(alloc, Kind::Folder),
-    })
 }
 
 fn tell_held(prefix: &SharedPrefix, dver: u64, reply: &mut Reply) -> Result<(), AllocError>
@@ -487,14 +452,4 @@ fn first_copy(alloc: Global, prefix: &Prefix) -> Result<StoredCopy, AllocError>
         content,
     };
     StoredCopy::new(alloc, &copy)
-}
-
-/// The bytes of the root folder as a service opens at a server.
-fn root_record(alloc: Global, index: u8, settings: &Settings) -> Result<StoredCopy, AllocError>
-    ensures { IfOk result (λ root. root ≡ record { form = form_of_root settings.now index; copy = store.root_copy settings.now }) }
-{
-    let root = root_copy(alloc, settings)?;
-    root.fits();
-    settings.fits();
-    StoredCopy::in_form(alloc, settings.form_of_root(index), &root)
 }

@@ -25,9 +25,12 @@ pub record Task : Type 0 where
   pub site : ℕ
   pub ops : List Op
 
--- the server at which it is decided how a transaction ended
+-- the server, among so many, at which it is decided how a transaction ended
+abbrev pub home_among : ℕ → ℕ → ℕ
+home_among servers t = (t % max_agents + t / max_agents) % servers
+
 abbrev pub home_of : Service → ℕ → ℕ
-home_of service t = (t % max_agents + t / max_agents) % service.servers
+home_of service t = home_among service.servers t
 
 -- what is set of each suite, the suites rising
 abbrev pub Changes : Type 0

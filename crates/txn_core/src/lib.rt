@@ -82,6 +82,7 @@ mod writing;
 
 pub use agent::{Agent, MAX_JOBS};
 pub use ending::{Cause, Ending};
+pub use home::home_among;
 pub use job::{Job, Ops, SharedCaller};
 pub use laws::{
     a_prepare_rises, all_prepare_first, caches_what_was_fetched, decide_is_sent_once,
