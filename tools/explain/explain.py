@@ -26,7 +26,7 @@ import textwrap
 import typing
 
 from common import console, forms, numbers, quoted, text_of
-from explain import explore_lines, faults, judge_lines, meanings, misfits, play_lines, table_lines, tool_lines
+from explain import explore_lines, faults, judge_lines, meanings, play_lines, table_lines, tool_lines
 
 
 CODE = re.compile(r"\b([SAVNGFUsavngfu](?:1[0-3]|[1-9]))\b")
@@ -264,7 +264,7 @@ def of_printed(text: str, path: str, language: str | None) -> str:
     marked = MARKED.match(text)
     if marked or tool_lines.of_session(text):
         return filled(of_session(marked, script, shown)) if marked else ""
-    kind = language or misfits.in_script(script, 1)[0].command
+    kind = language or faults.command_of(script)
     if explore_lines.is_explored(script) and (kind == "play" or EXPLORED.match(text)):
         told = list(explore_lines.of_line(text, script, shown))
     elif tool_lines.of_tools(text):

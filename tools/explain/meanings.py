@@ -5,6 +5,7 @@ that each stands once.
 """
 import itertools
 import re
+import sys
 import textwrap
 
 from common import forms, text_of
@@ -101,16 +102,26 @@ def has_fault(language: str, given: list[str]) -> bool:
 
 def own_line(text: str) -> str | None:
     """A line of a script, or an operation of one, told word by word; nothing where the text is none."""
-    given = text.split()
+    given, wrong = text.split(), set[str]()
     for language in forms.COMMANDS:
         line = forms.lines_of(language).get(given[0])
-        if line and (len(given) > 1 or not line.places) and not has_fault(language, given):
-            head = f"A line of a script of `{language}`: {line.does}."
-            return shown(head, told_words(given[0], line.places.split(), given[1:]))
+        # lines of two commands that have the same places have the same faults
+        if line and (len(given) > 1 or not line.places) and line.places not in wrong and has_room(line, given):
+            if not has_fault(language, given):
+                head = f"A line of a script of `{language}`: {line.does}."
+                return shown(head, told_words(given[0], line.places.split(), given[1:]))
+            wrong.add(line.places)
     if given[0] in forms.OPERATIONS and len(given) > 1 and given[1].startswith("/"):
         if not has_fault("table", ["do", "1", "1", *given]):
             return shown("An operation of a transaction.", told_words("do", ["OPERATIONS"], given))
     return None
+
+
+def has_room(line: forms.Line, given: list[str]) -> bool:
+    """Whether a line has places for these words, and words for its places."""
+    places = line.places.split()
+    least = sum(not place.startswith("[") for place in places)
+    return least < len(given) <= (sys.maxsize if "OPERATIONS" in places else len(places) + 1)
 
 
 def one_word(word: str) -> str | None:

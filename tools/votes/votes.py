@@ -48,7 +48,8 @@ import typing
 
 from common import console, quoted
 from explain import explain, reasons
-from trace import trace
+from trace.events import events_of
+from trace.paths import paths
 from votes import search, shapes
 from explain.misfits import Why
 
@@ -72,6 +73,7 @@ MISSED = (
     " the root folder."
 )
 AGENTS = re.compile(rb"^([ \t]*agents[ \t]+)(\d+)", re.M)
+SERVERS = re.compile(rb"^[ \t]*servers[ \t]+(\d+)", re.M)
 OPENING = re.compile(rb"^[ \t]*votes[ \t]+(\S+)", re.M)
 WIDE = 110
 FORM = """VOTES are written as 1,1,1/2/2: the votes of servers 0, 1, .. with commas between them (- for one that is left
@@ -295,24 +297,25 @@ class Left(typing.NamedTuple):
 
 def left_by(script: bytes) -> Left:
     """What a script leaves once all servers are up and all is swept."""
-    lines = trace.traced(script)
-    servers = sum(line.startswith("= server ") for line in lines)
-    longer, count = swept(script, servers)
-    ended = trace.traced(longer)
-    heads = [(head, block) for head, block in trace.blocks(ended) if head.startswith(">")][-count:]
-    if any(head.startswith("> sweep") and block[:1] and block[0].startswith("  nothing") for head, block in heads):
+    header = [word.search(script) for word in (SERVERS, AGENTS, OPENING)]
+    longer, count = swept(script, int(header[0][1])) if all(header) else (script, 0)
+    try:
+        told = events_of(longer, "the script")
+    except console.Stop:
+        # what is wrong with the script is told of it as it is
+        told = events_of(script)
+    lines = [event for event in told if event["kind"] == "line"][-count:]
+    if any("nothing" in event and event["text"].startswith("sweep") for event in lines):
         text = f"agent {MOST_AGENTS - 1} has a job at the end of the script, and is needed to sweep"
         raise console.Stop(f"{text}: let its job end, or have fewer agents")
-    opening = OPENING.search(script)[1].decode()
+    opening, servers = OPENING.search(script)[1].decode(), told[-1]["servers"]
     suites: dict[int, search.Suite] = {}
-    server = 0
-    for line in ended:
-        server = int(line.split()[2].rstrip(":")) if line.startswith("= server ") else server
-        found = trace.COPY.match(line)
-        if found:
-            suite = suites.setdefault(int(found[1]), search.Suite(search.word_of(opening), {}))
-            suite.copies[server] = int(found[3]), search.word_of(found[5])
-    return Left(servers, opening, trace.paths(lines), dict(sorted(suites.items())))
+    for server in servers:
+        for copy in server["copies"]:
+            if copy["kind"] != "absent":
+                suite = suites.setdefault(copy["suite"], search.Suite(search.word_of(opening), {}))
+                suite.copies[server["server"]] = copy["prefix"], search.word_of(copy["votes"])
+    return Left(len(servers), opening, paths(told), dict(sorted(suites.items())))
 
 
 def missed_by(suite: search.Suite, is_read: bool) -> list[str]:
