@@ -34,10 +34,15 @@ def lines_of(text: str) -> list[str]:
 
 
 def command_of(script: str) -> str:
-    """The command whose script this is: the only one whose lines begin so, else the one that the program tells."""
+    """The command whose script this is: the only one whose lines begin so, but for that of `explore`; else the one that
+    the program tells.
+    """
     begins = {line.split()[0] for line in lines_of(script) if line.split() and not line.startswith("#")}
-    may_be = [command for command in forms.COMMANDS if begins <= forms.lines_of(command).keys()]
-    return may_be[0] if len(may_be) == 1 else misfits.in_script(script, 1)[0].command
+    for words in (begins, begins - {"together"}):
+        may_be = [command for command in forms.COMMANDS if words <= forms.lines_of(command).keys()]
+        if len(may_be) == 1:
+            return may_be[0]
+    return misfits.in_script(script, 1)[0].command
 
 
 def told_of(command: str, line: str, misfit: Misfit) -> str:
