@@ -415,7 +415,7 @@ def told(tally: Tally, name: str, script: str, lines: list[str]) -> None:
 
 
 def about_agent(lines: list[str], agent: int) -> typing.Iterator[int]:
-    """The places of the lines that are about an agent: those below a line of the script that is of it, or of servers."""
+    """The places of the lines that are about an agent: below a line of the script that is of it, or of servers."""
     is_about = True
     for place, line in enumerate(lines):
         words = line.split()
@@ -426,9 +426,9 @@ def about_agent(lines: list[str], agent: int) -> typing.Iterator[int]:
 
 
 def about_suite(lines: list[str], suite: int) -> set[int]:
-    """The places of the lines that are about a suite: requests that name it or are of a transaction that does, the ends of such jobs,
-    what agents are told that do nothing, audits and servers; and the lines of the script that have such lines, or begin
-    such jobs.
+    """The places of the lines that are about a suite: requests that name it or are of a transaction that does, the ends
+    of such jobs, what agents are told that do nothing, audits and servers; and the lines of the script that have such
+    lines, or begin such jobs.
     """
     asked = [re.match(r"  (\d+) -> s\d+  (?:t (\d+) )?(.*?) +: ", line) for line in lines]
     suites = [set(map(int, re.findall(r"suite (\d+)", found[3]))) if found else set() for found in asked]

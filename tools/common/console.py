@@ -179,6 +179,14 @@ def print_help(name: str) -> int:
     return 0
 
 
+def of_input(name: str, given: argparse.Namespace, work: typing.Callable[[argparse.Namespace], int]) -> int:
+    """Prints the help of a tool, where that is asked for; else does its work, which reads standard input."""
+    if given.help:
+        return print_help(name)
+    tell_reading()
+    return work(given)
+
+
 def tell_reading() -> None:
     """Tells a terminal that it is read."""
     if sys.stdin.isatty():

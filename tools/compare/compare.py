@@ -2,11 +2,11 @@
 python3 tools compare --seeds COUNT [--from SEED] [--lines LINES]
 
 Plays a script of `suites play`, writes the transactions that it decided as a script of `suites table`, in the order of
-their decisions (as the events of `./suites trace` tell them), and compares the answers of both: every reply, every refusal, every
-denial with its entry, and the servers' audits. Numbers of what was made differ, since they come of the number of the
-transaction, and are mapped. A transaction whose agent stopped after it was decided has no answer in `play`: of it is
-compared whether it was answered or refused. With --seeds it does so for scripts of scenario.py. Status 1 where
-something differs, or a script cannot be played.
+their decisions (as the events of `./suites trace` tell it), and compares the answers of both: every reply, every
+refusal, every denial with its entry, and the servers' audits. Numbers of what was made differ, since they come of the
+number of the transaction, and are mapped. A transaction whose agent stopped after it was decided has no answer in
+`play`: of it is compared whether it was answered or refused. With --seeds it does so for scripts of scenario.py.
+Status 1 where something differs, or a script cannot be played.
 """
 import argparse
 import collections

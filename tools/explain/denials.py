@@ -4,7 +4,6 @@ The transactions before are played by `suites table`, and after them the list is
 itself in.
 """
 import re
-import subprocess
 import typing
 
 from common import built
@@ -29,9 +28,8 @@ class Asked(typing.NamedTuple):
 def table(lines: list[str]) -> list[str]:
     """What `suites table` prints of a script; nothing where it has a fault."""
     text = "".join(f"{line}\n" for line in lines)
-    words = [built.chosen("suites")[1], "table"]
-    done = subprocess.run(words, input=text.encode("latin1"), stdout=subprocess.PIPE, stderr=subprocess.DEVNULL)
-    return done.stdout.decode("latin1").splitlines() if done.returncode == 0 else []
+    status, printed = built.asked("suites", text, "table", path=built.chosen("suites")[1])
+    return printed.splitlines() if status == 0 else []
 
 
 def makers(path: str, root: list[str], jobs: list[Asked]) -> list[tuple[str, str]]:

@@ -6,16 +6,15 @@ that each stands once.
 import itertools
 import re
 import sys
-import textwrap
 
 from common import forms, text_of
 from explain import misfits
-from common.quoted import either, letters, plain, short
+from common.quoted import either, filled, letters, plain, short
 
 ROW = re.compile(r"\| (.*) \| (.*) \|$")
 # Slanted words, and no sign of multiplication.
 SLANTED = re.compile(r"\*(\w(?:[^*]*\w)?)\*")
-WIDE, INDENT = 100, 4
+INDENT = 4
 
 
 def words() -> dict[str, str]:
@@ -144,17 +143,10 @@ def one_word(word: str) -> str | None:
     return "\n\n".join(told) or None
 
 
-def filled(text: str, first: str = "", after: str = "") -> str:
-    return textwrap.fill(
-        text, WIDE, initial_indent=first, subsequent_indent=after, break_long_words=False, break_on_hyphens=False
-    )
-
-
 def shown(head: str, rows: list[tuple[str, str]]) -> str:
     """A sentence, and a table of words."""
     cut = [(short(word) if len(word) <= 24 else f"{plain(word[:22])}..", told) for word, told in rows]
     wide = max((len(word) for word, _ in cut), default=0)
-    lines = [
-        filled(told.replace("`", ""), f"{' ' * INDENT}{word:{wide}}  ", " " * (INDENT + wide + 2)) for word, told in cut
-    ]
+    rows = [(f"{' ' * INDENT}{word:{wide}}  ", told.replace("`", "")) for word, told in cut]
+    lines = [filled(told, initial_indent=front, subsequent_indent=" " * len(front)) for front, told in rows]
     return "\n".join([filled(head.replace("..", ".")), "", *lines]).rstrip()

@@ -293,8 +293,8 @@ def home_down(run: Played, job: Job) -> typing.Iterator[str]:
     home = run.home(job)
     since = run.down_since(home, job.ended or 0)
     yield (
-        f"Its home is server {home}: ({job.agent} + {job.count}) mod {len(run.servers)}, the number of the agent and that of"
-        " the job together, modulo the number of servers."
+        f"Its home is server {home}: ({job.agent} + {job.count}) mod {len(run.servers)}, the number of the agent and"
+        " that of the job together, modulo the number of servers."
     )
     if since is not None:
         yield f"Server {home} is down, since line {since}."

@@ -278,9 +278,4 @@ def ended(given: argparse.Namespace, status: int, text: bytes) -> int:
 
 def main() -> int:
     given = read(sys.argv[1:])
-    if given.help:
-        return console.print_help("explore")
-    console.tell_reading()
-    if given.page:
-        return page(given)
-    return answer(given) if given.ask else run(given)
+    return console.of_input("explore", given, page if given.page else answer if given.ask else run)

@@ -352,8 +352,8 @@ def fold(picture: Picture, requests: list[Event], known: dict[int, str]) -> None
     if request["asks"] in FOR_LOCKS:
         told = f"locks of {Brief(known, agent).suite(request['suite'])}: {good} of {count}"
     else:
-        words = [request["asks"], word_of(request.get("verdict", "")), f"×{good}" if good == count else f"{good} of {count}"]
-        told = " ".join(filter(None, words))
+        of_all = f"×{good}" if good == count else f"{good} of {count}"
+        told = " ".join(filter(None, [request["asks"], word_of(request.get("verdict", "")), of_all]))
     picture.folded(agent, servers, told, good == count)
 
 

@@ -7,11 +7,12 @@ import subprocess
 import sys
 import tempfile
 from collections.abc import Iterator
-from typing import Any, NoReturn
+from typing import Any, NoReturn, TypeVar
 
 from common import built, console
 
 Event = dict[str, Any]
+Own = TypeVar("Own", bound="Player")
 OF_SERVERS, BEGIN, STEP = ("crash", "return"), ("begin", "sweep"), ("step", "run")
 FAULTY = 3
 # What a terminal is told where the program ends so (as `./suites` tells it of the other commands).
@@ -33,7 +34,7 @@ class Player:
             self.given.seek(0)
         self.run = subprocess.Popen([program(), "--json"], stdin=self.given, stdout=subprocess.PIPE, env=ENV)
 
-    def __enter__(self) -> Player:
+    def __enter__(self: Own) -> Own:
         return self
 
     def __exit__(self, *_: object) -> None:

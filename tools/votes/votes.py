@@ -43,7 +43,6 @@ import functools
 import itertools
 import re
 import sys
-import textwrap
 import typing
 
 from common import console, quoted
@@ -75,7 +74,7 @@ MISSED = (
 AGENTS = re.compile(rb"^([ \t]*agents[ \t]+)(\d+)", re.M)
 SERVERS = re.compile(rb"^[ \t]*servers[ \t]+(\d+)", re.M)
 OPENING = re.compile(rb"^[ \t]*votes[ \t]+(\S+)", re.M)
-WIDE = 110
+filled = functools.partial(quoted.filled, width=110)
 FORM = """VOTES are written as 1,1,1/2/2: the votes of servers 0, 1, .. with commas between them (- for one that is left
 out), behind a slash r, the votes that a read collects, and behind another one w, those of a write. With N votes in all,
 r and w are at most N, r + w is above N, and so is 2w."""
@@ -220,20 +219,11 @@ def listed(first: str, words: list[str], count: int) -> str:
     """Words behind a first one in lines, and how many more there are."""
     rest = f" and {count - len(words):,} more" if count > len(words) else ""
     text = " ".join(word.replace(" ", "\0") for word in words) + rest
-    after = " " * len(first)
-    lines = textwrap.fill(
-        text, WIDE, initial_indent=first, subsequent_indent=after, break_long_words=False, break_on_hyphens=False
-    )
-    return lines.replace("\0", " ")
+    return filled(text, initial_indent=first, subsequent_indent=" " * len(first)).replace("\0", " ")
 
 
 def set_text(servers: typing.Iterable[int]) -> str:
     return f"{{{','.join(map(str, sorted(servers)))}}}"
-
-
-def filled(text: str) -> str:
-    """A sentence in lines."""
-    return textwrap.fill(text, WIDE, break_long_words=False, break_on_hyphens=False)
 
 
 def told_of(kind: str, shares: typing.Sequence[int], needed: int, up: fractions.Fraction) -> list[str]:
