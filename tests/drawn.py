@@ -393,7 +393,8 @@ def written(script: str, agent: int | None, suite: int | None) -> str:
         if suite is None:
             trace.write_all(run, out, agent)
         else:
-            trace.write_told(run, out, trace.narrowed([*run.play()], agent, suite), paths(run), None)
+            known = paths(run.play())
+            trace.write_told(run, out, trace.narrowed(run, agent, suite), known)
     return out.getvalue().decode("latin1")
 
 

@@ -12,6 +12,7 @@ from typing import Any, NoReturn, TypeVar
 from common import built, console
 
 Event = dict[str, Any]
+READ = json.JSONDecoder().raw_decode
 Own = TypeVar("Own", bound="Player")
 OF_SERVERS, BEGIN, STEP = ("crash", "return"), ("begin", "sweep"), ("step", "run")
 FAULTY = 3
@@ -22,6 +23,11 @@ ENV = built.setting("trace")
 
 # The path of the program `trace`.
 program = functools.partial(built.program, "trace")
+
+
+def event_of(line: bytes) -> Event:
+    """The event that stands in a line."""
+    return READ(line.decode())[0]
 
 
 class Player:
@@ -57,7 +63,7 @@ class Player:
             self.give_up(fault.decode("latin1"), status)
 
     def __iter__(self) -> Iterator[Event]:
-        return map(json.loads, self.lines())
+        return map(event_of, self.lines())
 
     def give_up(self, fault: str, status: int) -> NoReturn:
         """Ends the tool as the program has ended, with what it printed last; of a script that has a name says so."""
@@ -95,7 +101,7 @@ class Run(Player):
         played = 0
         for line in self.lines():
             self.begun, self.size = self.size, self.size + self.kept.write(line)
-            event = json.loads(line)
+            event = event_of(line)
             played += event["kind"] == "line"
             self.progress.say(f"{100 * played // self.count} % of the script is played")
             yield event
@@ -104,7 +110,7 @@ class Run(Player):
         """The events from this place of the file on, once the program has played the script to its end."""
         self.kept.seek(place)
         for line in self.kept:
-            yield json.loads(line)
+            yield event_of(line)
             place += len(line)
             self.progress.say(f"the script is played, {100 * place // self.size} % of it is looked through")
 

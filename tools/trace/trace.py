@@ -15,8 +15,9 @@ import argparse
 import dataclasses
 import re
 import sys
+import tempfile
 from collections.abc import Iterable, Iterator, Mapping
-from typing import Any, BinaryIO
+from typing import IO, Any
 
 from common import console, quoted
 from trace import json_events
@@ -24,6 +25,8 @@ from trace.events import BEGIN, OF_SERVERS, STEP, Event, Run, begun
 from trace.lines import Lines
 from trace.paths import Paths, paths
 
+# So much is written at once of what had to wait.
+PIECE = 1 << 20
 AGENTS = re.compile(rb"^[ \t]*agents[ \t]+(\d+)", re.M)
 
 
@@ -164,40 +167,48 @@ def text_of(telling: Lines, event: Event) -> bytes:
     return "".join(f"{line}\n" for line in telling.of(event)).encode("latin1")
 
 
-def write_all(run: Run, out: BinaryIO | quoted.Terminal, agent: int | None) -> None:
+def write_all(run: Run, out: IO[bytes] | quoted.Terminal, agent: int | None) -> None:
     """Writes a trace, or what is about an agent, while the program plays, up to where a path is not known that may be
     told later; and then the rest.
     """
-    found, waits_from = Paths(), None
+    found, held = Paths(), tempfile.TemporaryFile()
+    # where in what is held an event stands that met such a path, and where among the events
+    lacking: list[tuple[int, int]] = []
     telling = Lines(found.known)
     for event in run.play():
         found.learn(event)
-        if waits_from is None and is_of_agent(event, agent):
-            text = text_of(telling, event)
-            if telling.lacks:
-                waits_from = run.begun
+        if is_of_agent(event, agent):
+            text, telling.lacks, lacks = text_of(telling, event), False, telling.lacks
+            if lacks:
+                lacking.append((held.tell(), run.begun))
+            elif lacking:
+                held.write(text)
             else:
                 run.progress.make_way()
                 out.write(text)
-    if waits_from is not None:
-        write_told(run, out, run.since(waits_from), found.known, agent)
+    run.progress.make_way()
+    held.seek(0)
+    for place, begun in lacking:
+        write_from(held, out, place)
+        out.write(text_of(telling, next(run.since(begun))))
+    write_from(held, out, sys.maxsize)
 
 
-def write_told(
-    run: Run, out: BinaryIO | quoted.Terminal, events: Iterable[Event], known: dict[int, str], agent: int | None
-) -> None:
-    """Writes events, or those that are about an agent, once all paths are known."""
+def write_from(held: IO[bytes], out: IO[bytes] | quoted.Terminal, end: int) -> None:
+    """Writes what is held up to this place, in pieces."""
+    while True:
+        piece = held.read(min(PIECE, end - held.tell()))
+        if not piece:
+            return
+        out.write(piece)
+
+
+def write_told(run: Run, out: IO[bytes] | quoted.Terminal, events: Iterable[Event], known: dict[int, str]) -> None:
+    """Writes events of a run, of which all paths are known."""
     telling = Lines(known)
-    for event in narrowed(events, agent, None):
-        text = text_of(telling, event)
+    for event in events:
         run.progress.make_way()
-        out.write(text)
-
-
-def write_about(run: Run, out: BinaryIO | quoted.Terminal, agent: int | None, suite: str) -> None:
-    """Writes what is about a suite, and of that what is about an agent, once the script is played."""
-    known = paths(run.play())
-    write_told(run, out, narrowed(run, agent, number_of(suite, known)), known, None)
+        out.write(text_of(telling, event))
 
 
 def main() -> int:
@@ -206,12 +217,13 @@ def main() -> int:
             raise console.Bad("--json stands alone: ./suites trace --json < SCRIPT")
         return json_events.tell()
     given = asked(sys.argv[1:], __doc__)
-    out: BinaryIO | quoted.Terminal = sys.stdout.buffer
+    out: IO[bytes] | quoted.Terminal = sys.stdout.buffer
     if sys.stdout.isatty():
         out = quoted.Terminal(sys.stdout.buffer)
     with Run(script(given.agent)) as run:
         if given.suite is None:
             write_all(run, out, given.agent)
         else:
-            write_about(run, out, given.agent, given.suite)
+            known = paths(run.play())
+            write_told(run, out, narrowed(run, given.agent, number_of(given.suite, known)), known)
     return 0
