@@ -126,7 +126,7 @@ class Played:
             self.decided.append(decision[0])
 
     def home(self, job: Job) -> int:
-        return (job.agent + job.count) % len(self.servers)
+        return numbers.home(job.agent, job.count, len(self.servers))
 
     def last_turn(self, server: int, at: int) -> tuple[int, bool, int] | None:
         """When a server last crashed or came back before a moment."""
@@ -298,7 +298,8 @@ def home_down(run: Played, job: Job) -> typing.Iterator[str]:
     )
     if since is not None:
         yield f"Server {home} is down, since line {since}."
-    tries = ((turn, (job.agent + job.count + turn) % len(run.servers)) for turn in range(1, len(run.servers) + 1))
+    count = len(run.servers)
+    tries = ((turn, numbers.home(job.agent, job.count + turn, count)) for turn in range(1, count + 1))
     is_up = next(((turn, one) for turn, one in tries if run.down_since(one, job.ended or 0) is None), None)
     if is_up and is_up[0] == 1:
         yield f"Begun again at once, it is job {job.count + 1}, whose home is server {is_up[1]}, which was up then."
