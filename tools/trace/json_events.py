@@ -74,8 +74,9 @@ class Fuller:
         told: events.Event = {"agent": agent, "job": job}
         if words[0] == "sweep":
             return {"begun": {**told, "sweeps": int(words[2])}}
-        told |= {"t": numbers.transaction(agent, job), "home": numbers.home(agent, job, self.servers), "user": int(words[2])}
-        told |= {"groups": [int(gid) for gid in words[3].split(",")], "site": int(words[4])}
+        told |= {"t": numbers.transaction(agent, job), "home": numbers.home(agent, job, self.servers)}
+        groups = [int(gid) for gid in words[3].split(",")]
+        told |= {"user": int(words[2]), "groups": groups, "site": int(words[4])}
         return {"begun": {**told, "operations": " ".join(words[5:]).split(" ; ")}}
 
     def more_paths(self, event: events.Event) -> events.Event:
