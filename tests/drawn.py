@@ -406,59 +406,13 @@ def told(tally: Tally, name: str, script: str, lines: list[str]) -> None:
     tally.holds([line[2:] for line in lines if line.startswith("> ")] == given, name, "lines of the script")
     rows = list(zip(lines, whole.splitlines()))
     for agent in (0, 1):
-        own = set(about_agent(lines, agent))
+        own = set(traced.about_agent(lines, agent))
         wanted = [line for place, (_, line) in enumerate(rows) if place in own]
         tally.holds(written(script, agent, None).splitlines() == wanted, name, "told of agent", agent)
     for suite in (0, 1, 2, 9, 10):
-        own = set(about_suite(lines, suite))
+        own = traced.about_suite(lines, suite)
         wanted = [line for place, (_, line) in enumerate(rows) if place in own]
         tally.holds(written(script, None, suite).splitlines() == wanted, name, "told of suite", suite)
-
-
-def about_agent(lines: list[str], agent: int) -> typing.Iterator[int]:
-    """The places of the lines that are about an agent: below a line of the script that is of it, or of servers."""
-    is_about = True
-    for place, line in enumerate(lines):
-        words = line.split()
-        if line[:1] in "=>":
-            is_about = line[0] == "=" or words[1] in ("crash", "return", "audit") or int(words[2]) == agent
-        if is_about:
-            yield place
-
-
-def about_suite(lines: list[str], suite: int) -> set[int]:
-    """The places of the lines that are about a suite: requests that name it or are of a transaction that does, the ends
-    of such jobs, what agents are told that do nothing, audits and servers; and the lines of the script that have such
-    lines, or begin such jobs.
-    """
-    asked = [re.match(r"  (\d+) -> s\d+  (?:t (\d+) )?(.*?) +: ", line) for line in lines]
-    suites = [set(map(int, re.findall(r"suite (\d+)", found[3]))) if found else set() for found in asked]
-    own = {found[2] for found, named in zip(asked, suites) if found and suite in named}
-    jobs: dict[str, bool] = {}
-    heads: dict[str, int] = {}
-    shown: set[int] = set()
-    for place, (line, found, named) in enumerate(zip(lines, asked, suites)):
-        ended, words = re.match(r"(\d+)\.\d+ ", line), line[2:].split()
-        is_about = True
-        if line[:1] in "=>":
-            head, is_about = place, line[0] == "=" or words[0] in ("crash", "return")
-            if words[0] in ("begin", "sweep") and not lines[place + 1].startswith("  nothing"):
-                heads[words[1]] = place
-        elif found:
-            is_about = suite in named if named else found[2] is not None and found[2] in own
-            jobs[found[1]] = jobs.get(found[1], False) or is_about
-        elif ended:
-            is_about = jobs.pop(ended[1], False)
-        elif line.startswith("    "):
-            is_about = re.search(rf"suite {suite}\b", line) is not None
-        if is_about:
-            shown |= {place, head}
-            shown |= {
-                heads[words[1]]
-                for words in [lines[head][2:].split()]
-                if words[0] in ("step", "run") and words[1] in heads
-            }
-    return shown
 
 
 def unordered(tally: Tally) -> None:
