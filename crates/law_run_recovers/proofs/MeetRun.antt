@@ -202,9 +202,6 @@ module _ (given : Opening) (events later : List Event) (calm : Calm given events
       w : World
       w = then_at so_far
 
-      front : List Event
-      front = one.before ++ begins_event ∷ so_far
-
       runs_here : runs one.t here.agent.doing ≡ true
       runs_here = ap (running_in one.t) (sym there) ∙ work.running
 
@@ -218,10 +215,10 @@ module _ (given : Opening) (events later : List Event) (calm : Calm given events
           none None is = refl
           none (Some d) is =
               let cut = part so_far (Step one.agent ∷ rest) split in
-              let it = decided_of_one given events later calm.fair front rest (Step one.agent) cut d is in
-              let same = same_Some it.so.actor here (sym it.so.there ∙ ap (actor_at (run given (events ++ front))) (same_step it.so.number one.agent (sym it.so.step)) ∙ ap (λ w. actor_at w one.agent) (sym (run_is so_far)) ∙ there) in
+              let it = decided_of_one given events later calm.fair (one.before ++ begins_event ∷ so_far) rest (Step one.agent) cut d is in
+              let same = same_Some it.so.actor here (sym it.so.there ∙ ap (actor_at (run given (events ++ (one.before ++ begins_event ∷ so_far)))) (same_step it.so.number one.agent (sym it.so.step)) ∙ ap (λ w. actor_at w one.agent) (sym (run_is so_far)) ∙ there) in
               let number = eqb-true it.so.txn_run.task.t one.t (ap (runs one.t) (sym it.so.running) ∙ ap (λ (a : Actor). runs one.t a.agent.doing) same ∙ runs_here) in
-              absurd (undecided d (contains_from (decisions given (events ++ later)) d (decided_has given events later calm.fair front rest (Step one.agent) cut d is)) (it.so.t ∙ number))
+              absurd (undecided d (contains_from (decisions given (events ++ later)) d (decided_has given events later calm.fair (one.before ++ begins_event ∷ so_far) rest (Step one.agent) cut d is)) (it.so.t ∙ number))
 
       served_so : is_some (step (fixed_of given) (then_at so_far) (Step one.agent)).done.served ≡ true
       served_so = hindered (is_some (step (fixed_of given) w (Step one.agent)).done.served) (robs given one.agent one.t w (Step one.agent)) (bereaves given one.agent one.t w (Step one.agent))
