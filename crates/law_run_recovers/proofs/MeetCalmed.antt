@@ -57,12 +57,12 @@ finished_none : (st : State) (t z : ℕ) → IsConsistent st → ((intention : I
 finished_none st t z is none = copy_in-with_copies st.store.c0 t st.store.intentions st.store.copies z is.sound.rising ∙ of (get nat_cmp st.store.intentions z) refl
   where
     of : (found : Option Intention) → get nat_cmp st.store.intentions z ≡ found → store.in_effect found (λ u. u == t) (copy_of st.store z) ≡ copy_of st.store z
-    of None at = refl
-    of (Some intention) at = by (intention.t == t) refl
+    of None there = refl
+    of (Some intention) there = by (intention.t == t) refl
       where
         by : (b : Bool) → (intention.t == t) ≡ b → cond b (left_by intention.take (copy_of st.store z)) (copy_of st.store z) ≡ copy_of st.store z
         by false apart = refl
-        by true same = absurd (none intention at (eqb-true intention.t t same))
+        by true same = absurd (none intention there (eqb-true intention.t t same))
 
 module _ (st : State) (asked : Stamped Request) (z : ℕ) (ends : (t : ℕ) (v : Verdict) → asked.value ≡ request.Finish t v → is_answered v ≡ true → copy_of (finished t true st.store) z ≡ copy_of st.store z) where
   locking : (found : Option Lock) (t suite : ℕ) (mode : LockMode) → copy_of (after_locking found t suite mode st).store z ≡ copy_of st.store z

@@ -16,7 +16,7 @@ use Rattle.law_run_recovers.proofs.Rows.{start_was}
 use Rattle.law_run_recovers.proofs.Sides.{names_one, takes_named, its_agent, up_same}
 use Rattle.law_run_recovers.proofs.StepsServed.{OwnTook, own_took}
 use Rattle.law_run_recovers.proofs.Unrobbed.{unrecorded_at}
-use Rattle.law_run_recovers.proofs.MeetCalm.{Calm, accepted, can_at, up_at, table_same, log_same, busy_one, one_named, stored_at}
+use Rattle.law_run_recovers.proofs.MeetCalm.{Calm, accepted, can_at, up_at, busy_one, one_named, decided_has, decided_of_one}
 use Rattle.law_run_recovers.proofs.MeetQuiet.{GoesQuietly}
 
 -- no server has a lock, so none that is up

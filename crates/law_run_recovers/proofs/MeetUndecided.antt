@@ -20,11 +20,11 @@ untold said (Deciding outcome) open' tells = tells
 untold said (Finishing left v ended) open' tells = absurd open'
 
 none_of : (ds : List Decided) (i count t : ℕ) (doing : Option Doing) → IsAt ds i count doing → IsOpen doing → runs t doing ≡ true → (d : Decided) → Has ds d → d.t ≡ t → ⊥
-none_of ds i count t None at open' runs = absurd open'
-none_of ds i count t (Some (RunningSweep sweep_run)) at open' runs = absurd open'
-none_of ds i count t (Some (Running txn_run)) at open' runs d has same =
+none_of ds i count t None at open' running d has same = absurd open'
+none_of ds i count t (Some (RunningSweep sweep_run)) at open' running d has same = absurd open'
+none_of ds i count t (Some (Running txn_run)) at open' running d has same =
     let none : standing.Stands ds txn_run.task.t verdict.Aborted = subst (standing.Stands ds txn_run.task.t) (untold at.said txn_run.phase open' at.tells) at.stands in
-    none d has (same ∙ sym (eqb-true txn_run.task.t t runs))
+    none d has (same ∙ sym (eqb-true txn_run.task.t t running))
 
 module _ (given : Opening) (events later : List Event) (agent t : ℕ) (caller : Identity) (site : ℕ) (ops : List Op) (actor : Actor)
     (can : CanBe given (events ++ Begin agent (Transaction caller site ops) ∷ later)) (there : actor_at (run given events) agent ≡ Some actor)
