@@ -1,5 +1,5 @@
 -- A run is calm where each transaction that begins is never decided, or asks for nothing exclusively.
-use Rattle.law_run_recovers.proofs.Vocabulary.{Bool, Contains, List, None, Option, Some, [], ap, append-nil, append_assoc, cond, false, refl, slice_get, slice_set, subst, sym, true, ℕ, ⊎_elim, ◌*◌, ◌++◌, ◌+◌, ◌==◌, ◌∙◌, ◌∷◌, ◌≡◌}
+use Rattle.law_run_recovers.proofs.Vocabulary.{Bool, Contains, inl, inr, List, None, Option, Some, [], ap, append-nil, append_assoc, cond, false, refl, slice_get, slice_set, subst, sym, true, ℕ, ⊎_elim, ◌*◌, ◌++◌, ◌+◌, ◌==◌, ◌∙◌, ◌∷◌, ◌≡◌}
 use Rattle.law_run_recovers.proofs.Vocabulary.{◌⊎◌, eqb-true, false≢true, same_Some, cons_option, nat_cmp, PlainTable, AuditItem, all_keep, CanBe, LogIs, decision_at, event_log, machine_one, all_consistent, AllAt, machine_of}
 use Rattle.law_run_recovers.proofs.Vocabulary.{finish_is_after, at_puts, append_has_left, service_stays, puts_in, IsAnsweredAsKnown, IsNotDecided, ended, EndedSo, beginning, WasPrefix, copy_in-with_copies, Has, contains_from}
 use Rattle.law_run_recovers.proofs.Vocabulary.{has_from, HasPreparedLock, IsConsistent, Intention, has_lock, in_the_way, with_prepared, after_down, after_locking, after_record, after_up, audit_of, is_answered, prepares}
@@ -30,8 +30,8 @@ use Rattle.law_run_recovers.proofs.MeetUndecided.{not_decided_at_work}
 -- ---- the same table
 
 module _ (given : Opening) (events later : List Event) (calm : Calm given events later) (who : Begun given events later) where
-  abbrev at : PlainTable
-  at = table_of given (events ++ who.before)
+  abbrev its_table : PlainTable
+  its_table = table_of given (events ++ who.before)
 
   rows_same : (table_of given (events ++ who.before)).rows ≡ (table_of given events).rows
   rows_same = calm.rows who.before (Begin who.agent (Transaction who.caller who.site who.ops) ∷ who.after) who.parts
@@ -42,12 +42,12 @@ module _ (given : Opening) (events later : List Event) (calm : Calm given events
   -- what it asks for it asks for on the first table, and so it is of votes that it sets
   pub asks_same : its_asks given events later who ≡ asks_for given events who.t who.caller who.ops
   asks_same =
-      ap (λ all. locks_asked (record at { rows = all }) who.t who.caller who.ops) rows_same
+      ap (λ all. locks_asked (record its_table { rows = all }) who.t who.caller who.ops) rows_same
       ∙ ap (λ service. locks_asked (record (table_of given events) { service = service }) who.t who.caller who.ops) service_same
 
   pub votes_same : its_votes given events later who ≡ votes_set (table_of given events) who.t who.caller who.ops
   votes_same =
-      ap (λ all. votes_set (record at { rows = all }) who.t who.caller who.ops) rows_same
+      ap (λ all. votes_set (record its_table { rows = all }) who.t who.caller who.ops) rows_same
       ∙ ap (λ service. votes_set (record (table_of given events) { service = service }) who.t who.caller who.ops) service_same
 
 -- ---- what a server has stored
@@ -330,23 +330,29 @@ module _ (given : Opening) (events later : List Event) (fair : Fair given events
     abbrev Stored : ℕ → State → Type 0
     Stored s st = (old : State) → server_at (run given events) s ≡ Some old → (z : ℕ) → copy_of st.store z ≡ copy_of old.store z
 
+    -- what is served leaves what its server has stored
+    target_stored : (it : Serves (run given (events ++ so_far)) (step (fixed_of given) (run given (events ++ so_far)) event)) → Stored it.target (served it.st it.asked)
+    target_stored it old was z =
+        served_so it.st it.asked z
+        (λ t v asks answered. finished_none it.st t z (all_consistent given base it.target it.st it.at) (ends_none it.target it.st it.at _ it.done t v asks answered z))
+        ∙ here.stored it.target it.st it.at old was z
+
+    served_stored : Serves (run given (events ++ so_far)) (step (fixed_of given) (run given (events ++ so_far)) event) → AllAt Stored (step (fixed_of given) (run given (events ++ so_far)) event).world
+    served_stored it s st there =
+        let w = run given (events ++ so_far) in
+        let puts = puts_in w.servers it.target it.st (served it.st it.asked) it.at in
+        elim (at_puts (slice_get w.servers) (slice_get (slice_set w.servers it.target (served it.st it.asked))) it.target it.st (served it.st it.asked) puts s st (ap (λ servers. slice_get servers s) (sym it.servers) ∙ there)) [
+          | inl here' ↦ subst (λ s. Stored s st) (sym here'.at) (subst (Stored it.target) (sym here'.is) (target_stored it))
+          | inr there' ↦ here.stored s st there'.was
+        ]
+
     stored_next : AllAt Stored (step (fixed_of given) (run given (events ++ so_far)) event).world
-    stored_next = ⊎_elim
-        (λ same s st at. here.stored s st (ap (λ servers. slice_get servers s) (sym same) ∙ at))
-        by
-        (event_serves (fixed_of given) (run given (events ++ so_far)) event)
+    stored_next = of (event_serves (fixed_of given) (run given (events ++ so_far)) event)
       where
-        by : Serves (run given (events ++ so_far)) (step (fixed_of given) (run given (events ++ so_far)) event) → AllAt Stored (step (fixed_of given) (run given (events ++ so_far)) event).world
-        by serves s st at =
-            let w = run given (events ++ so_far) in
-            let puts = puts_in w.servers serves.target serves.st (served serves.st serves.asked) serves.at in
-            ⊎_elim
-            (λ here'. subst (λ s. Stored s st) (sym here'.at) (subst (Stored serves.target) (sym here'.is) (λ old was z.
-            served_so serves.st serves.asked z
-            (λ t v asks answered. finished_none serves.st t z (all_consistent given base serves.target serves.st serves.at) (ends_none serves.target serves.st serves.at _ serves.done t v asks answered z))
-            ∙ here.stored serves.target serves.st serves.at old was z)))
-            (λ there'. here.stored s st there'.was)
-            (at_puts (slice_get w.servers) (slice_get (slice_set w.servers serves.target (served serves.st serves.asked))) serves.target serves.st (served serves.st serves.asked) puts s st (ap (λ servers. slice_get servers s) (sym serves.servers) ∙ at))
+        of : ((step (fixed_of given) (run given (events ++ so_far)) event).world.servers ≡ (run given (events ++ so_far)).servers) ⊎ Serves (run given (events ++ so_far)) (step (fixed_of given) (run given (events ++ so_far)) event)
+            → AllAt Stored (step (fixed_of given) (run given (events ++ so_far)) event).world
+        of (inl same) = λ s st there. here.stored s st (ap (λ servers. slice_get servers s) (sym same) ∙ there)
+        of (inr it) = served_stored it
 
     -- ---- so it is still
 
