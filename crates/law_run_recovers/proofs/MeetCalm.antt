@@ -3,7 +3,7 @@ use Rattle.law_run_recovers.proofs.Vocabulary.{List, None, Option, Some, [], ap,
 use Rattle.law_run_recovers.proofs.Vocabulary.{cons_option, Identity, Op, CanBe, clear_servers, names_mine, can_front, run_more, all_none, doing_at, doing_of, with_job, AllAt, BeginsNone, event_doing, none_begins, all_idle}
 use Rattle.law_run_recovers.proofs.Vocabulary.{begins_job, all_up, no_locks, machine_of, answers_follow_knowledge, holds_of, same_or, append_has_right, agent_of, IsAnsweredAsKnown, names, begins_now, beginning, WasPrefix, Has}
 use Rattle.law_run_recovers.proofs.Vocabulary.{Ways, by_step, is_answered, State, copy_of, finished, Verdict, Request, Stamped, decisions_from-append, Decided, decided, decisions, decisions_from, run, table_of, Actor, World}
-use Rattle.law_run_recovers.proofs.Vocabulary.{actor_at, opening, server_at, step, Event, Begin, Crash, Forget, Lack, Return, Step, holds, IsAccepted, Opening, Prefix, fixed_of, is_idle, next_of, take_in, Doing, Job, Sweep}
+use Rattle.law_run_recovers.proofs.Vocabulary.{actor_at, opening, server_at, step, Event, Begin, Crash, Forget, Lack, Return, Step, IsAccepted, Opening, Prefix, fixed_of, is_idle, next_of, take_in, Doing, Job, Sweep}
 use Rattle.law_run_recovers.proofs.Vocabulary.{Transaction, Response, Begun, spoils, is_running, running_in, runs}
 use Rattle.rep_core.specs.declared.request.Request.TheVariants as request
 use Rattle.rep_core.specs.declared.reply.Verdict.TheVariants as verdict

@@ -1,10 +1,10 @@
 -- A run is calm where each transaction that begins is never decided, or asks for nothing exclusively.
 use Rattle.law_run_recovers.proofs.Vocabulary.{Bool, Contains, inl, inr, List, None, Option, Some, [], ap, append-nil, append_assoc, cond, false, refl, slice_get, slice_set, subst, sym, true, ℕ, ⊎_elim, ◌*◌, ◌++◌, ◌+◌, ◌==◌, ◌∙◌, ◌∷◌, ◌≡◌}
 use Rattle.law_run_recovers.proofs.Vocabulary.{◌⊎◌, eqb-true, false≢true, same_Some, cons_option, nat_cmp, PlainTable, AuditItem, all_keep, CanBe, LogIs, decision_at, event_log, machine_one, all_consistent, AllAt, machine_of}
-use Rattle.law_run_recovers.proofs.Vocabulary.{finish_is_after, at_puts, append_has_left, service_stays, puts_in, IsAnsweredAsKnown, IsNotDecided, ended, EndedSo, beginning, WasPrefix, copy_in-with_copies, Has, contains_from}
+use Rattle.law_run_recovers.proofs.Vocabulary.{finish_is_after, at_puts, append_has_left, service_stays, puts_in, IsAnsweredAsKnown, IsNotDecided, EndedSo, beginning, WasPrefix, copy_in-with_copies, Has, contains_from}
 use Rattle.law_run_recovers.proofs.Vocabulary.{has_from, HasPreparedLock, IsConsistent, Intention, has_lock, in_the_way, with_prepared, after_down, after_locking, after_record, after_up, audit_of, is_answered, prepares}
 use Rattle.law_run_recovers.proofs.Vocabulary.{verdict_of, served, State, record_of, copy_of, finished, intended, left_by, Lock, Verdict, Request, Stamped, decisions_from-append, Decided, decided, decisions, decisions_from, run}
-use Rattle.law_run_recovers.proofs.Vocabulary.{table_after_all, table_of, Actor, World, actor_at, opening, server_at, step, Served, Event, Begin, get, is_exclusive, serves, Opening, Prefix, LockMode, Exclusive, Shared, fixed_of}
+use Rattle.law_run_recovers.proofs.Vocabulary.{table_after_all, table_of, Actor, World, actor_at, opening, server_at, step, Served, Event, Begin, get, is_exclusive, Opening, Prefix, LockMode, Exclusive, Shared, fixed_of}
 use Rattle.law_run_recovers.proofs.Vocabulary.{Doing, Running, Task, TransactionRun, Transaction, Begun, its_asks, locks_asked, votes_set, its_votes, asks_for, runs, world_after}
 use Rattle.rep_core.specs.declared.request.Request.TheVariants as request
 use Rattle.rep_core.specs.declared.reply.Verdict.TheVariants as verdict

@@ -1,8 +1,8 @@
 -- One that writes and any number that only read: a reader that ends undecided was refused by locks of the writer that are enough to write, and so the writer was not.
 use Rattle.law_run_recovers.proofs.Vocabulary.{Bool, Contains, IsTrue, List, Some, [], ap, append-nil, append_assoc, arith, false, inl, inr, not, refl, subst, sym, true, ℕ, ⊎_elim, ◌&&◌, ◌++◌, ◌+◌, ◌<◌, ◌==◌, ◌||◌, ◌∙◌, ◌∷◌, ◌≡◌}
-use Rattle.law_run_recovers.proofs.Vocabulary.{◌≤◌, ◌⊎◌, eq-eqb, false≢true, some, CanBe, can_front, is_decided, machine_of, IsNotDecided, beginning, WasPrefix, Has, has_any, has_from, State, Lock, decisions, run, table_of}
+use Rattle.law_run_recovers.proofs.Vocabulary.{◌≤◌, ◌⊎◌, eq-eqb, false≢true, CanBe, can_front, is_decided, machine_of, IsNotDecided, beginning, WasPrefix, Has, has_any, has_from, State, Lock, decisions, run, table_of}
 use Rattle.law_run_recovers.proofs.Vocabulary.{World, server_at, step, EndedJob, Served, Event, Begin, Step, mode_of, needed_of, is_exclusive, serves, Opening, Prefix, LockMode, Exclusive, Shared, fixed_of, Transaction}
-use Rattle.law_run_recovers.proofs.Vocabulary.{shared_member, Configuration, total_votes, votes_at, votes_in, Begun, clash, clashes, its_asks, votes_set, EndsThen, its_votes, SetsApart, votes_now, asks_for, ReadersMeet}
+use Rattle.law_run_recovers.proofs.Vocabulary.{shared_member, Configuration, total_votes, votes_at, votes_in, Begun, clashes, its_asks, votes_set, EndsThen, its_votes, SetsApart, votes_now, asks_for, ReadersMeet}
 use Rattle.law_run_recovers.proofs.Vocabulary.{WriterOrReadersAreDecided, only_reads, begun_world}
 use Rattle.txn_core.specs.Doing as doing
 use Rattle.law_run_recovers.proofs.AmongCourse.{tail_or}

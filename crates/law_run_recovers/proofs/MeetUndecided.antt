@@ -1,7 +1,7 @@
 -- A transaction that is at work was not decided, nor is it where it asks for a lock.
-use Rattle.law_run_recovers.proofs.Vocabulary.{List, None, Option, Some, ap, false, refl, subst, sym, true, ℕ, ◌++◌, ◌∙◌, ◌∷◌, ◌≡◌, eqb-true, false≢true, Identity, Op, CanBe, begins_job, IsAt, holds_of, agent_of, ended, Has}
-use Rattle.law_run_recovers.proofs.Vocabulary.{Verdict, Request, Decided, decisions, run, Actor, actor_at, Event, Begin, Opening, left, Deciding, Doing, Fetching, Finishing, Gathering, Phase, Preparing, Running, RunningSweep}
-use Rattle.law_run_recovers.proofs.Vocabulary.{Widening, is_decide, Transaction, runs, tells, world_after}
+use Rattle.law_run_recovers.proofs.Vocabulary.{List, None, Option, Some, ap, false, refl, subst, sym, true, ℕ, ◌++◌, ◌∙◌, ◌∷◌, ◌≡◌, eqb-true, false≢true, Identity, Op, CanBe, begins_job, IsAt, holds_of, agent_of, Has}
+use Rattle.law_run_recovers.proofs.Vocabulary.{Verdict, Request, Decided, decisions, run, Actor, actor_at, Event, Begin, Opening, Deciding, Doing, Fetching, Finishing, Gathering, Phase, Preparing, Running, RunningSweep}
+use Rattle.law_run_recovers.proofs.Vocabulary.{Widening, is_decide, Transaction, runs, world_after}
 use Rattle.rep_core.specs.declared.request.Request.TheVariants as request
 use Rattle.rep_core.specs.declared.reply.Verdict.TheVariants as verdict
 use Rattle.law_runs.proofs.Standing as standing

@@ -1,7 +1,7 @@
 -- One sets a list while two read, by computation.
 use Rattle.law_run_recovers.proofs.Vocabulary.{Bool, Contains, List, [], ap, arith, false, inl, inr, not, refl, subst, sym, true, ℕ, ⊎_elim, ◌&&◌, ◌++◌, ◌==◌, ◌∙◌, ◌∷◌, ◌≡◌, ◌⊎◌, and_parts, false≢true, list_all, list_any, row_of}
 use Rattle.law_run_recovers.proofs.Vocabulary.{after, some_run_revokes, CanBe, EventGivesValidVotes, any_has, has_any, has_from, decisions_from-append, Decided, decisions, decisions_from, run, table_after_all, table_of, World, opening}
-use Rattle.law_run_recovers.proofs.Vocabulary.{step, Event, Begin, is_exclusive, LockMode, Exclusive, Shared, fixed_of, owner, Transaction, Configuration, Begun, clash, clashes, its_asks, spoils, two_made, HasFirstVotes}
+use Rattle.law_run_recovers.proofs.Vocabulary.{step, Event, Begin, is_exclusive, LockMode, Exclusive, Shared, fixed_of, owner, Transaction, Configuration, Begun, clashes, its_asks, spoils, two_made, HasFirstVotes}
 use Rattle.law_run_recovers.proofs.Vocabulary.{asks_for, only_reads}
 use Rattle.suite_prefix.specs.SettingsRules.{IsAccepted}
 use Rattle.file_ops.specs.Rows as rows
