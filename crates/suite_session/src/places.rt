@@ -2,13 +2,14 @@
 
 ghost use Rattle.std.specs.Prelude.{◌≡◌, ◌++◌, IfOk, OnOk, length, map};
 ghost use Rattle.std.specs.List.{flat_map};
+ghost use Rattle.std.specs.Option.{option_copied};
 ghost use Rattle.rep_core.specs.code.Planning.{copies_in};
 ghost use Rattle.run_core.specs.Worlds.{server_at};
 ghost use Rattle.suite_session.specs.Places.{copies_line, is_folder, named_by, named_in, numbers_by, numbers_of, room_line, room_lines, room_text, taken_text, unnamed, unnamed_text};
-ghost use Rattle.suite_session.specs.Rows.{newest};
+ghost use Rattle.suite_session.specs.Rows.{copy_in, newest};
 ghost use Rattle.suite_session.specs.declared.side.Side.TheVariants as side;
 
-use crate::newest::newest;
+use crate::newest::{Which, newest};
 use crate::open_service::OpenService;
 use crate::side::Side;
 use file_ops::ROOT;
@@ -17,7 +18,7 @@ use run_core::World;
 use script_text::push_number;
 use std::alloc::{AllocError, Global};
 use suite_content::{Content, Name};
-use suite_prefix::{PrefixKind, Replica, StoredCopy};
+use suite_prefix::{PrefixKind, StoredCopy};
 
 /// Adds the numbers of names.
 fn add_numbers(named: &mut Vec<u64>, names: &[(Name, u64)]) -> Result<(), AllocError>
@@ -29,17 +30,19 @@ fn add_numbers(named: &mut Vec<u64>, names: &[(Name, u64)]) -> Result<(), AllocE
     Ok(())
 }
 
-fn add_names(named: &mut Vec<u64>, copy: &Option<Replica>) -> Result<(), AllocError>
-    ensures { OnOk result (named.new.items ≡ named.old.items ++ numbers_of copy.now) }
+fn add_names(
+    alloc: Global,
+    named: &mut Vec<u64>,
+    copy: Option<&StoredCopy>,
+) -> Result<(), AllocError>
+    ensures { OnOk result (named.new.items ≡ named.old.items ++ numbers_of (copy_in (option_copied copy))) }
 {
-    match copy {
-        Some(
-            Replica {
-                content: Content::Names(names),
-                ..
-            },
-        ) => add_numbers(named, names.as_slice()),
-        _ => Ok(()),
+    let Some(copy) = copy else {
+        return Ok(());
+    };
+    match copy.given(alloc)? {
+        (_, Content::Names(names)) => add_numbers(named, names.as_slice()),
+        (_, Content::Bytes(_)) => Ok(()),
     }
 }
 
@@ -66,9 +69,8 @@ fn add_named(
     if !is_folder(copy.kind()) {
         return Ok(());
     }
-    let count = service.settings.servers() as u8;
-    let newest = newest(alloc, &service.world, count, Side::Content, suite)?;
-    add_names(named, &newest)
+    let newest = newest(alloc, service, Which::Stored, Side::Content, suite)?;
+    add_names(alloc, named, newest)
 }
 
 fn add_named_by(
