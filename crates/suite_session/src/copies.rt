@@ -85,7 +85,7 @@ fn versions_in(alloc: Global, copy: &StoredCopy) -> Result<Versions, AllocError>
 }
 
 fn versions_of(alloc: Global, copy: Option<&StoredCopy>) -> Result<Option<Versions>, AllocError>
-    ensures { IfOk result (λ versions. versions ≡ option_map versions_in (copy_in (option_copied copy))) }
+    ensures { IfOk result (λ versions. versions ≡ option_map versions_in (copy_in (option_copied copy.entry))) }
 {
     match copy {
         Some(copy) => Ok(Some(versions_in(alloc, copy)?)),

@@ -86,7 +86,7 @@ fn newer<'a>(
     other: Option<&'a StoredCopy>,
 ) -> Result<Option<&'a StoredCopy>, AllocError>
     ensures { IfOk result (λ best. copy_in (option_copied best)
-        ≡ newer side (copy_in (option_copied copy)) (copy_in (option_copied other))) }
+        ≡ newer side (copy_in (option_copied copy.entry)) (copy_in (option_copied other.entry))) }
 {
     let Some(copy) = copy else {
         return Ok(other);

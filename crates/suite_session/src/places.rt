@@ -35,7 +35,7 @@ fn add_names(
     named: &mut Vec<u64>,
     copy: Option<&StoredCopy>,
 ) -> Result<(), AllocError>
-    ensures { OnOk result (named.new.items ≡ named.old.items ++ numbers_of (copy_in (option_copied copy))) }
+    ensures { OnOk result (named.new.items ≡ named.old.items ++ numbers_of (copy_in (option_copied copy.entry))) }
 {
     let Some(copy) = copy else {
         return Ok(());

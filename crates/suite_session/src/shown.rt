@@ -31,7 +31,7 @@ fn child_in(
     copy: Option<&StoredCopy>,
     name: &Name,
 ) -> Result<Option<u64>, AllocError>
-    ensures { IfOk result (λ suite. suite ≡ child_in (copy_in (option_copied copy)) name.now) }
+    ensures { IfOk result (λ suite. suite ≡ child_in (copy_in (option_copied copy.entry)) name.now) }
 {
     let Some(copy) = copy else {
         return Ok(None);
@@ -81,7 +81,7 @@ fn shown_by(
     head: Option<&StoredCopy>,
     body: Option<&StoredCopy>,
 ) -> Result<Option<Shown>, AllocError>
-    ensures { IfOk result (λ shown. shown ≡ shown_by suite (copy_in (option_copied head)) (copy_in (option_copied body))) }
+    ensures { IfOk result (λ shown. shown ≡ shown_by suite (copy_in (option_copied head.entry)) (copy_in (option_copied body.entry))) }
 {
     let (Some(head), Some(body)) = (head, body) else {
         return Ok(None);
