@@ -23,7 +23,7 @@
 //!
 //! **Files**: `heading` (a header so far), `open_service` (a world below a header), `play_service`, `question`
 //! (lines that ask), `newest` (the newest copies of a suite), `side`, `shown` (what stands at a path), `copies` (what
-//! each server has of it), `held_locks`, `places`, `laws`, `start`.
+//! each server has of it), `held_locks`, `places`, `named` (which numbers folders name), `laws`, `start`.
 //! **Definitions** (`specs/`): `Headings`, `Services`, `Questions`, `Rows`, `TableRows`, `Copies`, `HeldLocks`,
 //! `Places`, `Promised`, `Played`.
 #![tactic(auto)]
@@ -32,6 +32,7 @@ mod copies;
 mod heading;
 mod held_locks;
 mod laws;
+mod named;
 mod newest;
 mod open_service;
 mod places;
