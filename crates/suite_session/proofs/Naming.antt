@@ -1,20 +1,18 @@
 -- Numbers in sets and in lists, and how many are not among them.
-use Rattle.std.proofs.Common.{◌≡◌, ◌∙◌, ◌⊎◌, ℕ, zero, suc, ◌+◌, ◌==◌, Bool, true, false, ◌||◌, not, if◌then◌else◌, cond, List, [], ◌∷◌, ◌++◌, Option, Some, None, inl, inr, ap, arith, refl, sym, subst}
-use Rattle.std.proofs.lemmas.Bool.{eqb-true, false≢true}
+use Rattle.std.proofs.Common.{◌≡◌, ◌∙◌, ℕ, zero, suc, ◌+◌, ◌==◌, Bool, true, false, ◌||◌, not, cond, List, [], ◌∷◌, ◌++◌, Option, Some, None, ap, arith, refl, sym}
+use Rattle.std.proofs.lemmas.Bool.{false≢true}
 use Rattle.std.proofs.lemmas.Bool.Decides.{nat_tests}
 use Rattle.std.proofs.lemmas.List.Folds.{list_any-append}
 use Rattle.std.specs.BTreeMap.{is_at}
 use Rattle.std.specs.List.{fold, list_any}
 use Rattle.std.specs.Ordering.{nat_cmp}
-use Rattle.std.specs.Prelude.{codes, count_by, decimal}
+use Rattle.std.specs.Prelude.{codes, decimal}
 use Rattle.rep_core.specs.State.{State}
 use Rattle.run_core.specs.Worlds.{World, server_at}
 use Rattle.suite_prefix.specs.declared.copies.Replica.{Replica}
 use Rattle.suite_script.specs.Faults.{line_feed}
-use Rattle.suite_session.specs.Places.{has, numbers_of, room_line, room_lines, taken_text, unnamed}
-use Rattle.suite_session.specs.Rows.{newest, stored_in}
+use Rattle.suite_session.specs.Places.{has, room_line, room_lines, taken_text, unnamed}
 use Rattle.suite_session.specs.code.Naming.{AreTold, HaveSame}
-use Rattle.suite_session.specs.declared.side.Side.TheVariants as side
 
 -- ---- a set has what the list of its keys has
 
@@ -48,46 +46,12 @@ has_added before after key one is =
 pub has_append : (a b : List ℕ) (one : ℕ) → has (a ++ b) one ≡ (has a one || has b one)
 has_append a b one = list_any-append (λ k. k == one) a b
 
--- ---- a folder that is asked
-
 pub or_false : (b : Bool) → b ≡ (b || false)
 or_false true = refl
 or_false false = refl
 
-either : (a b : Bool) → (a || b) ≡ true → (a ≡ true) ⊎ (b ≡ true)
-either true b is = inl refl
-either false b is = inr is
-
-or_left : (a b : Bool) → a ≡ true → (a || b) ≡ true
-or_left true b is = refl
-or_left false b is = absurd (false≢true is)
-
-or_right : (a b : Bool) → b ≡ true → (a || b) ≡ true
-or_right true b is = refl
-or_right false b is = is
-
-module _ (world : World) (count : ℕ) where
-  abbrev names : ℕ → List ℕ
-  names suite = numbers_of (newest side.Content (stored_in world) suite count)
-
-  pub none_told : (numbers : List ℕ) → AreTold world count [] numbers
-  none_told numbers suite one is = absurd (false≢true is)
-
-  pub told_more : (folders later numbers more : List ℕ) (suite : ℕ) → AreTold world count folders numbers → ((one : ℕ) → has more one ≡ (has numbers one || has (names suite) one))
-      → ((one : ℕ) → has later one ≡ (has folders one || (suite == one))) → AreTold world count later more
-  told_more folders later numbers more suite told added asked folder one is named = elim (either (has folders folder) (suite == folder) (sym (asked folder) ∙ is)) [
-    | inl before ↦ added one ∙ or_left (has numbers one) (has (names suite) one) (told folder one before named)
-    | inr now ↦ added one ∙ or_right (has numbers one) (has (names suite) one) (subst (λ s. has (names s) one ≡ true) (sym (eqb-true suite folder now)) named)
-  ]
-
-  absorbed : (a b : Bool) → (b ≡ true → a ≡ true) → a ≡ (a || b)
-  absorbed true b goes = refl
-  absorbed false true goes = goes refl
-  absorbed false false goes = refl
-
-  -- what a folder names that was asked before is there
-  pub told_before : (folders numbers : List ℕ) (suite one : ℕ) → AreTold world count folders numbers → has folders suite ≡ true → has numbers one ≡ (has numbers one || has (names suite) one)
-  told_before folders numbers suite one told is = absorbed (has numbers one) (has (names suite) one) (told suite one is)
+pub none_told : (world : World) (count : ℕ) (numbers : List ℕ) → AreTold world count [] numbers
+none_told world count numbers suite one is = absurd (false≢true is)
 
 -- ---- how many are not among the numbers
 

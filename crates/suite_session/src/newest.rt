@@ -53,7 +53,7 @@ fn is_answered(service: &OpenService, transaction: u64) -> bool
 fn in_effect<'a>(service: &OpenService, server: &'a Server, suite: u64) -> Option<&'a StoredCopy>
     ensures { copy_in (option_copied result)
         ≡ answered_or (is_answered service.now.world.world service.now.settings.servers)
-          (prepared_of server.now.state.store suite) (get nat_cmp server.now.state.store.copies suite) }
+        (prepared_of server.now.state.store suite) (get nat_cmp server.now.state.store.copies suite) }
 {
     match server.prepared(suite) {
         Some((transaction, left)) if is_answered(service, transaction) => Some(left),

@@ -76,7 +76,12 @@ fn push_room_at(
     }
 }
 
-fn push_lines(text: &mut Vec<u8>, named: &BTreeSet<u64>, world: &World, count: u8) -> Result<(), AllocError>
+fn push_lines(
+    text: &mut Vec<u8>,
+    named: &BTreeSet<u64>,
+    world: &World,
+    count: u8,
+) -> Result<(), AllocError>
     ensures { OnOk result (text.new.items ≡ text.old.items ++ room_lines named.now.keys world.now.world count) }
 {
     for number in 0..count {
