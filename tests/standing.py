@@ -144,9 +144,9 @@ def decides(path: str, tally: Tally) -> None:
     after = [ROW.replace(b"size 2 prefix 1 content 1", b"size 3 prefix 1 content 2"), b"content /a 6f6b21"]
     stored = b"up prefix 1 content 1"
     for steps, wanted, ends in ((5, before, b""), (7, before, b" prepared"), (8, after, b" prepared")):
-        lines = told(*write, *[b"step 1"] * steps, *asked)[1:]
+        heard = told(*write, *[b"step 1"] * steps, *asked)[1:]
         have = [*wanted, *of_copies(b"/a", 1, stored + ends, stored + ends, b"up nothing")]
-        tally.holds(lines == have, "a write", steps, lines, have)
+        tally.holds(heard == have, "a write", steps, heard, have)
     # a drop: the folder is stored with the name that it has no more
     drop = (*MAKE, b"begin 1 1000 100 0 drop /a", *[b"step 1"] * 8, *asked, b"copies /")
     root = b"up prefix 1 content 2 prepared"
