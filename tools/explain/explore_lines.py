@@ -19,11 +19,16 @@ def is_explored(script: str) -> bool:
     return [LINE] in said and not any(words[:1] == ["do"] for words in said)
 
 
+def without_wait(words: list[str]) -> list[str]:
+    """The words of a line below, without those that say for which job it waits."""
+    return words[3 if words[2:3] == ["answered"] else 2 :] if words[:1] == ["after"] else words
+
+
 def halves(script: str) -> tuple[str, list[tuple[int, list[str]]]]:
     """The part of a script above its line, and the jobs below it, each with its line's number."""
     lines = faults.lines_of(script)
     at = next(number for number, line in enumerate(lines) if line.split() == [LINE])
-    below = [(at + 2 + place, line.split()) for place, line in enumerate(lines[at + 1 :])]
+    below = [(at + 2 + place, without_wait(line.split())) for place, line in enumerate(lines[at + 1 :])]
     return "".join(f"{line}\n" for line in lines[:at]), [job for job in below if job[1][:1] and job[1][0] in BEGINS]
 
 
