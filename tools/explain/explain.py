@@ -36,8 +36,9 @@ EXAMPLE = re.compile(rf"({SPAN}(?:, {SPAN})*) prints {SPAN}(?: \({SPAN}\))?")
 STATUS = re.compile(r"(?:status |exit )?(\d)$|(?:status |exit )(\d{2,3})$")
 FAULT = re.compile(r"fault (?:line (\d+): )?([SAVNG]\d+(?: A\d+)?(?: item \d+)?)(?: (.+))?$")
 EXPLORED = re.compile(
-    r"way \d+(?: in \d+ of \d+ ends|: \d+ (?:worlds at the end|runs), \d+ of them so)$"
+    r"way \d+(?: in \d+ of \d+ ends|: \d+ (?:worlds at the end|runs), \d+ of them so)?$"
     r"|(?:(?:not )?all|sampled):? \d+ ways, \d+ (?:worlds|runs)$|\d+\.\d+ -$|decided(?: \d+\.\d+)*$"
+    r"|sampled \d+ orders(?:, \d+ dropped)?: \d+ ways$"
 )
 # What begins the line of an outcome: an agent and its job, or a job, and how many requests it took; or a transaction.
 # An outcome of `explore` tells no requests.
@@ -86,7 +87,7 @@ def codes_in(text: str) -> list[str]:
         return [f"status {status[1] or ('128' if int(status[2]) >= 128 else status[2])}"]
     explored = EXPLORED.match(text)
     if explored:
-        return ["all" if " ways, " in text else "way"]
+        return ["all" if " ways" in text else "way"]
     if SPOKEN.match(text):
         return ["session"]
     if TRACED.match(text) or ENTRY.match(text):
