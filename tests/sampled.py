@@ -96,7 +96,7 @@ def compare_random(scripts: int, first: int, tally: Tally) -> int:
 
 def many() -> str:
     """A script of 64 agents and 1,000 jobs."""
-    head = ["servers 3", "agents 64", "votes 1,1,1/2/2", "root 0 0 777"]
+    head = ["servers 3", "agents 64", "votes 1,1,1/2/2", "root 0 0 777", "cache 0 0 0"]
     above = ["begin 0 0 0 0 file /a 666 ; write /a 6869", "run 0", "together"]
     what = ("read /a", "write /a 6f6b", "list /", "getacl /a")
     return "\n".join([*head, *above, *(f"begin {job % 64} 0 0 0 {what[job % 4]}" for job in range(1000)), ""])
