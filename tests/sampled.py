@@ -182,6 +182,27 @@ def ask(tally: Tally) -> None:
         tally.holds(is_so, f"the script tells {outcomes}")
 
 
+def make_small(tally: Tally) -> None:
+    """Of many events few are left, none of which can be dropped."""
+    words = [*tool("explore"), "--sample", "30", "--seed", "2", "--ask", "5.0 undecided U2", "--small"]
+    done = subprocess.run(words, input=many(), capture_output=True, cwd=played.TOP, text=True)
+    lines = done.stdout.splitlines()
+    first = lines.index("run 0") + 1 if "run 0" in lines else len(lines)
+    tally.holds(done.returncode == 0 and 0 < len(lines) - first < 20, f"a small script is {done.stdout}{done.stderr}")
+
+    def ending(left: list[str]) -> str:
+        text = "\n".join([*left, ""])
+        told = subprocess.run([played.program(None), "play"], input=text, capture_output=True, text=True)
+        found = [line for line in explored.without_steps(told.stdout.splitlines()) if line.startswith("5.0 ")]
+        return "".join(found)
+
+    wanted = ending(lines)
+    tally.holds(wanted.startswith("5.0 undecided U2 "), f"in a small script job 5.0 ends so: {wanted}")
+    for place in range(first, len(lines)):
+        is_other = ending([*lines[:place], *lines[place + 1 :]]) != wanted
+        tally.holds(is_other, f"line {place + 1} could be dropped of {done.stdout}")
+
+
 def main() -> int:
     asks = console.words(__doc__)
     asks.add_argument("--scripts", type=int, default=50)
@@ -193,6 +214,7 @@ def main() -> int:
     refuse(tally)
     tell_wrong(tally)
     ask(tally)
+    make_small(tally)
     return tally.told("answers of sampled orders compared")
 
 
