@@ -20,7 +20,6 @@ import typing
 from common import built, console
 from explore import queries, smaller
 from gate import gate
-from trace import trace
 
 # The options that tell a number, with the least and the most that each may be.
 NUMBERS = {
@@ -153,7 +152,7 @@ class Looked(threading.Thread):
 
 def watched(process: subprocess.Popen[bytes]) -> None:
     """Waits until the program has ended, and says meanwhile how far it is."""
-    progress, looked = trace.Progress(), Looked(process.stderr)
+    progress, looked = console.Progress(), Looked(process.stderr)
     try:
         while process.poll() is None:
             with contextlib.suppress(subprocess.TimeoutExpired):
@@ -326,11 +325,5 @@ def ended(given: argparse.Namespace, status: int, text: bytes) -> int:
 
 def main() -> int:
     given = read(sys.argv[1:])
-    if given.help:
-        return console.print_help("explore")
-    console.tell_reading()
-    if given.page:
-        return page(given)
-    if given.small:
-        return small(given)
-    return answer(given) if given.ask else run(given)
+    done = page if given.page else small if given.small else answer if given.ask else run
+    return console.of_input("explore", given, done)
