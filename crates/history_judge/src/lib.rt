@@ -36,6 +36,7 @@ mod links;
 mod placed;
 mod quiet;
 mod search;
+mod stepping;
 mod trying;
 mod verdict;
 mod window;
