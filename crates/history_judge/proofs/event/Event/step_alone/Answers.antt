@@ -5,7 +5,7 @@ use Rattle.history_judge.specs.Events.{Ends}
 use Rattle.history_judge.proofs.Places.{at_left, at_end, at_pushed, at_within}
 use Rattle.history_judge.proofs.Standing.{holds_kept}
 use Rattle.history_judge.proofs.Going.{ends_kept}
-use Rattle.history_judge.proofs.stepping.Event.step_alone.Goals as goal
+use Rattle.history_judge.proofs.event.Event.step_alone.Goals as goal
 
 pub loop-placed-init : goal.loop-placed-init
 loop-placed-init c = record {

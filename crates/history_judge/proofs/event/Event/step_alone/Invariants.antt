@@ -1,7 +1,7 @@
 use Rattle.std.proofs.Common.{◌⊎◌, length}
 use Rattle.history_judge.specs.Events.{SomeEnds}
 use Rattle.history_judge.specs.Placing.{AllHold}
-use Rattle.history_judge.proofs.stepping.Event.step_alone.Given as goal
+use Rattle.history_judge.proofs.event.Event.step_alone.Given as goal
 
 abbrev pub invariant-loop-placed : goal.invariant-loop-placed
 invariant-loop-placed l = record {

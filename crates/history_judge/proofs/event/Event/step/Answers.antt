@@ -1,7 +1,7 @@
 use Rattle.std.proofs.Common.{subst, sym, Result, Ok, Err}
 use Rattle.std.specs.Prelude.{Contains, OnOk}
 use Rattle.history_judge.proofs.Going.{grown_added, ends_added, spread_ends}
-use Rattle.history_judge.proofs.stepping.Event.step.Goals as goal
+use Rattle.history_judge.proofs.event.Event.step.Goals as goal
 
 on_ok : {A E P Q : Type 0} (result : Result A E) → OnOk result P → (P → Q) → OnOk result Q
 on_ok (Ok a) first more = more first

@@ -1,7 +1,7 @@
 use Rattle.std.proofs.Common.{◌≡◌, ◌⊎◌, ◌<◌, ℕ, Some}
 use Rattle.std.specs.Prelude.{slice_get}
 use Rattle.history_judge.specs.Events.{HasGrown, IsPassed}
-use Rattle.history_judge.proofs.stepping.Event.spread.Given as goal
+use Rattle.history_judge.proofs.event.Event.spread.Given as goal
 
 abbrev pub invariant-loop-i : goal.invariant-loop-i
 invariant-loop-i l = record {

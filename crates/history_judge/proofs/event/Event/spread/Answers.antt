@@ -1,5 +1,5 @@
 use Rattle.std.proofs.Common.{◌⊎◌, ◌≡◌, ⊎_elim, inl, inr, sym, ap, subst, ◌∙◌, arith, Result, Ok, Err}
-use Rattle.std.specs.Prelude.{OnOk, slice_get, Contains, get_or}
+use Rattle.std.specs.Prelude.{OnOk, slice_get, get_or}
 use Rattle.std.proofs.lemmas.Option.{same_Some}
 use Rattle.std.proofs.lemmas.List.Elements.{Contains-get_or}
 use Rattle.history_judge.specs.Events.{IsPassed}
@@ -7,7 +7,7 @@ use Rattle.history_judge.proofs.Among.{below_or}
 use Rattle.history_judge.proofs.Places.{at_get, get_same}
 use Rattle.history_judge.proofs.Standing.{holds_kept}
 use Rattle.history_judge.proofs.Going.{grown_none, grown_then, passed_kept, comes_on}
-use Rattle.history_judge.proofs.stepping.Event.spread.Goals as goal
+use Rattle.history_judge.proofs.event.Event.spread.Goals as goal
 
 on_both : {A E P Q R : Type 0} (result : Result A E) → OnOk result P → OnOk result Q → (P → Q → R) → OnOk result R
 on_both (Ok a) first second both = both first second
