@@ -14,6 +14,7 @@ Writes docs/wrong-bodies-shown.txt: of each edit what comes of it, in which stor
 the next time. Takes some fifteen minutes of processor time; none of it is part of the gate.
 """
 import functools
+import json
 import os
 import re
 import resource
@@ -186,11 +187,11 @@ def brief(events: list[str]) -> str:
 
 def wrong_answer(programs: Programs, script: str) -> str:
     """Which decided answer of a script's run is not that of the plain table, if one is not."""
-    status, lines = programs.run("trace", [], script.encode())
+    status, events = programs.run("trace", ["--json"], script.encode())
     if status != 0:
         return f"the run ends with status {status}"
     try:
-        run = compare.Run(lines.decode("latin1").splitlines())
+        run = compare.Run([*map(json.loads, events.splitlines())])
         table = compare.table_script(script, run)
         _, printed = Programs(programs.folder, 0).run("suites", ["table"], table.encode("latin1"))
         found, _ = compare.differences_of(run, printed.decode("latin1").splitlines())

@@ -12,8 +12,8 @@ begun    the number of a job stands where it begins, and no names stand between 
 folded   with --fold each request stands in one arrow or dot
 chosen   --agent, --suite, --from and --to draw what they say, and --all all; what was so before is drawn as such
 many     above 2,000 requests nothing is drawn without --anyway, and it is said how many there are and how to choose
-told     a trace that is written piece by piece is the one that is written as a whole, and tells each line of the
-         script; of a suite it tells what a slow reading of the whole finds
+told     a trace tells what the program `trace` prints in lines, with paths; of an agent and of a suite it tells what a
+         slow reading of those lines finds
 slow     a terminal is told how far it is, and nothing else is
 """
 import io
@@ -26,13 +26,17 @@ import typing
 import xml.etree.ElementTree as etree
 
 import played
+import traced
 from played import Tally
 
 from common import console, tool
 from compare import scenario
 from trace import draw, trace
+from trace.events import Run, events_of
+from trace.paths import paths
 
 STORIES = os.path.join(played.TOP, "examples", "play")
+PICTURE = os.path.join(played.TOP, "docs", "revocation.svg")
 # An em of these fonts has 2,048 units, and each letter 1,233 (DejaVu Sans Mono; the others have less). A letter reaches
 # so far above and below its line.
 SIZE, LETTER, ABOVE, BELOW = 11, 1233 / 2048, 9, 2
@@ -382,81 +386,47 @@ def many(tally: Tally, program: str) -> None:
     tally.holds(len(drawn(script, "--from", str(total - 4)).requests()) == 5, "--from of many")
 
 
-def written(script: str, size: int, agent: int | None) -> str:
-    """What is written of a trace, or of what is about an agent, where it is read in pieces of this size."""
-    trace.PIECE, out = size, io.BytesIO()
-    with trace.Run(script.encode()) as playing:
-        trace.write_all(playing, out, agent)
+def written(script: str, agent: int | None, suite: int | None) -> str:
+    """What is written of a trace, or of what is about an agent or a suite."""
+    out = io.BytesIO()
+    with Run(script.encode()) as run:
+        if suite is None:
+            trace.write_all(run, out, agent)
+        else:
+            known = paths(run.play())
+            trace.write_told(run, out, trace.narrowed(run, agent, suite), known)
     return out.getvalue().decode("latin1")
 
 
 def told(tally: Tally, name: str, script: str, lines: list[str]) -> None:
-    known = trace.paths(lines)
-    whole = "".join(f"{line}\n" for line in trace.with_paths(trace.behind(lines), known))
-    for size in (97, 4096, 4 << 20):
-        tally.holds(written(script, size, None) == whole, name, "told in pieces of", size)
-    tally.holds(written(script, 97, 1) == trace.shown(lines, 1), name, "told of an agent in pieces")
+    whole = traced.told(lines)
+    tally.holds(written(script, None, None) == whole, name, "told otherwise than in lines")
     verbs = ("begin", "sweep", "step", "run", "crash", "return", "forget", "audit")
     given = [line for line in script.splitlines() if line.startswith(verbs)]
-    tally.holds(
-        [line[2:] for line in whole.splitlines() if line.startswith("> ")] == given, name, "lines of the script"
-    )
-    asked = [line.partition(" : ")[0] for line in whole.splitlines() if re.match(r"  \d", line)]
-    tally.holds(all(len(words) == max(56, len(words.rstrip())) for words in asked), name, "where replies stand")
+    tally.holds([line[2:] for line in lines if line.startswith("> ")] == given, name, "lines of the script")
+    rows = list(zip(lines, whole.splitlines()))
+    for agent in (0, 1):
+        own = set(traced.about_agent(lines, agent))
+        wanted = [line for place, (_, line) in enumerate(rows) if place in own]
+        tally.holds(written(script, agent, None).splitlines() == wanted, name, "told of agent", agent)
     for suite in (0, 1, 2, 9, 10):
-        found = trace.narrowed(["\n".join([*lines, ""])], None, suite)
-        tally.holds(list(found) == about_suite(lines, suite), name, "told of suite", suite)
-
-
-def about_suite(lines: list[str], suite: int) -> list[str]:
-    """The lines that are about a suite: requests that name it or are of a transaction that does, the ends of such jobs,
-    what agents are told that do nothing, audits and servers; and the lines of the script that have such lines, or begin
-    such jobs.
-    """
-    asked = [re.match(r"  (\d+) -> s\d+  (?:t (\d+) )?(.*?) +: ", line) for line in lines]
-    suites = [set(map(int, re.findall(r"suite (\d+)", found[3]))) if found else set() for found in asked]
-    own = {found[2] for found, named in zip(asked, suites) if found and suite in named}
-    jobs: dict[str, bool] = {}
-    heads: dict[str, int] = {}
-    shown: set[int] = set()
-    for place, (line, found, named) in enumerate(zip(lines, asked, suites)):
-        ended, words = re.match(r"(\d+)\.\d+ ", line), line[2:].split()
-        is_about = True
-        if line[:1] in "=>":
-            head, is_about = place, line[0] == "=" or words[0] in ("crash", "return")
-            if words[0] in ("begin", "sweep") and not lines[place + 1].startswith("  nothing"):
-                heads[words[1]] = place
-        elif found:
-            is_about = suite in named if named else found[2] is not None and found[2] in own
-            jobs[found[1]] = jobs.get(found[1], False) or is_about
-        elif ended:
-            is_about = jobs.pop(ended[1], False)
-        elif line.startswith("    "):
-            is_about = re.search(rf"suite {suite}\b", line) is not None
-        if is_about:
-            shown |= {place, head}
-            shown |= {
-                heads[words[1]]
-                for words in [lines[head][2:].split()]
-                if words[0] in ("step", "run") and words[1] in heads
-            }
-    return [line for place, line in enumerate(lines) if place in shown]
+        own = traced.about_suite(lines, suite)
+        wanted = [line for place, (_, line) in enumerate(rows) if place in own]
+        tally.holds(written(script, None, suite).splitlines() == wanted, name, "told of suite", suite)
 
 
 def unordered(tally: Tally) -> None:
     """A folder's names may be told before its own is."""
-    lines = [
-        f"  0 -> s0  t 0 fetch suite {suite} : given, content 1 names {names}"
-        for suite, names in ((9, "f=17 g=25"), (17, "h=33"), (0, "a=1 d=9"))
-    ]
+    folders = {9: {"f": 17, "g": 25}, 17: {"h": 33}, 0: {"a": 1, "d": 9}}
+    events = [{"request": {"parts": [{"suite": suite, "names": names}]}} for suite, names in folders.items()]
     wanted = {0: "/", 1: "/a", 9: "/d", 17: "/d/f", 25: "/d/g", 33: "/d/f/h"}
-    for told in (lines, lines[::-1], ["\n".join(lines)]):
-        tally.holds(trace.paths(told) == wanted, "paths", trace.paths(told))
+    for told in (events, events[::-1]):
+        tally.holds(paths(told) == wanted, "paths", paths(told))
 
 
 SLOW = (
-    "import sys; sys.argv[0] = 'draw'; from trace import {0} as tool, trace; trace.PATIENCE = trace.AGAIN = 0;"
-    " trace.PIECE = 999; tool.main()"
+    "import sys; sys.argv[0] = 'draw'; from trace import {0} as tool; from common import console;"
+    " console.PATIENCE = console.AGAIN = 0; tool.main()"
 )
 
 
@@ -501,8 +471,8 @@ def main() -> int:
     program, tally = played.program(read.parse_args().program), Tally(most=20)
     cut = 0
     for name, script in scripts():
-        lines = trace.traced(script.encode())
-        picture = Picture(draw.picture_of(lines))
+        lines, events = traced.lines_of(script), events_of(script.encode())
+        picture = Picture(draw.picture(events, paths(events), draw.asked(())))
         whole(tally, name, picture)
         named(tally, name, script, picture, lines)
         told(tally, name, script, lines)
@@ -516,6 +486,9 @@ def main() -> int:
         cut += sum(text.is_cut for text in picture.texts)
     tally.holds(cut > 0, "no label was cut")
     unordered(tally)
+    with open(PICTURE, encoding="utf-8") as file:
+        own = run(dict(scripts())["revocation.script"])[1]
+        tally.holds(file.read() == own, "the picture in docs/ is another one: ./suites draw makes it anew")
     everybody(tally)
     chosen(tally)
     stands(tally)

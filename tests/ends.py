@@ -135,7 +135,7 @@ def by_streams_of_sessions(copy: wrapper.Copy) -> None:
 def by_streams(copy: wrapper.Copy) -> None:
     """Streams that are closed, and those that cannot be written."""
     copy.build("explore", "#!/bin/sh\ncat > /dev/null\necho 'all 0 ways, 0 worlds'\n")
-    copy.build("trace", "#!/bin/sh\ncat > /dev/null || exit 6\necho '> line'\n")
+    copy.build("trace", "#!/bin/sh\ncat > /dev/null || exit 6\necho '{\"kind\":\"line\",\"text\":\"x\"}'\n")
     copy.build("may", "#!/bin/sh\nwhile read -r line; do echo granted; done\n")
     for words in ("explore", "votes 1/1/1", "explain U1", "votes --help", "may --help", "may 0 r /", "trace"):
         holds(copy, f"./suites {words} > /dev/full", 6, "a write failed: No space left on device")

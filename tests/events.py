@@ -18,12 +18,14 @@ from typing import Any
 import drawn
 import played
 import shown_page
+import traced
 from played import Tally
 
 from compare import scenario
 from explain import play_lines
 from show import show
-from trace import json_events, states, trace
+from trace import json_events, states
+from trace.events import program
 
 SCHEMA = os.path.join(played.TOP, "docs", "events.schema.json")
 # Words of an ending beside its parts.
@@ -160,7 +162,7 @@ def lines_of(events: list[dict]) -> Iterator[str]:
 def lines_in(lines: list[str]) -> Iterator[str]:
     """The same of a trace."""
     for line in lines:
-        found = trace.REQUEST.match(line)
+        found = traced.REQUEST.match(line)
         if line.startswith("="):
             return
         if found:
@@ -198,11 +200,19 @@ def begun_by(run: play_lines.Played, job: play_lines.Job) -> dict[str, Any]:
     return {**told, "t": job.t, **whose, "operations": job.operations}
 
 
-def in_full(tally: Tally, name: str, events: list[dict], script: str, lines: list[str]) -> None:
+def jobs_in(lines: list[str]) -> list[str]:
+    """The jobs that begin, by the lines of a trace, each by its agent and its number."""
+    heads = [(head.split(), block) for head, block in traced.blocks(lines)]
+    agents = [int(words[2]) for words, block in heads if words[1] in ("begin", "sweep") and not block]
+    return [f"{agent}.{agents[:place].count(agent)}" for place, agent in enumerate(agents)]
+
+
+def in_full(tally: Tally, name: str, events: list[dict], lines: list[str]) -> None:
     """Holds what is told in full against the trace: jobs that begin, ends, and paths."""
-    run = play_lines.Played(script, lines)
+    run = play_lines.Played(events, events)
     begun = [event["begun"] for event in events if "begun" in event]
     wanted = [begun_by(run, job) for job in sorted(run.jobs.values(), key=lambda job: job.begun)]
+    tally.holds([f"{one['agent']}.{one['job']}" for one in begun] == jobs_in(lines), name, "jobs of the trace", begun)
     tally.holds(begun == wanted, name, "jobs that begin", [one for one in begun if one not in wanted][:2])
     for event in events:
         end = event.get("end")
@@ -210,7 +220,7 @@ def in_full(tally: Tally, name: str, events: list[dict], script: str, lines: lis
             text = [word for word in end["text"].split() if word not in WORDS or end["how"] == "answered"]
             tally.holds(said_again(end) == " ".join(text), name, "an end in full", end)
     paths = {int(suite): path for event in events for suite, path in event.get("paths", {}).items()}
-    tally.holds({0: "/", **paths} == trace.paths(lines), name, "paths", paths, trace.paths(lines))
+    tally.holds({0: "/", **paths} == traced.paths(lines), name, "paths", paths, traced.paths(lines))
 
 
 def typed(tally: Tally) -> None:
@@ -241,12 +251,12 @@ def main() -> int:
         tally.holds(run.agents() == events[-1]["agents"], name, "agents by their changes")
         for event, is_so in talks(events):
             tally.holds(is_so, name, "gathered otherwise than replies say", event)
-        lines = trace.traced(script.encode())
-        in_full(tally, name, events, script, lines)
+        lines = traced.lines_of(script)
+        in_full(tally, name, events, lines)
         for own, told in zip([*lines_of(events), None], [*lines_in(lines), None]):
             tally.holds(own == told, name, "told otherwise", own, told)
     for words in (["--json", "x"], ["--json", ""], ["x", "--json"]):
-        done = subprocess.run([trace.program(), *words], stdin=subprocess.DEVNULL, capture_output=True, check=False)
+        done = subprocess.run([program(), *words], stdin=subprocess.DEVNULL, capture_output=True, check=False)
         tally.holds((done.returncode, done.stdout) == (2, b"fault command line\n"), "words", words, done)
     typed(tally)
     return tally.told("looked at")

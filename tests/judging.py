@@ -13,13 +13,9 @@ no script can say is a request that was not served for want of room or memory: "
 """
 import functools
 import re
-import subprocess
 import typing
 
-import played  # noqa: F401
-
-from trace import trace
-
+from traced import OUTCOME, REQUEST, blocks, lines_of
 
 
 class Item(typing.NamedTuple):
@@ -68,7 +64,7 @@ def element(line: str) -> Element:
     found = ITEM.match(line)
     if not found:
         return tuple(line.split(" ", 1)) if line.startswith("ended ") else tuple(line.split())
-    _, server, request, reply = trace.REQUEST.match(found[6]).groups()
+    _, server, request, reply = REQUEST.match(found[6]).groups()
     agent = None if found[2] == "-" else int(found[2])
     return Item(int(found[1]), agent, int(found[3]), (int(found[4]), int(found[5])), int(server), request, reply)
 
@@ -82,12 +78,7 @@ def decision(text: str) -> Decision:
 @functools.lru_cache(maxsize=256)
 def traced(script: str) -> list[tuple[str, list[str]]]:
     """The lines that `trace` prints below each event of a script, and those of the events."""
-    done = subprocess.run([trace.program()], input=script.encode("latin1"), stdout=subprocess.PIPE)
-    if done.returncode != 0:
-        raise AssertionError(f"trace ends with status {done.returncode}: {done.stdout[:200]!r} of\n{script}")
-    return [
-        (head[2:], block) for head, block in trace.blocks(done.stdout.decode("latin1").splitlines()) if head[0] == ">"
-    ]
+    return [(head[2:], block) for head, block in blocks(lines_of(script)) if head[0] == ">"]
 
 
 class Played:
@@ -119,7 +110,7 @@ class Played:
         self.counts[agent] += 1
 
     def step(self, agent: int, block: list[str]) -> None:
-        request = trace.REQUEST.match(block[0])
+        request = REQUEST.match(block[0])
         if not request or request[4] == "full":
             raise Mismatch(block[0].strip())
         server, sent = int(request[2]), self.last[agent]
@@ -136,7 +127,7 @@ class Played:
 
     def end(self, block: list[str]) -> None:
         """Keeps how jobs ended."""
-        for outcome in filter(None, map(trace.OUTCOME.match, block)):
+        for outcome in filter(None, map(OUTCOME.match, block)):
             self.ends[int(outcome[1]), int(outcome[2])] = outcome[4]
 
 

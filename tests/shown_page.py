@@ -26,12 +26,13 @@ import tempfile
 
 import browser
 import played
+import traced
 from played import Tally
 
 from common import console
 from compare import scenario
 from show import show
-from trace import states, trace
+from trace import states
 
 STORIES = os.path.join(played.TOP, "examples", "play")
 HEADER = ["servers 3", "agents 2", "votes 1,1,1/2/2", "root 1000 100 777", "cache 4096 4096 16"]
@@ -215,7 +216,7 @@ def whole(tally: Tally, pages: Pages, shots: str | None) -> None:
     for name, script in stories().items():
         size = pages.open(script)
         tally.holds(size < MOST_BYTES, name, "bytes of the page", size)
-        lines = trace.traced(script.encode())
+        lines = traced.lines_of(script)
         begun = pages.seen()
         tally.holds(begun["here"] == 0 and begun["told"] == [], name, "it begins", begun)
         events = [json.loads(line) for line in show.events_of(script.encode())]

@@ -1,4 +1,4 @@
-"""What a session tells of its servers: `copies PATH`, `locks` and `room`.
+"""What a session tells of its servers: `copies PATH`, `locks` and `room`; and of a path while a transaction ends.
 
 Values are worked out by hand from the rules: a transaction writes at the first servers, in listed order, that are a
 quorum; what a server missed it is behind in; a prepared lock outlives a crash, and is in doubt while the home of its
@@ -18,6 +18,10 @@ from played import Tally
 from spoken import HEADER, Talk, ran, text_of
 
 MAKE = (b"begin 0 1000 100 0 file /a 644 ; write /a 6869", b"run 0")
+ROW = (
+    b"row /a file suite 1 owner 1000 group 100 acl user::rw-,group::r--,other::r-- votes 1,1,1/2/2 size 2 prefix 1"
+    b" content 1"
+)
 NOTHING = [b"locks server %d nothing" % server for server in range(3)]
 SERVER, COPY, LOCK = (
     re.compile(form) for form in (
@@ -95,8 +99,9 @@ def in_doubt(path: str, tally: Tally) -> None:
     prepared = [line + b" prepared" for line in held]
     kept = [*of_copies(b"/", 0, *[root + b" prepared"] * 2, root), *prepared, *before[7:]]
     tally.holds(after(7) == kept, "prepared", after(7), kept)
-    # it is decided, and finished nowhere: what is stored is as before
-    tally.holds(after(8) == kept, "decided", after(8), kept)
+    # it is decided, and finished nowhere: what is stored is as before, and the table has the file
+    decided = [*kept[:-1], ROW]
+    tally.holds(after(8) == decided, "decided", after(8), decided)
     doubts = [line.replace(b" prepared", b" in doubt") if line.startswith(b"locks") else line for line in kept]
     doubts[0] = doubts[0].replace(b" up ", b" down ")
     tally.holds(after(7, b"crash 0") == doubts, "in doubt", after(7, b"crash 0"), doubts)
@@ -106,7 +111,47 @@ def in_doubt(path: str, tally: Tally) -> None:
     done = after(9)
     wanted = of_copies(b"/", 0, b"up prefix 1 content 2", root + b" behind content prepared", root + b" behind content")
     tally.holds(done[:3] == wanted and done[3:6] == [NOTHING[0], *prepared[2:]], "finished", done, wanted)
-    tally.holds(done[-1].startswith(b"row /a file suite 1 "), "it is seen", done)
+    tally.holds(done[-1] == ROW, "it is seen", done)
+
+
+def decides(path: str, tally: Tally) -> None:
+    """What a home has decided is told before it is finished at any server, and what none has is not. The table of what
+    was decided is worked out by hand."""
+
+    def told(*lines: bytes) -> list[bytes]:
+        return ran(path, [], text_of((*HEADER, *lines)))[1].splitlines()
+
+    asked = (b"row /a", b"content /a", b"copies /a")
+    prepared, nothing = b"up nothing prepared", [b"row /a nothing", b"content /a nothing", b"copies /a nothing"]
+    made = (MAKE[0], *[b"step 0"] * 8)
+    new = [ROW, b"content /a 6869", *of_copies(b"/a", 1, prepared, prepared, b"up nothing")]
+    tally.holds(told(*made, *asked) == new, "a file", told(*made, *asked), new)
+    # whichever servers are down, its home too
+    down = [line.replace(b" up ", b" down ") for line in new]
+    lines = (*made, *[b"crash %d" % server for server in range(3)], *asked)
+    tally.holds(told(*lines) == down, "all are down", told(*lines), down)
+    # one that is prepared at both servers, and that a sweep of the second one had its home give up, is nowhere
+    given_up = told(*made[:-1], b"sweep 1 1", b"run 1", *asked, b"locks")
+    tally.holds(given_up[1:4] == nothing, "given up", given_up, nothing)
+    tally.holds(b"locks server 0 t 0 suite 1 exclusive prepared" in given_up, "prepared still", given_up)
+    # a sweep of the second server finishes there what was decided
+    swept = told(*made, b"sweep 1 1", b"run 1", *asked)[1:]
+    ended = [*new[:2], *of_copies(b"/a", 1, prepared, b"up prefix 1 content 1", b"up nothing")]
+    tally.holds(swept == ended, "swept", swept, ended)
+    # a write: two requests for the root folder and one for its content, two for the file, two to prepare, one to decide
+    write = (*MAKE, b"begin 1 1000 100 0 write /a 6f6b21")
+    before = [ROW, b"content /a 6869"]
+    after = [ROW.replace(b"size 2 prefix 1 content 1", b"size 3 prefix 1 content 2"), b"content /a 6f6b21"]
+    stored = b"up prefix 1 content 1"
+    for steps, wanted, ends in ((5, before, b""), (7, before, b" prepared"), (8, after, b" prepared")):
+        lines = told(*write, *[b"step 1"] * steps, *asked)[1:]
+        have = [*wanted, *of_copies(b"/a", 1, stored + ends, stored + ends, b"up nothing")]
+        tally.holds(lines == have, "a write", steps, lines, have)
+    # a drop: the folder is stored with the name that it has no more
+    drop = (*MAKE, b"begin 1 1000 100 0 drop /a", *[b"step 1"] * 8, *asked, b"copies /")
+    root = b"up prefix 1 content 2 prepared"
+    gone = [*nothing, *of_copies(b"/", 0, root, root, b"up prefix 1 content 1 behind content")]
+    tally.holds(told(*drop)[1:] == gone, "a drop", told(*drop), gone)
 
 
 def dropped(path: str, tally: Tally) -> None:
@@ -203,6 +248,7 @@ def same_as_trace(told: Iterable[str], lines: Iterable[str], tally: Tally, name:
 def stands(path: str, tally: Tally) -> None:
     by_hand(path, tally)
     in_doubt(path, tally)
+    decides(path, tally)
     dropped(path, tally)
     damaged(path, tally)
     by_trace(path, tally)

@@ -13,7 +13,6 @@ import typing
 from common import TOP, console, tool
 
 
-
 def kept(name: str, what: str) -> str:
     """The path of a file that is kept of a program."""
     return os.path.join(TOP, "out", what if name == "suites" else f"{name}-{what}")
@@ -50,6 +49,15 @@ def chosen(name: str) -> tuple[str, str]:
         kind, path = done.stdout.split()
         choice = kind, path
     return choice[0], os.path.join(TOP, choice[1])
+
+
+def asked(name: str, given: str | bytes, *words: str, path: str = "") -> tuple[int, str]:
+    """With which status the program of this name ends for an input, and what it prints; or the one that is at a
+    path.
+    """
+    text = given if isinstance(given, bytes) else given.encode("latin1")
+    done = subprocess.run([path or program(name), *words], input=text, stdout=subprocess.PIPE, env=setting(name))
+    return done.returncode, done.stdout.decode("latin1")
 
 
 @functools.cache

@@ -18,6 +18,8 @@ from common import text_of
 
 NO_MEMORY, NO_STREAM, STOPPED = 4, 6, 130
 DAY = 24 * 60 * 60
+# After how many seconds it is said how far a tool is, and after how many more again.
+PATIENCE, AGAIN = 2, 0.5
 # What is wrong where a stream cannot be written, and where there is no memory.
 NOT_WRITTEN = (errno.EPIPE, errno.ENOSPC, errno.EIO, errno.EBADF, errno.EFBIG, errno.EDQUOT)
 # The standard streams that were closed as the tool began.
@@ -69,6 +71,33 @@ class Teller:
         elif stays:
             sys.stderr.write(text + "\n")
         sys.stderr.flush()
+
+
+class Progress:
+    """Says on a terminal how far a tool is, where that takes its time."""
+
+    def __init__(self) -> None:
+        self.teller, self.last = Teller(), 0.0
+        self.is_over = not self.teller.changes
+
+    def say(self, text: str) -> None:
+        if self.is_over:
+            return
+        seconds = time.monotonic() - self.teller.begun
+        if seconds >= max(PATIENCE, self.last + AGAIN):
+            self.last = seconds
+            self.teller.say(f"{text}, {int(seconds)} s", False)
+
+    def make_way(self) -> None:
+        """Before something is written: says nothing more where that goes to the terminal too."""
+        if not self.is_over and sys.stdout.isatty():
+            self.end()
+
+    def end(self) -> None:
+        """Takes away what was said last, and says nothing more."""
+        if self.last and not self.is_over:
+            self.teller.clear()
+        self.is_over = True
 
 
 def say_once_a_day(path: str, text: str) -> None:
@@ -148,6 +177,14 @@ def print_help(name: str) -> int:
     """Prints a text of help/."""
     sys.stdout.write(text_of("help", f"{name}.txt"))
     return 0
+
+
+def of_input(name: str, given: argparse.Namespace, work: typing.Callable[[argparse.Namespace], int]) -> int:
+    """Prints the help of a tool, where that is asked for; else does its work, which reads standard input."""
+    if given.help:
+        return print_help(name)
+    tell_reading()
+    return work(given)
 
 
 def tell_reading() -> None:

@@ -12,6 +12,11 @@ def job_of(t: int) -> tuple[int, int]:
     return t % AGENTS, t // AGENTS
 
 
+def home(agent: int, job: int, servers: int) -> int:
+    """The server that decides the transaction of an agent's job."""
+    return (agent + job) % servers
+
+
 def suite(t: int, place: int) -> int:
     """What a transaction makes by its operation at this place, counted from 0."""
     return OPERATIONS * t + place + 1

@@ -1,11 +1,14 @@
 """Words of scripts as a terminal can show them, and as one speaks of them."""
 import difflib
+import functools
 import re
+import textwrap
 import typing
 
-# So much of a word is told.
-LONG = 60
-
+# So much of a word is told, and how wide a text is.
+LONG, WIDE = 60, 100
+# A text in lines, in which no word is cut.
+filled = functools.partial(textwrap.fill, width=WIDE, break_long_words=False, break_on_hyphens=False)
 
 # What a terminal would obey, and what nobody sees or that turns the order of what stands beside it.
 OBEYED = re.compile("[\x00-\x1f\x7f-\x9f\u061c\u200b-\u200f\u2028-\u202e\u2066-\u2069\ufeff]")

@@ -2,11 +2,11 @@
 python3 tools compare --seeds COUNT [--from SEED] [--lines LINES]
 
 Plays a script of `suites play`, writes the transactions that it decided as a script of `suites table`, in the order of
-their decisions (as `./suites trace` shows them), and compares the answers of both: every reply, every refusal, every
-denial with its entry, and the servers' audits. Numbers of what was made differ, since they come of the number of the
-transaction, and are mapped. A transaction whose agent stopped after it was decided has no answer in `play`: of it is
-compared whether it was answered or refused. With --seeds it does so for scripts of scenario.py. Status 1 where
-something differs, or a script cannot be played.
+their decisions (as the events of `./suites trace` tell it), and compares the answers of both: every reply, every
+refusal, every denial with its entry, and the servers' audits. Numbers of what was made differ, since they come of the
+number of the transaction, and are mapped. A transaction whose agent stopped after it was decided has no answer in
+`play`: of it is compared whether it was answered or refused. With --seeds it does so for scripts of scenario.py.
+Status 1 where something differs, or a script cannot be played.
 """
 import argparse
 import collections
@@ -18,10 +18,10 @@ import sys
 
 from common import TOP, console, numbers
 from compare import scenario
-from trace import trace
+from trace.events import OF_SERVERS, Event, begun, decided, events_of
+from trace.lines import printed
 
 SUITES = os.path.join(TOP, "suites")
-DECIDE = re.compile(r"t (\d+) decide (?:answered|refused)$")
 NUMBERED = re.compile(r"\b(made|suite) (\d+)")
 HEADER = {"servers", "agents", "votes", "root", "cache", "user", "group"}
 
@@ -46,44 +46,36 @@ def output(command: str, script: str) -> list[str]:
 
 
 class Run:
-    """A run as its trace shows it: its transactions, those that were decided in their order, and the audits."""
+    """A run as its events show it: its transactions, those that were decided in their order, and the audits."""
 
-    def __init__(self, lines: list[str]) -> None:
+    def __init__(self, events: list[Event]) -> None:
         self.jobs: dict[int, Job] = {}
         self.decided: list[int] = []
         self.audits: dict[int, list[str]] = {}
         self.played: list[str] = []
-        counts: collections.Counter[int] = collections.Counter()
-        for head, block in trace.blocks(lines):
-            if head[0] != ">":
-                break
-            words = head[2:].split()
-            if words[0] in ("begin", "sweep") and not any(line.startswith("  nothing") for line in block):
-                agent = int(words[1])
-                if words[0] == "begin":
-                    self.jobs[numbers.transaction(agent, counts[agent])] = Job(words)
-                counts[agent] += 1
-            for line in block:
-                self.take(line)
-            self.played += [line for line in block if not line.startswith("  ")]
-            if words[0] == "audit":
-                self.audits[int(words[1])] = block[1:]
+        for event in events:
+            job = begun(event)
+            if job and event["text"].split()[0] == "begin":
+                self.jobs[numbers.transaction(*job)] = Job(event["text"].split())
+            self.take(event)
+            self.played += printed(event)
 
-    def take(self, line: str) -> None:
-        """Keeps what a line tells. Of the audits those count that come after the last decision, and so tell all
+    def take(self, event: Event) -> None:
+        """Keeps what an event tells. Of the audits those count that come after the last decision, and so tell all
         denials.
         """
-        request, outcome = trace.REQUEST.match(line), trace.OUTCOME.match(line)
-        decide = request and DECIDE.match(request[3])
-        if decide and request[4] in ("verdict answered", "verdict refused"):
-            job = self.jobs[int(decide[1])]
-            job.verdict, job.home = request[4].split()[1], int(request[2])
-            self.decided.append(int(decide[1]))
+        decision = decided(event)
+        if decision:
+            t, verdict = decision
+            self.jobs[t].verdict, self.jobs[t].home = verdict, event["server"]
+            self.decided.append(t)
             self.audits.clear()
-        elif outcome:
-            job = self.jobs.get(numbers.transaction(int(outcome[1]), int(outcome[2])))
+        if "end" in event:
+            job = self.jobs.get(numbers.transaction(event["end"]["agent"], event["end"]["job"]))
             if job:
-                job.ending = outcome[4]
+                job.ending = event["end"]["text"]
+        if "audit" in event:
+            self.audits[event["audit"]["server"]] = [*printed(event)][1:]
 
 
 def with_votes(ops: str, votes: str) -> str:
@@ -118,16 +110,13 @@ def mapped(text: str, places: dict[int, int]) -> str:
 
 def differences(script: str) -> tuple[list[str], collections.Counter[str]]:
     """What differs between a script's run and the plain table; and what there was to compare."""
-    lines = trace.traced(script.encode("latin1"))
-    run = Run(lines)
+    events = events_of(script.encode("latin1"))
+    run = Run(events)
     wrong = [] if output("play", script) == run.played else ["play and trace print different lines"]
     found, told = differences_of(run, output("table", table_script(script, run)))
-    told["requests"] = sum(bool(trace.REQUEST.match(line)) for line in lines)
-    told.update(
-        f"events: {line.split()[1]}"
-        for line in lines
-        if line.startswith("> ") and line.split()[1] in ("crash", "return", "sweep", "forget")
-    )
+    told["requests"] = sum(event["kind"] == "request" for event in events)
+    verbs = (event["text"].split()[0] for event in events if event["kind"] == "line")
+    told.update(f"events: {verb}" for verb in verbs if verb in (*OF_SERVERS, "sweep", "forget"))
     return wrong + found, told
 
 

@@ -4,7 +4,6 @@ The transactions before are played by `suites table`, and after them the list is
 itself in.
 """
 import re
-import subprocess
 import typing
 
 from common import built
@@ -29,20 +28,21 @@ class Asked(typing.NamedTuple):
 def table(lines: list[str]) -> list[str]:
     """What `suites table` prints of a script; nothing where it has a fault."""
     text = "".join(f"{line}\n" for line in lines)
-    words = [built.chosen("suites")[1], "table"]
-    done = subprocess.run(words, input=text.encode("latin1"), stdout=subprocess.PIPE, stderr=subprocess.DEVNULL)
-    return done.stdout.decode("latin1").splitlines() if done.returncode == 0 else []
+    status, printed = built.asked("suites", text, "table", path=built.chosen("suites")[1])
+    return printed.splitlines() if status == 0 else []
 
 
-def owners(root: list[str], jobs: list[Asked], answers: list[str]) -> dict[str, tuple[str, str]]:
-    """The owner and the group of each path that was made last, and of the root folder."""
-    found = {"/": (root[1], root[2])}
-    for job, answer in zip(jobs, answers):
-        for operation in job.operations if answer.split()[1:2] == ["answered"] else ():
-            verb, path = operation.split()[:2]
-            if verb in ("file", "folder"):
-                found[path] = job.uid, job.groups.split(",")[0]
-    return found
+def makers(path: str, root: list[str], jobs: list[Asked]) -> list[tuple[str, str]]:
+    """Who asked that a path is made, each with the first group, the last one last; of the root folder its owner."""
+    made = {f"{verb} {path}" for verb in ("file", "folder")}
+    asked = (job for job in jobs for operation in job.operations if " ".join(operation.split()[:2]) in made)
+    return [(root[1], root[2])] if path == "/" else [(job.uid, job.groups.split(",")[0]) for job in asked]
+
+
+def owner_of(path: str, root: list[str], jobs: list[Asked], answers: list[str]) -> tuple[str, str] | None:
+    """The owner and the group of what has a path after these transactions, where something was made there."""
+    answered = [job for job, answer in zip(jobs, answers) if answer.split()[1:2] == ["answered"]]
+    return next(reversed(makers(path, root, answered)), None)
 
 
 def above(path: str) -> list[str]:
@@ -64,16 +64,20 @@ def answers(script: str, jobs: list[Asked]) -> list[str]:
 
 
 def list_then(script: str, jobs: list[Asked], path: str) -> tuple[str, str, str] | None:
-    """The owner, the group and the list of a path after these transactions."""
-    header = header_of(script)
-    lines = [*header, *(job.line() for job in jobs)]
-    owner = owners(header[0].split(), jobs, table(lines))
-    if path not in owner or any(folder not in owner for folder in above(path)):
+    """The owner, the group and the list of a path after these transactions. Whoever may own a folder on the way opens
+    it: of these its owner may, and the others change nothing.
+    """
+    header, folders = header_of(script), above(path)
+    root = header[0].split()
+    lines = [f"do {' '.join(one)} setacl {folder} {OPEN}" for folder in folders for one in makers(folder, root, jobs)]
+    asked = makers(path, root, jobs)
+    lines += [f"do {' '.join(one)} getacl {path}" for one in asked]
+    told = table([*header, *(job.line() for job in jobs), *lines])
+    owner = owner_of(path, root, jobs, told)
+    if not told or not owner or not all(owner_of(folder, root, jobs, told) for folder in folders):
         return None
-    lines += [f"do {owner[folder][0]} {owner[folder][1]} setacl {folder} {OPEN}" for folder in above(path)]
-    answers = table([*lines, f"do {owner[path][0]} {owner[path][1]} getacl {path}"])
-    found = re.fullmatch(r"\d+ answered acl (\S+)", answers[-1]) if answers else None
-    return (*owner[path], found[1]) if found else None
+    found = re.fullmatch(r"\d+ answered acl (\S+)", told[asked.index(owner) - len(asked)])
+    return (*owner, found[1]) if found else None
 
 
 def entries(text: str) -> list[tuple[str, str, str]]:

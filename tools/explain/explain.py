@@ -22,11 +22,11 @@ import os
 import re
 import shlex
 import sys
-import textwrap
 import typing
 
 from common import console, forms, numbers, quoted, text_of
-from explain import explore_lines, faults, judge_lines, meanings, misfits, play_lines, table_lines, tool_lines
+from common.quoted import filled
+from explain import explore_lines, faults, judge_lines, meanings, play_lines, table_lines, tool_lines
 
 
 CODE = re.compile(r"\b([SAVNGFUsavngfu](?:1[0-3]|[1-9]))\b")
@@ -35,21 +35,27 @@ SPAN = r"`([^`]*)`"
 EXAMPLE = re.compile(rf"({SPAN}(?:, {SPAN})*) prints {SPAN}(?: \({SPAN}\))?")
 STATUS = re.compile(r"(?:status |exit )?(\d)$|(?:status |exit )(\d{2,3})$")
 FAULT = re.compile(r"fault (?:line (\d+): )?([SAVNG]\d+(?: A\d+)?(?: item \d+)?)(?: (.+))?$")
-EXPLORED = re.compile(
-    r"way \d+(?: in \d+ of \d+ ends|: \d+ (?:worlds at the end|runs), \d+ of them so)$"
-    r"|(?:(?:not )?all|sampled):? \d+ ways, \d+ (?:worlds|runs)$|\d+\.\d+ -$|decided(?: \d+\.\d+)*$"
+# The parts of the page that tell of a line of such a form: of `explore`, of a session besides what its lines print, of
+# a trace, and of a list.
+OF_WAYS, OF_TRACE = ("all", "way"), "trace"
+KINDS = (
+    ("all", r"(?:(?:not )?all|sampled):? \d+ ways, \d+ (?:worlds|runs)$"),
+    (
+        "way",
+        r"way \d+(?: in \d+ of \d+ ends|: \d+ (?:worlds at the end|runs), \d+ of them so)$"
+        r"|\d+\.\d+ -$|decided(?: \d+\.\d+)*$",
+    ),
+    ("session", r"= (?:restored \d+ lines|\d+)$|(?:row|content|copies|locks|room) |(?:copies|room)$"),
+    (OF_TRACE, r"> |= server|nothing happens|\d+ -> s\d+|t \d+ suite|\S*suite \d+ \w+ prefix"),
+    ("entry", r"(?:default:)?(?:user|group|mask|other):\d*:[r-][w-][x-]"),
 )
-# What begins the line of an outcome: an agent and its job, or a job, and how many requests it took; or a transaction.
-# An outcome of `explore` tells no requests.
-# What a session tells besides what its lines print.
-SPOKEN = re.compile(r"= (?:restored \d+ lines|\d+)$|(?:row|content|copies|locks|room) |(?:copies|room)$")
 VOTES = re.compile(r"(?:\d+,|-,)*\d+/\d+/\d+$")
 MARKED = re.compile(r"= (\d+)$")
+# What begins the line of an outcome: an agent and its job, or a job, and how many requests it took; or a transaction.
+# An outcome of `explore` tells no requests.
 FRONT = re.compile(r"(?:(\d+)\.(\d+)(?: (\d+))?|(\d+) (\d+)|(\d+)) (?=answered|denied|refused|undecided|swept)")
 # The number of what was made, or of a transaction.
 NUMBERED = re.compile(r"\b(?:(made) ([1-9]\d*)|(?:holder|t) (\d+))\b")
-TRACED = re.compile(r"> |= server|nothing happens|\d+ -> s\d+|t \d+ suite|\S*suite \d+ \w+ prefix")
-ENTRY = re.compile(r"(?:default:)?(?:user|group|mask|other):\d*:[r-][w-][x-]")
 REPLIES = ("made", "wrote", "read", "list", "dropped", "acl", "votes", "set")
 # The part of the page about a line that begins with a word, where it is not called by that word.
 PARTS = {**dict.fromkeys(REPLIES, "answered"), "t": "audit", "denied": "F3"}
@@ -79,18 +85,18 @@ def page() -> typing.Iterator[tuple[str, str, str, list[str]]]:
             lines.append(line)
 
 
+def kind_of(text: str) -> str:
+    """The part of the page about a line of its form; nothing where no form is its."""
+    return next((kind for kind, form in KINDS if re.match(form, text)), "")
+
+
 def codes_in(text: str) -> list[str]:
     """The parts of the page about a text, the whole before its parts, and about numbers in it."""
     status, front = STATUS.match(text), FRONT.match(text)
     if status:
         return [f"status {status[1] or ('128' if int(status[2]) >= 128 else status[2])}"]
-    explored = EXPLORED.match(text)
-    if explored:
-        return ["all" if " ways, " in text else "way"]
-    if SPOKEN.match(text):
-        return ["session"]
-    if TRACED.match(text) or ENTRY.match(text):
-        return ["trace" if TRACED.match(text) else "entry"]
+    if kind_of(text):
+        return [kind_of(text)]
     rest = text[front.end() :] if front else text
     first = rest.partition(" ")[0]
     found = (
@@ -130,12 +136,6 @@ def worked_out(text: str) -> list[str]:
     return list(dict.fromkeys(told))
 
 
-def filled(text: str, first: str = "", after: str = "") -> str:
-    return textwrap.fill(
-        text, 100, initial_indent=first, subsequent_indent=after, break_long_words=False, break_on_hyphens=False
-    )
-
-
 def shown(line: str) -> str:
     """A line of the page as a terminal is to show it: of an example each line and what it prints by itself."""
     if not line.startswith("- "):
@@ -143,12 +143,13 @@ def shown(line: str) -> str:
     line = re.sub(r"^- whole (\w+):", r"- \1, from the first line on:", line)
     told, place, first = [], 2, "  - "
     for found in EXAMPLE.finditer(line):
-        told.append(filled(line[place : found.start()].strip(), first, "    "))
+        told.append(filled(line[place : found.start()].strip(), initial_indent=first, subsequent_indent="    "))
         told += [f"        {given}" for given in re.findall(SPAN, found[1])]
-        told += ["    prints", f"        {found[4]}", *([filled(found[5] + ".", "    ", "    ")] if found[5] else [])]
+        told += ["    prints", f"        {found[4]}"]
+        told += [filled(f"{found[5]}.", initial_indent="    ", subsequent_indent="    ")] if found[5] else []
         place, first = found.end(), "    "
-    rest = line[place:].strip().lstrip(".,; ")
-    return "\n".join([part for part in told if part.strip(" -")] + ([filled(rest, first, "    ")] if rest else []))
+    rest = filled(line[place:].strip().lstrip(".,; "), initial_indent=first, subsequent_indent="    ")
+    return "\n".join(part for part in [*told, rest] if part.strip(" -"))
 
 
 def about(lines: list[str], text: str) -> list[str]:
@@ -167,7 +168,7 @@ def about(lines: list[str], text: str) -> list[str]:
 def explained(text: str) -> str:
     """What there is to say of a text: the page's part, or what its words say; or nothing."""
     as_printed, text = text, " ".join(text.split())
-    if text.startswith(SAYS) and not tool_lines.of_making(text):
+    if text.startswith(SAYS) and not tool_lines.of_forms(text, "making"):
         return explained(text.removeprefix(SAYS)) or OF_ITSELF
     line = meanings.own_line(text) if text else None
     # a line of a trace begins with the line of the script
@@ -182,7 +183,7 @@ def explained(text: str) -> str:
     inner = tool_lines.within(text)
     if inner:
         return f"A sentence of `./suites shell`, with the session's own words behind it.\n\n{explained(inner)}"
-    of_tool = tool_lines.of_tools(as_printed.rstrip()) if not EXPLORED.match(text) and not TRACED.match(text) else None
+    of_tool = tool_lines.of_tools(as_printed.rstrip()) if kind_of(text) not in (*OF_WAYS, OF_TRACE) else None
     if of_tool or text.startswith("#"):
         return of_tool or "A comment, which says nothing to the program."
     parts = {code: (group, more, lines) for group, more, code, lines in page()}
@@ -205,7 +206,7 @@ def explained(text: str) -> str:
 def meaning(code: str) -> str:
     """What a code means, in a few sentences: the first lines of its part of the page."""
     lines: list[str] = next((lines for _, _, found, lines in page() if found == code), [])
-    return filled(next((line for line in lines if line), ""), f"{code}: ") if lines else ""
+    return filled(next((line for line in lines if line), ""), initial_indent=f"{code}: ") if lines else ""
 
 
 def of_file(fault: re.Match[str], path: str, language: str | None) -> str:
@@ -262,10 +263,10 @@ def of_printed(text: str, path: str, language: str | None) -> str:
     if judge_lines.is_history(script):
         return "\n".join(filled(line) for line in judge_lines.of_line(" ".join(text.split()), script, shown))
     marked = MARKED.match(text)
-    if marked or tool_lines.of_session(text):
+    if marked or tool_lines.of_forms(text, "session"):
         return filled(of_session(marked, script, shown)) if marked else ""
-    kind = language or misfits.in_script(script, 1)[0].command
-    if explore_lines.is_explored(script) and (kind == "play" or EXPLORED.match(text)):
+    kind = language or faults.command_of(script)
+    if explore_lines.is_explored(script) and (kind == "play" or kind_of(text) in OF_WAYS):
         told = list(explore_lines.of_line(text, script, shown))
     elif tool_lines.of_tools(text):
         told = []

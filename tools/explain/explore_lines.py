@@ -75,7 +75,7 @@ def of_line(text: str, script: str, name: str) -> typing.Iterator[str]:
         yield f"{name} has no such job below `{LINE}`. Was it changed?"
     elif DECIDED.match(text):
         yield "In the script that leads to this way the jobs were decided in this order."
-    elif tool_lines.of_asked(text):
+    elif tool_lines.of_forms(text, "ask"):
         yield f"It answers a question of the ways in which the {len(jobs)} jobs below `{LINE}` of {name} may end."
     else:
         yield f"It is told last of the {len(jobs)} jobs below `{LINE}` of {name}."

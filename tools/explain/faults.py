@@ -33,6 +33,18 @@ def lines_of(text: str) -> list[str]:
     return ended + ([lines[-1]] if lines[-1] else [])
 
 
+def command_of(script: str) -> str:
+    """The command whose script this is: the only one whose lines begin so, but for that of `explore`; else the one that
+    the program tells.
+    """
+    begins = {line.split()[0] for line in lines_of(script) if line.split() and not line.startswith("#")}
+    for words in (begins, begins - {"together"}):
+        may_be = [command for command in forms.COMMANDS if words <= forms.lines_of(command).keys()]
+        if len(may_be) == 1:
+            return may_be[0]
+    return misfits.in_script(script, 1)[0].command
+
+
 def told_of(command: str, line: str, misfit: Misfit) -> str:
     """What is told of the word that does not fit in a line of a command's script."""
     words = WORD.findall(line)

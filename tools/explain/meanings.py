@@ -5,16 +5,16 @@ that each stands once.
 """
 import itertools
 import re
-import textwrap
+import sys
 
 from common import forms, text_of
 from explain import misfits
-from common.quoted import either, letters, plain, short
+from common.quoted import either, filled, letters, plain, short
 
 ROW = re.compile(r"\| (.*) \| (.*) \|$")
 # Slanted words, and no sign of multiplication.
 SLANTED = re.compile(r"\*(\w(?:[^*]*\w)?)\*")
-WIDE, INDENT = 100, 4
+INDENT = 4
 
 
 def words() -> dict[str, str]:
@@ -101,16 +101,26 @@ def has_fault(language: str, given: list[str]) -> bool:
 
 def own_line(text: str) -> str | None:
     """A line of a script, or an operation of one, told word by word; nothing where the text is none."""
-    given = text.split()
+    given, wrong = text.split(), set[str]()
     for language in forms.COMMANDS:
         line = forms.lines_of(language).get(given[0])
-        if line and (len(given) > 1 or not line.places) and not has_fault(language, given):
-            head = f"A line of a script of `{language}`: {line.does}."
-            return shown(head, told_words(given[0], line.places.split(), given[1:]))
+        # lines of two commands that have the same places have the same faults
+        if line and (len(given) > 1 or not line.places) and line.places not in wrong and has_room(line, given):
+            if not has_fault(language, given):
+                head = f"A line of a script of `{language}`: {line.does}."
+                return shown(head, told_words(given[0], line.places.split(), given[1:]))
+            wrong.add(line.places)
     if given[0] in forms.OPERATIONS and len(given) > 1 and given[1].startswith("/"):
         if not has_fault("table", ["do", "1", "1", *given]):
             return shown("An operation of a transaction.", told_words("do", ["OPERATIONS"], given))
     return None
+
+
+def has_room(line: forms.Line, given: list[str]) -> bool:
+    """Whether a line has places for these words, and words for its places."""
+    places = line.places.split()
+    least = sum(not place.startswith("[") for place in places)
+    return least < len(given) <= (sys.maxsize if "OPERATIONS" in places else len(places) + 1)
 
 
 def one_word(word: str) -> str | None:
@@ -133,17 +143,10 @@ def one_word(word: str) -> str | None:
     return "\n\n".join(told) or None
 
 
-def filled(text: str, first: str = "", after: str = "") -> str:
-    return textwrap.fill(
-        text, WIDE, initial_indent=first, subsequent_indent=after, break_long_words=False, break_on_hyphens=False
-    )
-
-
 def shown(head: str, rows: list[tuple[str, str]]) -> str:
     """A sentence, and a table of words."""
     cut = [(short(word) if len(word) <= 24 else f"{plain(word[:22])}..", told) for word, told in rows]
     wide = max((len(word) for word, _ in cut), default=0)
-    lines = [
-        filled(told.replace("`", ""), f"{' ' * INDENT}{word:{wide}}  ", " " * (INDENT + wide + 2)) for word, told in cut
-    ]
+    rows = [(f"{' ' * INDENT}{word:{wide}}  ", told.replace("`", "")) for word, told in cut]
+    lines = [filled(told, initial_indent=front, subsequent_indent=" " * len(front)) for front, told in rows]
     return "\n".join([filled(head.replace("..", ".")), "", *lines]).rstrip()

@@ -2,7 +2,6 @@
 reads a line or a list by its form itself.
 """
 import functools
-import subprocess
 import typing
 
 from common import built, console, forms
@@ -63,11 +62,10 @@ class Item(typing.NamedTuple):
 @functools.cache
 def asked(first: str, number: int, given: bytes) -> str:
     """What the program prints for two words and an input."""
-    words = [built.program("forms"), first, str(min(number, 2**64 - 1))]
-    done = subprocess.run(words, input=given, stdout=subprocess.PIPE, env=built.setting("forms"))
-    if done.returncode != 0:
-        raise console.Stop(console.ended("forms", done.returncode))
-    return done.stdout.decode("latin1").removesuffix("\n")
+    status, printed = built.asked("forms", given, first, str(min(number, 2**64 - 1)))
+    if status != 0:
+        raise console.Stop(console.ended("forms", status))
+    return printed.removesuffix("\n")
 
 
 def why_of(reason: str, data: str, part: str) -> Why:

@@ -1,22 +1,19 @@
 """What happened behind a line that `play` printed of a script: `./suites explain LINE SCRIPT`.
 
-The script is played once more by the program of `./suites trace`, up to where the line is printed. From that it is
-told which line of the script began the job, which path a number is, which servers were down, who was in the way, and
-why a home was one.
+The script is played once more by the program of `./suites trace`, whose events tell which line of the script began the
+job, which path a number is, which servers were down, who was in the way, and why a home was one.
 """
 import functools
 import re
-import subprocess
 import typing
 
-from common import console, forms, numbers, quoted
+from common import console, numbers, quoted
 from explain import denials, faults, refusals
-from trace import trace
+from trace import events, lines
+from trace.paths import Paths
 
 OUTCOME = re.compile(r"(\d+)\.(\d+) (\d+) (answered|denied|refused|undecided|swept)\b ?(.*)")
 AUDITED = re.compile(r"t (\d+) uid (\d+) op (\d+) suite (\d+) wants (\S+) by (\S+)")
-POLL = re.compile(r"t \d+ (?:poll suite (\d+) (shared|exclusive)|upgrade suite (\d+))")
-OF = re.compile(r"t (\d+) (\w+)")
 WANTED = {
     "--x": "search it, to go on to what is in it",
     "-wx": "write and search it, to make or drop a name there",
@@ -26,23 +23,34 @@ WANTED = {
 FEW = 8
 
 
+# What of a request or a reply may be long, and is told by nothing here.
+LONG = ("parts", "names", "bytes")
+
+
 class Request(typing.NamedTuple):
-    """A request and its reply, and when it was: how many lines of the trace stand above it."""
+    """A request and its reply, and the number of its event."""
 
     at: int
-    agent: int
     server: int
-    asked: str
-    reply: str
+    asked: events.Event
+    reply: events.Event
+
+    def asks(self, what: str, t: int) -> bool:
+        """Whether it asks this of a transaction."""
+        return self.asked.get("asks") == what and self.asked["t"] == t
+
+    def is_for_lock(self, suite: int) -> bool:
+        return self.asked.get("asks") in ("poll", "upgrade") and self.asked["suite"] == suite
 
 
 class Job:
     """A job that was begun: its line of the script, and what it asked."""
 
-    def __init__(self, agent: int, count: int, number: int, line: str, at: int):
-        self.agent, self.count, self.number, self.line, self.begun = agent, count, number, line, at
-        self.words = line.split()
+    def __init__(self, agent: int, count: int, event: events.Event):
+        self.agent, self.count, self.number, self.begun = agent, count, event["line"], event["event"]
+        self.words = event["text"].split()
         self.requests: list[Request] = []
+        # the number of the event with which it ended
         self.ended: int | None = None
         self.ending = self.verdict = ""
 
@@ -65,13 +73,12 @@ class Job:
 
 
 class Played:
-    """A run of a script: its jobs, when servers crashed and came back, and what was printed."""
+    """A run by its events, which may be gone over again: its jobs, when servers crashed and came back, and what was
+    printed.
+    """
 
-    def __init__(self, script: str, lines: list[str]):
-        own = forms.lines_of("play", "own")
-        said = [(number, line) for number, line in enumerate(faults.lines_of(script), 1)]
-        events = iter([(number, line) for number, line in said if line.split()[:1] and line.split()[0] in own])
-        self.servers = int(next(line for _, line in said if line.split()[:1] == ["servers"]).split()[1])
+    def __init__(self, playing: typing.Iterable[events.Event], again: typing.Iterable[events.Event]):
+        self.events, self.servers, self.paths = again, list[events.Event](), Paths()
         self.jobs: dict[int, Job] = {}
         self.busy: dict[int, Job] = {}
         self.counts: dict[int, int] = {}
@@ -80,50 +87,46 @@ class Played:
         self.silent: set[int] = set()
         # of each server: when it crashed or came back, whether it is up from there on, and the line of the script
         self.turns: dict[int, list[tuple[int, bool, int]]] = {}
-        self.printed: list[tuple[str, int, int]] = []
-        self.lines, self.script = lines, faults.lines_of(script)
-        for at, line in enumerate(lines):
-            if line.startswith("="):
-                break
-            if line.startswith("> "):
-                number, event = next(events)
-                self.begin(at, number, event, lines[at + 1 : at + 2])
-            elif line.startswith("  ") and trace.is_request(line):
-                self.take(at, line)
-            elif not line.startswith("  "):
-                self.printed.append((line, at, number))
-                self.end(at, line)
+        # what `play` printed, and by which line of the script
+        self.printed: list[tuple[str, int]] = []
+        for event in playing:
+            # at last what there is at the end
+            self.servers = event.get("servers", self.servers)
+            if event["kind"] == "line":
+                self.begin(event)
+            elif event["kind"] == "request":
+                self.take(event)
+            self.printed += [(line, event["line"]) for line in lines.printed(event)]
+            if "end" in event:
+                job = self.busy.pop(event["end"]["agent"])
+                job.ended, job.ending = event["event"], self.printed[-1][0]
 
-    def begin(self, at: int, number: int, event: str, below: list[str]) -> None:
-        words = event.split()
-        if below and below[0].startswith("  nothing"):
-            self.silent.add(number)
-        elif words[0] in trace.BEGIN:
-            agent = int(words[1])
-            job = Job(agent, self.counts.get(agent, 0), number, event, at)
-            self.counts[agent] = job.count + 1
-            self.jobs[job.t] = self.busy[agent] = job
-        elif words[0] in trace.OF_SERVERS:
-            self.turns.setdefault(int(words[1]), []).append((at, words[0] == "return", number))
+    def begin(self, event: events.Event) -> None:
+        begun, words = events.begun(event), event["text"].split()
+        if "nothing" in event:
+            self.silent.add(event["line"])
+        elif begun:
+            job = Job(*begun, event)
+            self.counts[job.agent] = job.count + 1
+            self.jobs[job.t] = self.busy[job.agent] = job
+        elif words[0] in events.OF_SERVERS:
+            turn = event["event"], words[0] == "return", event["line"]
+            self.turns.setdefault(int(words[1]), []).append(turn)
 
-    def take(self, at: int, line: str) -> None:
-        found = trace.REQUEST.match(line)
-        if found and int(found[1]) in self.busy:
-            request = Request(at, int(found[1]), int(found[2]), found[3].strip(), found[4])
-            self.busy[request.agent].requests.append(request)
-            of = OF.match(request.asked)
-            if of and of[2] == "decide" and request.reply in ("verdict answered", "verdict refused"):
-                self.jobs[int(of[1])].verdict = request.reply.split()[1]
-                self.decided.append(int(of[1]))
-
-    def end(self, at: int, line: str) -> None:
-        found = OUTCOME.match(line)
-        if found:
-            job = self.busy.pop(int(found[1]))
-            job.ended, job.ending = at, line
+    def take(self, event: events.Event) -> None:
+        self.paths.learn(event)
+        asked, reply = (
+            {name: told for name, told in event.get(part, {}).items() if name not in LONG}
+            for part in ("request", "reply")
+        )
+        self.busy[event["agent"]].requests.append(Request(event["event"], event["server"], asked, reply))
+        decision = events.decided(event)
+        if decision:
+            self.jobs[decision[0]].verdict = decision[1]
+            self.decided.append(decision[0])
 
     def home(self, job: Job) -> int:
-        return (job.agent + job.count) % self.servers
+        return numbers.home(job.agent, job.count, len(self.servers))
 
     def last_turn(self, server: int, at: int) -> tuple[int, bool, int] | None:
         """When a server last crashed or came back before a moment."""
@@ -139,20 +142,16 @@ class Played:
         if suite == 0:
             return "/ (suite 0, the root folder)"
         t, place = numbers.maker_of(suite)
-        known = trace.paths(self.lines).get(suite)
         operations = self.jobs[t].operations if t in self.jobs else []
-        known = known or (operations[place].split()[1] if place < len(operations) else None)
+        known = self.paths.known.get(suite) or (operations[place].split()[1] if place < len(operations) else None)
         return f"{known} (suite {suite})" if known else f"suite {suite}"
 
 
 @functools.cache
 def played(script: bytes, name: str) -> Played:
     """The run of a script, by the program `trace`."""
-    done = subprocess.run([trace.program()], input=script, stdout=subprocess.PIPE, env=trace.ENV)
-    text = done.stdout.decode("latin1")
-    if done.returncode != 0:
-        raise console.Stop(f"{name} cannot be played: {text.strip() or console.ended('trace', done.returncode)}")
-    return Played(script.decode("latin1"), text.split("\n")[:-1])
+    with events.Run(script, name) as run:
+        return Played(run.play(), run)
 
 
 # ---- why a job ended so
@@ -189,15 +188,14 @@ def short_of_votes(run: Played, job: Job, rest: str) -> typing.Iterator[str]:
     if not found:
         return
     suite = int(found[1])
-    asked = [one for one in job.requests for of in [POLL.match(one.asked)] if of and (of[1] or of[3]) == str(suite)]
     yield f"It wanted {found[3]} votes of {run.path(suite)}, and had {found[2]}."
-    last = {one.server: one for one in asked}
+    last = {one.server: one for one in job.requests if one.is_for_lock(suite)}
     for server, one in sorted(last.items()):
-        since = run.down_since(server, one.at)
-        if one.reply.startswith("down"):
+        since, says = run.down_since(server, one.at), one.reply["says"]
+        if says == "down":
             yield f"Server {server} has a vote, and was down, since line {since}: `return {server}` brings it back."
-        elif one.reply.startswith("busy"):
-            yield f"Server {server} has a vote, and a lock of transaction {one.reply.split()[2]} was in the way there."
+        elif says == "busy":
+            yield f"Server {server} has a vote, and a lock of transaction {one.reply['holder']} was in the way there."
         else:
             yield f"Server {server} gave its vote."
 
@@ -214,8 +212,9 @@ def lost_votes(run: Played, job: Job, script: str, number: int) -> typing.Iterat
         suite = votes.left_by(part.encode("latin1")).suites.get(int(found[1]))
     except console.Stop:
         return
-    down = frozenset(server for server in range(run.servers) if run.down_since(server, job.ended) is not None)
-    is_read = not any(f"suite {found[1]} exclusive" in one.asked for one in job.requests)
+    down = frozenset(server for server in range(len(run.servers)) if run.down_since(server, job.ended) is not None)
+    asked = (one.asked for one in job.requests if one.is_for_lock(int(found[1])))
+    is_read = not any(request.get("mode") == "exclusive" for request in asked)
     if suite and suite.is_up(down, is_read):
         yield (
             f"Its votes are {suite.newest().text()} by then, and enough of them are up: they were moved, and of the"
@@ -238,9 +237,8 @@ def in_the_way(run: Played, job: Job, rest: str) -> typing.Iterator[str]:
         return
     home = run.home(holder)
     since = run.down_since(home, job.ended)
-    is_prepared = any(
-        one.server == server and " prepare " in one.asked and one.at < job.ended for one in holder.requests
-    )
+    before = [one for one in holder.requests if one.server == server and one.at < job.ended]
+    is_prepared = any(one.asks("prepare", holder.t) for one in before)
     going_on = f"If agent {holder.agent} goes on (`run {holder.agent}`), it ends by itself."
     if is_prepared and since is not None:
         yield (
@@ -274,7 +272,7 @@ def lock_lost(run: Played, job: Job, rest: str) -> typing.Iterator[str]:
             )
     for other in run.jobs.values():
         for one in other.requests:
-            if one.server == server and one.asked.startswith(f"t {job.t} break") and job.begun < one.at < job.ended:
+            if one.server == server and one.asks("break", job.t) and job.begun < one.at < job.ended:
                 yield f"The sweep of {other.name()} ({other.about()}) broke its lock at server {server}."
                 return
 
@@ -282,7 +280,7 @@ def lock_lost(run: Played, job: Job, rest: str) -> typing.Iterator[str]:
 def aborted(run: Played, job: Job) -> typing.Iterator[str]:
     """Which sweep had the transaction aborted."""
     for other in run.jobs.values():
-        if any(one.asked == f"t {job.t} resolve" and one.reply == "verdict aborted" for one in other.requests):
+        if any(one.asks("resolve", job.t) and one.reply.get("verdict") == "aborted" for one in other.requests):
             yield (
                 f"The sweep of {other.name()} ({other.about()}) asked its home, server {run.home(job)}, which had no"
                 " decision by then: so it is aborted for good."
@@ -295,12 +293,13 @@ def home_down(run: Played, job: Job) -> typing.Iterator[str]:
     home = run.home(job)
     since = run.down_since(home, job.ended or 0)
     yield (
-        f"Its home is server {home}: ({job.agent} + {job.count}) mod {run.servers}, the number of the agent and that of"
-        " the job together, modulo the number of servers."
+        f"Its home is server {home}: ({job.agent} + {job.count}) mod {len(run.servers)}, the number of the agent and"
+        " that of the job together, modulo the number of servers."
     )
     if since is not None:
         yield f"Server {home} is down, since line {since}."
-    tries = ((turn, (job.agent + job.count + turn) % run.servers) for turn in range(1, run.servers + 1))
+    count = len(run.servers)
+    tries = ((turn, numbers.home(job.agent, job.count + turn, count)) for turn in range(1, count + 1))
     is_up = next(((turn, one) for turn, one in tries if run.down_since(one, job.ended or 0) is None), None)
     if is_up and is_up[0] == 1:
         yield f"Begun again at once, it is job {job.count + 1}, whose home is server {is_up[1]}, which was up then."
@@ -330,31 +329,25 @@ def how_full(run: Played, rest: str) -> typing.Iterator[str]:
     found = re.match(r"U6 server (\d+)", rest)
     if not found:
         return
-    counts: dict[int, int] = {}
-    server = -1
-    for line in run.lines:
-        head = re.match(r"= server (\d+)", line)
-        server = int(head[1]) if head else server
-        counts[server] = counts.get(server, 0) + (server >= 0 and trace.COPY.match(line) is not None)
+    count = sum(copy["kind"] != "absent" for copy in run.servers[int(found[1])]["copies"])
     yield (
-        f"Server {found[1]} has {counts.get(int(found[1]), 0):,} files and folders at the end of the script, dropped"
-        " ones among them, and has room for 4,096."
+        f"Server {found[1]} has {count:,} files and folders at the end of the script, dropped ones among them, and has"
+        " room for 4,096."
     )
 
 
 def swept(job: Job) -> typing.Iterator[str]:
     """Whose transactions a sweep met."""
     for one in job.requests:
-        of = OF.match(one.asked)
-        if of and of[2] in ("resolve", "break"):
-            said = "is down" if one.reply == "down" else f"says {one.reply.removeprefix('verdict ')}"
+        if one.asked.get("asks") in ("resolve", "break"):
+            t, said = one.asked["t"], events.word_of(one.reply.get("verdict", one.reply["says"]))
             what = (
-                f"its home, server {one.server}, {said}"
-                if of[2] == "resolve"
+                f"its home, server {one.server}, {'is down' if said == 'down' else f'says {said}'}"
+                if one.asked["asks"] == "resolve"
                 else "a lock of it that was not prepared is broken"
             )
-            agent, number = numbers.job_of(int(of[1]))
-            yield f"Transaction {of[1]}, job {number} of agent {agent}: {what}."
+            agent, number = numbers.job_of(t)
+            yield f"Transaction {t}, job {number} of agent {agent}: {what}."
 
 
 def why(run: Played, job: Job, how: str, rest: str, script: str, number: int) -> typing.Iterator[str]:
@@ -381,10 +374,10 @@ def why(run: Played, job: Job, how: str, rest: str, script: str, number: int) ->
 
 def found_line(run: Played, text: str, name: str) -> tuple[str, int]:
     """The line that the script prints so, and the line of the script that prints it."""
-    for line, _, number in run.printed:
+    for line, number in run.printed:
         if line == text or line.endswith(f" {text}"):
             return line, number
-    near = quoted.nearest(text, [line for line, _, _ in run.printed])
+    near = quoted.nearest(text, [line for line, _ in run.printed])
     like = f" It prints: {near[0]}" if near else ""
     raise console.Stop(
         f"{name} prints no such line.{like} Was the script changed, or the line? ./suites play < {name} prints all"
@@ -398,19 +391,16 @@ def as_traced(line: str) -> str:
 
 def of_trace(run: Played, text: str, name: str) -> list[str]:
     """What is told of a line that the trace of this run has, and `play` has not: where in the script it comes."""
-    number, own, job, wanted = 0, forms.lines_of("play", "own"), None, as_traced(text)
-    events = iter([at for at, line in enumerate(run.script, 1) if line.split()[:1] and line.split()[0] in own])
-    for line in run.lines:
-        number = next(events, number) if line.startswith("> ") else number
-        if as_traced(line) != wanted:
+    wanted, telling = as_traced(text), lines.Lines({})
+    for event in run.events:
+        if wanted not in map(as_traced, telling.of(event)):
             continue
-        if line.startswith("= ") or line.startswith("    "):
+        if event["kind"] == "standing":
             return [f"The trace tells at its end what each server has, once {name} is played."]
-        found = trace.REQUEST.match(line)
-        of = OF.match(found[3].strip()) if found else None
-        job = run.jobs.get(int(of[1])) if of else None
-        told = f"It is line {number} of {name}"
-        told = told if line.startswith("> ") else f"The trace tells it of line {number} of {name}"
+        is_line, is_request = wanted.startswith("> "), " -> s" in wanted
+        told = f"It is line {event['line']} of {name}"
+        told = told if is_line else f"The trace tells it of line {event['line']} of {name}"
+        job = run.jobs.get(event.get("request", {}).get("t")) if is_request else None
         whose = f", and it is about transaction {job.t}, {job.name()}: {job.about()}" if job else ""
         return [f"{told}{whose}."]
     return []
@@ -418,7 +408,7 @@ def of_trace(run: Played, text: str, name: str) -> list[str]:
 
 def of_run(run: Played, text: str, script: str, name: str) -> list[str]:
     """What is told of a line that this run of a script printed."""
-    traced = of_trace(run, text, name) if text not in {line for line, _, _ in run.printed} else []
+    traced = of_trace(run, text, name) if text not in {line for line, _ in run.printed} else []
     if traced:
         return traced
     line, number = found_line(run, text, name)

@@ -4,10 +4,9 @@ and what they say on standard error. Each is known by its form.
 The sentences about `votes` are those of its help where that has them, and what errors of a mount mean is told in its.
 """
 import re
-import textwrap
-import typing
 
-WIDE = 100
+from common.quoted import filled
+
 PERMS = "[r-][w-][x-]"
 # A line of `votes`, and what it says.
 VOTES: tuple[tuple[str, str], ...] = (
@@ -186,37 +185,26 @@ SPOKEN = re.compile(r".* \(((?:denied|refused|undecided) .*)\)$|(undecided U\d.*
 ERROR = re.compile(r"E[A-Z]{2,}$")
 
 
-def filled(text: str) -> str:
-    return textwrap.fill(text, WIDE, break_long_words=False, break_on_hyphens=False)
+# The tables of forms by whose lines they are, each with what stands before what is told, and behind it.
+TABLES = {
+    "ask": (ASKED, "A line of `./suites explore --ask`: ", " ./suites explore --help tells more."),
+    "judge": (JUDGED, "A line of `./suites judge`: ", " ./suites judge --help tells more."),
+    "session": (ASKS, "A line of `./suites session`: ", " ./suites session --help tells more."),
+    "votes": (VOTES, "A line of `./suites votes`: ", ""),
+    "may": (MAY, "A line of `./suites may`: ", " ./suites may --help tells more."),
+    "shell": (SHELL, "A line of `./suites shell`: ", " ./suites shell --help tells more."),
+    "making": (MADE, "What is said by ", ""),
+}
 
 
-def of_forms(text: str, table: tuple[tuple[str, str], ...], of: str, more: str) -> str | None:
-    """What a table of forms says of a line, with the parts of the line; nothing of a line of none."""
-    for form, says in table:
-        found = re.match(form, text)
-        if found:
-            return filled(f"{of}{says.format(*found.groups(''))}.{more}")
+def of_forms(text: str, *names: str) -> str | None:
+    """What these tables of forms say of a line, with the parts of the line; nothing of any other line."""
+    for table, of, more in map(TABLES.__getitem__, names):
+        for form, says in table:
+            found = re.match(form, text)
+            if found:
+                return filled(f"{of}{says.format(*found.groups(''))}.{more}")
     return None
-
-
-def of_judge(text: str) -> str | None:
-    """What is told of a line of `judge`, or of a history; nothing of any other."""
-    return of_forms(text, JUDGED, "A line of `./suites judge`: ", " ./suites judge --help tells more.")
-
-
-def of_session(text: str) -> str | None:
-    """What is told of a line that answers a question of a session; nothing of any other."""
-    return of_forms(text, ASKS, "A line of `./suites session`: ", " ./suites session --help tells more.")
-
-
-def of_shell(text: str) -> str | None:
-    """What is told of a line of `shell`; nothing of any other."""
-    return of_forms(text, SHELL, "A line of `./suites shell`: ", " ./suites shell --help tells more.")
-
-
-def of_making(text: str) -> str | None:
-    """What is told of what `import` and `dump` say; nothing of any other line."""
-    return of_forms(text, MADE, "What is said by ", "")
 
 
 def of_error(text: str) -> str | None:
@@ -247,9 +235,9 @@ def of_votes(text: str) -> str | None:
         from votes import votes  # its help tells of the line
         told = re.search(rf"^    {found[1]} +(.*(?:\n {{18}}.*)*)", votes.__doc__ or "", re.M)
         return filled(f"{found[1]} (a line of `./suites votes`): {' '.join(told[1].split())}.") if told else None
-    for form, says in VOTES:
-        if re.match(form, text):
-            return filled(f"A line of `./suites votes`: {says}.")
+    of_form = of_forms(text, "votes")
+    if of_form:
+        return of_form
     from votes import votes  # its sentences are known
     sentences = " ".join([*votes.ABOUT, votes.MISSED]).split("{}")
     if len(text) > 8 and any(text in " ".join(part.split()) for part in ["|".join(sentences), *sentences]):
@@ -257,25 +245,7 @@ def of_votes(text: str) -> str | None:
     return None
 
 
-def of_may(text: str) -> str | None:
-    """What is told of a line of `may`; nothing of any other."""
-    for form, says in MAY:
-        if re.match(form, text):
-            return filled(f"A line of `./suites may`: {says}. ./suites may --help tells more.")
-    return None
-
-
-def of_asked(text: str) -> str | None:
-    """What is told of a line of `explore --ask`; nothing of any other."""
-    for form, says in ASKED:
-        if re.match(form, text):
-            return filled(f"A line of `./suites explore --ask`: {says}. ./suites explore --help tells more.")
-    return None
-
-
 def of_tools(text: str) -> str | None:
     """What is told of a line that a tool printed, as it stands there; nothing of any other."""
-    tellers: tuple[typing.Callable[[str], str | None], ...] = (
-        of_asked, of_judge, of_session, of_votes, of_may, of_shell, of_making, of_error,
-    )
-    return next((told for told in (teller(text) for teller in tellers) if told), None)
+    told = of_forms(text, "ask", "judge", "session") or of_votes(text)
+    return told or of_forms(text, "may", "shell", "making") or of_error(text)

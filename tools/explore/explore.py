@@ -20,7 +20,6 @@ import typing
 from common import built, console
 from explore import queries
 from gate import gate
-from trace import trace
 
 # The options that tell a number, with the least and the most that each may be.
 NUMBERS = {
@@ -142,7 +141,7 @@ class Looked(threading.Thread):
 
 def watched(process: subprocess.Popen[bytes]) -> None:
     """Waits until the program has ended, and says meanwhile how far it is."""
-    progress, looked = trace.Progress(), Looked(process.stderr)
+    progress, looked = console.Progress(), Looked(process.stderr)
     try:
         while process.poll() is None:
             with contextlib.suppress(subprocess.TimeoutExpired):
@@ -279,9 +278,4 @@ def ended(given: argparse.Namespace, status: int, text: bytes) -> int:
 
 def main() -> int:
     given = read(sys.argv[1:])
-    if given.help:
-        return console.print_help("explore")
-    console.tell_reading()
-    if given.page:
-        return page(given)
-    return answer(given) if given.ask else run(given)
+    return console.of_input("explore", given, page if given.page else answer if given.ask else run)

@@ -5,15 +5,13 @@ its words are looked at, and it is told what stands around the line that fits no
 be), or the script that answers so.
 """
 import argparse
-import os
 import shlex
-import subprocess
 import sys
 import typing
 
 from common import built, console
 
-DONE, NO_ORDER, FAULTY, NO_STREAM = 0, 1, 3, 6
+DONE, NO_ORDER, FAULTY = 0, 1, 3
 # So many calls that ran beside the one that is told are told with it.
 MOST_BESIDE = 12
 READS = {"read", "list", "getacl", "getvotes"}
@@ -45,12 +43,6 @@ def read(words: list[str]) -> argparse.Namespace:
     if given.files and not given.help:
         raise console.Bad(f"a history is read from standard input: ./suites judge < {shlex.quote(given.files[0])}")
     return given
-
-
-def judged(text: bytes, *words: str) -> tuple[int, str]:
-    """The exit status of the program for a history, and what it printed."""
-    done = subprocess.run([built.program("judge"), *words], input=text, stdout=subprocess.PIPE)
-    return done.returncode, done.stdout.decode("latin1")
 
 
 def calls_of(lines: list[str]) -> list[Told]:
@@ -118,7 +110,7 @@ def changes_nothing(call: Told, lines: list[str]) -> bool:
 
 def is_refuted(lines: list[str]) -> tuple[bool, list[str]]:
     """Whether a history has no order, and its lines up to the one that fits none."""
-    status, said = judged("\n".join([*lines, ""]).encode("latin1"))
+    status, said = built.asked("judge", "\n".join([*lines, ""]))
     return status == NO_ORDER, lines[: line_of(said) + 1] if status == NO_ORDER else lines
 
 
@@ -158,16 +150,13 @@ def script(lines: list[str], order: list[int]) -> list[str]:
     calls = {call.made: call for call in calls_of(lines)}
     told = [next(line for line in lines if line.split()[:1] == ["root"])]
     told += [f"do {calls[place].asks}" for place in order]
-    played = subprocess.run(
-        [built.program("suites"), "table"], input="\n".join([*told, ""]).encode("latin1"), stdout=subprocess.PIPE
-    )
-    answers = played.stdout.decode("latin1").splitlines()
+    answers = built.asked("suites", "\n".join([*told, ""]), "table")[1].splitlines()
     return [told[0], *(part for line, answer in zip(told[1:], answers) for part in (line, f"# {answer}"))]
 
 
 def run(given: argparse.Namespace) -> int:
     text = sys.stdin.buffer.read()
-    status, said = judged(text, *(["--order"] if given.order else []))
+    status, said = built.asked("judge", text, *(["--order"] if given.order else []))
     first, _, rest = said.partition("\n")
     lines = text.decode("latin1").splitlines()
     told = [first] if first else []
@@ -175,7 +164,7 @@ def run(given: argparse.Namespace) -> int:
         number = line_of(first)
         if given.small:
             told = [line for line in smaller(lines, number) if line and not line.startswith("#")]
-            told.append(f"# {judged(chr(10).join([*told, '']).encode('latin1'))[1].strip()}")
+            told.append(f"# {built.asked('judge', chr(10).join([*told, '']))[1].strip()}")
         else:
             told += around(lines, number)
     elif status == DONE and given.order:
@@ -190,12 +179,4 @@ def run(given: argparse.Namespace) -> int:
 
 
 def main() -> int:
-    given = read(sys.argv[1:])
-    if given.help:
-        return console.print_help("judge")
-    console.tell_reading()
-    try:
-        return run(given)
-    except BrokenPipeError:
-        os.dup2(os.open(os.devnull, os.O_WRONLY), sys.stdout.fileno())
-        return NO_STREAM
+    return console.of_input("judge", read(sys.argv[1:]), run)

@@ -10,26 +10,8 @@ from may import lists
 from may.crowd import Crowd, Seen
 from may.everybody import Reach, people
 from may.lists import (
-    BITS,
-    GROUP,
-    GROUP_OBJ,
-    MASK,
-    OTHER,
-    USER,
-    USER_OBJ,
-    Bad,
-    Entry,
-    List,
-    Unread,
-    find,
-    has_names,
-    in_order,
-    letters,
-    list_text,
-    name_of,
-    perms_of,
-    quoted,
-    union,
+    BITS, GROUP, GROUP_OBJ, MASK, OTHER, USER, USER_OBJ, Bad, Entry, List, Unread, find, has_names, in_order,
+    letters, list_text, name_of, perms_of, quoted, union,
 )
 from may.people import Caller, number, shortened
 from may.saying import SAYER

@@ -15,26 +15,8 @@ from may.changes import Change, Powers, after, effect, unjudged_of
 from may.crowd import Crowd
 from may.everybody import Reach
 from may.lists import (
-    BITS,
-    GROUP,
-    GROUP_OBJ,
-    LIMITED,
-    MASK,
-    OTHER,
-    USER,
-    USER_OBJ,
-    Bad,
-    Entry,
-    Unread,
-    entry_text,
-    fault,
-    find,
-    letters,
-    mask_of,
-    name_of,
-    shell_quoted,
-    union,
-    who,
+    BITS, GROUP, GROUP_OBJ, LIMITED, MASK, OTHER, USER, USER_OBJ, Bad, Entry, Unread, entry_text, fault, find,
+    letters, mask_of, name_of, shell_quoted, union, who,
 )
 from may.saying import SAYER
 from may.scripts import interpreters

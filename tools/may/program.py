@@ -9,19 +9,7 @@ from typing import Iterable, NamedTuple
 
 from common import built, console
 from may.lists import (
-    GROUP,
-    GROUP_OBJ,
-    MASK,
-    OTHER,
-    USER,
-    USER_OBJ,
-    Entry,
-    List,
-    Unread,
-    fault,
-    in_order,
-    letters,
-    list_text,
+    GROUP, GROUP_OBJ, MASK, OTHER, USER, USER_OBJ, Entry, List, Unread, fault, in_order, letters, list_text,
 )
 from may.people import Caller
 from may.ways import Place

@@ -7,10 +7,9 @@ tests/explored (tests/shell.py plays those of the mount and the shell, tests/ses
 tests/judged.py looks at those of examples/judge); each script, command and output that the two pages show has to be
 that of a row, and an output that of the script or the command before it; behind `| head -N` or `| tail -N` stand so
 many lines of it. Each text of help/ but that of the tools has to be what a row of help prints: with --help-texts it
-is written from that row. The end of the mount's story in README.md has to stand in its test. The picture and what is
-shown of `./suites trace` have to be those of the trace which the program of crates/trace is to print of the same script
-(its stdin and stdout). What differs is told, and the status is 1. The rows themselves are played by the program of
-crates/rows, and commands of tools, with what the pages show of them, by tests/typed.py.
+is written from that row. The end of the mount's story in README.md has to stand in its test. What differs is told, and
+the status is 1. The rows themselves are played by the program of crates/rows, commands of tools, with what the pages
+show of them, by tests/typed.py, and the picture of a run is drawn by tests/drawn.py.
 """
 import os
 import re
@@ -19,10 +18,9 @@ import typing
 
 from common import TOP, console, read_rows
 from front import sources
-from trace import draw, trace
 from votes import votes
 
-PICTURE, STORY = "docs/revocation.svg", "examples/play/revocation.script"
+STORY = "examples/play/revocation.script"
 PAGES = ("README.md", "docs/SCRIPTS.md")
 HELP, OF_TOOLS = "help", ("tools.txt", "explore.txt", "judge.txt", "session.txt")
 # What is shown of an output.
@@ -79,21 +77,6 @@ def commands(block: list[bytes]) -> typing.Iterator[tuple[str, str]]:
             yield match[1], match[2]
 
 
-def lines_of_trace() -> list[str]:
-    """The trace of the story, as the program of crates/trace is to print it."""
-    return content("crates/trace/stdout").decode("latin1").splitlines()
-
-
-def traced(block: list[bytes]) -> bytes | None:
-    """The last lines of a trace of the story, where a block shows them, as they are to be."""
-    match = re.fullmatch(rf"\$ \./suites trace (.*) < {re.escape(STORY)} \| tail -(\d+)", block[0].decode())
-    if match:
-        given = trace.asked(match[1].split(), trace.__doc__)
-        text = trace.shown(lines_of_trace(), given.agent, given.suite).encode("latin1")
-        return b"".join(text.splitlines(True)[-int(match[2]):])
-    return None
-
-
 def texts_of_help(known: list[tuple[str, bytes, bytes]], are_written: bool) -> typing.Iterator[str]:
     """What is wrong with the texts of help/: each is what a row prints, and may be written from it."""
     printed = {words: text for words, given, text in known if not given}
@@ -127,7 +110,7 @@ def cut(command: bytes, text: bytes) -> bytes:
 
 def printed_by(block: list[bytes], known: list[tuple[str, bytes, bytes]], lost: list[str]) -> set[bytes]:
     """What the commands of a block may print; a command of which no row is known is put with those that are lost."""
-    outputs = {text for text in (traced(block), told_of_votes(block)) if text is not None}
+    outputs = set(filter(None, [told_of_votes(block)]))
     for words, name in commands(block):
         those = {cut(block[0], printed) for word, given, printed in known if word == words and given == content(name)}
         outputs |= those
@@ -170,8 +153,6 @@ def main() -> int:
         wrong += differing(page, known)
     if content("crates/trace/stdin") != content(STORY):
         wrong.append(f"crates/trace/stdin is not {STORY}")
-    if content(PICTURE).decode() != draw.picture_of(lines_of_trace()):
-        wrong.append(f"{PICTURE} is not that of crates/trace/stdout: ./suites draw < {STORY} > {PICTURE} makes it anew")
     if not any(story in content(HELD) for story in FENCED.findall(content("README.md"))):
         wrong.append(f"README.md shows another end of the mount's story than {HELD} holds")
     if f"`{sources.KIT_LOGIC}`".encode() not in content("README.md"):

@@ -14,7 +14,6 @@ from __future__ import annotations
 import contextlib
 import fcntl
 import os
-import subprocess
 import sys
 import tempfile
 import typing
@@ -50,12 +49,11 @@ def asked(lines: Iterable[str], questions: Iterable[str]) -> list[str]:
     """The answers to questions behind these lines, one line each."""
     given, wanted = list(lines), list(questions)
     text = "".join(f"{line}\n" for line in [*given, *wanted])
-    words = [built.program("session"), "--marks"]
-    done = subprocess.run(words, input=text.encode("latin1"), stdout=subprocess.PIPE)
-    if done.returncode not in (0, 3):
-        raise console.Stop(console.ended("session", done.returncode))
+    status, printed = built.asked("session", text, "--marks")
+    if status not in (0, 3):
+        raise console.Stop(console.ended("session", status))
     answers, answer = list[str](), list[str]()
-    for line in done.stdout.decode("latin1").splitlines():
+    for line in printed.splitlines():
         if line == f"= {len(answers) + 1}":
             answers.append("\n".join(answer))
             answer = []

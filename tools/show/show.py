@@ -26,7 +26,6 @@ import hashlib
 import json
 import os
 import re
-import subprocess
 import sys
 import tempfile
 import typing
@@ -36,6 +35,7 @@ from collections.abc import Iterator
 from common import TOOLS, console, quoted, text_of
 from explain import explain
 from trace import states, trace
+from trace.events import Player
 
 PARTS = os.path.join(TOOLS, "show")
 # What stands for what in the page.
@@ -64,8 +64,6 @@ TOO_MANY = (
     "this run has more than {:,} events, as many as a page shows, before the end of line {}: show a part of it, by"
     " lines of the script, as with --from 1 --to 100"
 )
-LINE = re.compile(r'{"event":\d+,"line":(\d+),')
-FAULTY = 3
 CODES = [*(f"F{number}" for number in range(1, 13)), *(f"U{number}" for number in range(1, 8))]
 
 
@@ -102,72 +100,33 @@ class Besides(typing.NamedTuple):
     asks: bool = False
 
 
-class Player:
-    """The program `trace`, which tells the events of a script one after another."""
-
-    def __init__(self, script: bytes) -> None:
-        self.given = tempfile.TemporaryFile()
-        self.given.write(script)
-        self.given.seek(0)
-        self.fault = ""
-        words = [trace.program(), "--json"]
-        self.run = subprocess.Popen(words, stdin=self.given, stdout=subprocess.PIPE, env=trace.ENV)
-
-    def __enter__(self) -> "Player":
-        return self
-
-    def __exit__(self, *_: object) -> None:
-        self.run.kill()
-        self.run.communicate()
-        self.given.close()
-
-    def lines(self) -> Iterator[str]:
-        """The events; ends the tool where the script has a fault."""
-        assert self.run.stdout
-        for line in self.run.stdout:
-            if not line.startswith(b"{"):
-                self.fault = line.decode("latin1")
-                sys.stdout.write(self.fault)
-            else:
-                yield line.decode("latin1").rstrip("\n")
-        status = self.run.wait()
-        if status < 0:
-            console.Teller().say(console.ended("trace", status))
-        elif status and sys.stderr.isatty():
-            self.explain(status)
-        if status:
-            sys.exit(console.status_of(status))
-
-    def explain(self, status: int) -> None:
-        """Says on a terminal what is wrong."""
-        if status == FAULTY:
-            console.Teller().say(console.shows(self.fault.strip()))
-        elif status in trace.EXPLAINED:
-            console.Teller().say(trace.EXPLAINED[status])
+def texts(player: Player) -> Iterator[str]:
+    """The events of a script as texts; ends the tool where the script has a fault."""
+    return (line.decode("latin1").rstrip("\n") for line in player.lines())
 
 
 def events_of(script: bytes) -> list[str]:
-    """All events of a script, as the program `trace` tells them; ends the tool where the script has a fault."""
+    """All events of a script as texts."""
     with Player(script) as player:
-        return [*player.lines()]
+        return [*texts(player)]
 
 
 def shown_of(script: bytes, first: int, last: int) -> Shown:
     """The events of lines of a script: all, where the first is 0."""
     with Player(script) as player:
-        lines = player.lines()
+        lines = texts(player)
         opening = next(lines)
         before, kept = states.Part(json.loads(opening)), [opening]
         for line in lines:
-            at = int(LINE.match(line)[1])
-            if at > last:
+            event = json.loads(line)
+            if event["line"] > last:
                 break
-            if at < first:
-                before.take(line)
+            if event["line"] < first:
+                before.take(event, line)
                 continue
             kept.append(line)
             if len(kept) > MOST_EVENTS:
-                raise console.Stop(TOO_MANY.format(MOST_EVENTS, at))
+                raise console.Stop(TOO_MANY.format(MOST_EVENTS, event['line']))
     return Shown([before.opening(), *kept[1:]], before.before()) if first > 1 else Shown(kept)
 
 

@@ -11,11 +11,12 @@ import os
 import re
 import sys
 import typing
-from collections.abc import Callable, Sequence
+from collections.abc import Callable, Iterable, Sequence
 
 from common import console, numbers
 from explore import queries
 from show import show
+from trace.events import Event, begun, decided
 
 # So many runs are on a page at most, those of the first ways; what is to be typed for another one stands there.
 MOST_RUNS = 100
@@ -51,35 +52,28 @@ def ways_of(lines: Sequence[str]) -> list[Way]:
     return ways
 
 
-def decided_in(events: Sequence[str]) -> list[str]:
+def decided_in(told: Iterable[Event]) -> list[str]:
     """The jobs whose transactions were decided in a run, in that order, by their names: of each its first verdict."""
-    found = dict[int, str]()
-    for line in events:
-        event = json.loads(line)
-        is_decided = event.get("request", {}).get("asks") == "decide" and event["reply"].get("says") == "verdict"
-        if is_decided and event["reply"]["verdict"] != "aborted":
-            t = event["request"]["t"]
-            found.setdefault(t, "{}.{}".format(*numbers.job_of(t)))
-    return [*found.values()]
+    decisions = filter(None, map(decided, told))
+    return ["{}.{}".format(*numbers.job_of(t)) for t in dict.fromkeys(t for t, _ in decisions)]
 
 
-def asked_in(events: Sequence[str]) -> dict[str, str]:
+def asked_in(told: Iterable[Event]) -> dict[str, str]:
     """What the jobs of a run ask, by their names."""
     found = dict[str, str]()
-    for line in events:
-        event = json.loads(line)
-        words = event.get("text", "").split()
-        if "by" in event and "nothing" not in event and words[:1] in (["begin"], ["sweep"]):
-            is_sweep = words[0] == "sweep"
-            text = f"a sweep of server {words[2]}" if is_sweep else f"user {words[2]}: {' '.join(words[5:])}"
-            found[f"{event['by']['agent']}.{event['by']['jobs'] - 1}"] = text
+    for event in filter(begun, told):
+        words = event["text"].split()
+        is_sweep = words[0] == "sweep"
+        text = f"a sweep of server {words[2]}" if is_sweep else f"user {words[2]}: {' '.join(words[5:])}"
+        found["{}.{}".format(*begun(event))] = text
     return found
 
 
 def run_of(script: bytes) -> Run:
     """The run of a script, to its end."""
     events = show.shown_of(script, 0, sys.maxsize).events
-    return Run(script.decode("utf-8", "replace").splitlines(), events, decided_in(events), asked_in(events))
+    told = [*map(json.loads, events)]
+    return Run(script.decode("utf-8", "replace").splitlines(), events, decided_in(told), asked_in(told))
 
 
 def runs_of(ways: Sequence[Way], leads: Callable[[int], bytes], say: Callable[[str], None]) -> dict[int, Run]:

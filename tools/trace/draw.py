@@ -20,13 +20,15 @@ Where it takes longer than two seconds it says on a terminal how far it is.
 import argparse
 import html
 import itertools
-import re
 import sys
 import typing
 from collections.abc import Iterable, Iterator
 
 from common import console, numbers, quoted
 from trace import trace
+from trace.events import BEGIN, OF_SERVERS, Event, Run, begun, word_of
+from trace.lines import VERSIONS, Lines
+from trace.paths import Paths
 
 # The most requests of a picture that is drawn without a word.
 MOST = 2000
@@ -35,7 +37,7 @@ MOST = 2000
 HEAD, BAND, ROW, SCREEN, LEFT, RIGHT, EDGE = 34, 22, 30, 640, 60, 300, 6
 # How far agents and servers are from each other where there is room for that, and where they are many; agents from
 # servers.
-OF_AGENTS, OF_SERVERS, LEAST, GAP = 110, 150, 76, 230
+AGENTS_APART, SERVERS_APART, LEAST, GAP = 110, 150, 76, 230
 # So much all agents, and all servers, take before they are nearer to each other; and no picture is narrower.
 WIDE, NARROW = 1200, 720
 # No letter of these fonts at this size is wider.
@@ -66,34 +68,41 @@ SIGNS = (
 )
 # So many lines of a script stay on one screen with the arrow below them.
 NEAR = 6
-# What folds: a request for locks on a suite, or one of which each server gets its own; and replies that say yes.
-FOLDS = re.compile(r"(?:t (\d+) )?(?:(poll|upgrade) suite (\d+)|(prepare|finish|break)\b)")
+# What folds: requests for locks on a suite, and those of which each server gets its own; and replies that say yes.
+FOR_LOCKS, FOR_EACH = ("poll", "upgrade"), ("prepare", "finish", "break")
 GOOD = ("held", "prepared", "done")
-BEGUN = re.compile(r"^> (?:begin|sweep) +(\d+)\b.*$(?!\n  nothing)", re.M)
 # What happens: a request that is served, a job that ends, a line of the script that is shown itself, and one before all
 # of them.
 ASKED, ENDED, SAID, STANDS = "asked", "ended", "said", "stands"
-# Of which kind, at what, and the line that tells it: of a line of the script its first word and what is shown of it.
+# Of which kind, at what, and what tells it: the event of a request, how a job ended, and of a line of the script its
+# first word and what is shown of it.
 Happening = tuple[str, str, typing.Any]
 
 
-def short(words: str, known: dict[int, str], agent: int) -> str:
-    """A request of an agent, or its reply, in few words."""
-    words = re.sub(r"^t \d+ (?!resolve|break|finish)", "", words)
-    of = re.match(r"t (\d+) (?=finish)", words)
-    words = words[of.end() :] if of and numbers.job_of(int(of[1]))[0] == agent else words
-    words = re.sub(r" (?:bytes \d+|names(?: \S+=\d+)*)", "", words)
-    words = trace.SUITE.sub(lambda found: known.get(int(found[1]), found[0]), words)
-    for long, brief in (
-        ("exclusive takes ", ""),
-        (" shared keep", ""),
-        (" exclusive keep", ""),
-        ("prefix ", "p"),
-        ("content ", "c"),
-        ("verdict ", ""),
-    ):
-        words = words.replace(long, brief)
-    return words
+class Brief(Lines):
+    """Tells the requests of an agent, and the replies, in few words."""
+
+    VERDICT = ""
+
+    def __init__(self, known: dict[int, str], agent: int) -> None:
+        super().__init__(known)
+        self.agent = agent
+
+    def suite(self, number: int) -> str:
+        return self.known.get(number, f"suite {number}")
+
+    def versions(self, told: Event) -> str:
+        return " ".join(f"{what[0]}{told[what]}" for what in VERSIONS if what in told)
+
+    def content(self, told: Event) -> str:
+        return ""
+
+    def part(self, part: Event) -> str:
+        return f"{self.suite(part['suite'])} {self.versions(part)}".rstrip()
+
+    def whose(self, request: Event) -> str:
+        is_of_others = request["asks"] == "finish" and numbers.job_of(request["t"])[0] != self.agent
+        return super().whose(request) if is_of_others or request["asks"] in ("resolve", "break") else ""
 
 
 class Picture:
@@ -102,7 +111,7 @@ class Picture:
     def __init__(self, agents: list[int], servers: list[int]) -> None:
         self.x: dict[str, int] = {}
         at = LEFT
-        for kind, those, apart in (("agent", agents, OF_AGENTS), ("server", servers, OF_SERVERS)):
+        for kind, those, apart in (("agent", agents, AGENTS_APART), ("server", servers, SERVERS_APART)):
             step = max(LEAST, min(apart, WIDE // max(1, len(those))))
             self.x |= {f"{kind} {number}": at + place * step for place, number in enumerate(those)}
             at = max(self.x.values(), default=at) + GAP
@@ -230,63 +239,36 @@ class Picture:
         return "\n".join([*lines, *self.parts, *names, "</svg>", ""])
 
 
-class Numbered:
-    """Pieces of a trace, in which each line that begins a job has the job's number behind it."""
-
-    def __init__(self, pieces: Iterable[str]) -> None:
-        self.pieces = pieces
-
-    def __iter__(self) -> Iterator[str]:
-        jobs: dict[int, int] = {}
-
-        def told(found: re.Match[str]) -> str:
-            agent = int(found[1])
-            jobs[agent] = jobs.get(agent, -1) + 1
-            return f"{found[0].rstrip()} #{jobs[agent]}"
-
-        for piece in self.pieces:
-            yield BEGUN.sub(told, piece)
-
-
-def job_of(agent: int, mark: str) -> str:
-    """The number of an agent's job, and of its transaction, from the mark behind the line that begins it."""
-    return f"job {mark[1:]} (t {numbers.transaction(agent, int(mark[1:]))})"
-
-
-def head_of(words: list[str]) -> tuple[str, str] | None:
+def shown_at(event: Event) -> tuple[str, str] | None:
     """At what a line of the script is shown, and how; nothing where its requests tell all."""
-    kind = words[0]
-    job, words = (words[-1], words[:-1]) if words[-1].startswith("#") else ("", words)
-    front = f"{job_of(int(words[1]), job)}, " if job else ""
+    kind, *words = event["text"].split()
+    job = begun(event)
+    front = f"job {job[1]} (t {numbers.transaction(*job)}), " if job else ""
     if kind == "begin":
-        return f"agent {int(words[1])}", f"{front}user {words[2]}: {' '.join(words[5:])}"
+        return f"agent {int(words[0])}", f"{front}user {words[1]}: {' '.join(words[4:])}"
     if kind == "sweep":
-        return f"agent {int(words[1])}", f"{front}sweeps server {int(words[2])}"
+        return f"agent {int(words[0])}", f"{front}sweeps server {int(words[1])}"
     if kind == "forget":
-        return f"agent {int(words[1])}", f"forgets its cache of site {int(words[2])}"
-    if kind in trace.OF_SERVERS:
-        return f"server {int(words[1])}", {"crash": "crashes", "return": "restarts"}[kind]
+        return f"agent {int(words[0])}", f"forgets its cache of site {int(words[1])}"
+    if kind in OF_SERVERS:
+        return f"server {int(words[0])}", {"crash": "crashes", "return": "restarts"}[kind]
     return None
 
 
-def happenings(lines: Iterable[str]) -> Iterator[Happening]:
-    """What happens in a trace, in its order: of which kind, at what, and the line that tells it."""
-    for head, block in trace.blocks(lines):
-        if head.startswith("="):
-            return
-        words = head[2:].split()
-        shown = head_of(words)
+def happenings(events: Iterable[Event]) -> Iterator[Happening]:
+    """What happens in a run, in its order: of which kind, at what, and what tells it."""
+    for event in events:
+        shown = shown_at(event) if event["kind"] == "line" else None
         if shown:
-            is_idle = any(line.startswith("  nothing") for line in block)
+            is_idle = "nothing" in event
             yield SAID, shown[0], (
-                "nothing" if is_idle else words[0],
+                "nothing" if is_idle else event["text"].split()[0],
                 shown[1] + (" (nothing happens: it has a job)" if is_idle else ""),
             )
-        for line in block:
-            if trace.is_request(line):
-                yield ASKED, f"agent {line[2 : line.index(' ', 2)]}", line
-            elif line[:1].isdigit():
-                yield ENDED, f"agent {line[: line.index('.')]}", line
+        if event["kind"] == "request":
+            yield ASKED, f"agent {event['agent']}", event
+        if "end" in event:
+            yield ENDED, f"agent {event['end']['agent']}", event["end"]["text"]
 
 
 class Choice:
@@ -306,7 +288,7 @@ class Choice:
         """Keeps which servers are down, and which jobs are under way."""
         if kind == ENDED or kind == SAID and what[0] == "return":
             self.before.pop(name, None)
-        elif kind == SAID and what[0] in trace.BEGIN:
+        elif kind == SAID and what[0] in BEGIN:
             self.before[name] = STANDS, name, (what[0], f"begun before, {what[1]}")
         elif kind == SAID and what[0] == "crash":
             self.before[name] = STANDS, name, (what[0], "is down")
@@ -336,19 +318,20 @@ def gathered(found: Iterable[Happening], choice: Choice, most: int) -> tuple[lis
 
 def columns(items: list[Happening]) -> tuple[set[int], set[int]]:
     """The numbers of the agents and servers that do something."""
-    asked = [trace.REQUEST.match(what) for kind, _, what in items if kind == ASKED]
-    agents, servers = {int(found[1]) for found in asked}, {int(found[2]) for found in asked}
+    agents, servers = ({what[who] for kind, _, what in items if kind == ASKED} for who in ("agent", "server"))
     for kind, name, what in items:
         if kind == SAID:
             (servers if name.startswith("server") else agents).add(int(name.split()[1]))
     return agents, servers
 
 
-def phase_of(item: Happening) -> tuple[str | None, ...] | None:
+def phase_of(item: Happening) -> tuple[object, ...] | None:
     """The phase of a request, of which others may stand in one line with it; or nothing."""
-    found = trace.REQUEST.match(item[2]) if item[0] == ASKED else None
-    words = FOLDS.match(found[3]) if found else None
-    return (found[1], words[1], words[3], words[4]) if words else None
+    request = item[2].get("request", {}) if item[0] == ASKED else {}
+    asks = request.get("asks")
+    if asks not in FOR_LOCKS + FOR_EACH:
+        return None
+    return item[2]["agent"], request["t"], *(("locks", request["suite"]) if asks in FOR_LOCKS else (asks,))
 
 
 def phases(items: list[Happening], folds: bool) -> Iterator[list[Happening]]:
@@ -361,25 +344,24 @@ def phases(items: list[Happening], folds: bool) -> Iterator[list[Happening]]:
             yield from ([one] for one in some)
 
 
-def fold(picture: Picture, requests: list[Happening], known: dict[int, str]) -> None:
+def fold(picture: Picture, requests: list[Event], known: dict[int, str]) -> None:
     """Draws requests of one phase in one line."""
-    found = [trace.REQUEST.match(what) for _, _, what in requests]
-    servers = [(int(one[2]), one[4].startswith(GOOD)) for one in found]
-    good = sum(is_good for _, is_good in servers)
-    words = FOLDS.match(found[0][3])
-    count = f"×{good}" if good == len(found) else f"{good} of {len(found)}"
-    path = known.get(int(words[3]), f"suite {words[3]}") if words[3] else ""
-    finish = found[0][3].split()[-1] + " " if words[4] == "finish" else ""
-    told = f"locks of {path}: {good} of {len(found)}" if path else f"{words[4]} {finish}{count}"
-    picture.folded(int(found[0][1]), servers, told, good == len(found))
+    agent, request = requests[0]["agent"], requests[0]["request"]
+    servers = [(one["server"], one["reply"]["says"] in GOOD) for one in requests]
+    good, count = sum(is_good for _, is_good in servers), len(requests)
+    if request["asks"] in FOR_LOCKS:
+        told = f"locks of {Brief(known, agent).suite(request['suite'])}: {good} of {count}"
+    else:
+        of_all = f"×{good}" if good == count else f"{good} of {count}"
+        told = " ".join(filter(None, [request["asks"], word_of(request.get("verdict", "")), of_all]))
+    picture.folded(agent, servers, told, good == count)
 
 
-def ask(picture: Picture, what: str, known: dict[int, str]) -> None:
+def ask(picture: Picture, event: Event, known: dict[int, str]) -> None:
     """Draws a request and its reply."""
-    found = trace.REQUEST.match(what)
-    words = [short(words, known, int(found[1])) for words in found.group(3, 4)]
-    decides = re.search(" decide | resolve", found[3]) is not None and found[4].startswith("verdict")
-    picture.asked(int(found[1]), int(found[2]), words, decides)
+    brief, request, reply = Brief(known, event["agent"]), event.get("request"), event["reply"]
+    decides = reply["says"] == "verdict" and request["asks"] in ("decide", "resolve")
+    picture.asked(event["agent"], event["server"], [brief.request(request), brief.reply(reply)], decides)
 
 
 def drawn(
@@ -390,13 +372,13 @@ def drawn(
     for place, some in enumerate(drawn_of):
         kind, name, what = some[0]
         if len(some) > 1:
-            fold(picture, some, known)
+            fold(picture, [event for _, _, event in some], known)
         elif kind == ASKED:
             ask(picture, what, known)
         elif kind == ENDED:
-            picture.ended(name, trace.OUTCOME.match(what)[4])
+            picture.ended(name, what)
         elif name in picture.x:
-            if what[0] in trace.OF_SERVERS:
+            if what[0] in OF_SERVERS:
                 picture.grey(name, what[0] == "crash")
             next_ones = (some[0][0] for some in drawn_of[place + 1 : place + 1 + NEAR])
             picture.said(name, what[1], sum(1 for _ in itertools.takewhile(lambda kind: kind != ASKED, next_ones)))
@@ -407,19 +389,14 @@ def drawn(
     return picture.told()
 
 
-def picture_of(lines: list[str], words: typing.Sequence[str] = ()) -> str:
-    """The picture of a trace as the program prints it, or of the part that these words ask for."""
-    return picture([trace.text_of(lines)], trace.paths(lines), asked(words), (0, 0))
-
-
 def picture(
-    pieces: Iterable[str], known: dict[int, str], given: argparse.Namespace, everybody: typing.Sequence[int]
+    events: Iterable[Event], known: dict[int, str], given: argparse.Namespace, everybody: typing.Sequence[int] = (0, 0)
 ) -> str:
-    """The picture of a trace in pieces, or of the part that is asked for, with all of so many agents and servers."""
+    """The picture of a run, or of the part that is asked for, with all of so many agents and servers."""
     if given.first > given.last:
         raise console.Stop("--from is to be no more than --to")
     choice = Choice(given.first, given.last)
-    found = happenings(trace.narrowed(Numbered(pieces), given.agent, trace.number_of(given.suite, known)))
+    found = happenings(trace.narrowed(events, given.agent, trace.number_of(given.suite, known)))
     items, count = gathered(found, choice, sys.maxsize if given.anyway else MOST)
     if given.first > max(1, choice.count):
         raise console.Stop(f"there are {choice.count:,} requests, and no more to begin with at {given.first:,}")
@@ -449,13 +426,14 @@ def asked(words: typing.Sequence[str]) -> argparse.Namespace:
 
 
 def main() -> int:
-    given = asked(sys.argv[1:])
-    script = trace.script(given.agent)
-    counts = [re.search(rb"^\s*%s\s+(\d+)" % word, script, re.M) for word in (b"agents", b"servers")]
-    with trace.Run(script) as run:
-        known = run.play()
-        everybody = [int(found[1]) if given.all and found else 0 for found in counts]
-        text = picture(run, known, given, everybody)
+    given, found = asked(sys.argv[1:]), Paths()
+    with Run(trace.script(given.agent)) as run:
+        playing = run.play()
+        opening = next(playing)
+        for event in playing:
+            found.learn(event)
+        everybody = [len(opening[those]) if given.all else 0 for those in ("agents", "servers")]
+        text = picture(run, found.known, given, everybody)
         run.progress.make_way()
         sys.stdout.buffer.write(text.encode())
     return 0

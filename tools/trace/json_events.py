@@ -3,21 +3,15 @@ which a job begins the job, of an end and of a denial its parts, and each path o
 of these goes through as it is.
 """
 import json
-import re
-import subprocess
 import sys
 import typing
 
-from common import console, numbers
-from trace import trace
-from trace.known_paths import Paths
+from common import numbers
+from trace import events
+from trace.paths import Paths
 
-# What an event has that is told in full, and a folder in an event.
-FULLER = (b'"kind":"line"', b'"end":{', b'"denials":[{')
-FOLDER = re.compile(
-    rb'"suite":(\d+),(?:"mode":"\w+","takes":"whole",)?"kind":"folder"[^{}]*"names":\{([^{}]+)\}'
-)
-NAME = re.compile(rb'"([^"]*)":(\d+)')
+# What stands in an event of which more may be told.
+FULLER = (b'"kind":"opening"', b'"kind":"line"', b'"end":{', b'"denials":[{', b'"asks":"prepare"')
 # The parts of how a job ended, word by word: a number, or a word.
 PARTS = {
     "denied": "op _ suite _ wants _ by _",
@@ -26,7 +20,6 @@ PARTS = {
     "U2": "code _ server _ holder _",
     "U": "code _ server _",
 }
-FAULTY = 3
 
 
 def parts_of(form: str, words: typing.Sequence[str]) -> dict[str, typing.Any]:
@@ -52,71 +45,51 @@ class Fuller:
     """A run as far as it was told."""
 
     def __init__(self) -> None:
-        self.servers, self.paths, self.told = 0, Paths(), set[int]()
-        self.seen = set[bytes]()
+        self.servers, self.paths = 0, Paths()
 
     def of(self, line: bytes) -> bytes:
         """An event, told in full."""
-        if not self.servers and b'"kind":"opening"' in line:
-            self.servers = len(json.loads(line)["servers"])
-        more = self.more_paths(line) if b'"names":{"' in line else {}
-        if not more and not any(mark in line for mark in FULLER):
+        if not any(mark in line for mark in FULLER):
             return line
         event = json.loads(line)
-        if event["kind"] == "line" and "by" in event and "nothing" not in event:
-            event |= self.begun(event)
+        if event["kind"] == "opening":
+            self.servers = len(event["servers"])
+        more = self.begun(event) | self.more_paths(event)
+        told = (event.get("at", {}), event.get("audit", {}), *event.get("servers", ()))
+        denials = [denial for one in told for denial in one.get("denials", ())]
+        if not more and not denials and "end" not in event:
+            return line
         if "end" in event:
             event["end"] |= ended(event["end"]["text"])
-        for lists in (event.get("at", {}), event.get("audit", {}), *event.get("servers", ())):
-            for denial in lists.get("denials", ()):
-                denial |= parts_of(PARTS["denied"], denial["denied"].split())
-        if more:
-            event["paths"] = more
-        return json.dumps(event, separators=(",", ":")).encode() + b"\n"
+        for denial in denials:
+            denial |= parts_of(PARTS["denied"], denial["denied"].split())
+        return json.dumps(event | more, separators=(",", ":")).encode() + b"\n"
 
-    def begun(self, event: dict[str, typing.Any]) -> dict[str, typing.Any]:
+    def begun(self, event: events.Event) -> events.Event:
         """The job that begins with a line, where one does."""
-        words, agent, job = event["text"].split(), event["by"]["agent"], event["by"]["jobs"] - 1
-        if words[0] not in trace.BEGIN:
+        begun = events.begun(event)
+        if not begun:
             return {}
-        told: dict[str, typing.Any] = {"agent": agent, "job": job}
+        words, (agent, job) = event["text"].split(), begun
+        told: events.Event = {"agent": agent, "job": job}
         if words[0] == "sweep":
             return {"begun": {**told, "sweeps": int(words[2])}}
-        told |= {"t": numbers.transaction(agent, job), "home": (agent + job) % self.servers, "user": int(words[2])}
-        told |= {"groups": [int(gid) for gid in words[3].split(",")], "site": int(words[4])}
+        told |= {"t": numbers.transaction(agent, job), "home": numbers.home(agent, job, self.servers)}
+        groups = [int(gid) for gid in words[3].split(",")]
+        told |= {"user": int(words[2]), "groups": groups, "site": int(words[4])}
         return {"begun": {**told, "operations": " ".join(words[5:]).split(" ; ")}}
 
-    def more_paths(self, line: bytes) -> dict[str, str]:
+    def more_paths(self, event: events.Event) -> events.Event:
         """The paths that are known since this event, by the numbers of suites."""
-        for folder, names in FOLDER.findall(line):
-            if names in self.seen:
-                continue
-            if len(self.seen) == 4096:
-                self.seen.clear()
-            self.seen.add(names)
-            for name, suite in NAME.findall(names):
-                self.paths.place(int(folder), name.decode("latin1"), int(suite))
-        fresh = [suite for suite in self.paths.known if suite not in self.told and suite]
-        self.told.update(fresh)
-        return {str(suite): self.paths.known[suite] for suite in fresh}
+        count = len(self.paths.known)
+        self.paths.learn(event)
+        fresh = [*self.paths.known.items()][count:]
+        return {"paths": {str(suite): path for suite, path in fresh}} if fresh else {}
 
 
 def tell() -> int:
     """Has the program play standard input, and tells its events in full."""
-    fuller, fault = Fuller(), b""
-    process = subprocess.Popen([trace.program(), "--json"], stdout=subprocess.PIPE, env=trace.ENV)
-    try:
-        assert process.stdout
-        for line in process.stdout:
-            fault = b"" if line.startswith(b"{") else line
-            sys.stdout.buffer.write(line if fault else fuller.of(line))
-        sys.stdout.flush()
-        status = process.wait()
-    finally:
-        process.kill()
-        process.wait()
-    if status < 0:
-        console.Teller().say(console.ended("trace", status))
-    elif status == FAULTY and sys.stderr.isatty():
-        console.Teller().say(console.shows(fault.decode("latin1").strip()))
-    return console.status_of(status)
+    fuller = Fuller()
+    with events.Player(None) as player:
+        sys.stdout.buffer.writelines(map(fuller.of, player.lines()))
+    return 0

@@ -2,9 +2,8 @@
 import json
 from collections.abc import Iterable
 
+from trace.events import begun
 
-# An object of JSON in a line, without a look at what stands around it.
-READ = json.JSONDecoder().raw_decode
 NEVER = {"prefix": 0, "content": 0}
 
 
@@ -91,10 +90,9 @@ class Part(Retold):
         for server in opening["servers"]:
             self.raise_all(server["copies"])
 
-    def take(self, line: str) -> None:
-        """Takes in an event, as a line."""
-        event, _ = READ(line)
-        begun, is_request = self.begun_by(event), event["kind"] == "request"
+    def take(self, event: dict, line: str) -> None:
+        """Takes in an event, which stands so in a line."""
+        is_request = event["kind"] == "request"
         self.hear(event)
         self.last = event
         if "at" in event:
@@ -107,15 +105,10 @@ class Part(Retold):
         if "end" in event:
             self.jobs.pop(number, None)
             self.ends[number] = event["end"]
-        elif begun:
+        elif begun(event):
             self.jobs[number] = [line]
         elif is_request and number in self.jobs:
             self.jobs[number].append(line)
-
-    def begun_by(self, event: dict) -> bool:
-        """Whether a job begins."""
-        by = event.get("by")
-        return by is not None and by["jobs"] > self.bare[by["agent"]]["jobs"]
 
     def hear_reply(self, event: dict) -> None:
         """What was prepared is in effect from a decision on."""

@@ -43,12 +43,12 @@ import functools
 import itertools
 import re
 import sys
-import textwrap
 import typing
 
 from common import console, quoted
 from explain import explain, reasons
-from trace import trace
+from trace.events import events_of
+from trace.paths import paths
 from votes import search, shapes
 from explain.misfits import Why
 
@@ -72,8 +72,9 @@ MISSED = (
     " the root folder."
 )
 AGENTS = re.compile(rb"^([ \t]*agents[ \t]+)(\d+)", re.M)
+SERVERS = re.compile(rb"^[ \t]*servers[ \t]+(\d+)", re.M)
 OPENING = re.compile(rb"^[ \t]*votes[ \t]+(\S+)", re.M)
-WIDE = 110
+filled = functools.partial(quoted.filled, width=110)
 FORM = """VOTES are written as 1,1,1/2/2: the votes of servers 0, 1, .. with commas between them (- for one that is left
 out), behind a slash r, the votes that a read collects, and behind another one w, those of a write. With N votes in all,
 r and w are at most N, r + w is above N, and so is 2w."""
@@ -218,20 +219,11 @@ def listed(first: str, words: list[str], count: int) -> str:
     """Words behind a first one in lines, and how many more there are."""
     rest = f" and {count - len(words):,} more" if count > len(words) else ""
     text = " ".join(word.replace(" ", "\0") for word in words) + rest
-    after = " " * len(first)
-    lines = textwrap.fill(
-        text, WIDE, initial_indent=first, subsequent_indent=after, break_long_words=False, break_on_hyphens=False
-    )
-    return lines.replace("\0", " ")
+    return filled(text, initial_indent=first, subsequent_indent=" " * len(first)).replace("\0", " ")
 
 
 def set_text(servers: typing.Iterable[int]) -> str:
     return f"{{{','.join(map(str, sorted(servers)))}}}"
-
-
-def filled(text: str) -> str:
-    """A sentence in lines."""
-    return textwrap.fill(text, WIDE, break_long_words=False, break_on_hyphens=False)
 
 
 def told_of(kind: str, shares: typing.Sequence[int], needed: int, up: fractions.Fraction) -> list[str]:
@@ -295,24 +287,25 @@ class Left(typing.NamedTuple):
 
 def left_by(script: bytes) -> Left:
     """What a script leaves once all servers are up and all is swept."""
-    lines = trace.traced(script)
-    servers = sum(line.startswith("= server ") for line in lines)
-    longer, count = swept(script, servers)
-    ended = trace.traced(longer)
-    heads = [(head, block) for head, block in trace.blocks(ended) if head.startswith(">")][-count:]
-    if any(head.startswith("> sweep") and block[:1] and block[0].startswith("  nothing") for head, block in heads):
+    header = [word.search(script) for word in (SERVERS, AGENTS, OPENING)]
+    longer, count = swept(script, int(header[0][1])) if all(header) else (script, 0)
+    try:
+        told = events_of(longer, "the script")
+    except console.Stop:
+        # what is wrong with the script is told of it as it is
+        told = events_of(script)
+    lines = [event for event in told if event["kind"] == "line"][-count:]
+    if any("nothing" in event and event["text"].startswith("sweep") for event in lines):
         text = f"agent {MOST_AGENTS - 1} has a job at the end of the script, and is needed to sweep"
         raise console.Stop(f"{text}: let its job end, or have fewer agents")
-    opening = OPENING.search(script)[1].decode()
+    opening, servers = OPENING.search(script)[1].decode(), told[-1]["servers"]
     suites: dict[int, search.Suite] = {}
-    server = 0
-    for line in ended:
-        server = int(line.split()[2].rstrip(":")) if line.startswith("= server ") else server
-        found = trace.COPY.match(line)
-        if found:
-            suite = suites.setdefault(int(found[1]), search.Suite(search.word_of(opening), {}))
-            suite.copies[server] = int(found[3]), search.word_of(found[5])
-    return Left(servers, opening, trace.paths(lines), dict(sorted(suites.items())))
+    for server in servers:
+        for copy in server["copies"]:
+            if copy["kind"] != "absent":
+                suite = suites.setdefault(copy["suite"], search.Suite(search.word_of(opening), {}))
+                suite.copies[server["server"]] = copy["prefix"], search.word_of(copy["votes"])
+    return Left(len(servers), opening, paths(told), dict(sorted(suites.items())))
 
 
 def missed_by(suite: search.Suite, is_read: bool) -> list[str]:

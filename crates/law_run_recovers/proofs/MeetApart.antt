@@ -113,7 +113,7 @@ module _ (given : Opening) (events later : List Event) (one other : Begun given 
     pub fixed : Fixed given events later who
     pub more : List Event
     pub room : who.before ++ Begin who.agent (Transaction who.caller who.site who.ops) ∷ fixed.front ≡ part ++ more
-    pub mine : (so_far : List Event) (i t : ℕ) → t ≡ who.t → Place given events later one other alone one so_far i t ⊎ Place given events later one other alone other so_far i t → Place given events later one other alone who so_far i t
+    pub mine : (so_far : List Event) (i t : ℕ) → t ≡ who.t → Place given events later one so_far i t ⊎ Place given events later other so_far i t → Place given events later who so_far i t
 
   -- what it was granted there it was granted since its begin, while it was at work
   module _ (who : Begun given events later) (room : Room who) (y server : ℕ) (a : LockMode) (is : held_in given events part who.agent who.t y a server ≡ true) where
@@ -126,7 +126,7 @@ module _ (given : Opening) (events later : List Event) (one other : Begun given 
     lock_then : for_lock who.t y f.what.request.value ≡ true
     lock_then = (four (f.what.server == server) (for_lock who.t y f.what.request.value) (says_held f.what.reply.value) (serves (mode_of f.what.request.value) a) f.is).1
 
-    at : Place given events later one other alone who f.front who.agent who.t
+    at : Place given events later who f.front who.agent who.t
     at = room.mine f.front who.agent who.t refl (place given events later one other alone part rest whole calm.fair f.front f.back who.agent f.parts f.what served_then who.t y lock_then)
 
     abbrev its_begin : Event
@@ -153,7 +153,7 @@ module _ (given : Opening) (events later : List Event) (one other : Begun given 
   module _ (who : Begun given events later) (room : Room who) (agent u y server : ℕ) (a b : LockMode) (two : (who.t == u) ≡ false)
       (g : Got given events part calm who.agent who.t y a server) (h : Got given events part calm agent u y b server) (clash : clashes (y, a) (y, b) ≡ true)
       (between : List Event) (order : h.front ≡ g.front ++ Step who.agent ∷ between) where
-    its : Place given events later one other alone who g.front who.agent who.t
+    its : Place given events later who g.front who.agent who.t
     its = room.mine g.front who.agent who.t refl
         (place given events later one other alone part rest whole calm.fair g.front g.back who.agent g.parts g.what g.served who.t y g.lock)
 

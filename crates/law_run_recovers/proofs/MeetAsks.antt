@@ -15,7 +15,7 @@ or_later false b is = is
 
 -- ---- edits
 
-abbrev at : ℕ → ℕ × Edit → Bool
+abbrev pub at : ℕ → ℕ × Edit → Bool
 at z e = e.0 == z
 
 abbrev edits_of : {A E : Type 0} → Edits → Result (Ended A) E → Edits
@@ -23,7 +23,7 @@ edits_of other (Ok ended) = ended.edits
 edits_of other (Err why) = other
 
 -- what a course edits it needs exclusively
-sets_needed : {A E : Type 0} (rows : ℕ → Option Row) (z : ℕ) (edits : Edits) (course : Course A E) (ended : Ended A) → ending rows edits course ≡ Ok ended → list_any (at z) ended.edits ≡ true
+pub sets_needed : {A E : Type 0} (rows : ℕ → Option Row) (z : ℕ) (edits : Edits) (course : Course A E) (ended : Ended A) → ending rows edits course ≡ Ok ended → list_any (at z) ended.edits ≡ true
     → (list_any (at z) edits ≡ true) ⊎ Has (needs rows edits course) (Hold z Exclusive)
 sets_needed rows z edits (Give given) ended is any = inl (ap (list_any (at z)) (ap (edits_of edits) is) ∙ any)
 sets_needed rows z edits (Refuse why) ended is any = absurd cc
@@ -87,7 +87,7 @@ abbrev is_hold : Need → Bool
 is_hold (Hold suite mode) = true
 is_hold (Know suite) = false
 
-needed_asked : (needed : List Need) (asked : List (ℕ × LockMode)) (z : ℕ) (mode : LockMode) → Has needed (Hold z mode) → (has_asked asked z mode ≡ true) ⊎ (has_asked (not_asked asked needed) z mode ≡ true)
+pub needed_asked : (needed : List Need) (asked : List (ℕ × LockMode)) (z : ℕ) (mode : LockMode) → Has needed (Hold z mode) → (has_asked asked z mode ≡ true) ⊎ (has_asked (not_asked asked needed) z mode ≡ true)
 needed_asked [] asked z mode has = absurd has
 needed_asked (Know s ∷ needed) asked z mode has = ⊎_elim (λ same. absurd (false≢true (ap is_hold same))) (λ later. needed_asked needed asked z mode later) has
 needed_asked (Hold s k ∷ needed) asked z mode has = of (has_asked asked s k) refl (λ asked. needed_asked needed asked z mode) has

@@ -1,14 +1,15 @@
 -- One that meets another and is refused a lock: it asked for it, and a lock of the other was in the way there.
-use Rattle.law_run_recovers.proofs.Vocabulary.{◌≡◌, ◌⊎◌, ℕ, Bool, true, false, cond, List, ◌∷◌, ◌++◌, append_assoc, Option, Some, None, is_some, refl, sym, ap, subst, ◌∙◌, ◌==◌, ◌&&◌, ◌||◌, not, false≢true, and_parts, and_from}
-use Rattle.law_run_recovers.proofs.Vocabulary.{eqb-true, eq-eqb, Opening, LockMode, Exclusive, is_exclusive, serves, Lock, Request, Stamped, in_the_way, conflicts, has_lock, copy_of, State, reply_of, reply_up, reply_down, locking_reply}
-use Rattle.law_run_recovers.proofs.Vocabulary.{answer_of, find_some, Has, mode_of, same_Some, Transaction, fixed_of, next_of, Served, Event, Begin, Step, Actor, World, server_at, actor_at, step, run, clashes, Begun}
-use Rattle.law_run_recovers.proofs.Vocabulary.{begun_world}
+use Rattle.law_run_recovers.proofs.Vocabulary.{Bool, List, None, Option, Some, ap, append_assoc, cond, false, is_some, not, refl, subst, sym, true, ℕ, ◌&&◌, ◌++◌, ◌==◌, ◌||◌, ◌∙◌, ◌∷◌, ◌≡◌, and_from, and_parts, eq-eqb, eqb-true}
+use Rattle.law_run_recovers.proofs.Vocabulary.{false≢true, same_Some, find_some, Has, conflicts, has_lock, in_the_way, locking_reply, reply_down, reply_of, reply_up, answer_of, State, copy_of, Lock, Request, Stamped, run, Actor}
+use Rattle.law_run_recovers.proofs.Vocabulary.{World, actor_at, server_at, step, Served, Event, Begin, Step, mode_of, is_exclusive, serves, Opening, LockMode, Exclusive, fixed_of, next_of, Transaction, Begun, clashes, votes_now}
+use Rattle.law_run_recovers.proofs.Vocabulary.{asks_for, begun_world}
 use Rattle.rep_core.specs.declared.request.Request.TheVariants as request
 use Rattle.rep_core.specs.declared.reply.Reply.TheVariants as reply
 use Rattle.law_run_recovers.proofs.Keeps.{step_asks}
 use Rattle.law_run_recovers.proofs.StepsServed.{OwnTook, own_took}
-use Rattle.law_run_recovers.proofs.MeetBoth.{its_event, in_part, IsAsked, asked_now}
+use Rattle.law_run_recovers.proofs.MeetBoth.{its_event, held_in, reached_then}
 use Rattle.law_run_recovers.proofs.MeetCalm.{Calm, up_at}
+use Rattle.law_run_recovers.proofs.MeetReach.{Reached}
 use Rattle.law_run_recovers.proofs.MeetRun.{run_is}
 use Rattle.law_run_recovers.proofs.MeetTold.{for_lock, says_busy, refuses, some_step, Found, found_in, four}
 
@@ -76,13 +77,12 @@ refused_way t z st request.Return up lock said = absurd (false≢true lock)
 
 -- ---- in a part of the run
 
-module _ (given : Opening) (events later : List Event) (one other : Begun given events later) (alone : (third : Begun given events later) → (third.before ≡ one.before) ⊎ (third.before ≡ other.before))
-    (part rest : List Event) (whole : later ≡ part ++ rest) (calm : Calm given events part)
+module _ (given : Opening) (events later part : List Event) (calm : Calm given events part)
     (who : Begun given events later) (after' : List Event) (parts : part ≡ who.before ++ Begin who.agent (Transaction who.caller who.site who.ops) ∷ after')
     (O : ℕ → ℕ → ℕ → LockMode → Type 0)
     (owned : (so_far back : List Event) → part ≡ so_far ++ back → (s : ℕ) (st : State) → server_at (run given (events ++ so_far)) s ≡ Some st → (lock : Lock) → Has st.locks lock → O s lock.t lock.suite lock.mode) where
-  abbrev pub AskedBy : Begun given events later → ℕ → ℕ → ℕ → LockMode → Type 0
-  AskedBy who s t y mode = IsAsked given events later one other alone part rest whole calm who s t y mode
+  abbrev its : Begun given events part
+  its = record { before = who.before; after = after'; agent = who.agent; t = who.t; caller = who.caller; site = who.site; ops = who.ops; parts = parts; begins = who.begins }
 
   pub record Barred (y : ℕ) (wanted : LockMode) (server : ℕ) : Type 0 where
     pub mode : LockMode
@@ -92,7 +92,7 @@ module _ (given : Opening) (events later : List Event) (one other : Begun given 
     pub not_own : holder ≡ who.t → ⊥
     pub clashing : clashes (y, mode) (y, way) ≡ true
     pub stands : O server holder y way
-    pub asked : AskedBy one server who.t y mode ⊎ AskedBy other server who.t y mode
+    pub reached : Reached (votes_now given events) (asks_for given events who.t who.caller who.ops) (held_in given events part who.agent who.t) (y, mode)
 
   module _ (y : ℕ) (wanted : LockMode) (server : ℕ) (is : some_step (refuses who.t y wanted server) who.agent (fixed_of given) (begun_world given (events ++ who.before) who.agent who.caller who.site who.ops) after' ≡ true) where
     f : Found (refuses who.t y wanted server) who.agent (fixed_of given) (begun_world given (events ++ who.before) who.agent who.caller who.site who.ops) after'
@@ -111,7 +111,7 @@ module _ (given : Opening) (events later : List Event) (one other : Begun given 
 
     served' : (step (fixed_of given) (run given (events ++ so_far)) (Step who.agent)).done.served ≡ Some f.what
     served' =
-        ap (λ w. (step (fixed_of given) w (Step who.agent)).done.served) (sym (run_is given events part calm (in_part given events later one other alone part rest whole calm who after' parts) f.front)) ∙ f.served
+        ap (λ w. (step (fixed_of given) w (Step who.agent)).done.served) (sym (run_is given events part calm its f.front)) ∙ f.served
 
     facts : ((f.what.server == server) ≡ true) × (for_lock who.t y f.what.request.value ≡ true) × (says_busy f.what.reply.value ≡ true) × (serves wanted (mode_of f.what.request.value) ≡ true)
     facts = four (f.what.server == server) (for_lock who.t y f.what.request.value) (says_busy f.what.reply.value) (serves wanted (mode_of f.what.request.value)) f.is
@@ -143,11 +143,6 @@ module _ (given : Opening) (events later : List Event) (one other : Begun given 
         (refused_way who.t y took.st took.asked.1 (up_at given events part calm.fair so_far (Step who.agent ∷ f.back) split took.asked.0 took.st took.at)
         (ap (for_lock who.t y) asked_is ∙ facts.1) (ap (λ (what : Served). says_busy what.reply.value) same ∙ facts.2))
 
-    its_ask : AskedBy one server who.t y (mode_of f.what.request.value) ⊎ AskedBy other server who.t y (mode_of f.what.request.value)
-    its_ask =
-        subst (λ s. AskedBy one s who.t y (mode_of f.what.request.value) ⊎ AskedBy other s who.t y (mode_of f.what.request.value)) (eqb-true f.what.server server facts.0)
-        (asked_now given events later one other alone part rest whole calm so_far f.back who.agent split f.what served' who.t y facts.1)
-
     pub barred_by : Barred y wanted server
     barred_by = record {
       mode = mode_of f.what.request.value;
@@ -157,5 +152,5 @@ module _ (given : Opening) (events later : List Event) (one other : Begun given 
       not_own = way.not_own;
       clashing = way.clashing;
       stands = subst (λ y. O server way.lock.t y way.lock.mode) way.suite (owned so_far (Step who.agent ∷ f.back) split server took.st there way.lock way.has);
-      asked = its_ask;
+      reached = reached_then given events later part calm who so_far f.back who.agent split f.what served' who.t y facts.1 (record { mid = f.front; parts = refl; who_is = refl; number = refl });
     }

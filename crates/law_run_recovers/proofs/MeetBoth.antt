@@ -1,16 +1,20 @@
 -- Two transactions that alone begin in a calm run: where each asks for a lock, what it had before, and that each lock was granted to one of them.
-use Rattle.law_run_recovers.proofs.Vocabulary.{◌≡◌, ◌⊎◌, inl, inr, ⊎_elim, ℕ, suc, Bool, true, List, [], ◌∷◌, ◌++◌, append_assoc, append-nil, Some, refl, sym, ap, subst, ◌∙◌, arith, ◌==◌, length, eqb-true, eq-eqb, same_Some, Opening}
-use Rattle.law_run_recovers.proofs.Vocabulary.{LockMode, serves, Lock, State, Has, all_at, mode_of, Job, Transaction, fixed_of, next_of, Served, Event, Begin, Step, Crash, Return, Forget, Lack, Actor, World, opening, server_at}
-use Rattle.law_run_recovers.proofs.Vocabulary.{actor_at, step, after, run, begins_job, at_has, Begun, votes_now, asks_for, begun_world}
+use Rattle.law_run_recovers.proofs.Vocabulary.{Bool, List, None, Option, Some, [], ap, append-nil, append_assoc, arith, false, inl, inr, length, refl, subst, suc, sym, true, ℕ, ⊎_elim, ◌++◌, ◌==◌, ◌∙◌, ◌∷◌, ◌≡◌, ◌⊎◌, eq-eqb}
+use Rattle.law_run_recovers.proofs.Vocabulary.{after, eqb-true, none-some, same_Some, cons_option, at_has, begins_job, has_append, IsNotDecided, Has, all_at, has_from, State, Lock, decisions_from-append, Decided, answer_in, decided}
+use Rattle.law_run_recovers.proofs.Vocabulary.{decided_as, decided_at, decided_by, decisions, decisions_from, task_at, run, Actor, World, actor_at, opening, server_at, step, Served, Event, Begin, Crash, Forget, Lack, Return}
+use Rattle.law_run_recovers.proofs.Vocabulary.{Step, mode_of, serves, Opening, LockMode, fixed_of, next_of, is_decide, Job, Transaction, Begun, votes_now, asks_for, begun_world, world_after}
 use Rattle.law_run_recovers.proofs.AmongCourse.{head_or, tail_or}
-use Rattle.law_run_recovers.proofs.Keeps.{after_append, step_asks}
+use Rattle.law_run_recovers.proofs.Keeps.{IsAtWork, after_append, step_asks}
 use Rattle.law_run_recovers.proofs.Sides.{names_one}
-use Rattle.law_run_recovers.proofs.MeetCalm.{Fair, Calm, busy_one, one_named}
+use Rattle.law_runs.proofs.Turns.{no_decide}
+use Rattle.law_run_recovers.proofs.MeetCalm.{Fair, Calm, calm_front, busy_one, one_named}
 use Rattle.law_run_recovers.proofs.MeetCount.{serves_own}
 use Rattle.law_run_recovers.proofs.MeetLocks.{owned_at}
+use Rattle.law_run_recovers.proofs.MeetQuiet.{GoesQuietly}
 use Rattle.law_run_recovers.proofs.MeetReach.{Reached, reached_wider, reaches_now}
 use Rattle.law_run_recovers.proofs.MeetRun.{its_actor, goes_of, never_decides, run_is}
-use Rattle.law_run_recovers.proofs.MeetTold.{for_lock, for_lock_named, says_held, grants, some_step, found_in, there_in, four_from}
+use Rattle.law_run_recovers.proofs.MeetTold.{for_lock, for_lock_named, says_held, asks_at_work, grants, some_step, found_in, there_in, four_from}
+use Rattle.law_run_recovers.proofs.MeetUndecided.{not_decided_at_work, lock_decides_none}
 
 -- ---- lists
 
@@ -81,9 +85,9 @@ none_first given events later fair s st at lock has =
     of [] is lock has = has
     of (one ∷ locks) is lock has = let some : suc (length locks) ≡ 0 = eqb-true (suc (length locks)) 0 is in omega (arith, some)
 
--- ---- both
+-- ---- who asks
 
-module _ (given : Opening) (events later : List Event) (one other : Begun given events later) (alone : (third : Begun given events later) → (third.before ≡ one.before) ⊎ (third.before ≡ other.before)) where
+module _ (given : Opening) (events later : List Event) where
   -- a step of an agent is of a transaction, at a moment of it
   pub record Place (who : Begun given events later) (so_far : List Event) (i t : ℕ) : Type 0 where
     pub mid : List Event
@@ -91,49 +95,169 @@ module _ (given : Opening) (events later : List Event) (one other : Begun given 
     pub who_is : i ≡ who.agent
     pub number : t ≡ who.t
 
+  -- who asks for a lock in a name is one that began
+  module _ (part rest : List Event) (whole : later ≡ part ++ rest) (fair : Fair given events part) (so_far back : List Event) (i : ℕ) (split : part ≡ so_far ++ Step i ∷ back) (what : Served)
+      (served : (step (fixed_of given) (run given (events ++ so_far)) (Step i)).done.served ≡ Some what) (t z : ℕ) (lock : for_lock t z what.request.value ≡ true) where
+    abbrev pub w : World
+    w = run given (events ++ so_far)
+
+    pub asks : (here : Actor) × (actor_at (run given (events ++ so_far)) i ≡ Some here) × (next_of (fixed_of given) here.agent ≡ Some (what.server, what.request.value))
+    asks = step_asks (fixed_of given) w i (actor_at w i) what served
+
+    abbrev pub b : Begun given events so_far
+    b = (busy_one given events part fair so_far (Step i ∷ back) split i asks.0 asks.1 (what.server, what.request.value) asks.2).one
+
+    who_asks : b.agent ≡ i
+    who_asks = (busy_one given events part fair so_far (Step i ∷ back) split i asks.0 asks.1 (what.server, what.request.value) asks.2).who
+
+    numbered : b.t ≡ t
+    numbered = names_one b.t t what.request.value (one_named given events part fair so_far (Step i ∷ back) split i asks.0 asks.1 (what.server, what.request.value) asks.2) (for_lock_named t z what.request.value lock).0
+
+    abbrev pub third : Begun given events later
+    third = record {
+      before = b.before;
+      after = b.after ++ Step i ∷ (back ++ rest);
+      agent = b.agent;
+      t = b.t;
+      caller = b.caller;
+      site = b.site;
+      ops = b.ops;
+      parts = whole ∙ ap (λ part. part ++ rest) split ∙ append_assoc so_far (Step i ∷ back) rest ∙ ap (λ xs. xs ++ Step i ∷ (back ++ rest)) b.parts
+          ∙ append_assoc b.before (Begin b.agent (Transaction b.caller b.site b.ops) ∷ b.after) (Step i ∷ (back ++ rest));
+      begins = b.begins;
+    }
+
+    -- as one that begins where it does
+    pub place_of : (who : Begun given events later) → third.before ≡ who.before → Place who so_far i t
+    place_of who is =
+        let same = same_place given events later third who is in
+        record {
+          mid = b.after;
+          parts = b.parts ∙ ap (λ before. before ++ Begin b.agent (Transaction b.caller b.site b.ops) ∷ b.after) is ∙ ap (λ event. who.before ++ event ∷ b.after) same.event;
+          who_is = sym who_asks ∙ ap agent_in same.event;
+          number = sym numbered ∙ same.t;
+        }
+
+  -- what it asks for it asks for on the table of the first world, and had before what it asks for before
+  module _ (part : List Event) (calm : Calm given events part) (who : Begun given events later) (so_far back : List Event) (i : ℕ) (split : part ≡ so_far ++ Step i ∷ back) (what : Served)
+      (served : (step (fixed_of given) (run given (events ++ so_far)) (Step i)).done.served ≡ Some what) (t z : ℕ) (lock : for_lock t z what.request.value ≡ true) (at : Place who so_far i t) where
+    -- up to there
+    abbrev cut : List Event
+    cut = so_far ++ Step i ∷ []
+
+    cut_is : part ≡ (so_far ++ Step i ∷ []) ++ back
+    cut_is = split ∙ sym (append_assoc so_far (Step i ∷ []) back)
+
+    cut_calm : Calm given events (so_far ++ Step i ∷ [])
+    cut_calm = calm_front given events cut back (subst (Calm given events) cut_is calm)
+
+    abbrev mid : List Event
+    mid = at.mid ++ Step who.agent ∷ []
+
+    abbrev its : Begun given events (so_far ++ Step i ∷ [])
+    its = record {
+      before = who.before;
+      after = at.mid ++ Step who.agent ∷ [];
+      agent = who.agent;
+      t = who.t;
+      caller = who.caller;
+      site = who.site;
+      ops = who.ops;
+      parts = ap (λ i. so_far ++ Step i ∷ []) at.who_is ∙ ap (λ xs. xs ++ Step who.agent ∷ []) at.parts ∙ append_assoc who.before (its_event given events later who ∷ at.mid) (Step who.agent ∷ []);
+      begins = who.begins;
+    }
+
+    goes : GoesQuietly given events (events ++ who.before) (at.mid ++ Step who.agent ∷ []) who.agent who.t who.caller who.site who.ops (its_actor given events (so_far ++ Step i ∷ []) cut_calm its).0
+    goes = goes_of given events cut cut_calm its
+
+    world_is : world_after given (events ++ who.before) who.agent who.caller who.site who.ops at.mid ≡ run given (events ++ so_far)
+    world_is = run_is given events cut cut_calm its at.mid ∙ ap (λ xs. run given (events ++ xs)) (sym at.parts)
+
+    served_then : (step (fixed_of given) (world_after given (events ++ who.before) who.agent who.caller who.site who.ops at.mid) (Step who.agent)).done.served ≡ Some what
+    served_then = ap (λ w. (step (fixed_of given) w (Step who.agent)).done.served) world_is ∙ ap (λ i. (step (fixed_of given) (run given (events ++ so_far)) (Step i)).done.served) (sym at.who_is) ∙ served
+
+    lock_then : for_lock who.t z what.request.value ≡ true
+    lock_then = subst (λ t. for_lock t z what.request.value ≡ true) at.number lock
+
+    -- it is at work there, and so was not decided before
+    pub works_then : IsAtWork (world_after given (events ++ who.before) who.agent who.caller who.site who.ops at.mid) who.agent who.t
+    works_then =
+        asks_at_work given events (events ++ who.before) mid who.agent who.t who.caller who.site who.ops (its_actor given events cut cut_calm its).0 goes at.mid [] refl what served_then z lock_then
+
+    undecided_then : IsNotDecided (decisions given (events ++ (so_far ++ Step i ∷ []))) who.t
+    undecided_then d there same = ⊎_elim before now parted'
+      where
+        whole_is : (events ++ who.before) ++ Begin who.agent (Transaction who.caller who.site who.ops) ∷ at.mid ≡ events ++ so_far
+        whole_is = append_assoc events who.before (its_event given events later who ∷ at.mid) ∙ ap (λ all. events ++ all) (sym at.parts)
+
+        parted' : Has (decisions given (events ++ so_far)) d ⊎ Has (decisions_from (fixed_of given) (run given (events ++ so_far)) (Step i ∷ [])) d
+        parted' =
+            has_append (decisions given (events ++ so_far)) (decisions_from (fixed_of given) (run given (events ++ so_far)) (Step i ∷ [])) d
+            (subst (λ list. Has list d) (decisions_from-append (fixed_of given) (opening given) (events ++ so_far) (Step i ∷ []))
+            (subst (λ all. Has (decisions given all) d) (sym (append_assoc events so_far (Step i ∷ []))) (has_from (decisions given (events ++ cut)) d there)))
+
+        before : Has (decisions given (events ++ so_far)) d → ⊥
+        before has =
+            not_decided_at_work given (events ++ who.before) mid who.agent who.t who.caller who.site who.ops (its_actor given events cut cut_calm its).0 goes.can goes.there goes.begins at.mid works_then
+            d (subst (λ all. Has (decisions given all) d) (sym whole_is) has) same
+
+        asks_not : is_decide what.request.value ≡ false
+        asks_not = lock_decides_none t z what.request.value lock
+
+        now : Has (decisions_from (fixed_of given) (run given (events ++ so_far)) (Step i ∷ [])) d → ⊥
+        now has = of (decided (fixed_of given) (run given (events ++ so_far)) (Step i)) refl has
+          where
+            none : decided (fixed_of given) (run given (events ++ so_far)) (Step i) ≡ None
+            none =
+                ap (decided_by (run given (events ++ so_far)) (task_at (actor_at (run given (events ++ so_far)) i))) served
+                ∙ ap (λ asked. decided_at (server_at (run given (events ++ so_far)) what.server) asked (decided_as (task_at (actor_at (run given (events ++ so_far)) i)) (answer_in what.reply.value))) (no_decide what.request.value asks_not)
+
+            of : (found : Option Decided) → decided (fixed_of given) (run given (events ++ so_far)) (Step i) ≡ found → Has (cons_option found []) d → ⊥
+            of None is has = has
+            of (Some other) is has = none-some other (sym none ∙ is)
+
+    pub reached_then : Reached (votes_now given events) (asks_for given events who.t who.caller who.ops) (held_in given events part who.agent who.t) (z, mode_of what.request.value)
+    reached_then =
+        reached_wider (votes_now given events) (asks_for given events who.t who.caller who.ops) _ (held_in given events part who.agent who.t)
+        (λ y mode server is. held_before y mode server is) (z, mode_of what.request.value)
+        (reaches_now given events (events ++ who.before) mid who.agent who.t who.caller who.site who.ops (its_actor given events cut cut_calm its).0 goes (never_decides given events cut cut_calm its undecided_then)
+        at.mid [] refl what served_then z lock_then)
+      where
+        -- what it was granted since its begin it was granted in the part
+        held_before : (y : ℕ) (mode : LockMode) (server : ℕ) → some_step (grants who.t y mode server) who.agent (fixed_of given) (begun_world given (events ++ who.before) who.agent who.caller who.site who.ops) (at.mid ++ Step who.agent ∷ []) ≡ true
+            → held_in given events part who.agent who.t y mode server ≡ true
+        held_before y mode server is =
+            let p = grants who.t y mode server in
+            let f = found_in p who.agent (fixed_of given) (begun_world given (events ++ who.before) who.agent who.caller who.site who.ops) mid is in
+            let front = moment given events later who f.front in
+            let all : part ≡ front ++ Step who.agent ∷ (f.back ++ back) =
+            cut_is ∙ ap (λ xs. xs ++ back) (its.parts ∙ ap (λ after. who.before ++ its_event given events later who ∷ after) f.parts ∙ sym (append_assoc who.before (its_event given events later who ∷ f.front) (Step who.agent ∷ f.back)))
+            ∙ append_assoc front (Step who.agent ∷ f.back) back in
+            subst (λ part. some_step p who.agent (fixed_of given) (run given events) part ≡ true) (sym all)
+            (there_in p who.agent (fixed_of given) front (f.back ++ back) (run given events) f.what
+            (ap (λ w. (step (fixed_of given) w (Step who.agent)).done.served) (world_in given events front ∙ sym (run_is given events cut cut_calm its f.front)) ∙ f.served) f.is)
+
+    -- and who grants it holds it so
+    pub held_then : says_held what.reply.value ≡ true → held_in given events part who.agent who.t z (mode_of what.request.value) what.server ≡ true
+    held_then held' =
+        subst (λ part. some_step (grants who.t z (mode_of what.request.value) what.server) who.agent (fixed_of given) (run given events) part ≡ true) (sym (split ∙ ap (λ i. so_far ++ Step i ∷ back) at.who_is))
+        (there_in (grants who.t z (mode_of what.request.value) what.server) who.agent (fixed_of given) so_far back (run given events) what
+        (ap (λ w. (step (fixed_of given) w (Step who.agent)).done.served) (world_in given events so_far) ∙ ap (λ i. (step (fixed_of given) (run given (events ++ so_far)) (Step i)).done.served) (sym at.who_is) ∙ served)
+        (four_from (what.server == what.server) (for_lock who.t z what.request.value) (says_held what.reply.value) (serves (mode_of what.request.value) (mode_of what.request.value)) (eq-eqb what.server what.server refl)
+        lock_then held' (serves_own (mode_of what.request.value))))
+
+-- ---- both
+
+module _ (given : Opening) (events later : List Event) (one other : Begun given events later) (alone : (third : Begun given events later) → (third.before ≡ one.before) ⊎ (third.before ≡ other.before)) where
   -- who asks for a lock in a name is one of both
   pub place : (part rest : List Event) → later ≡ part ++ rest → Fair given events part → (so_far back : List Event) (i : ℕ) → part ≡ so_far ++ Step i ∷ back → (what : Served)
-      → (step (fixed_of given) (run given (events ++ so_far)) (Step i)).done.served ≡ Some what → (t z : ℕ) → for_lock t z what.request.value ≡ true → Place one so_far i t ⊎ Place other so_far i t
-  place part rest whole fair so_far back i split what served t z lock = ⊎_elim (λ is. inl (of one is)) (λ is. inr (of other is)) (alone third)
-    where
-      w : World
-      w = run given (events ++ so_far)
-
-      asks : (here : Actor) × (actor_at (run given (events ++ so_far)) i ≡ Some here) × (next_of (fixed_of given) here.agent ≡ Some (what.server, what.request.value))
-      asks = step_asks (fixed_of given) w i (actor_at w i) what served
-
-      b : Begun given events so_far
-      b = (busy_one given events part fair so_far (Step i ∷ back) split i asks.0 asks.1 (what.server, what.request.value) asks.2).one
-
-      who_asks : b.agent ≡ i
-      who_asks = (busy_one given events part fair so_far (Step i ∷ back) split i asks.0 asks.1 (what.server, what.request.value) asks.2).who
-
-      numbered : b.t ≡ t
-      numbered = names_one b.t t what.request.value (one_named given events part fair so_far (Step i ∷ back) split i asks.0 asks.1 (what.server, what.request.value) asks.2) (for_lock_named t z what.request.value lock).0
-
-      third : Begun given events later
-      third = record {
-        before = b.before;
-        after = b.after ++ Step i ∷ (back ++ rest);
-        agent = b.agent;
-        t = b.t;
-        caller = b.caller;
-        site = b.site;
-        ops = b.ops;
-        parts = whole ∙ ap (λ part. part ++ rest) split ∙ append_assoc so_far (Step i ∷ back) rest ∙ ap (λ xs. xs ++ Step i ∷ (back ++ rest)) b.parts
-            ∙ append_assoc b.before (Begin b.agent (Transaction b.caller b.site b.ops) ∷ b.after) (Step i ∷ (back ++ rest));
-        begins = b.begins;
-      }
-
-      of : (who : Begun given events later) → b.before ≡ who.before → Place who so_far i t
-      of who is =
-          let same = same_place given events later third who is in
-          record {
-            mid = b.after;
-            parts = b.parts ∙ ap (λ before. before ++ Begin b.agent (Transaction b.caller b.site b.ops) ∷ b.after) is ∙ ap (λ event. who.before ++ event ∷ b.after) same.event;
-            who_is = sym who_asks ∙ ap agent_in same.event;
-            number = sym numbered ∙ same.t;
-          }
+      → (step (fixed_of given) (run given (events ++ so_far)) (Step i)).done.served ≡ Some what → (t z : ℕ) → for_lock t z what.request.value ≡ true
+      → Place given events later one so_far i t ⊎ Place given events later other so_far i t
+  place part rest whole fair so_far back i split what served t z lock =
+      ⊎_elim
+      (λ is. inl (place_of given events later part rest whole fair so_far back i split what served t z lock one is))
+      (λ is. inr (place_of given events later part rest whole fair so_far back i split what served t z lock other is))
+      (alone (third given events later part rest whole fair so_far back i split what served t z lock))
 
   -- ---- a part of the run
 
@@ -149,24 +273,7 @@ module _ (given : Opening) (events later : List Event) (one other : Begun given 
     abbrev pub in_part : (who : Begun given events later) (after : List Event) → part ≡ who.before ++ Begin who.agent (Transaction who.caller who.site who.ops) ∷ after → Begun given events part
     in_part who after parts = record { before = who.before; after = after; agent = who.agent; t = who.t; caller = who.caller; site = who.site; ops = who.ops; parts = parts; begins = who.begins }
 
-    -- what it was granted since its begin it was granted there
-    module _ (who : Begun given events later) (after' : List Event) (parts : part ≡ who.before ++ Begin who.agent (Transaction who.caller who.site who.ops) ∷ after') where
-      pub since_begin : (p : Served → Bool) → some_step p who.agent (fixed_of given) (begun_world given (events ++ who.before) who.agent who.caller who.site who.ops) after' ≡ true
-          → some_step p who.agent (fixed_of given) (run given events) part ≡ true
-      since_begin p is =
-          let f = found_in p who.agent (fixed_of given) (begun_world given (events ++ who.before) who.agent who.caller who.site who.ops) after' is in
-          let front = moment given events later who f.front in
-          let all : part ≡ front ++ Step who.agent ∷ f.back =
-          parts ∙ ap (λ after. who.before ++ its_event given events later who ∷ after) f.parts ∙ sym (append_assoc who.before (its_event given events later who ∷ f.front) (Step who.agent ∷ f.back)) in
-          subst (λ part. some_step p who.agent (fixed_of given) (run given events) part ≡ true) (sym all)
-          (there_in p who.agent (fixed_of given) front f.back (run given events) f.what
-          (ap (λ w. (step (fixed_of given) w (Step who.agent)).done.served) (world_in given events front ∙ sym (run_is given events part calm (in_part who after' parts) f.front)) ∙ f.served) f.is)
-
-    -- a lock that one of both asked for
-    pub record IsAsked (who : Begun given events later) (s t z : ℕ) (mode : LockMode) : Type 0 where
-      pub number : t ≡ who.t
-      pub reached : Reached (votes_now given events) (asks_for given events who.t who.caller who.ops) (held_in given events part who.agent who.t) (z, mode)
-
+    -- a lock that one of both was granted
     pub record IsGranted (who : Begun given events later) (s t z : ℕ) (mode : LockMode) : Type 0 where
       pub number : t ≡ who.t
       pub reached : Reached (votes_now given events) (asks_for given events who.t who.caller who.ops) (held_in given events part who.agent who.t) (z, mode)
@@ -174,40 +281,16 @@ module _ (given : Opening) (events later : List Event) (one other : Begun given 
 
     module _ (so_far back : List Event) (i : ℕ) (split : part ≡ so_far ++ Step i ∷ back) (what : Served)
         (served : (step (fixed_of given) (run given (events ++ so_far)) (Step i)).done.served ≡ Some what) (t z : ℕ) (lock : for_lock t z what.request.value ≡ true) where
-      asked_by : (who : Begun given events later) → Place who so_far i t
+      asked_by : (who : Begun given events later) → Place given events later who so_far i t
           → Reached (votes_now given events) (asks_for given events who.t who.caller who.ops) (held_in given events part who.agent who.t) (z, mode_of what.request.value)
-      asked_by who at =
-          let all : part ≡ who.before ++ its_event given events later who ∷ (at.mid ++ Step who.agent ∷ back) =
-          split ∙ ap (λ i. so_far ++ Step i ∷ back) at.who_is ∙ ap (λ xs. xs ++ Step who.agent ∷ back) at.parts ∙ append_assoc who.before (its_event given events later who ∷ at.mid) (Step who.agent ∷ back) in
-          let its = in_part who (at.mid ++ Step who.agent ∷ back) all in
-          let goes = goes_of given events part calm its in
-          let reached =
-          reaches_now given events (events ++ who.before) (at.mid ++ Step who.agent ∷ back) who.agent who.t who.caller who.site who.ops (its_actor given events part calm its).0 goes (never_decides given events part calm its)
-          at.mid back refl what (ap (λ w. (step (fixed_of given) w (Step who.agent)).done.served) (run_is given events part calm its at.mid ∙ ap (λ xs. run given (events ++ xs)) (sym at.parts))
-          ∙ ap (λ i. (step (fixed_of given) (run given (events ++ so_far)) (Step i)).done.served) (sym at.who_is) ∙ served) z (subst (λ t. for_lock t z what.request.value ≡ true) at.number lock) in
-          reached_wider (votes_now given events) (asks_for given events who.t who.caller who.ops) _ (held_in given events part who.agent who.t)
-          (λ y mode server is. since_begin who (at.mid ++ Step who.agent ∷ back) all (grants who.t y mode server) is) (z, mode_of what.request.value) reached
+      asked_by who at = reached_then given events later part calm who so_far back i split what served t z lock at
 
       granted_by : (who : Begun given events later) → says_held what.reply.value ≡ true
-          → Place who so_far i t → IsGranted who what.server t z (mode_of what.request.value)
-      granted_by who held' at = record {
-        number = at.number;
-        reached = asked_by who at;
-        held = subst (λ part. some_step (grants who.t z (mode_of what.request.value) what.server) who.agent (fixed_of given) (run given events) part ≡ true) (sym (split ∙ ap (λ i. so_far ++ Step i ∷ back) at.who_is))
-            (there_in (grants who.t z (mode_of what.request.value) what.server) who.agent (fixed_of given) so_far back (run given events) what
-            (ap (λ w. (step (fixed_of given) w (Step who.agent)).done.served) (world_in given events so_far) ∙ ap (λ i. (step (fixed_of given) (run given (events ++ so_far)) (Step i)).done.served) (sym at.who_is) ∙ served)
-            (four_from (what.server == what.server) (for_lock who.t z what.request.value) (says_held what.reply.value) (serves (mode_of what.request.value) (mode_of what.request.value)) (eq-eqb what.server what.server refl)
-            (subst (λ t. for_lock t z what.request.value ≡ true) at.number lock) held' (serves_own (mode_of what.request.value))));
-      }
+          → Place given events later who so_far i t → IsGranted who what.server t z (mode_of what.request.value)
+      granted_by who held' at = record { number = at.number; reached = asked_by who at; held = held_then given events later part calm who so_far back i split what served t z lock at held' }
 
-      places : Place one so_far i t ⊎ Place other so_far i t
+      places : Place given events later one so_far i t ⊎ Place given events later other so_far i t
       places = place part rest whole calm.fair so_far back i split what served t z lock
-
-      pub asked_now : IsAsked one what.server t z (mode_of what.request.value) ⊎ IsAsked other what.server t z (mode_of what.request.value)
-      asked_now = ⊎_elim
-          (λ at. inl (record { number = at.number; reached = asked_by one at }))
-          (λ at. inr (record { number = at.number; reached = asked_by other at }))
-          places
 
       pub granted_now : says_held what.reply.value ≡ true → IsGranted one what.server t z (mode_of what.request.value) ⊎ IsGranted other what.server t z (mode_of what.request.value)
       granted_now held' = ⊎_elim (λ at. inl (granted_by one held' at)) (λ at. inr (granted_by other held' at)) places

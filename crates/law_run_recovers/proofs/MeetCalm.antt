@@ -1,17 +1,13 @@
--- A run in which nothing is decided for a while, all servers are up, and nothing spoils it: who is busy runs a transaction that began there, tables, logs and stored copies stand still.
-use Rattle.law_run_recovers.proofs.Vocabulary.{◌≡◌, ⊎_elim, ℕ, true, false, List, [], ◌∷◌, ◌++◌, append-nil, append_assoc, Option, Some, None, is_some, refl, sym, ap, subst, ◌∙◌, Contains, cons_option, false≢true, eqb-true, none-some}
-use Rattle.law_run_recovers.proofs.Vocabulary.{same_Some, Identity, Opening, IsAccepted, Op, Request, Verdict, Stamped, is_answered, copy_of, finished, State, Ways, by_step, Job, Transaction, Sweep, Response, Doing, fixed_of, is_idle}
-use Rattle.law_run_recovers.proofs.Vocabulary.{next_of, take_in, Event, Begin, Step, Crash, Return, Forget, Lack, Actor, World, opening, server_at, actor_at, step, run, decided, decisions, table_of, table_after_all}
-use Rattle.law_run_recovers.proofs.Vocabulary.{decisions_from-append, IsNotDecided, EndedSo, names, begins_now, holds_of, finish_is_after, same_or, agent_of, machine_of, LogIs, decision_at, event_log, machine_one, beginning, CanBe}
-use Rattle.law_run_recovers.proofs.Vocabulary.{all_keep, all_idle, begins_job, all_up, no_locks, clear_servers, names_mine, can_front, run_more, doing_of, doing_at, with_job, all_none, AllAt, MayAsk, asks_servers, BeginsNone}
-use Rattle.law_run_recovers.proofs.Vocabulary.{none_begins, event_doing, Begun, spoils, runs, running_in, is_running}
+-- A run in which all servers are up and nothing spoils it: who is busy runs a transaction that began there. It is calm where rows, prefixes and stored copies stand still meanwhile.
+use Rattle.law_run_recovers.proofs.Vocabulary.{List, None, Option, Some, [], ap, append-nil, append_assoc, false, inl, is_some, refl, subst, sym, true, ℕ, ⊎_elim, ◌++◌, ◌∙◌, ◌∷◌, ◌≡◌, eqb-true, false≢true, none-some, same_Some}
+use Rattle.law_run_recovers.proofs.Vocabulary.{cons_option, Identity, Op, CanBe, clear_servers, names_mine, can_front, run_more, all_none, doing_at, doing_of, with_job, AllAt, BeginsNone, event_doing, none_begins, all_idle}
+use Rattle.law_run_recovers.proofs.Vocabulary.{begins_job, all_up, no_locks, machine_of, answers_follow_knowledge, holds_of, same_or, append_has_right, agent_of, IsAnsweredAsKnown, names, begins_now, beginning, WasPrefix, Has}
+use Rattle.law_run_recovers.proofs.Vocabulary.{Ways, by_step, is_answered, State, copy_of, finished, Verdict, Request, Stamped, decisions_from-append, Decided, decided, decisions, decisions_from, run, table_of, Actor, World}
+use Rattle.law_run_recovers.proofs.Vocabulary.{actor_at, opening, server_at, step, Event, Begin, Crash, Forget, Lack, Return, Step, IsAccepted, Opening, Prefix, fixed_of, is_idle, next_of, take_in, Doing, Job, Sweep}
+use Rattle.law_run_recovers.proofs.Vocabulary.{Transaction, Response, Begun, spoils, is_running, running_in, runs}
 use Rattle.rep_core.specs.declared.request.Request.TheVariants as request
 use Rattle.rep_core.specs.declared.reply.Verdict.TheVariants as verdict
 use Rattle.rep_core.specs.Serving as serving
-use Rattle.file_ops.specs.Rows as rows
-use Rattle.law_suite_machine.specs.Machine as machine
-use Rattle.law_one_table.proofs.Effects as effects
-use Rattle.law_run_machine.specs.Machines.{moved}
 use Rattle.law_run_recovers.proofs.AtWork.{mine_where}
 use Rattle.law_run_recovers.proofs.BesideAll.{asks_busy}
 use Rattle.law_run_recovers.proofs.BesideNext.{mine_taken, mine_runs}
@@ -72,11 +68,14 @@ pub record Fair (given : Opening) (events later : List Event) : Type 0 where
   pub free : no_locks (run given events) ≡ true
   pub unspoiled : (before after : List Event) (event : Event) → later ≡ before ++ event ∷ after → spoils given (run given (events ++ before)) event ≡ false
 
--- and nothing is decided
+-- and what is decided changes no row and no stored copy, and of no suite a prefix
 pub record Calm (given : Opening) (events later : List Event) : Type 0 where
   pub fair : Fair given events later
-  pub none : (before after : List Event) (event : Event) → later ≡ before ++ event ∷ after → decided (fixed_of given) (run given (events ++ before)) event ≡ None
-  pub undecided : (one : Begun given events later) → IsNotDecided (decisions given events) one.t
+  pub rows : (so_far rest : List Event) → later ≡ so_far ++ rest → (table_of given (events ++ so_far)).rows ≡ (table_of given events).rows
+  pub was : (so_far rest : List Event) → later ≡ so_far ++ rest → (z : ℕ) (prefix : Prefix) → WasPrefix (beginning z given) (machine_of given z (events ++ so_far)).log prefix
+      → WasPrefix (beginning z given) (machine_of given z events).log prefix
+  pub stored : (so_far rest : List Event) → later ≡ so_far ++ rest
+      → AllAt (λ s st. (old : State) → server_at (run given events) s ≡ Some old → (z : ℕ) → copy_of st.store z ≡ copy_of old.store z) (run given (events ++ so_far))
 
 -- one that began in a front began in all
 abbrev pub onward : (given : Opening) (events so_far more : List Event) → Begun given events so_far → Begun given events (so_far ++ more)
@@ -93,7 +92,7 @@ onward given events so_far more one = record {
 }
 
 -- a front of it is so too
-fair_front : (given : Opening) (events so_far rest : List Event) → Fair given events (so_far ++ rest) → Fair given events so_far
+pub fair_front : (given : Opening) (events so_far rest : List Event) → Fair given events (so_far ++ rest) → Fair given events so_far
 fair_front given events so_far rest fair = record {
   can = can_front given (events ++ so_far) rest (subst (CanBe given) (sym (append_assoc events so_far rest)) fair.can);
   idle = fair.idle;
@@ -105,8 +104,9 @@ fair_front given events so_far rest fair = record {
 pub calm_front : (given : Opening) (events so_far rest : List Event) → Calm given events (so_far ++ rest) → Calm given events so_far
 calm_front given events so_far rest calm = record {
   fair = fair_front given events so_far rest calm.fair;
-  none = λ before after event split. calm.none before (after ++ rest) event (ap (λ xs. xs ++ rest) split ∙ append_assoc before (event ∷ after) rest);
-  undecided = λ one. calm.undecided (onward given events so_far rest one);
+  rows = λ before after split. calm.rows before (after ++ rest) (ap (λ xs. xs ++ rest) split ∙ append_assoc before after rest);
+  was = λ before after split. calm.was before (after ++ rest) (ap (λ xs. xs ++ rest) split ∙ append_assoc before after rest);
+  stored = λ before after split. calm.stored before (after ++ rest) (ap (λ xs. xs ++ rest) split ∙ append_assoc before after rest);
 }
 
 module _ (given : Opening) (events later : List Event) (fair : Fair given events later) where
@@ -226,74 +226,34 @@ module _ (given : Opening) (events later : List Event) (fair : Fair given events
     pub one_named : names busy_one.one.t asked.1 ≡ true
     one_named = names_mine (fixed_of given) busy_one.one.t here.agent.doing asked (mine_where busy_one.one.t here.agent.doing busy_one.runs_it) next
 
-module _ (given : Opening) (events later : List Event) (calm : Calm given events later) where
-  -- ---- what is decided stays, and so the table
+  -- ---- what is decided
 
-  pub decisions_same : (so_far rest : List Event) → later ≡ so_far ++ rest → decisions given (events ++ so_far) ≡ decisions given events
-  decisions_same = along later (λ so_far. decisions given (events ++ so_far) ≡ decisions given events)
-      (λ so_far rest event split same.
-      ap (decisions given) (sym (append_assoc events so_far (event ∷ [])))
-      ∙ decisions_from-append (fixed_of given) (opening given) (events ++ so_far) (event ∷ [])
-      ∙ ap (λ found. decisions given (events ++ so_far) ++ cons_option found []) (calm.none so_far rest event split)
-      ∙ append-nil (decisions given (events ++ so_far)) ∙ same)
-      (ap (decisions given) (append-nil events))
+  module _ (so_far rest : List Event) (event : Event) (split : later ≡ so_far ++ event ∷ rest) (d : Decided) (is : decided (fixed_of given) (run given (events ++ so_far)) event ≡ Some d) where
+    -- it stands among the decisions
+    pub decided_has : Has (decisions given (events ++ later)) d
+    decided_has =
+        let all = events ++ so_far in
+        subst (λ all. Has (decisions given all) d) (append_assoc events so_far (event ∷ rest) ∙ ap (λ later. events ++ later) (sym split))
+        (subst (λ list. Has list d) (sym (decisions_from-append (fixed_of given) (opening given) all (event ∷ rest)))
+        (append_has_right (decisions given all) (decisions_from (fixed_of given) (run given all) (event ∷ rest)) d
+        (subst (λ found. Has (cons_option found (decisions_from (fixed_of given) (step (fixed_of given) (run given all) event).world rest)) d) (sym is) (inl refl))))
 
-  pub table_same : (so_far rest : List Event) → later ≡ so_far ++ rest → table_of given (events ++ so_far) ≡ table_of given events
-  table_same so_far rest split = ap (table_after_all (rows.opening given)) (decisions_same so_far rest split)
+    -- and is of one that began
+    pub record IsOfOne : Type 0 where
+      pub so : IsAnsweredAsKnown given (run given (events ++ so_far)) event d
+      pub one : Begun given events so_far
+      pub who : one.agent ≡ so.number
+      pub number : d.t ≡ one.t
+      pub runs_it : runs one.t so.actor.agent.doing ≡ true
 
-  -- and the log of each suite's machine
-  pub log_same : (z : ℕ) (so_far rest : List Event) → later ≡ so_far ++ rest → (machine_of given z (events ++ so_far)).log ≡ (machine_of given z events).log
-  log_same z = along later (λ so_far. (machine_of given z (events ++ so_far)).log ≡ (machine_of given z events).log)
-      (λ so_far rest event split same.
-      let all = events ++ so_far in
-      let w = machine_of given z all in
-      let is = event_log given z w (run given all) (effects.follows given all (all_keep given all (can_at given events later calm.fair so_far (event ∷ rest) split)) z).shows event in
-      ap (λ all. (machine_of given z all).log) (sym (append_assoc events so_far (event ∷ [])))
-      ∙ ap (λ (w : machine.World). w.log) (machine_one given z all event)
-      ∙ subst (λ found. LogIs (beginning z given) (decision_at z w (run given all) event) w found (moved given z w (run given all) event).log) (calm.none so_far rest event split) is ∙ same)
-      (ap (λ all. (machine_of given z all).log) (append-nil events))
-
-  -- ---- what is finished was not answered
-
-  module _ (so_far rest : List Event) (split : later ≡ so_far ++ rest) (i : ℕ) (here : Actor) (there : actor_at (run given (events ++ so_far)) i ≡ Some here) (asked : ℕ × Request)
-      (next : next_of (fixed_of given) here.agent ≡ Some asked) where
-    abbrev busy : Busy given events later calm.fair so_far i here.agent.doing
-    busy = busy_one given events later calm.fair so_far rest split i here there asked next
-
-    spares : Spares asked.1
-    spares t v is = of v (finish_is_after.asked given calm.fair.can.accepted (events ++ so_far) i here asked.0 t v there (next ∙ ap (λ value. Some (asked.0, value)) is))
-      where
-        same : t ≡ busy.one.t
-        same = eqb-true t busy.one.t (ap (names busy.one.t) (sym is) ∙ one_named given events later calm.fair so_far rest split i here there asked next)
-
-        of : (v : Verdict) → EndedSo given (events ++ so_far) t v → is_answered v ≡ false
-        of (verdict.Answered answers) ended =
-            let front = calm_front given events so_far rest (subst (Calm given events) split calm) in
-            absurd (front.undecided busy.one ended.decision (subst (λ all. Contains all ended.decision) (decisions_same so_far rest split) ended.there) (ended.of_it ∙ same))
-        of (verdict.Refused refusal) ended = refl
-        of verdict.Aborted ended = refl
-
-  -- ---- what is stored stays
-
-  abbrev Stored : ℕ → State → Type 0
-  Stored s st = (old : State) → server_at (run given events) s ≡ Some old → (z : ℕ) → copy_of st.store z ≡ copy_of old.store z
-
-  pub stored_at : (so_far rest : List Event) → later ≡ so_far ++ rest → AllAt (λ s st. (old : State) → server_at (run given events) s ≡ Some old → (z : ℕ) → copy_of st.store z ≡ copy_of old.store z) (run given (events ++ so_far))
-  stored_at = along later (λ so_far. AllAt Stored (run given (events ++ so_far)))
-      (λ so_far rest event split all. subst (AllAt Stored) (sym (run_next given events later calm.fair so_far event))
-      (asks_servers (fixed_of given) Stored (λ s asked. Spares asked) (λ s st asked spares same old at z. stored_stays st asked z spares ∙ same old at z) (run given (events ++ so_far)) all event (may so_far rest event split)))
-      (λ s st at old was z. ap (λ (st : State). copy_of st.store z) (same_Some st old (sym at ∙ ap (λ all. server_at (run given all) s) (append-nil events) ∙ was)))
-    where
-      crash_not : Spares request.Crash
-      crash_not t v is = cc
-
-      return_not : Spares request.Return
-      return_not t v is = cc
-
-      may : (so_far rest : List Event) (event : Event) → later ≡ so_far ++ event ∷ rest → MayAsk (fixed_of given) (λ s asked. Spares asked) (run given (events ++ so_far)) event
-      may so_far rest (Step i) split = λ actor asked is next. spares so_far (Step i ∷ rest) split i actor is asked next
-      may so_far rest (Crash server) split = crash_not
-      may so_far rest (Return server) split = return_not
-      may so_far rest (Begin i job) split = tt
-      may so_far rest (Forget i site) split = tt
-      may so_far rest (Lack i why) split = tt
+    pub decided_of_one : IsOfOne
+    decided_of_one =
+        let known = answers_follow_knowledge given (events ++ so_far) event d is in
+        let busy = busy_at so_far (event ∷ rest) split known.number known.actor known.there (ap is_idle known.running) in
+        record {
+          so = known;
+          one = busy.one;
+          who = busy.who;
+          number = known.t ∙ eqb-true known.txn_run.task.t busy.one.t (ap (runs busy.one.t) (sym known.running) ∙ busy.runs_it);
+          runs_it = busy.runs_it;
+        }

@@ -6,7 +6,7 @@ use Rattle.law_run_recovers.proofs.Vocabulary.{Configuration, votes_in, votes_at
 -- ---- votes
 
 -- those in a set and those out of it are all
-votes_split : (reps : List Representative) (set : ℕ → Bool) → votes_in reps set + votes_in reps (λ s. not (set s)) ≡ total_votes reps
+pub votes_split : (reps : List Representative) (set : ℕ → Bool) → votes_in reps set + votes_in reps (λ s. not (set s)) ≡ total_votes reps
 votes_split [] set = refl
 votes_split (rep ∷ reps) set =
     let rest = votes_split reps set in

@@ -377,7 +377,7 @@ module _ (given : Opening) (base events later : List Event) (agent t : ℕ) (cal
 
           knows_on : (z : ℕ) → asks_of (locks_on (table_of given base) its) z ≡ true → IsSoAt (known.known_of (known_of more.suites) z) (row_of (table_of given base).rows z)
           knows_on z _ =
-              subst (λ (table : PlainTable). AgreesWith (known_of more.suites) (row_of table.rows)) (goes.tables next rest split_on)
+              subst (λ all. AgreesWith (known_of more.suites) (row_of all)) (goes.tables next rest split_on)
               (knows_table given all can agent took.new more (ap (λ w. actor_at w agent) (sym (is_run next)) ∙ there_next) running_on ordered_on
               (λ z. subst (Stands (machine_of given z all)) (sym number_on) (stands_z z))
               (λ z. subst (λ t. (machine_of given z all).verdict t ≢ Some AnsweredVerdict) (sym number_on) (unanswered given all can t unrecorded z)))

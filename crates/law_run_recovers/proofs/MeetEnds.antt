@@ -1,15 +1,13 @@
--- Two that meet, of which neither was decided: then nothing was. And the moment at which the end of one is fixed.
-use Rattle.law_run_recovers.proofs.Vocabulary.{◌≡◌, ◌⊎◌, inl, inr, ⊎_elim, ℕ, Bool, true, false, List, [], ◌∷◌, ◌++◌, append-nil, append_assoc, Option, Some, None, refl, sym, ap, subst, ◌∙◌, cons_option, false≢true, eqb-true, Opening}
-use Rattle.law_run_recovers.proofs.Vocabulary.{Has, has_from, contains_from, Ending, Refused, Swept, Undecided, Transaction, fixed_of, is_idle, EndedJob, Event, Begin, World, opening, step, dones, done_in, outcomes, run, Decided}
-use Rattle.law_run_recovers.proofs.Vocabulary.{decided, decisions, decisions_from, dones-append, outcomes-append, decisions_from-append, ended, IsNotDecided, number_of, EndStands, answers_follow_knowledge, holds_of, NotIn}
-use Rattle.law_run_recovers.proofs.Vocabulary.{append_has_left, append_has_right, is_decided, Begun, EndsThen, runs, is_running, is_telling, begun_world, world_after}
+-- One that ended undecided stands nowhere among the decisions; and the moment at which the end of one is fixed.
+use Rattle.law_run_recovers.proofs.Vocabulary.{Bool, List, [], ap, append-nil, append_assoc, false, inl, inr, refl, subst, sym, true, ℕ, ⊎_elim, ◌++◌, ◌∙◌, ◌∷◌, ◌≡◌, ◌⊎◌, false≢true, is_decided, EndStands, holds_of, NotIn}
+use Rattle.law_run_recovers.proofs.Vocabulary.{append_has_right, IsNotDecided, ended, number_of, Has, has_from, finished, dones-append, outcomes-append, Decided, decisions, done_in, dones, outcomes, run, World, opening, step}
+use Rattle.law_run_recovers.proofs.Vocabulary.{EndedJob, Event, Begin, Opening, fixed_of, left, Ending, Refused, Swept, Undecided, Transaction, Begun, EndsThen, stands, begun_world, is_running, is_telling, world_after}
 use Rattle.txn_core.specs.declared.ending.Ending.TheVariants.{Answered}
 use Rattle.law_run_recovers.proofs.AmongCourse.{head_or, tail_or, parted}
 use Rattle.law_run_recovers.proofs.AmongOver.{has_after}
 use Rattle.law_run_recovers.proofs.Keeps.{IsAtWork}
 use Rattle.law_run_recovers.proofs.Sides.{ended_runs_not}
-use Rattle.law_run_recovers.proofs.MeetBoth.{same_place}
-use Rattle.law_run_recovers.proofs.MeetCalm.{Fair, Calm, busy_at}
+use Rattle.law_run_recovers.proofs.MeetCalm.{Fair, Calm}
 use Rattle.law_run_recovers.proofs.MeetRun.{run_is}
 
 -- ---- lists
@@ -112,57 +110,3 @@ module _ (given : Opening) (events later : List Event) (calm : Calm given events
       (λ so_far. tested (world_after given (events ++ who.before) who.agent who.caller who.site who.ops so_far) who.agent who.t) who.after
       (λ work. ended_runs_not given calm.fair.can.accepted (events ++ later) who.agent who.t job (ended_has given events later calm.fair who job ends) ends.of_it
       (ap (λ w. is_running w who.agent who.t) (ap (λ later. run given (events ++ later)) who.parts ∙ sym (run_is given events later calm who who.after)) ∙ work.running))
-
--- ---- nothing is decided
-
-module _ (given : Opening) (events later : List Event) (one other : Begun given events later) (alone : (third : Begun given events later) → (third.before ≡ one.before) ⊎ (third.before ≡ other.before))
-    (fair : Fair given events later) (undecided : IsNotDecided (decisions given (events ++ later)) one.t) (other_undecided : IsNotDecided (decisions given (events ++ later)) other.t) where
-  -- whoever began is one of both
-  none_of : (third : Begun given events later) → IsNotDecided (decisions given (events ++ later)) third.t
-  none_of third decision there same =
-      ⊎_elim
-      (λ at. undecided decision there (same ∙ (same_place given events later third one at).t))
-      (λ at. other_undecided decision there (same ∙ (same_place given events later third other at).t))
-      (alone third)
-
-  abbrev raised : (so_far rest : List Event) → later ≡ so_far ++ rest → Begun given events so_far → Begun given events later
-  raised so_far rest split b = record {
-    before = b.before;
-    after = b.after ++ rest;
-    agent = b.agent;
-    t = b.t;
-    caller = b.caller;
-    site = b.site;
-    ops = b.ops;
-    parts = split ∙ ap (λ xs. xs ++ rest) b.parts ∙ append_assoc b.before (Begin b.agent (Transaction b.caller b.site b.ops) ∷ b.after) rest;
-    begins = b.begins;
-  }
-
-  none : (so_far rest : List Event) (event : Event) → later ≡ so_far ++ event ∷ rest → decided (fixed_of given) (run given (events ++ so_far)) event ≡ None
-  none so_far rest event split = of (decided (fixed_of given) (run given (events ++ so_far)) event) refl
-    where
-      stands : (d : Decided) → decided (fixed_of given) (run given (events ++ so_far)) event ≡ Some d → Has (decisions given (events ++ later)) d
-      stands d is =
-          let all = events ++ so_far in
-          subst (λ all. Has (decisions given all) d) (append_assoc events so_far (event ∷ rest) ∙ ap (λ later. events ++ later) (sym split))
-          (subst (λ list. Has list d) (sym (decisions_from-append (fixed_of given) (opening given) all (event ∷ rest)))
-          (append_has_right (decisions given all) (decisions_from (fixed_of given) (run given all) (event ∷ rest)) d
-          (subst (λ found. Has (cons_option found (decisions_from (fixed_of given) (step (fixed_of given) (run given all) event).world rest)) d) (sym is) (inl refl))))
-
-      of : (found : Option Decided) → decided (fixed_of given) (run given (events ++ so_far)) event ≡ found → found ≡ None
-      of None is = refl
-      of (Some d) is =
-          let known = answers_follow_knowledge given (events ++ so_far) event d is in
-          let busy = busy_at given events later fair so_far (event ∷ rest) split known.number known.actor known.there (ap is_idle known.running) in
-          let same : d.t ≡ busy.one.t = known.t ∙ eqb-true known.txn_run.task.t busy.one.t (ap (runs busy.one.t) (sym known.running) ∙ busy.runs_it) in
-          absurd (none_of (raised so_far (event ∷ rest) split busy.one) d (contains_from (decisions given (events ++ later)) d (stands d is)) same)
-
-  pub calmed : Calm given events later
-  calmed = record {
-    fair = fair;
-    none = none;
-    undecided = λ b decision there same.
-        none_of b decision (contains_from (decisions given (events ++ later)) decision
-        (subst (λ list. Has list decision) (sym (decisions_from-append (fixed_of given) (opening given) events later))
-        (append_has_left (decisions given events) (decisions_from (fixed_of given) (run given events) later) decision (has_from (decisions given events) decision there)))) same;
-  }

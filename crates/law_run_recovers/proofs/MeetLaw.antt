@@ -1,18 +1,20 @@
 -- Of two that meet at one suite, by votes that are tight, one is decided: else each had been refused by the other, and had votes that the other wanted.
-use Rattle.law_run_recovers.proofs.Vocabulary.{◌≡◌, ◌⊎◌, inl, inr, ⊎_elim, ℕ, ◌<◌, Bool, true, false, List, [], ◌∷◌, ◌++◌, append-nil, append_assoc, Option, Some, None, refl, sym, ap, subst, ◌∙◌, arith, ◌==◌, ◌||◌, Contains, list_any, false≢true}
-use Rattle.law_run_recovers.proofs.Vocabulary.{eqb-true, eq-eqb, Opening, LockMode, Exclusive, mode_of, Configuration, votes_at, Lock, State, Row, row_of, find_some, Has, has_any, has_from, contains_from, Transaction, fixed_of, EndedJob, Served}
-use Rattle.law_run_recovers.proofs.Vocabulary.{Event, Begin, Step, server_at, step, run, table_of, row, beginning, machine_of, is_decided, clashes, Begun, its_asks, locks_asked, votes_set, votes_of_row, shown_at, EndsThen, HasFirstVotes}
-use Rattle.law_run_recovers.proofs.Vocabulary.{VotesNeverMovedOf, first_clash, AreTight, its_votes, TheyMeet, OneThatMeetsIsDecided, TheyMeetByRows, OneThatMeetsByRowsIsDecided, SetsApart, votes_now, asks_for, world_after}
+use Rattle.law_run_recovers.proofs.Vocabulary.{Bool, Contains, List, None, Option, Some, [], ap, append-nil, append_assoc, arith, false, inl, inr, refl, subst, sym, true, ℕ, ⊎_elim, ◌++◌, ◌<◌, ◌==◌, ◌||◌, ◌∙◌, ◌∷◌, ◌≡◌, ◌⊎◌}
+use Rattle.law_run_recovers.proofs.Vocabulary.{eq-eqb, eqb-true, false≢true, list_any, Row, row_of, is_decided, machine_of, IsNotDecided, beginning, row, find_some, Has, contains_from, has_any, has_from, State, Lock, decisions}
+use Rattle.law_run_recovers.proofs.Vocabulary.{run, table_of, server_at, step, EndedJob, Served, Event, Begin, Step, mode_of, Opening, LockMode, Exclusive, fixed_of, has_vote, Transaction, Configuration, votes_at, Begun, clashes}
+use Rattle.law_run_recovers.proofs.Vocabulary.{its_asks, votes_of_row, votes_set, HasFirstVotes, EndsThen, VotesNeverMovedOf, AreTight, OneThatMeetsIsDecided, TheyMeet, first_clash, its_votes, OneThatMeetsByRowsIsDecided}
+use Rattle.law_run_recovers.proofs.Vocabulary.{SetsApart, TheyMeetByRows, votes_now, asks_for, shown_at, world_after}
 use Rattle.law_run_recovers.proofs.AmongCourse.{head_or, tail_or}
 use Rattle.law_run_recovers.proofs.Keeps.{IsAtWork, at_work_before}
 use Rattle.law_run_recovers.proofs.MeetApart.{clashes_back, Room, granted_since, stand_apart}
 use Rattle.law_run_recovers.proofs.MeetAsks.{sets_asked}
 use Rattle.law_run_recovers.proofs.MeetBarred.{barred_by}
 use Rattle.law_run_recovers.proofs.MeetBehind.{reach, bound}
-use Rattle.law_run_recovers.proofs.MeetBoth.{Place, place, its_event, in_part, cancel, held_in, none_first, IsAsked, IsGranted, granted_now, all_granted}
-use Rattle.law_run_recovers.proofs.MeetCalm.{Fair, Calm, table_same}
+use Rattle.law_run_recovers.proofs.MeetBoth.{Place, place, same_place, its_event, in_part, cancel, held_in, none_first, IsGranted, granted_now, all_granted}
+use Rattle.law_run_recovers.proofs.MeetCalm.{Fair, Calm}
+use Rattle.law_run_recovers.proofs.MeetCalmed.{asks_same, votes_same, calm_where}
 use Rattle.law_run_recovers.proofs.MeetCount.{Falls, falls_by, Met, OtherMet, Same, IsRefused, IsRefusedToo, not_both_short}
-use Rattle.law_run_recovers.proofs.MeetEnds.{fronts, Fixed, undecided_not, fixed_at, calmed}
+use Rattle.law_run_recovers.proofs.MeetEnds.{fronts, Fixed, undecided_not, fixed_at}
 use Rattle.law_run_recovers.proofs.MeetLocks.{owned_at}
 use Rattle.law_run_recovers.proofs.MeetQuiet.{GoesQuietly}
 use Rattle.law_run_recovers.proofs.MeetReach.{Reached, reaches_asks, reached_first}
@@ -25,7 +27,7 @@ clashes_some : (others : List (ℕ × LockMode)) (one way : ℕ × LockMode) →
 clashes_some others one way has is = has_any (clashes one) others way (has_from others way has) is
 
 module _ (given : Opening) (events later : List Event) (one other : Begun given events later) (alone : (third : Begun given events later) → (third.before ≡ one.before) ⊎ (third.before ≡ other.before))
-    (calm : Calm given events later) (two : (one.t == other.t) ≡ false)
+    (calm : Calm given events later) (undecided : IsNotDecided (decisions given (events ++ later)) one.t) (other_undecided : IsNotDecided (decisions given (events ++ later)) other.t) (two : (one.t == other.t) ≡ false)
     (sets_apart : SetsApart given events (votes_set (table_of given events) one.t one.caller one.ops) (asks_for given events other.t other.caller other.ops))
     (other_sets_apart : SetsApart given events (votes_set (table_of given events) other.t other.caller other.ops) (asks_for given events one.t one.caller one.ops))
     (z : ℕ) (m k : LockMode)
@@ -88,7 +90,7 @@ module _ (given : Opening) (events later : List Event) (one other : Begun given 
     fixed = f;
     more = [];
     room = sym (append-nil part);
-    mine = λ so_far i t is places. ⊎_elim (λ p. p) (λ (p : Place given events later one other alone other so_far i t). not_two (sym is ∙ p.number)) places;
+    mine = λ so_far i t is places. ⊎_elim (λ p. p) (λ (p : Place given events later other so_far i t). not_two (sym is ∙ p.number)) places;
   }
 
   abbrev other_room : Room given events later one other alone part rest part_whole part_calm other
@@ -96,7 +98,7 @@ module _ (given : Opening) (events later : List Event) (one other : Begun given 
     fixed = other_f;
     more = more;
     room = order;
-    mine = λ so_far i t is places. ⊎_elim (λ (p : Place given events later one other alone one so_far i t). not_two (sym p.number ∙ is)) (λ p. p) places;
+    mine = λ so_far i t is places. ⊎_elim (λ (p : Place given events later one so_far i t). not_two (sym p.number ∙ is)) (λ p. p) places;
   }
 
   apart : (y server : ℕ) (a b : LockMode) → held y a server ≡ true → other_held y b server ≡ true → clashes (y, a) (y, b) ≡ true → ⊥
@@ -105,10 +107,10 @@ module _ (given : Opening) (events later : List Event) (one other : Begun given 
   -- ---- each was refused by the other
 
   its_wants : Wants given events later calm one f (asks_for given events other.t other.caller other.ops)
-  its_wants = wants given events later calm one f theirs sets_apart
+  its_wants = wants given events later calm one f undecided theirs sets_apart
 
   other_wants : Wants given events later calm other other_f (asks_for given events one.t one.caller one.ops)
-  other_wants = wants given events later calm other other_f mine other_sets_apart
+  other_wants = wants given events later calm other other_f other_undecided mine other_sets_apart
 
   -- what each found it found by what it was granted
   its_falls : Falls (votes_now given events) held shows' theirs its_wants.suite its_wants.votes its_wants.open'
@@ -146,10 +148,9 @@ module _ (given : Opening) (events later : List Event) (one other : Begun given 
       → IsRefused mine theirs (votes_now given events) shows' newest' z m k tight has_first has_other_first clash held other_held its_wants.suite its_wants.mode server
   refused server has_vote shut =
       let y = its_wants.suite in
-      let b = barred_by given events later one other alone part rest part_whole part_calm one f.front refl Stands stands y its_wants.mode server (its_wants.shut server has_vote shut) in
-      let its = by_one y server b.mode b.asked in
+      let b = barred_by given events later part part_calm one f.front refl Stands stands y its_wants.mode server (its_wants.shut server has_vote shut) in
       let theirs' = by_other y server b.holder b.way b.not_own b.stands in
-      let its_has = reaches_asks (votes_now given events) mine held (y, b.mode) its in
+      let its_has = reaches_asks (votes_now given events) mine held (y, b.mode) b.reached in
       let has = reaches_asks (votes_now given events) theirs other_held (y, b.way) theirs'.reached in
       record {
         mode = b.mode;
@@ -158,17 +159,10 @@ module _ (given : Opening) (events later : List Event) (one other : Begun given 
         asks = has;
         clashing = b.clashing;
         by = theirs'.held;
-        before = before_it y b.mode b.way its has b.clashing;
+        before = before_it y b.mode b.way b.reached has b.clashing;
         other_before = other_before_it y b.way b.mode theirs'.reached its_has (clashes_back y b.mode b.way b.clashing);
       }
     where
-      by_one : (y server : ℕ) (mode : LockMode)
-          → IsAsked given events later one other alone part rest part_whole part_calm one server one.t y mode
-          ⊎ IsAsked given events later one other alone part rest part_whole part_calm other server one.t y mode
-          → Reached (votes_now given events) mine held (y, mode)
-      by_one y server mode (inl asked) = asked.reached
-      by_one y server mode (inr asked) = not_two asked.number
-
       by_other : (y server t : ℕ) (way : LockMode) → (t ≡ one.t → ⊥) → Stands server t y way → Granted' other server t y way
       by_other y server t way not_own (inl granted) = absurd (not_own granted.number)
       by_other y server t way not_own (inr granted) = granted
@@ -180,7 +174,7 @@ module _ (given : Opening) (events later : List Event) (one other : Begun given 
 
   -- the one asks for no lock once its end is fixed
   module _ (so_far back : List Event) (i : ℕ) (split : all ≡ so_far ++ Step i ∷ back) (what : Served) (served : (step (fixed_of given) (run given (events ++ so_far)) (Step i)).done.served ≡ Some what)
-      (t y : ℕ) (lock : for_lock t y what.request.value ≡ true) (p : Place given events later one other alone one so_far i t) where
+      (t y : ℕ) (lock : for_lock t y what.request.value ≡ true) (p : Place given events later one so_far i t) where
     abbrev begins : Event
     begins = its_event given events later one
 
@@ -224,7 +218,7 @@ module _ (given : Opening) (events later : List Event) (one other : Begun given 
       owned_at given events all all_calm StandsToo
       (λ so_far back i split what served t y lock said. ⊎_elim
       (λ p. stands_before so_far back i split what served t y lock p said)
-      (λ (p : Place given events later one other alone other so_far i t). inr p.number)
+      (λ (p : Place given events later other so_far i t). inr p.number)
       (place given events later one other alone all other_f.back all_whole all_calm.fair so_far back i split what served t y lock))
       (λ s st at lock has. absurd (none_first given events all all_calm.fair s st at lock has)) so_far back split s st at lock has
 
@@ -233,8 +227,7 @@ module _ (given : Opening) (events later : List Event) (one other : Begun given 
   refused_too server has_vote shut =
       let y = other_wants.suite in
       let b =
-      barred_by given events later one other alone all other_f.back all_whole all_calm other other_f.front refl StandsToo stands_too y other_wants.mode server (other_wants.shut server has_vote shut) in
-      let has = asked_by y server b.mode b.asked in
+      barred_by given events later all all_calm other other_f.front refl StandsToo stands_too y other_wants.mode server (other_wants.shut server has_vote shut) in
       let its = by_one y server b.holder b.way b.not_own b.stands in
       let back = clashes_back y b.mode b.way b.clashing in
       record {
@@ -244,15 +237,9 @@ module _ (given : Opening) (events later : List Event) (one other : Begun given 
         asks = reaches_asks (votes_now given events) mine held (y, b.way) its.reached;
         clashing = back;
         by = its.held;
-        before = before_it y b.way b.mode its.reached has back;
+        before = before_it y b.way b.mode its.reached (reaches_asks (votes_now given events) theirs (held_in given events all other.agent other.t) (y, b.mode) b.reached) back;
       }
     where
-      asked_by : (y server : ℕ) (mode : LockMode)
-          → IsAsked given events later one other alone all other_f.back all_whole all_calm one server other.t y mode
-          ⊎ IsAsked given events later one other alone all other_f.back all_whole all_calm other server other.t y mode → Contains theirs (y, mode)
-      asked_by y server mode (inl asked) = not_two (sym asked.number)
-      asked_by y server mode (inr asked) = reaches_asks (votes_now given events) theirs (held_in given events all other.agent other.t) (y, mode) asked.reached
-
       by_one : (y server t : ℕ) (way : LockMode) → (t ≡ other.t → ⊥) → StandsToo server t y way → Granted' one server t y way
       by_one y server t way not_own (inl granted) = granted
       by_one y server t way not_own (inr own) = absurd (not_own own)
@@ -277,22 +264,29 @@ module _ (given : Opening) (events later : List Event) (one other : Begun given 
   fair = record { can = meets.can; idle = meets.idle; up = meets.up; free = meets.free; unspoiled = meets.unspoiled }
 
   module _ (undecided : is_decided job.ending ≡ false) (other_undecided : is_decided outcome.ending ≡ false) where
+    not_one : IsNotDecided (decisions given (events ++ later)) one.t
+    not_one = undecided_not given events later fair one job ends undecided
+
+    not_other : IsNotDecided (decisions given (events ++ later)) other.t
+    not_other = undecided_not given events later fair other outcome other_ends other_undecided
+
+    -- whoever began is one of both, so nothing is decided
     calm : Calm given events later
     calm =
-        calmed given events later one other meets.alone fair (undecided_not given events later fair one job ends undecided) (undecided_not given events later fair other outcome other_ends other_undecided)
-
-    -- both begin on the table of the first world
-    table_is : (who : Begun given events later) → table_of given (events ++ who.before) ≡ table_of given events
-    table_is who = table_same given events later calm who.before (its_event given events later who ∷ who.after) who.parts
+        calm_where given events later fair (λ third. inl (λ decision there same.
+        ⊎_elim
+        (λ at. not_one decision there (same ∙ (same_place given events later third one at).t))
+        (λ at. not_other decision there (same ∙ (same_place given events later third other at).t))
+        (meets.alone third)))
 
     abbrev Asks : Begun given events later → List (ℕ × LockMode)
     Asks who = asks_for given events who.t who.caller who.ops
 
     asks_is : (who : Begun given events later) → its_asks given events later who ≡ asks_for given events who.t who.caller who.ops
-    asks_is who = ap (λ table. locks_asked table who.t who.caller who.ops) (table_is who)
+    asks_is who = asks_same given events later calm who
 
     votes_is : (who : Begun given events later) → its_votes given events later who ≡ votes_set (table_of given events) who.t who.caller who.ops
-    votes_is who = ap (λ table. votes_set table who.t who.caller who.ops) (table_is who)
+    votes_is who = votes_same given events later calm who
 
     first : first_clash (asks_for given events one.t one.caller one.ops) (asks_for given events other.t other.caller other.ops) ≡ Some (meets.suite, meets.mine)
     first = ap (λ asked. first_clash asked (Asks other)) (sym (asks_is one)) ∙ ap (λ others. first_clash (its_asks given events later one) others) (sym (asks_is other)) ∙ meets.first
@@ -327,10 +321,10 @@ module _ (given : Opening) (events later : List Event) (one other : Begun given 
     pub neither : ⊥
     neither = ⊎_elim
         (λ first_one.
-        never_both given events later one other meets.alone calm meets.two sets_apart other_sets_apart meets.suite meets.mine meets.theirs first other_first meets.not_both_raise tight
+        never_both given events later one other meets.alone calm not_one not_other meets.two sets_apart other_sets_apart meets.suite meets.mine meets.theirs first other_first meets.not_both_raise tight
         f other_f first_one.0 first_one.1)
         (λ first_other.
-        never_both given events later other one (λ third. ⊎_elim (λ is. inr is) (λ is. inl is) (meets.alone third)) calm two_back other_sets_apart sets_apart
+        never_both given events later other one (λ third. ⊎_elim (λ is. inr is) (λ is. inl is) (meets.alone third)) calm not_other not_one two_back other_sets_apart sets_apart
         meets.suite meets.theirs meets.mine other_first first (clashes_back meets.suite meets.mine meets.theirs meets.not_both_raise)
         (tight_back (votes_now given events meets.suite) meets.suite (Asks one) (Asks other) tight) other_f f first_other.0 first_other.1)
         (fronts (upto given events later calm one f) (upto given events later calm other other_f) f.back other_f.back

@@ -33,8 +33,7 @@ module _ (given : Opening) (base events later : List Event) (agent t : ℕ) (cal
     pub up : (so_far rest : List Event) → later ≡ so_far ++ rest → (server : ℕ) (st : State) → server_at (then so_far) server ≡ Some st → (st.up ≡ true) × (is_up (run given base) server ≡ true)
     pub stored : (so_far rest : List Event) → later ≡ so_far ++ rest → (server : ℕ) (st : State) → server_at (then so_far) server ≡ Some st → (z : ℕ)
         → ((copy_of st.store z).prefix ≡ shown_at (fixed_of given) (run given base) z server) × ((copy_of st.store z).dver ≡ dver_at (run given base) z server)
-    pub tables : (so_far rest : List Event) → later ≡ so_far ++ rest → table_of given (events ++ Begin agent (Transaction caller site ops) ∷ so_far) ≡ table_of given base
-    pub asks_same : table_of given events ≡ table_of given base
+    pub tables : (so_far rest : List Event) → later ≡ so_far ++ rest → (table_of given (events ++ Begin agent (Transaction caller site ops) ∷ so_far)).rows ≡ (table_of given base).rows
     pub starts : (z : ℕ) (start : Prefix) → MayStart (fixed_of given) actor.agent.cache site z start → WasPrefix (beginning z given) (machine_of given z base).log start
 
 -- ---- what it was told

@@ -1,9 +1,10 @@
 -- A transaction that begins in a calm run goes quietly: nobody hinders or robs it, servers stay up and show what they showed, and it never asks to be decided.
-use Rattle.law_run_recovers.proofs.Vocabulary.{◌≡◌, ℕ, Bool, true, false, cond, List, [], ◌∷◌, ◌++◌, append-nil, append_assoc, Option, Some, None, is_some, Ok, Err, refl, sym, ap, subst, ◌∙◌, arith, ◌%◌, ◌==◌, ◌&&◌, ◌||◌, not, length}
-use Rattle.law_run_recovers.proofs.Vocabulary.{list_all, false≢true, and_parts, and_from, eqb-true, eq-eqb, nat_tests, same_Some, Opening, Replica, Request, reply_of, reply_up, reply_down, recorded, verdict_of, copy_of, State}
-use Rattle.law_run_recovers.proofs.Vocabulary.{record_of, Transaction, Task, TransactionRun, Doing, Running, RunningSweep, decision_of, fixed_of, next_in, next_of, is_decide, Served, Event, Begin, Step, Crash, Return, Forget, Lack}
-use Rattle.law_run_recovers.proofs.Vocabulary.{Actor, World, server_at, actor_at, has_no_job, step, run, decided, decided_by, decided_at, decided_as, to_decide, answer_in, task_of, task_at, table_of, names, decides, WasPrefix}
-use Rattle.law_run_recovers.proofs.Vocabulary.{beginning, CanBe, Begun, spoils, up_in, is_up, shown_in, shown_at, runs, running_in, is_running, is_telling, takes, up_and, of_up, robs, hinders_itself, world_after, bereaves}
+use Rattle.law_run_recovers.proofs.Vocabulary.{Bool, Err, List, None, Ok, Option, Some, [], ap, append-nil, append_assoc, arith, cond, false, is_some, length, not, refl, subst, sym, true, ℕ, ◌%◌, ◌&&◌, ◌++◌, ◌==◌, ◌||◌, ◌∙◌, ◌∷◌}
+use Rattle.law_run_recovers.proofs.Vocabulary.{◌≡◌, and_from, and_parts, eq-eqb, eqb-true, false≢true, nat_tests, same_Some, list_all, undecided, CanBe, decides, IsNotDecided, names, contains_from, recorded, reply_down, reply_of}
+use Rattle.law_run_recovers.proofs.Vocabulary.{reply_up, verdict_of, State, record_of, copy_of, Request, Decided, answer_in, decided, decided_as, decided_at, decided_by, decisions, task_at, task_of, to_decide, run, table_of}
+use Rattle.law_run_recovers.proofs.Vocabulary.{Actor, World, actor_at, has_no_job, server_at, step, Served, Event, Begin, Crash, Forget, Lack, Return, Step, next, Opening, Replica, fixed_of, next_in, next_of, Doing, Running}
+use Rattle.law_run_recovers.proofs.Vocabulary.{RunningSweep, Task, is_decide, decision_of, Transaction, Begun, spoils, is_up, shown_at, shown_in, up_in, bereaves, hinders_itself, is_running, is_telling, of_up, robs, running_in}
+use Rattle.law_run_recovers.proofs.Vocabulary.{runs, takes, up_and, world_after}
 use Rattle.rep_core.specs.declared.request.Request.TheVariants as request
 use Rattle.rep_core.specs.declared.reply.Reply.TheVariants as reply
 use Rattle.txn_core.specs.Doing as doing
@@ -15,7 +16,7 @@ use Rattle.law_run_recovers.proofs.Rows.{start_was}
 use Rattle.law_run_recovers.proofs.Sides.{names_one, takes_named, its_agent, up_same}
 use Rattle.law_run_recovers.proofs.StepsServed.{OwnTook, own_took}
 use Rattle.law_run_recovers.proofs.Unrobbed.{unrecorded_at}
-use Rattle.law_run_recovers.proofs.MeetCalm.{Calm, accepted, can_at, up_at, table_same, log_same, busy_one, one_named, stored_at}
+use Rattle.law_run_recovers.proofs.MeetCalm.{Calm, accepted, can_at, up_at, busy_one, one_named, decided_has, decided_of_one}
 use Rattle.law_run_recovers.proofs.MeetQuiet.{GoesQuietly}
 
 -- no server has a lock, so none that is up
@@ -156,7 +157,7 @@ module _ (given : Opening) (events later : List Event) (calm : Calm given events
         of : (found : Option State) → server_at (run given events) server ≡ found → up_in found ≡ true → ((copy_of st.store z).prefix ≡ shown_in (fixed_of given) found z) × ((copy_of st.store z).dver ≡ dver_in found z)
         of None was up = absurd (false≢true up)
         of (Some old) was up =
-            let same = stored_at given events later calm (one.before ++ begins_event ∷ so_far) rest (part so_far rest split) server st at_run old was z in
+            let same = calm.stored (one.before ++ begins_event ∷ so_far) rest (part so_far rest split) server st at_run old was z in
             (ap (λ (copy : Replica). copy.prefix) same, ap (λ (copy : Replica). copy.dver) same)
 
   -- ---- so it goes quietly
@@ -172,10 +173,9 @@ module _ (given : Opening) (events later : List Event) (calm : Calm given events
     up = λ so_far rest split server st at. (up_now so_far rest split server st at, up_first so_far rest split server st at);
     stored = shows_same;
     tables = λ so_far rest split.
-        ap (table_of given) (append_assoc events one.before (begins_event ∷ so_far)) ∙ table_same given events later calm (one.before ++ begins_event ∷ so_far) rest (part so_far rest split);
-    asks_same = table_same given events later calm one.before (begins_event ∷ one.after) one.parts;
+        ap (λ all. (table_of given all).rows) (append_assoc events one.before (begins_event ∷ so_far)) ∙ calm.rows (one.before ++ begins_event ∷ so_far) rest (part so_far rest split);
     starts = λ z start may.
-        subst (λ log. WasPrefix (beginning z given) log start) (log_same given events later calm z one.before (begins_event ∷ one.after) one.parts)
+        calm.was one.before (begins_event ∷ one.after) one.parts z start
         (start_was given (events ++ one.before) (can_at given events later calm.fair one.before (begins_event ∷ one.after) one.parts) z one.agent one.site its_actor.0 start its_actor.1 may);
   }
 
@@ -195,18 +195,30 @@ module _ (given : Opening) (events later : List Event) (calm : Calm given events
       answers (Ok granted) = refl
       answers (Err refusal) = refl
 
-  pub never_decides : (so_far rest : List Event) → one.after ≡ so_far ++ Step one.agent ∷ rest → IsAtWork (world_after given (events ++ one.before) one.agent one.caller one.site one.ops so_far) one.agent one.t → (here : Actor)
+  pub never_decides : IsNotDecided (decisions given (events ++ later)) one.t → (so_far rest : List Event) → one.after ≡ so_far ++ Step one.agent ∷ rest → IsAtWork (world_after given (events ++ one.before) one.agent one.caller one.site one.ops so_far) one.agent one.t → (here : Actor)
       → actor_at (world_after given (events ++ one.before) one.agent one.caller one.site one.ops so_far) one.agent ≡ Some here → (asked : ℕ × Request) → next_of (fixed_of given) here.agent ≡ Some asked → is_decide asked.1 ≡ false
-  never_decides so_far rest split work here there asked next = of (is_decide asked.1) refl
+  never_decides undecided so_far rest split work here there asked next = of (is_decide asked.1) refl
     where
       w : World
       w = then_at so_far
 
-      front : List Event
-      front = one.before ++ begins_event ∷ so_far
+      runs_here : runs one.t here.agent.doing ≡ true
+      runs_here = ap (running_in one.t) (sym there) ∙ work.running
 
       none_now : decided (fixed_of given) (then_at so_far) (Step one.agent) ≡ None
-      none_now = ap (λ w. decided (fixed_of given) w (Step one.agent)) (run_is so_far) ∙ calm.none front rest (Step one.agent) (part so_far (Step one.agent ∷ rest) split)
+      none_now = ap (λ w. decided (fixed_of given) w (Step one.agent)) (run_is so_far) ∙ none (decided (fixed_of given) (run given (events ++ (one.before ++ begins_event ∷ so_far))) (Step one.agent)) refl
+        where
+          same_step : (a b : ℕ) → Step a ≡ Step b → a ≡ b
+          same_step a b is = cc
+
+          none : (found : Option Decided) → decided (fixed_of given) (run given (events ++ (one.before ++ begins_event ∷ so_far))) (Step one.agent) ≡ found → found ≡ None
+          none None is = refl
+          none (Some d) is =
+              let cut = part so_far (Step one.agent ∷ rest) split in
+              let it = decided_of_one given events later calm.fair (one.before ++ begins_event ∷ so_far) rest (Step one.agent) cut d is in
+              let same = same_Some it.so.actor here (sym it.so.there ∙ ap (actor_at (run given (events ++ (one.before ++ begins_event ∷ so_far)))) (same_step it.so.number one.agent (sym it.so.step)) ∙ ap (λ w. actor_at w one.agent) (sym (run_is so_far)) ∙ there) in
+              let number = eqb-true it.so.txn_run.task.t one.t (ap (runs one.t) (sym it.so.running) ∙ ap (λ (a : Actor). runs one.t a.agent.doing) same ∙ runs_here) in
+              absurd (undecided d (contains_from (decisions given (events ++ later)) d (decided_has given events later calm.fair (one.before ++ begins_event ∷ so_far) rest (Step one.agent) cut d is)) (it.so.t ∙ number))
 
       served_so : is_some (step (fixed_of given) (then_at so_far) (Step one.agent)).done.served ≡ true
       served_so = hindered (is_some (step (fixed_of given) w (Step one.agent)).done.served) (robs given one.agent one.t w (Step one.agent)) (bereaves given one.agent one.t w (Step one.agent))
@@ -243,4 +255,4 @@ module _ (given : Opening) (events later : List Event) (calm : Calm given events
 
       of : (b : Bool) → is_decide asked.1 ≡ b → b ≡ false
       of false is = refl
-      of true is = absurd (by here.agent.doing refl next (ap (running_in one.t) (sym there) ∙ work.running) is)
+      of true is = absurd (by here.agent.doing refl next runs_here is)

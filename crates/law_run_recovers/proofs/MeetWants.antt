@@ -1,7 +1,8 @@
 -- One that meets another and is not decided wants votes: it asked for a lock, and of who has a vote too few did not refuse it.
-use Rattle.law_run_recovers.proofs.Vocabulary.{◌≡◌, inl, inr, ⊎_elim, ℕ, ◌+◌, ◌<◌, ◌≤◌, Bool, true, false, List, [], ◌∷◌, ◌++◌, refl, sym, subst, ◌∙◌, arith, ◌==◌, ◌&&◌, ◌%◌, ◌/◌, not, AllByRecursion, Contains, mod-lt, false≢true, eqb-true}
-use Rattle.law_run_recovers.proofs.Vocabulary.{Opening, LockMode, Shared, Exclusive, serves, needed_of, mode_of, Configuration, votes_in, votes_at, total_votes, IsValid, Service, Has, has_from, Transaction, home_of, fixed_of, Event, Begin}
-use Rattle.law_run_recovers.proofs.Vocabulary.{Actor, run, decisions, table_of, service_stays, EventGivesValidVotes, Begun, votes_set, asks_for, first_mode, is_up, shown_at, begun_world, SetsApart, votes_now}
+use Rattle.law_run_recovers.proofs.Vocabulary.{Bool, Contains, List, [], ap, append_assoc, arith, false, inl, inr, not, refl, subst, sym, true, ℕ, ⊎_elim, ◌%◌, ◌&&◌, ◌++◌, ◌+◌, ◌/◌, ◌<◌, ◌==◌, ◌∙◌, ◌∷◌, ◌≡◌, ◌≤◌, ◌⊎◌, mod-lt}
+use Rattle.law_run_recovers.proofs.Vocabulary.{eqb-true, false≢true, AllByRecursion, Service, EventGivesValidVotes, machine_of, append_has_left, service_stays, IsNotDecided, beginning, WasPrefix, Has, contains_from, has_from}
+use Rattle.law_run_recovers.proofs.Vocabulary.{decisions_from-append, decisions, decisions_from, run, table_of, Actor, opening, Event, Begin, mode_of, needed_of, serves, Opening, Prefix, LockMode, Exclusive, Shared, fixed_of}
+use Rattle.law_run_recovers.proofs.Vocabulary.{home_of, Transaction, Configuration, total_votes, votes_at, votes_in, IsValid, Begun, votes_set, SetsApart, votes_now, asks_for, first_mode, is_up, shown_at, begun_world}
 use Rattle.file_ops.specs.Rows as rows
 use Rattle.law_run_recovers.proofs.Free.{is_up_of}
 use Rattle.law_run_recovers.proofs.MeetCalm.{Calm, calm_front}
@@ -65,6 +66,12 @@ module _ (given : Opening) (events later : List Event) (calm : Calm given events
   abbrev pub shows : ℕ → ℕ → ℕ
   shows y server = (shown_at (fixed_of given) (run given events) y server).pver
 
+  -- votes of a prefix that the suite had
+  pub record WereFound (suite : ℕ) (votes : Configuration) : Type 0 where
+    pub prefix : Prefix
+    pub is : votes ≡ prefix.votes
+    pub was : WasPrefix (beginning suite given) (machine_of given suite events).log prefix
+
   -- a lock that it asked for, of which it got too few votes
   pub record Wants (others : List (ℕ × LockMode)) : Type 0 where
     pub suite : ℕ
@@ -74,6 +81,7 @@ module _ (given : Opening) (events later : List Event) (calm : Calm given events
     pub open' : ℕ → Bool
     pub few : votes_in votes.reps open' < needed_of mode votes
     pub most : needed_of mode votes ≤ total_votes votes.reps
+    pub found : Contains (votes_set (table_of given events) who.t who.caller who.ops) (suite, votes) ⊎ WereFound suite votes
     pub falls : Falls (votes_now given events) had shows others suite votes open'
     pub shut : (server : ℕ) → 0 < votes_at votes.reps server → open' server ≡ false
         → some_step (refuses who.t suite mode server) who.agent (fixed_of given) (begun_world given (events ++ who.before) who.agent who.caller who.site who.ops) f.front ≡ true
@@ -96,10 +104,18 @@ module _ (given : Opening) (events later : List Event) (calm : Calm given events
       (sets_valid (table_of given events) who.t who.caller who.ops (subst (λ (service : Service). IsValid service.c0) (sym service_is) goes.can_base.c0)
       (at_here (events ++ who.before) (Begin who.agent (Transaction who.caller who.site who.ops)) f.front goes.can.votes)) set has
 
-  module _ (others : List (ℕ × LockMode)) (apart : SetsApart given events (votes_set (table_of given events) who.t who.caller who.ops) others) where
+  module _ (undecided : IsNotDecided (decisions given (events ++ later)) who.t) (others : List (ℕ × LockMode)) (apart : SetsApart given events (votes_set (table_of given events) who.t who.caller who.ops) others) where
+    undecided_upto : IsNotDecided (decisions given (events ++ (who.before ++ Begin who.agent (Transaction who.caller who.site who.ops) ∷ f.front))) who.t
+    undecided_upto d there =
+        undecided d
+        (contains_from (decisions given (events ++ later)) d
+        (subst (λ all. Has (decisions given all) d) (append_assoc events upto f.back ∙ ap (λ later. events ++ later) (sym whole))
+        (subst (λ list. Has list d) (sym (decisions_from-append (fixed_of given) (opening given) (events ++ upto) f.back))
+        (append_has_left (decisions given (events ++ upto)) (decisions_from (fixed_of given) (run given (events ++ upto)) f.back) d (has_from (decisions given (events ++ upto)) d there)))))
+
     pub wants : Wants others
     wants =
-        let never = never_decides given events upto calm_upto it in
+        let never = never_decides given events upto calm_upto it undecided_upto in
         let weaker = free_weaker given events (events ++ who.before) f.front who.agent who.t who.caller who.site who.ops actor goes in
         let opens_up = free_up given events (events ++ who.before) f.front who.agent who.t who.caller who.site who.ops actor goes in
         let fits = free_fits given events (events ++ who.before) f.front who.agent who.t who.caller who.site who.ops actor goes in
@@ -120,6 +136,7 @@ module _ (given : Opening) (events later : List Event) (calm : Calm given events
           open' = open_to one.suite one.mode;
           few = one.few;
           most = in_range one.votes one.mode (set_valid (one.suite, one.votes) has);
+          found = inl set.1;
           falls = ⊎_elim (λ same. inl same) (λ none. inr (inr none)) (apart (one.suite, one.votes) set.1);
           shut = λ server has_vote is. barred server (up_voter given events goes.can_base goes.free calm.fair.up one.votes (set_known (one.suite, one.votes) has) server has_vote) is;
         })
@@ -133,6 +150,7 @@ module _ (given : Opening) (events later : List Event) (calm : Calm given events
           open' = open_to one.suite one.mode;
           few = one.few;
           most = in_range one.votes one.mode (subst IsValid (sym found.is) (valid_was given events goes.can_base goes.free calm.fair.up one.suite found.prefix found.was));
+          found = inr (record { prefix = found.prefix; is = found.is; was = found.was });
           falls = ⊎_elim
               (λ row. inl (found.is ∙ row))
               (λ old. inr (inl (record {

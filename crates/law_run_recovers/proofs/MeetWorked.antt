@@ -51,7 +51,7 @@ tight Exclusive Shared = refl
 tight Exclusive Exclusive = refl
 
 -- a front of one decision is none, or it
-one_or_none : (front back : List Decided) (d : Decided) → d ∷ [] ≡ front ++ back → (front ≡ []) ⊎ (front ≡ d ∷ [])
+pub one_or_none : (front back : List Decided) (d : Decided) → d ∷ [] ≡ front ++ back → (front ≡ []) ⊎ (front ≡ d ∷ [])
 one_or_none [] back d is = inl refl
 one_or_none (x ∷ []) back d is = inr (ap (λ x. x ∷ []) (sym (ap (head_or x) is)))
 one_or_none (x ∷ y ∷ front) back d is = absurd (nil_not (ap tail_or is))

@@ -238,6 +238,7 @@ pub use Rattle.law_run_recovers.specs.MeetsWorked.{SomeRunsMeet, SomeRunsMeetByR
 pub use Rattle.law_run_recovers.specs.Near.{AreNear, asks_for, in_its_way, is_open_at, is_open_way, is_way_met, way_at, way_in}
 pub use Rattle.law_run_recovers.specs.OpenDemands.{Want, first_mode, mode_or, open_demand, open_demands, wants, wants_of_rows}
 pub use Rattle.law_run_recovers.specs.Promises.{IsAvailable, Lends}
+pub use Rattle.law_run_recovers.specs.Readers.{ReadersMeet, WriterOrReadersAreDecided, only_reads}
 pub use Rattle.law_run_recovers.specs.Standing.{all_free, holders, in_doubt, is_in_doubt, is_up, locks_at, locks_in, one_if, shown_at, shown_in, up_free, up_in}
 pub use Rattle.law_run_recovers.specs.Sweeping.{AllIsStored, NoLockIsLeft, OnlyDoubtsAreLeft, SweepsKeepEffects, SweepsLeaveDoubts, TakenAwayAreNeverDecided, goes_round, stands, sweeps}
 pub use Rattle.law_run_recovers.specs.Told.{AmongLocksAreToldAsBegun, AsAtItsBegin, SameWay, ToldAreAnsweredAsBegun, ToldAreDecidedWhereVotesAre, ToldAsAtItsBegin, ToldEndByVotes, ToldEndInTime, ToldGatherTheirAsks, ToldHadVotesOpen}

@@ -39,18 +39,20 @@
 //! - A transaction whose lock was taken away is never decided (`taken_away_are_never_decided`).
 //! - `promise` lends all this of a world, and `what_can_be_is_available` of any events that there can be. In
 //!   `some_runs_recover` and `some_runs_go_side_by_side` it says something.
+//! - Where one writes and any number only read what it writes, it is decided or each of them is
+//!   (`writer_or_readers_are_decided`).
 //! - Not promised: that of other transactions that meet one is decided (`some_runs_starve`).
 //!
 //! **The caller owes** to `promise` a world that some events made of accepted settings (`IsOfRun`).
 //!
 //! **Files**: `lib`, `meeting`, `promises`, `told`. **Definitions** (`specs/`): `Standing`, `Alone`, `Demands`,
 //! `InTime`, `Laws`, `Sweeping`, `Promises`, `Worked`, `Near`, `Unmet`, `OpenDemands`, `Local`, `Among`, `Told`,
-//! `Beside`, `BesideDown`, `BesideWorked`, `Meets`, `MeetsByRows`, `MeetsWorked`, `Histories`, `Blocking`, `Contending`,
-//! `LawsWorked`.
+//! `Beside`, `BesideDown`, `BesideWorked`, `Meets`, `MeetsByRows`, `MeetsWorked`, `Readers`, `ReadersWorked`,
+//! `Histories`, `Blocking`, `Contending`, `LawsWorked`.
 //! The proofs follow a transaction over its agent's steps (`proofs/Stands.antt`, `Asking.antt`; at each moment
 //! `AmongCourse.antt`, `AmongStep.antt`, `AmongEnds.antt`, of which what goes alone is a case, `AloneLaws.antt`,
-//! `Tries.antt`; where two meet `MeetCourse.antt`, `MeetReach.antt`, `MeetLaw.antt`) and a sweep by its list
-//! (`Sweeps.antt`, `Swept.antt`, `Rounds.antt`).
+//! `Tries.antt`; where two meet `MeetCourse.antt`, `MeetReach.antt`, `MeetLaw.antt`; where readers do
+//! `MeetReaders.antt`) and a sweep by its list (`Sweeps.antt`, `Swept.antt`, `Rounds.antt`).
 #![tactic(auto)]
 
 mod meeting;
@@ -73,7 +75,7 @@ ghost use Rattle.law_run_recovers.specs.LawsWorked.{SomeRunsShowTheLaws};
 
 pub use meeting::{
     one_that_meets_by_rows_is_decided, one_that_meets_is_decided, some_runs_meet,
-    some_runs_meet_by_rows,
+    some_runs_meet_by_rows, some_runs_meet_readers, writer_or_readers_are_decided,
 };
 pub use promises::{promise, what_can_be_is_available};
 pub use told::{

@@ -3,6 +3,8 @@
 ghost use Rattle.law_run_recovers.specs.Meets.{OneThatMeetsIsDecided};
 ghost use Rattle.law_run_recovers.specs.MeetsByRows.{OneThatMeetsByRowsIsDecided};
 ghost use Rattle.law_run_recovers.specs.MeetsWorked.{SomeRunsMeet, SomeRunsMeetByRows};
+ghost use Rattle.law_run_recovers.specs.Readers.{WriterOrReadersAreDecided};
+ghost use Rattle.law_run_recovers.specs.ReadersWorked.{SomeRunsMeetReaders};
 
 /// A law: two transactions begin, and no other job, where every agent is idle, every server is up and no lock is left,
 /// and nothing spoils what follows. They meet first at one suite, in modes that clash: not both read it and then write
@@ -29,4 +31,18 @@ pub fn some_runs_meet()
 /// old ones; the other is answered. It does nothing.
 pub fn some_runs_meet_by_rows()
     ensures { SomeRunsMeetByRows }
+{}
+
+/// A law: transactions begin where every agent is idle, every server is up and no lock is left, and nothing spoils what
+/// follows. All but one only read, and that one clashes with them at one suite alone, whose votes were never moved, nor does
+/// it move them; r + w is one more than the votes. Once it has ended and a reader has, one of both was decided: so it was, or
+/// each reader that ended. It does nothing.
+pub fn writer_or_readers_are_decided()
+    ensures { WriterOrReadersAreDecided }
+{}
+
+/// A law: a run in which one sets the list of a file while two read it, step by step in turn; it is refused, and each of
+/// them is answered. It does nothing.
+pub fn some_runs_meet_readers()
+    ensures { SomeRunsMeetReaders }
 {}

@@ -39,9 +39,9 @@
 //! with them, goes through `LockTable`: a few stand in a vector, and many in blocks, with who holds them and which are
 //! not prepared beside them. A verdict keeps a list of 16 names or more as one text, and the same list once.
 //!
-//! **Files**: `lock`, `request`, `reply`, `stamped`, `takes`, `fitting`, `intention`, `store`, `opening_copies`, `maps`, `copying`,
-//! `holders`, `few_locks`, `many_locks`, `locks`, `packed_names`, `kept_verdict`, `verdicts`, `sameness`, `step`,
-//! `server_state`, `evaluate`, `answering`, `server`, `effect`, `types_fit`, `laws`.
+//! **Files**: `lock`, `request`, `reply`, `stamped`, `takes`, `fitting`, `intention`, `store`, `opening_copies`,
+//! `maps`, `copying`, `holders`, `few_locks`, `many_locks`, `locks`, `packed_names`, `kept_verdict`, `verdicts`,
+//! `sameness`, `step`, `server_state`, `evaluate`, `answering`, `server`, `effect`, `types_fit`, `laws`.
 //!
 //! **Definitions** (`specs/`): `Locks`, `Intentions`, `Store`, `State`, `Service`, `Serving`, `Fits`, `Roomed`,
 //! `Evaluated`, `Wanting`, `Bare`; of the laws `Consistency`, `Steps`, `ValidCopies`, `Again`, `Laws`.

@@ -2,6 +2,7 @@ pub mod Accepted
 pub mod HeaderLines
 pub mod HeaderText
 pub mod IsPlay
+pub mod Naming
 pub mod NewestCopies
 pub mod OneMore
 pub mod Played

@@ -6,7 +6,7 @@ use Rattle.suite_prefix.specs.SettingsRules.{Opening}
 use Rattle.suite_session.specs.Copies.{standing_at, standing_line, standing_lines}
 use Rattle.suite_session.specs.HeldLocks.{locks_by, locks_text}
 use Rattle.suite_session.specs.Places.{named_by, named_in, room_line, room_lines}
-use Rattle.suite_session.specs.Rows.{Copies, newer, newest, stored_by, stored_in}
+use Rattle.suite_session.specs.Rows.{Copies, newer, newest}
 use Rattle.suite_session.specs.declared.copies.Sought.{Sought}
 use Rattle.suite_session.specs.declared.side.Side.{Side}
 
@@ -15,10 +15,9 @@ one_more count = omega arith
 
 -- ---- the newest copies of a suite
 
-pub newest_more : (one : Side) (world : World) (suite count : ℕ)
-    → newest one (stored_in world) suite (count + 1) ≡ newer one (newest one (stored_in world) suite count) (stored_by (server_at world count) suite)
+pub newest_more : (one : Side) (copies : Copies) (suite count : ℕ) → newest one copies suite (count + 1) ≡ newer one (newest one copies suite count) (copies count suite)
 unfolding newest
-newest_more one world suite count = ap (newest one (stored_in world) suite) (one_more count)
+newest_more one copies suite count = ap (newest one copies suite) (one_more count)
 
 pub none_newest : (one : Side) (copies : Copies) (suite : ℕ) → newest one copies suite 0 ≡ None
 unfolding newest

@@ -1,4 +1,4 @@
--- What copies tell of a path is what the table has there, where they tell what is in effect.
+-- What copies tell of a path is what the table has there, where they are those that are in effect.
 use Rattle.std.proofs.Common.{◌≡◌, ◌⊎◌, ℕ, ◌<◌, ◌≤◌, true, List, [], ◌∷◌, Option, Some, None, inl, inr, refl, sym, ap, subst, ◌∙◌, arith}
 use Rattle.std.proofs.lemmas.Bool.Decides.{nat_tests}
 use Rattle.std.proofs.lemmas.List.{append-nil}
@@ -31,8 +31,8 @@ use Rattle.suite_prefix.specs.declared.copies.PrefixKind.{PrefixKind}
 use Rattle.suite_prefix.specs.declared.copies.PrefixKind.TheVariants as kind
 use Rattle.suite_prefix.specs.declared.copies.Replica.{Replica}
 use Rattle.suite_session.proofs.NewestCopies.{IsNewest, is_newest}
-use Rattle.suite_session.specs.Rows.{Copies, child_in, child_of, found, found_at, found_on, newest, shown_by, shown_for, unless_absent}
-use Rattle.suite_session.specs.TableRows.{OnNext, OnPath, OnWay, TellTheRow, child_by, leads_at, leads_to, numbered, numbered_at, row_in, row_told}
+use Rattle.suite_session.specs.Rows.{Copies, child_in, child_of, found, found_at, found_on, newest, shown_by, shown_for, shown_at, unless_absent}
+use Rattle.suite_session.specs.TableRows.{IsTheRow, child_by, leads_at, leads_to, numbered, numbered_at, row_in, row_told}
 use Rattle.suite_session.specs.declared.shown.Shown.{Shown}
 use Rattle.suite_session.specs.declared.side.Side.TheVariants as side
 use Rattle.txn_core.specs.Suites.{row_with}
@@ -310,37 +310,23 @@ module _ (given : Opening) (events : List Event) (kept : AllKeepSides given even
 
 -- ---- the way
 
--- what holds on the way holds at the end
-next_end : (next : Option ℕ) (P Q : ℕ → Type 0) (lead : ℕ → Option ℕ) → ((n : ℕ) → Q n → OnNext (lead n) P) → OnNext next Q → OnNext (found_on next lead) P
-next_end None P Q lead goes on = tt
-next_end (Some n) P Q lead goes on = goes n on
-
-at_end : (P : ℕ → Type 0) (rows : Rows) (suite : ℕ) (names : List (List ℕ)) → OnWay P rows suite names → OnNext (leads_to rows suite names) P
-at_end P rows suite [] holds = holds
-at_end P rows suite (name ∷ names) holds =
-    next_end (child_by (row_of rows suite) name) P (λ next. OnWay P rows next names) (λ next. leads_to rows next names) (λ next on. at_end P rows next names on) holds.1
-
-module _ (given : Opening) (events : List Event) (kept : AllKeepSides given events) (copies : Copies) where
+module _ (given : Opening) (events : List Event) (kept : AllKeepSides given events) (copies : Copies) (tell : (suite : ℕ) → ShowEffects given events copies suite) where
   abbrev rows : Rows
   rows = (table_of given events).rows
 
-  abbrev Show : ℕ → Type 0
-  Show suite = ShowEffects given events copies suite
+  same_next : (next : Option ℕ) (f g : ℕ → Option ℕ) → ((n : ℕ) → f n ≡ g n) → found_on next f ≡ found_on next g
+  same_next None f g same = refl
+  same_next (Some n) f g same = same n
 
-  same_next : (next : Option ℕ) (Q : ℕ → Type 0) (f g : ℕ → Option ℕ) → ((n : ℕ) → Q n → f n ≡ g n) → OnNext next Q → found_on next f ≡ found_on next g
-  same_next None Q f g same on = refl
-  same_next (Some n) Q f g same on = same n on
+  same_way : (suite : ℕ) (names : List (List ℕ)) → found copies given.servers suite names ≡ leads_to rows suite names
+  same_way suite [] = refl
+  same_way suite (name ∷ names) =
+      ap (λ c. found_on c (λ next. found copies given.servers next names)) ((told_as given events kept copies suite (tell suite)).child name)
+      ∙ same_next (child_by (row_of rows suite) name) (λ next. found copies given.servers next names) (λ next. leads_to rows next names) (λ next. same_way next names)
 
-  same_way : (suite : ℕ) (names : List (List ℕ)) → OnWay Show rows suite names → found copies given.servers suite names ≡ leads_to rows suite names
-  same_way suite [] show = refl
-  same_way suite (name ∷ names) show =
-      ap (λ c. found_on c (λ next. found copies given.servers next names)) ((told_as given events kept copies suite show.0).child name)
-      ∙ same_next (child_by (row_of rows suite) name) (λ next. OnWay Show rows next names) (λ next. found copies given.servers next names) (λ next. leads_to rows next names)
-      (λ next on. same_way next names on) show.1
-
-  same_row : (suite : Option ℕ) → OnNext suite Show → row_told (shown_for copies given.servers suite) ≡ numbered_at rows suite
-  same_row None show = refl
-  same_row (Some suite) show = (told_as given events kept copies suite show).row
+  same_row : (suite : Option ℕ) → row_told (shown_for copies given.servers suite) ≡ numbered_at rows suite
+  same_row None = refl
+  same_row (Some suite) = (told_as given events kept copies suite (tell suite)).row
 
   -- a row that is told is there
   row_there : (suite : ℕ) (one : Shown) (told : Option Shown) (row : Option Row) → told ≡ Some one → row_told told ≡ numbered suite row → (its : Row) × (row ≡ Some its)
@@ -348,31 +334,26 @@ module _ (given : Opening) (events : List Event) (kept : AllKeepSides given even
   row_there suite one (Some other) None is same = absurd (none-some (row_in other) (sym same))
   row_there suite one (Some other) (Some row) is same = (row, refl)
 
-  same_versions : (suite : Option ℕ) (one : Shown) (versions : HaveVersions given events) → OnNext suite Show → shown_for copies given.servers suite ≡ Some one
+  same_versions : (suite : Option ℕ) (one : Shown) (versions : HaveVersions given events) → shown_for copies given.servers suite ≡ Some one
       → ((versions.at events one.suite).prefix ≡ one.prefix.pver) × ((versions.at events one.suite).content ≡ one.dver)
-  same_versions None one versions show is = absurd (none-some one is)
-  same_versions (Some suite) one versions show is =
-      let told = told_as given events kept copies suite show in
+  same_versions None one versions is = absurd (none-some one is)
+  same_versions (Some suite) one versions is =
+      let told = told_as given events kept copies suite (tell suite) in
       let its = told.versions one is in
       let row = row_there suite one (shown_for copies given.servers (Some suite)) (row_of rows suite) is told.row in
-      let at = its_versions given events kept copies suite show row.0 versions row.1 in (
+      let at = its_versions given events kept copies suite (tell suite) row.0 versions row.1 in (
         ap (λ n. (versions.at events n).prefix) its.0 ∙ at.0 ∙ sym its.1,
         ap (λ n. (versions.at events n).content) its.0 ∙ at.1 ∙ sym its.2,
       )
 
-  same_at : (names : Option (List (List ℕ))) → OnPath Show rows names → found_at copies given.servers names ≡ leads_at rows names
-  same_at None show = refl
-  same_at (Some names) show = same_way root names show
+  same_at : (names : Option (List (List ℕ))) → found_at copies given.servers names ≡ leads_at rows names
+  same_at None = refl
+  same_at (Some names) = same_way root names
 
-  ends : (names : Option (List (List ℕ))) → OnPath Show rows names → OnNext (leads_at rows names) Show
-  ends None show = tt
-  ends (Some names) show = at_end Show rows root names show
-
-  pub tell_the_row : (text : List ℕ) → OnPath Show rows (names_of text) → TellTheRow given events copies text
-  tell_the_row text show =
-      let same = ap (shown_for copies given.servers) (same_at (names_of text) show) in
-      let last = ends (names_of text) show in
+  pub is_the_row : (text : List ℕ) → IsTheRow given events text (shown_at copies given.servers text)
+  is_the_row text =
+      let same = ap (shown_for copies given.servers) (same_at (names_of text)) in
       record {
-        row = ap row_told same ∙ same_row (leads_at rows (names_of text)) last;
-        versions = λ one versions is. same_versions (leads_at rows (names_of text)) one versions last (sym same ∙ is);
+        row = ap row_told same ∙ same_row (leads_at rows (names_of text));
+        versions = λ one versions is. same_versions (leads_at rows (names_of text)) one versions (sym same ∙ is);
       }

@@ -1,4 +1,4 @@
--- What each server has of what stands at a path: of servers that are down too, but for what is prepared no more than the stored copies.
+-- What each server has stored of what stands at a path by the copies in effect, and whether more is prepared; of servers that are down too.
 use Rattle.std.specs.Prelude.{ℕ, zero, suc, ◌==◌, nat_lt, Bool, true, false, ◌&&◌, List, ◌++◌, codes, decimal, option_map, Option, Some, None}
 use Rattle.std.specs.List.{list_any}
 use Rattle.file_ops.specs.Paths.{names_of}
@@ -7,7 +7,7 @@ use Rattle.rep_core.specs.declared.lock.Lock.{Lock}
 use Rattle.run_core.specs.Worlds.{World, server_at}
 use Rattle.suite_prefix.specs.declared.copies.Replica.{Replica}
 use Rattle.suite_script.specs.Faults.{line_feed}
-use Rattle.suite_session.specs.Rows.{found_at, newest, stored_by, stored_in, version_of}
+use Rattle.suite_session.specs.Rows.{found_at, in_effect_in, newest, stored_by, stored_in, version_of}
 use Rattle.suite_session.specs.declared.copies.Sought.{Sought}
 use Rattle.suite_session.specs.declared.copies.Standing.{Standing}
 use Rattle.suite_session.specs.declared.copies.Versions.{Versions}
@@ -42,7 +42,7 @@ standing_at world suite number = record {
 
 -- ---- what is newest
 
--- the version of the newest copy at the first so many servers, and 0 where there is none
+-- the version of the newest stored copy at the first so many servers, and 0 where there is none
 abbrev pub version_in : Side → Option Replica → ℕ
 version_in one (Some copy) = version_of one copy
 version_in one None = 0
@@ -93,4 +93,4 @@ copies_of world count text (Some suite) = standing_lines text (sought_in world c
 copies_of world count text None = codes "copies " ++ text ++ codes " nothing" ++ line_feed
 
 abbrev pub copies_text : World → ℕ → List ℕ → List ℕ
-copies_text world count text = copies_of world count text (found_at (stored_in world) count (names_of text))
+copies_text world count text = copies_of world count text (found_at (in_effect_in world count) count (names_of text))

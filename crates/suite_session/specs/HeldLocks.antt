@@ -8,12 +8,11 @@ use Rattle.suite_prefix.specs.LockModes.{is_exclusive}
 use Rattle.suite_prefix.specs.SettingsRules.{Opening}
 use Rattle.suite_script.specs.Faults.{line_feed}
 use Rattle.suite_session.specs.Copies.{is_up}
-use Rattle.txn_core.specs.Agents.{fixed_of}
-use Rattle.txn_core.specs.Doing.{home_of}
+use Rattle.txn_core.specs.Doing.{home_among}
 
 -- whether the server that decides a transaction is up
 abbrev pub home_is_up : Opening → World → ℕ → Bool
-home_is_up given world t = is_up (server_at world (home_of (fixed_of given).service t))
+home_is_up given world t = is_up (server_at world (home_among given.servers t))
 
 -- a prepared lock is in doubt while the home of its transaction is down
 abbrev pub stage_text : Bool → Bool → List ℕ

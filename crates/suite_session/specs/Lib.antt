@@ -8,3 +8,4 @@ pub mod Questions
 pub mod Rows
 pub mod Services
 pub mod TableRows
+pub mod code

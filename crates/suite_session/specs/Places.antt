@@ -16,6 +16,10 @@ use Rattle.suite_session.specs.declared.side.Side.TheVariants as side
 
 -- ---- what is named
 
+-- whether a number is among others
+abbrev pub has : List ℕ → ℕ → Bool
+has numbers one = list_any (λ number. number == one) numbers
+
 -- the numbers of the suites that a content names
 abbrev pub numbers_in : Content → List ℕ
 numbers_in (Names names) = map (λ name. name.1) names
@@ -47,7 +51,7 @@ named_in world count (suc number) = named_in world count number ++ named_by worl
 
 -- so many suites of a server are not named
 abbrev pub unnamed : List ℕ → List (ℕ × Replica) → ℕ
-unnamed named copies = count_by (λ pair. not (list_any (λ number. number == pair.0) named)) copies
+unnamed named copies = count_by (λ pair. not (has named pair.0)) copies
 
 -- a place is taken by each suite of which a server has a copy
 abbrev pub taken_text : List (ℕ × Replica) → List ℕ

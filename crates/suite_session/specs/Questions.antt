@@ -9,7 +9,7 @@ use Rattle.suite_script.specs.declared.fault.LineFault.TheVariants.{Form}
 use Rattle.suite_session.specs.Copies.{copies_text}
 use Rattle.suite_session.specs.HeldLocks.{locks_text}
 use Rattle.suite_session.specs.Places.{room_text}
-use Rattle.suite_session.specs.Rows.{content_line, row_line, shown_at, stored_in}
+use Rattle.suite_session.specs.Rows.{content_line, row_line, standing}
 use Rattle.suite_session.specs.declared.open_service.OpenService.{OpenService}
 use Rattle.suite_session.specs.declared.question.Question.{Question}
 use Rattle.suite_session.specs.declared.question.Question.TheVariants as question
@@ -37,8 +37,8 @@ path_in words = do
 
 -- what is told: what stands at the path, or else the bytes of the file there
 abbrev pub shown_line : OpenService → Question → Word → List ℕ
-shown_line service question.Row path = row_line path (shown_at (stored_in service.world.world) service.settings.servers path)
-shown_line service _ path = content_line path (shown_at (stored_in service.world.world) service.settings.servers path)
+shown_line service question.Row path = row_line path (standing service.world.world service.settings.servers path)
+shown_line service _ path = content_line path (standing service.world.world service.settings.servers path)
 
 -- or what each server has of it; or all locks; or how many places are taken
 abbrev pub question_text : OpenService → Question → Word → List ℕ

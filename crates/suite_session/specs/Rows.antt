@@ -1,10 +1,11 @@
--- What stands at a path, as the newest of all copies have it, of servers that are down too.
-use Rattle.std.specs.Prelude.{ℕ, zero, suc, nat_lt, if◌then◌else◌, List, [], ◌∷◌, ◌++◌, codes, decimal, length, Option, Some, None}
+-- What stands at a path, as the newest of all copies in effect have it, of servers that are down too.
+use Rattle.std.specs.Prelude.{ℕ, zero, suc, nat_lt, Bool, false, if◌then◌else◌, List, [], ◌∷◌, ◌++◌, codes, decimal, length, option_map, Option, Some, None}
 use Rattle.std.specs.Ordering.{nat_cmp}
 use Rattle.acl_text.specs.Writing.{short_text}
 use Rattle.file_ops.specs.Paths.{names_of}
 use Rattle.file_ops.specs.Rows.{root}
-use Rattle.rep_core.specs.State.{State}
+use Rattle.rep_core.specs.State.{State, record_of, was_answered}
+use Rattle.rep_core.specs.Store.{prepared_of}
 use Rattle.run_core.specs.Worlds.{World, server_at}
 use Rattle.sorted_map.specs.SortedMap.{get}
 use Rattle.suite_content.specs.Folders.{number_of}
@@ -13,25 +14,52 @@ use Rattle.suite_content.specs.declared.content.Content.TheVariants.{Bytes, Name
 use Rattle.suite_prefix.specs.declared.copies.Prefix.{Prefix}
 use Rattle.suite_prefix.specs.declared.copies.PrefixKind.{PrefixKind}
 use Rattle.suite_prefix.specs.declared.copies.PrefixKind.TheVariants as kind
+use Rattle.suite_prefix.specs.Stored.{Kept}
 use Rattle.suite_prefix.specs.declared.copies.Replica.{Replica}
 use Rattle.suite_script.specs.Faults.{line_feed}
 use Rattle.suite_script.specs.Texts.{bytes_text}
 use Rattle.suite_script.specs.Votes.{votes_text}
+use Rattle.suite_session.specs.declared.newest.Which.{Which}
+use Rattle.suite_session.specs.declared.newest.Which.TheVariants as which
 use Rattle.suite_session.specs.declared.shown.Shown.{Shown}
 use Rattle.suite_session.specs.declared.side.Side.{Side}
 use Rattle.suite_session.specs.declared.side.Side.TheVariants as side
+use Rattle.txn_core.specs.Doing.{home_among}
 
--- ---- the newest copy
+-- ---- the copies
 
 -- the version of one side of a copy: of its prefix, or of its content
 abbrev pub version_of : Side → Replica → ℕ
 version_of side.Prefix copy = copy.prefix.pver
 version_of side.Content copy = copy.dver
 
+-- a copy, where there is one, without its form
+abbrev pub copy_in : Option Kept → Option Replica
+copy_in kept = option_map (λ kept. kept.copy) kept
+
 -- the copy of a suite at a server, where it has one
 abbrev pub stored_by : Option State → ℕ → Option Replica
 stored_by (Some st) suite = get nat_cmp st.store.copies suite
 stored_by None suite = None
+
+-- whether a server recorded that a transaction was answered
+abbrev pub has_answered : Option State → ℕ → Bool
+has_answered (Some st) t = was_answered (record_of st t)
+has_answered None t = false
+
+-- whether its home did, among so many servers
+abbrev pub is_answered : World → ℕ → ℕ → Bool
+is_answered world servers t = has_answered (server_at world (home_among servers t)) t
+
+-- what a transaction is prepared to leave, where it was answered, and else the stored copy
+abbrev pub answered_or : (ℕ → Bool) → Option (ℕ × Replica) → Option Replica → Option Replica
+answered_or answered (Some prepared) stored = if answered prepared.0 then Some prepared.1 else stored
+answered_or answered None stored = stored
+
+-- the copy that is in effect at a server, where there is one
+abbrev pub in_effect_by : (ℕ → Bool) → Option State → ℕ → Option Replica
+in_effect_by answered (Some st) suite = answered_or answered (prepared_of st.store suite) (get nat_cmp st.store.copies suite)
+in_effect_by answered None suite = None
 
 -- copies by server and suite: where a server has none there is none
 abbrev pub Copies : Type 0
@@ -40,6 +68,16 @@ Copies = ℕ → ℕ → Option Replica
 -- those that are stored
 abbrev pub stored_in : World → Copies
 stored_in world server suite = stored_by (server_at world server) suite
+
+-- those that are in effect, among so many servers
+abbrev pub in_effect_in : World → ℕ → Copies
+in_effect_in world servers server suite = in_effect_by (is_answered world servers) (server_at world server) suite
+
+abbrev pub copies_of : Which → World → ℕ → Copies
+copies_of which.Stored world servers = stored_in world
+copies_of which.InEffect world servers = in_effect_in world servers
+
+-- ---- the newest copy
 
 -- the newer of two copies, and the first where they are as new
 abbrev pub newer : Side → Option Replica → Option Replica → Option Replica
@@ -95,6 +133,10 @@ shown_for copies count None = None
 -- what stands at a path; at a text that is none nothing does
 abbrev pub shown_at : Copies → ℕ → List ℕ → Option Shown
 shown_at copies count text = shown_for copies count (found_at copies count (names_of text))
+
+-- by the copies that are in effect
+abbrev pub standing : World → ℕ → List ℕ → Option Shown
+standing world servers text = shown_at (in_effect_in world servers) servers text
 
 -- ---- how it is told
 

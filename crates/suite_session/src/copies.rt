@@ -1,12 +1,13 @@
 //! What each server has of what stands at a path.
 
 ghost use Rattle.std.specs.Prelude.{◌≡◌, ◌++◌, IfOk, OnOk, Some, codes, option_map};
+ghost use Rattle.std.specs.Option.{option_copied};
 ghost use Rattle.run_core.specs.Worlds.{server_at};
 ghost use Rattle.suite_script.specs.Faults.{line_feed};
 ghost use Rattle.suite_session.specs.Copies.{behind_text, copies_text, copy_text, is_prepared, is_prepared_by, is_up, prepared_text, sought_in, standing_at, standing_line, standing_lines, standing_text, up_text, version_in, versions_in};
-ghost use Rattle.suite_session.specs.Rows.{newest, stored_in};
+ghost use Rattle.suite_session.specs.Rows.{copy_in, newest, stored_in};
 
-use crate::newest::{copy_at, newest};
+use crate::newest::{Which, copy_at, newest};
 use crate::open_service::OpenService;
 use crate::shown::found_at;
 use crate::side::Side;
@@ -14,7 +15,7 @@ use rep_core::{Lock, Server};
 use run_core::World;
 use script_text::push_number;
 use std::alloc::{AllocError, Global};
-use suite_prefix::Replica;
+use suite_prefix::StoredCopy;
 
 /// The versions of a copy.
 #[derive(Clone, Copy)]
@@ -74,51 +75,63 @@ fn is_prepared(locks: &[Lock], suite: u64) -> bool
         .any(|lock| lock.prepared && lock.suite == suite)
 }
 
-fn versions_in(copy: &Option<Replica>) -> Option<Versions>
-    ensures { result ≡ option_map versions_in copy.now }
+/// The versions of a copy.
+fn versions_in(alloc: Global, copy: &StoredCopy) -> Result<Versions, AllocError>
+    ensures { IfOk result (λ versions. versions ≡ versions_in copy.now.copy) }
+{
+    let prefix = Side::Prefix.version(alloc, copy)?;
+    let content = Side::Content.version(alloc, copy)?;
+    Ok(Versions { prefix, content })
+}
+
+fn versions_of(alloc: Global, copy: Option<&StoredCopy>) -> Result<Option<Versions>, AllocError>
+    ensures { IfOk result (λ versions. versions ≡ option_map versions_in (copy_in (option_copied copy.entry))) }
 {
     match copy {
-        Some(copy) => Some(Versions {
-            prefix: copy.prefix.pver,
-            content: copy.dver,
-        }),
-        None => None,
+        Some(copy) => Ok(Some(versions_in(alloc, copy)?)),
+        None => Ok(None),
     }
 }
 
-fn standing_at(alloc: Global, world: &World, suite: u64, number: u8) -> Result<Standing, AllocError>
-    ensures { IfOk result (λ one. one ≡ standing_at world.now.world suite number) }
+fn standing_at(
+    alloc: Global,
+    service: &OpenService,
+    suite: u64,
+    number: u8,
+) -> Result<Standing, AllocError>
+    ensures { IfOk result (λ one. one ≡ standing_at service.now.world.world suite number) }
 {
-    let copy = copy_at(alloc, world, number, suite)?;
-    let is_prepared = is_prepared_at(world, number, suite)?;
+    let copy = copy_at(service, Which::Stored, number, suite);
+    let copy = versions_of(alloc, copy)?;
+    let is_prepared = is_prepared_at(&service.world, number, suite)?;
     Ok(Standing {
         number,
-        is_up: is_up(world, number),
-        copy: versions_in(&copy),
+        is_up: is_up(&service.world, number),
+        copy,
         is_prepared,
     })
 }
 
 fn newest_version(
     alloc: Global,
-    world: &World,
-    count: u8,
+    service: &OpenService,
     side: Side,
     suite: u64,
 ) -> Result<u64, AllocError>
-    ensures { IfOk result (λ version. version ≡ version_in side (newest side (stored_in world.now.world) suite count)) }
+    ensures { IfOk result (λ version. version
+        ≡ version_in side (newest side (stored_in service.now.world.world) suite service.now.settings.servers)) }
 {
-    match newest(alloc, world, count, side, suite)? {
-        Some(copy) => Ok(side.version(&copy)),
+    match newest(alloc, service, Which::Stored, side, suite)? {
+        Some(copy) => side.version(alloc, copy),
         None => Ok(0),
     }
 }
 
-fn sought_in(alloc: Global, world: &World, count: u8, suite: u64) -> Result<Sought, AllocError>
-    ensures { IfOk result (λ sought. sought ≡ sought_in world.now.world count suite) }
+fn sought_in(alloc: Global, service: &OpenService, suite: u64) -> Result<Sought, AllocError>
+    ensures { IfOk result (λ sought. sought ≡ sought_in service.now.world.world service.now.settings.servers suite) }
 {
-    let prefix = newest_version(alloc, world, count, Side::Prefix, suite)?;
-    let content = newest_version(alloc, world, count, Side::Content, suite)?;
+    let prefix = newest_version(alloc, service, Side::Prefix, suite)?;
+    let content = newest_version(alloc, service, Side::Content, suite)?;
     Ok(Sought {
         suite,
         newest: Versions { prefix, content },
@@ -206,7 +219,7 @@ fn push_lines(
 {
     let count = service.settings.servers() as u8;
     for number in 0..count {
-        let one = standing_at(alloc, &service.world, sought.suite, number)?;
+        let one = standing_at(alloc, service, sought.suite, number)?;
         push_line(text, path, sought, one)?;
     }
     Ok(())
@@ -229,11 +242,9 @@ pub(crate) fn push_copies(
 ) -> Result<(), AllocError>
     ensures { OnOk result (text.new.items ≡ text.old.items ++ copies_text service.now.world.world service.now.settings.servers path.now) }
 {
-    let count = service.settings.servers() as u8;
-    let world = &service.world;
-    match found_at(alloc, world, count, path)? {
+    match found_at(alloc, service, path)? {
         Some(suite) => {
-            let sought = sought_in(alloc, world, count, suite)?;
+            let sought = sought_in(alloc, service, suite)?;
             push_lines(alloc, service, path, sought, text)
         }
         None => push_none(text, path),

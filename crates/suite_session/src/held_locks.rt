@@ -5,30 +5,19 @@ ghost use Rattle.std.specs.List.{flat_map};
 ghost use Rattle.run_core.specs.Worlds.{server_at};
 ghost use Rattle.suite_script.specs.Faults.{line_feed};
 ghost use Rattle.suite_session.specs.HeldLocks.{front_text, held_text, home_is_up, lock_line, locks_by, locks_in, locks_text, mode_text, stage_text};
-ghost use Rattle.txn_core.specs.Agents.{fixed_of};
-ghost use Rattle.txn_core.specs.Doing.{home_of};
 
 use crate::copies::is_up;
 use crate::open_service::OpenService;
 use rep_core::Lock;
 use script_text::push_number;
 use std::alloc::AllocError;
-use suite_prefix::{MAX_AGENTS, Settings};
-
-/// The most agents: the numbers of one agent's transactions differ by so much.
-const AGENTS: u64 = MAX_AGENTS as u64;
-
-/// The server that decides a transaction.
-fn home_of(settings: &Settings, t: u64) -> u8
-    ensures { result ≡ home_of (fixed_of settings.now).service t }
-{
-    ((t % AGENTS + t / AGENTS) % settings.servers() as u64) as u8
-}
+use txn_core::home_among;
 
 fn home_is_up(service: &OpenService, t: u64) -> bool
     ensures { result ≡ home_is_up service.now.settings service.now.world.world t }
 {
-    is_up(&service.world, home_of(&service.settings, t))
+    let home = home_among(service.settings.servers(), t);
+    is_up(&service.world, home)
 }
 
 fn stage_text(is_prepared: bool, home_is_up: bool) -> &'static [u8]

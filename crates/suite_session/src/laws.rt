@@ -23,9 +23,8 @@ pub fn session_is_play()
     ensures { SessionIsPlay }
 {}
 
-/// A law: what `row` tells of a path, by the copies in effect, is the row of the run's one table, with its versions, for
-/// every run and path. By the stored copies it is so once all that was decided of the file and of the folders on its way
-/// is finished, as it is where no server is prepared to change them. It does nothing.
+/// A law: what `row` tells of a path is the row of the run's one table, with its versions, for every run and path. It
+/// does nothing.
 pub fn rows_are_the_tables()
     ensures { RowsAreTheTables }
 {}

@@ -12,11 +12,10 @@
 //! for it (`session_is_play`), and lines below a header are as well (`lines_below_are_played`).
 //!
 //! Lines that ask are for whoever looks after the servers: they check no access, and change nothing. `row PATH` tells
-//! what stands at a path, and `content PATH` the bytes of the file there, as the newest of all stored copies have it
-//! (`specs/Rows.antt`). That is the row of the run's one table where `copies` tells nothing prepared of it and of the
-//! folders on its way, and by the copies in effect always (`rows_are_the_tables`): what a home has decided is seen once it
-//! is finished at a server.
-//! `copies PATH` tells what each server has of it (`specs/Copies.antt`), `locks` who holds what lock at which server
+//! what stands at a path, and `content PATH` the bytes of the file there, as the newest of all copies in effect have it
+//! (`specs/Rows.antt`): that is the row of the run's one table (`rows_are_the_tables`), also where a home has decided and
+//! nothing is finished yet.
+//! `copies PATH` tells what each server has stored of it (`specs/Copies.antt`), `locks` who holds what lock at which server
 //! (`specs/HeldLocks.antt`), and `room` how many places of each server are taken, and by how many things that no folder
 //! names any more (`specs/Places.antt`). A place that a prepared transaction takes is counted once it is finished.
 //!
@@ -24,7 +23,7 @@
 //!
 //! **Files**: `heading` (a header so far), `open_service` (a world below a header), `play_service`, `question`
 //! (lines that ask), `newest` (the newest copies of a suite), `side`, `shown` (what stands at a path), `copies` (what
-//! each server has of it), `held_locks`, `places`, `laws`, `start`.
+//! each server has of it), `held_locks`, `places`, `named` (which numbers folders name), `laws`, `start`.
 //! **Definitions** (`specs/`): `Headings`, `Services`, `Questions`, `Rows`, `TableRows`, `Copies`, `HeldLocks`,
 //! `Places`, `Promised`, `Played`.
 #![tactic(auto)]
@@ -33,6 +32,7 @@ mod copies;
 mod heading;
 mod held_locks;
 mod laws;
+mod named;
 mod newest;
 mod open_service;
 mod places;

@@ -95,8 +95,7 @@ impl Question {
     ) -> Result<(), AllocError>
         ensures { OnOk result (text.new.items ≡ text.old.items ++ shown_line service.now self path.now) }
     {
-        let count = service.settings.servers() as u8;
-        let shown = standing_at(alloc, &service.world, count, path)?;
+        let shown = standing_at(alloc, service, path)?;
         match self {
             Question::Row => push_row(text, path, &shown),
             _ => push_content_line(alloc, text, path, &shown),

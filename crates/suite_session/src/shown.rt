@@ -1,52 +1,56 @@
 //! What stands at a path, and how it is told.
 
 ghost use Rattle.std.specs.Prelude.{◌≡◌, ◌++◌, Some, IfOk, OnOk};
+ghost use Rattle.std.specs.Option.{option_copied};
 ghost use Rattle.file_ops.specs.Paths.{names_of};
-ghost use Rattle.suite_session.specs.Rows.{bytes_shown, child_in, content_line, content_text, found, found_at, kind_text, lists_text, owner_text, row_line, shown_at, shown_by, shown_text, size_of, stored_in, versions_text};
+ghost use Rattle.suite_session.specs.Rows.{bytes_shown, child_in, content_line, content_text, copy_in, found, found_at, in_effect_in, kind_text, lists_text, owner_text, row_line, shown_by, shown_text, size_of, standing, versions_text};
 
-use crate::newest::newest;
+use crate::newest::{Which, newest};
+use crate::open_service::OpenService;
 use crate::side::Side;
 use acl_text::append_short;
 use file_ops::{PathText, ROOT};
-use run_core::World;
 use script_text::push_number;
 use std::alloc::{AllocError, Global};
 use suite_content::{Content, Name};
-use suite_prefix::{Prefix, PrefixKind, Replica};
+use suite_prefix::{PrefixKind, SharedPrefix, StoredCopy};
 use suite_script::{push_bytes, push_votes};
 
 /// A suite with its newest prefix and its newest content.
 #[derive(Drop)]
 pub(crate) struct Shown {
     suite: u64,
-    prefix: Prefix,
+    prefix: SharedPrefix,
     dver: u64,
     content: Content,
 }
 
 /// The suite of a name in a folder.
-fn child_in(copy: &Option<Replica>, name: &Name) -> Option<u64>
-    ensures { result ≡ child_in copy.now name.now }
+fn child_in(
+    alloc: Global,
+    copy: Option<&StoredCopy>,
+    name: &Name,
+) -> Result<Option<u64>, AllocError>
+    ensures { IfOk result (λ suite. suite ≡ child_in (copy_in (option_copied copy.entry)) name.now) }
 {
-    match copy {
-        Some(
-            Replica {
-                content: Content::Names(names),
-                ..
-            },
-        ) => names.get(name),
-        _ => None,
+    let Some(copy) = copy else {
+        return Ok(None);
+    };
+    match copy.given(alloc)? {
+        (_, Content::Names(names)) => Ok(names.get(name)),
+        (_, Content::Bytes(_)) => Ok(None),
     }
 }
 
 /// The suite to which names lead from the root folder.
-fn found(alloc: Global, world: &World, count: u8, names: &[Name]) -> Result<Option<u64>, AllocError>
-    ensures { IfOk result (λ suite. suite ≡ found (stored_in world.now.world) count 0 names.now) }
+fn found(alloc: Global, service: &OpenService, names: &[Name]) -> Result<Option<u64>, AllocError>
+    ensures { IfOk result (λ suite. suite
+        ≡ found (in_effect_in service.now.world.world service.now.settings.servers) service.now.settings.servers 0 names.now) }
 {
     let mut suite = ROOT;
     for name in names {
-        let copy = newest(alloc, world, count, Side::Content, suite)?;
-        let Some(next) = child_in(&copy, name) else {
+        let copy = newest(alloc, service, Which::InEffect, Side::Content, suite)?;
+        let Some(next) = child_in(alloc, copy, name)? else {
             return Ok(None);
         };
         suite = next;
@@ -57,52 +61,58 @@ fn found(alloc: Global, world: &World, count: u8, names: &[Name]) -> Result<Opti
 /// The suite at a path; a text that is none leads to nothing.
 pub(crate) fn found_at(
     alloc: Global,
-    world: &World,
-    count: u8,
+    service: &OpenService,
     text: &[u8],
 ) -> Result<Option<u64>, AllocError>
-    ensures { IfOk result (λ suite. suite ≡ found_at (stored_in world.now.world) count (names_of text.now)) }
+    ensures { IfOk result (λ suite. suite
+        ≡ found_at (in_effect_in service.now.world.world service.now.settings.servers) service.now.settings.servers (names_of text.now)) }
 {
     let path = PathText::new(alloc, text)?;
     match path.names() {
-        Some(names) => found(alloc, world, count, names),
+        Some(names) => found(alloc, service, names),
         None => Ok(None),
     }
 }
 
 /// A suite as its newest copies have it, where it was ever made.
-fn shown_by(suite: u64, head: Option<Replica>, body: Option<Replica>) -> Option<Shown>
-    ensures { result ≡ shown_by suite head body }
+fn shown_by(
+    alloc: Global,
+    suite: u64,
+    head: Option<&StoredCopy>,
+    body: Option<&StoredCopy>,
+) -> Result<Option<Shown>, AllocError>
+    ensures { IfOk result (λ shown. shown ≡ shown_by suite (copy_in (option_copied head.entry)) (copy_in (option_copied body.entry))) }
 {
     let (Some(head), Some(body)) = (head, body) else {
-        return None;
-    };
-    if head.prefix.kind == PrefixKind::Absent {
-        return None;
-    }
-    Some(Shown {
-        suite,
-        prefix: head.prefix,
-        dver: body.dver,
-        content: body.content,
-    })
-}
-
-/// What stands at a path, over the first so many servers.
-pub(crate) fn standing_at(
-    alloc: Global,
-    world: &World,
-    count: u8,
-    text: &[u8],
-) -> Result<Option<Shown>, AllocError>
-    ensures { IfOk result (λ shown. shown ≡ shown_at (stored_in world.now.world) count text.now) }
-{
-    let Some(suite) = found_at(alloc, world, count, text)? else {
         return Ok(None);
     };
-    let head = newest(alloc, world, count, Side::Prefix, suite)?;
-    let body = newest(alloc, world, count, Side::Content, suite)?;
-    Ok(shown_by(suite, head, body))
+    if head.kind() == PrefixKind::Absent {
+        return Ok(None);
+    }
+    let (prefix, _) = head.head(alloc)?;
+    let (dver, content) = body.given(alloc)?;
+    Ok(Some(Shown {
+        suite,
+        prefix,
+        dver,
+        content,
+    }))
+}
+
+/// What stands at a path.
+pub(crate) fn standing_at(
+    alloc: Global,
+    service: &OpenService,
+    text: &[u8],
+) -> Result<Option<Shown>, AllocError>
+    ensures { IfOk result (λ shown. shown ≡ standing service.now.world.world service.now.settings.servers text.now) }
+{
+    let Some(suite) = found_at(alloc, service, text)? else {
+        return Ok(None);
+    };
+    let head = newest(alloc, service, Which::InEffect, Side::Prefix, suite)?;
+    let body = newest(alloc, service, Which::InEffect, Side::Content, suite)?;
+    shown_by(alloc, suite, head, body)
 }
 
 impl Shown {

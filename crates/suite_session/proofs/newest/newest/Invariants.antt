@@ -1,6 +1,7 @@
 use Rattle.std.proofs.Common.{◌≡◌}
-use Rattle.suite_session.specs.Rows.{newest, stored_in}
+use Rattle.std.specs.Option.{option_copied}
+use Rattle.suite_session.specs.Rows.{copies_of, copy_in, newest}
 use Rattle.suite_session.proofs.newest.newest.Given as goal
 
 abbrev pub invariant-loop-server : goal.invariant-loop-server
-invariant-loop-server l = l.best ≡ newest l.side (stored_in l.world.world) l.suite l.server
+invariant-loop-server l = copy_in (option_copied l.best) ≡ newest l.side (copies_of l.which l.service.world.world l.service.settings.servers) l.suite l.server

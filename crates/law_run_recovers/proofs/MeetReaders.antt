@@ -1,0 +1,324 @@
+-- One that writes and any number that only read: a reader that ends undecided was refused by locks of the writer that are enough to write, and so the writer was not.
+use Rattle.law_run_recovers.proofs.Vocabulary.{Bool, Contains, IsTrue, List, Some, [], ap, append-nil, append_assoc, arith, false, inl, inr, not, refl, subst, sym, true, ℕ, ⊎_elim, ◌&&◌, ◌++◌, ◌+◌, ◌<◌, ◌==◌, ◌||◌, ◌∙◌, ◌∷◌, ◌≡◌}
+use Rattle.law_run_recovers.proofs.Vocabulary.{◌≤◌, ◌⊎◌, eq-eqb, false≢true, CanBe, can_front, is_decided, machine_of, IsNotDecided, beginning, WasPrefix, Has, has_any, has_from, State, Lock, decisions, run, table_of}
+use Rattle.law_run_recovers.proofs.Vocabulary.{World, server_at, step, EndedJob, Served, Event, Begin, Step, mode_of, needed_of, is_exclusive, serves, Opening, Prefix, LockMode, Exclusive, Shared, fixed_of, Transaction}
+use Rattle.law_run_recovers.proofs.Vocabulary.{shared_member, Configuration, total_votes, votes_at, votes_in, Begun, clashes, its_asks, votes_set, EndsThen, its_votes, SetsApart, votes_now, asks_for, ReadersMeet}
+use Rattle.law_run_recovers.proofs.Vocabulary.{WriterOrReadersAreDecided, only_reads, begun_world}
+use Rattle.txn_core.specs.Doing as doing
+use Rattle.law_run_recovers.proofs.AmongCourse.{tail_or}
+use Rattle.law_run_recovers.proofs.Unmoved.{first_votes_at}
+use Rattle.law_run_recovers.proofs.MeetApart.{clashes_back}
+use Rattle.law_run_recovers.proofs.MeetAsks.{sets_asked}
+use Rattle.law_run_recovers.proofs.MeetBarred.{Barred, barred_by}
+use Rattle.law_run_recovers.proofs.MeetBoth.{Place, third, place_of, same_place, its_event, cancel, held_in, none_first, reached_then}
+use Rattle.law_run_recovers.proofs.MeetCalm.{Fair, Calm}
+use Rattle.law_run_recovers.proofs.MeetCalmed.{asks_same, votes_same, calm_where}
+use Rattle.law_run_recovers.proofs.MeetCount.{votes_split, serves_own}
+use Rattle.law_run_recovers.proofs.MeetEnds.{Fixed, undecided_not, fixed_at}
+use Rattle.law_run_recovers.proofs.MeetLocks.{owned_at}
+use Rattle.law_run_recovers.proofs.MeetQuiet.{GoesQuietly}
+use Rattle.law_run_recovers.proofs.MeetReach.{reaches_asks}
+use Rattle.law_run_recovers.proofs.MeetReads.{OnlyReads}
+use Rattle.law_run_recovers.proofs.MeetRun.{its_actor, goes_of, run_is}
+use Rattle.law_run_recovers.proofs.MeetTold.{for_lock, says_held, grants, refuses, some_step, found_in, there_in, four_from, not_both}
+use Rattle.law_run_recovers.proofs.MeetWants.{upto, Wants, WereFound, wants}
+
+-- ---- modes
+
+pub reads_none : (asked : List (ℕ × LockMode)) → only_reads asked ≡ true → OnlyReads asked
+reads_none asked reads z has = false≢true (sym (ap not (has_any (λ (one : ℕ × LockMode). is_exclusive one.1) asked (z, Exclusive) has refl)) ∙ reads)
+
+shared_where : (asked : List (ℕ × LockMode)) (z : ℕ) (mode : LockMode) → OnlyReads asked → Contains asked (z, mode) → mode ≡ Shared
+shared_where asked z Shared reads has = refl
+shared_where asked z Exclusive reads has = absurd (reads z (has_from asked (z, Exclusive) has))
+
+-- what clashes with a lock that is shared is exclusive
+other_exclusive : (y : ℕ) (mode way : LockMode) → clashes (y, mode) (y, way) ≡ true → mode ≡ Shared → way ≡ Exclusive
+other_exclusive y mode Exclusive clash is = refl
+other_exclusive y Exclusive Shared clash is = sym is
+other_exclusive y Shared Shared clash is = absurd (false≢true (sym (ap (λ b. b && false) (eq-eqb y y refl)) ∙ clash))
+
+this_exclusive : (y : ℕ) (mode way : LockMode) → clashes (y, mode) (y, way) ≡ true → way ≡ Shared → mode ≡ Exclusive
+this_exclusive y Exclusive way clash is = refl
+this_exclusive y Shared Exclusive clash is = sym is
+this_exclusive y Shared Shared clash is = absurd (false≢true (sym (ap (λ b. b && false) (eq-eqb y y refl)) ∙ clash))
+
+strongest : (wanted mode : LockMode) → serves wanted mode ≡ true → mode ≡ Exclusive → wanted ≡ Exclusive
+strongest Exclusive mode strong is = refl
+strongest Shared Exclusive strong is = absurd (false≢true strong)
+strongest Shared Shared strong is = is
+
+none_apart : (given : Opening) (events : List Event) (sets : List (ℕ × Configuration)) → SetsApart given events sets []
+none_apart given events sets one has = inr (λ mode there. has_from [] (one.0, mode) there)
+
+open_not : (b : Bool) → IsTrue (not b) → b ≡ false
+open_not false is = refl
+open_not true is = absurd cc
+
+-- what some step of a front does some step of all does
+some_more : (p : Served → Bool) (agent : ℕ) (fixed : doing.Fixed) (w : World) (front back : List Event) → some_step p agent fixed w front ≡ true → some_step p agent fixed w (front ++ back) ≡ true
+some_more p agent fixed w front back is =
+    let f = found_in p agent fixed w front is in
+    subst (λ all. some_step p agent fixed w all ≡ true) (sym (ap (λ front. front ++ back) f.parts ∙ append_assoc f.front (Step agent ∷ f.back) back)) (there_in p agent fixed f.front (f.back ++ back) w f.what f.served f.is)
+
+module _ (given : Opening) (events later : List Event) (writer : Begun given events later) (meets : ReadersMeet given events later writer)
+    (undecided : IsNotDecided (decisions given (events ++ later)) writer.t) where
+  fair : Fair given events later
+  fair = record { can = meets.can; idle = meets.idle; up = meets.up; free = meets.free; unspoiled = meets.unspoiled }
+
+  calm : Calm given events later
+  calm =
+      calm_where given events later fair (λ other.
+      ⊎_elim
+      (λ same. inl (λ d there is. undecided d there (is ∙ (same_place given events later other writer same).t)))
+      (λ reads. inr (reads_none (its_asks given events later other) reads))
+      (meets.others_read other))
+
+  -- on the first table
+  abbrev mine : List (ℕ × LockMode)
+  mine = asks_for given events writer.t writer.caller writer.ops
+
+  reads_first : (other : Begun given events later) → only_reads (its_asks given events later other) ≡ true → OnlyReads (asks_for given events other.t other.caller other.ops)
+  reads_first other reads = subst OnlyReads (asks_same given events later calm other) (reads_none (its_asks given events later other) reads)
+
+  -- what clashes is the one suite
+  at_suite : (reader : Begun given events later) → only_reads (its_asks given events later reader) ≡ true → (y : ℕ) (mode way : LockMode)
+      → Contains (asks_for given events writer.t writer.caller writer.ops) (y, mode) → Contains (asks_for given events reader.t reader.caller reader.ops) (y, way) → clashes (y, mode) (y, way) ≡ true → y ≡ meets.suite
+  at_suite reader reads y mode way has there clash =
+      meets.at_it reader (y, mode) reads (subst (λ asked. Contains asked (y, mode)) (sym (asks_same given events later calm writer)) has)
+      (has_any (clashes (y, mode)) (its_asks given events later reader) (y, way)
+      (has_from (its_asks given events later reader) (y, way) (subst (λ asked. Contains asked (y, way)) (sym (asks_same given events later calm reader)) there)) clash)
+
+  -- ---- who has a lock
+
+  -- the writer, which was granted it since it began
+  record IsTheWriters (s t y : ℕ) (mode : LockMode) : Type 0 where
+    number : t ≡ writer.t
+    asks : Contains (asks_for given events writer.t writer.caller writer.ops) (y, mode)
+    since : some_step (grants writer.t y mode s) writer.agent (fixed_of given) (begun_world given (events ++ writer.before) writer.agent writer.caller writer.site writer.ops) writer.after ≡ true
+
+  -- or a reader
+  record IsAReaders (s t y : ℕ) (mode : LockMode) : Type 0 where
+    reader : Begun given events later
+    reads : only_reads (its_asks given events later reader) ≡ true
+    number : t ≡ reader.t
+    asks : Contains (asks_for given events reader.t reader.caller reader.ops) (y, mode)
+
+  abbrev Has' : ℕ → ℕ → ℕ → LockMode → Type 0
+  Has' s t y mode = IsTheWriters s t y mode ⊎ IsAReaders s t y mode
+
+  module _ (so_far back : List Event) (i : ℕ) (split : later ≡ so_far ++ Step i ∷ back) (what : Served)
+      (served : (step (fixed_of given) (run given (events ++ so_far)) (Step i)).done.served ≡ Some what) (t y : ℕ) (lock : for_lock t y what.request.value ≡ true) (held : says_held what.reply.value ≡ true) where
+    abbrev one : Begun given events later
+    one = third given events later later [] (sym (append-nil later)) calm.fair so_far back i split what served t y lock
+
+    place_as : (who : Begun given events later) → one.before ≡ who.before → Place given events later who so_far i t
+    place_as who same = place_of given events later later [] (sym (append-nil later)) calm.fair so_far back i split what served t y lock who same
+
+    asks_as : (who : Begun given events later) → Place given events later who so_far i t → Contains (asks_for given events who.t who.caller who.ops) (y, mode_of what.request.value)
+    asks_as who at =
+        reaches_asks (votes_now given events) (asks_for given events who.t who.caller who.ops) (held_in given events later who.agent who.t) (y, mode_of what.request.value)
+        (reached_then given events later later calm who so_far back i split what served t y lock at)
+
+    by_writer : Place given events later writer so_far i t → IsTheWriters what.server t y (mode_of what.request.value)
+    by_writer at = record {
+      number = at.number;
+      asks = asks_as writer at;
+      since = subst (λ after. some_step (grants writer.t y (mode_of what.request.value) what.server) writer.agent (fixed_of given) (begun_world given (events ++ writer.before) writer.agent writer.caller writer.site writer.ops) after ≡ true)
+          (sym after_is)
+          (there_in (grants writer.t y (mode_of what.request.value) what.server) writer.agent (fixed_of given) at.mid back
+          (begun_world given (events ++ writer.before) writer.agent writer.caller writer.site writer.ops) what
+          (ap (λ w. (step (fixed_of given) w (Step writer.agent)).done.served) (run_is given events later calm writer at.mid ∙ ap (λ all. run given (events ++ all)) (sym at.parts))
+          ∙ ap (λ i. (step (fixed_of given) (run given (events ++ so_far)) (Step i)).done.served) (sym at.who_is) ∙ served)
+          (four_from (what.server == what.server) (for_lock writer.t y what.request.value) (says_held what.reply.value) (serves (mode_of what.request.value) (mode_of what.request.value)) (eq-eqb what.server what.server refl)
+          (subst (λ t. for_lock t y what.request.value ≡ true) at.number lock) held (serves_own (mode_of what.request.value))));
+    }
+      where
+        begins : Event
+        begins = its_event given events later writer
+
+        after_is : writer.after ≡ at.mid ++ Step writer.agent ∷ back
+        after_is =
+            ap tail_or
+            (cancel writer.before (Begin writer.agent (Transaction writer.caller writer.site writer.ops) ∷ writer.after) (Begin writer.agent (Transaction writer.caller writer.site writer.ops) ∷ (at.mid ++ Step writer.agent ∷ back))
+            (sym writer.parts ∙ split ∙ ap (λ i. so_far ++ Step i ∷ back) at.who_is ∙ ap (λ xs. xs ++ Step writer.agent ∷ back) at.parts
+            ∙ append_assoc writer.before (Begin writer.agent (Transaction writer.caller writer.site writer.ops) ∷ at.mid) (Step writer.agent ∷ back)))
+
+    has_now : IsTheWriters what.server t y (mode_of what.request.value) ⊎ IsAReaders what.server t y (mode_of what.request.value)
+    has_now = ⊎_elim
+        (λ same. inl (by_writer (place_as writer same)))
+        (λ reads. let at = place_as one refl in inr (record { reader = one; reads = reads; number = at.number; asks = asks_as one at }))
+        (meets.others_read one)
+
+  stands : (so_far back : List Event) → later ≡ so_far ++ back → (s : ℕ) (st : State) → server_at (run given (events ++ so_far)) s ≡ Some st → (lock : Lock) → Has st.locks lock
+      → IsTheWriters s lock.t lock.suite lock.mode ⊎ IsAReaders s lock.t lock.suite lock.mode
+  stands so_far back split s st at lock has =
+      owned_at given events later calm Has'
+      (λ so_far back i split what served t y lock held. has_now so_far back i split what served t y lock held)
+      (λ s st at lock has. absurd (none_first given events later calm.fair s st at lock has)) so_far back split s st at lock has
+
+  -- ---- who was refused
+
+  module _ (who : Begun given events later) (f : Fixed given events later who) (y : ℕ) (wanted : LockMode) (server : ℕ)
+      (is : some_step (refuses who.t y wanted server) who.agent (fixed_of given) (begun_world given (events ++ who.before) who.agent who.caller who.site who.ops) f.front ≡ true) where
+    barred_then : some_step (refuses who.t y wanted server) who.agent (fixed_of given) (begun_world given (events ++ who.before) who.agent who.caller who.site who.ops) who.after ≡ true
+    barred_then =
+        subst (λ after. some_step (refuses who.t y wanted server) who.agent (fixed_of given) (begun_world given (events ++ who.before) who.agent who.caller who.site who.ops) after ≡ true) (sym f.parts)
+        (some_more (refuses who.t y wanted server) who.agent (fixed_of given) (begun_world given (events ++ who.before) who.agent who.caller who.site who.ops) f.front f.back is)
+
+    barred : Barred given events later later calm who who.after who.parts Has' stands y wanted server
+    barred = barred_by given events later later calm who who.after who.parts Has' stands y wanted server barred_then
+
+    asks_it : Contains (asks_for given events who.t who.caller who.ops) (y, barred.mode)
+    asks_it = reaches_asks (votes_now given events) (asks_for given events who.t who.caller who.ops) (held_in given events later who.agent who.t) (y, barred.mode) barred.reached
+
+  -- a reader was, by a lock of the writer, at the one suite
+  record IsRefused (y server : ℕ) : Type 0 where
+    at : y ≡ meets.suite
+    since : some_step (grants writer.t y Exclusive server) writer.agent (fixed_of given) (begun_world given (events ++ writer.before) writer.agent writer.caller writer.site writer.ops) writer.after ≡ true
+
+  module _ (reader : Begun given events later) (reads : only_reads (its_asks given events later reader) ≡ true) (f : Fixed given events later reader) (y : ℕ) (wanted : LockMode) (server : ℕ)
+      (is : some_step (refuses reader.t y wanted server) reader.agent (fixed_of given) (begun_world given (events ++ reader.before) reader.agent reader.caller reader.site reader.ops) f.front ≡ true) where
+    abbrev b : Barred given events later later calm reader reader.after reader.parts Has' stands y wanted server
+    b = barred reader f y wanted server is
+
+    has : Contains (asks_for given events reader.t reader.caller reader.ops) (y, b.mode)
+    has = asks_it reader f y wanted server is
+
+    way_is : b.way ≡ Exclusive
+    way_is = other_exclusive y b.mode b.way b.clashing (shared_where (asks_for given events reader.t reader.caller reader.ops) y b.mode (reads_first reader reads) has)
+
+    reader_refused : IsRefused y server
+    reader_refused = of b.stands
+      where
+        of : IsTheWriters server b.holder y b.way ⊎ IsAReaders server b.holder y b.way → IsRefused y server
+        of (inl its) = record {
+          at = at_suite reader reads y b.way b.mode its.asks has (clashes_back y b.mode b.way b.clashing);
+          since = subst (λ way. some_step (grants writer.t y way server) writer.agent (fixed_of given) (begun_world given (events ++ writer.before) writer.agent writer.caller writer.site writer.ops) writer.after ≡ true) way_is its.since;
+        }
+        of (inr other) =
+            absurd (reads_first other.reader other.reads y
+            (has_from (asks_for given events other.reader.t other.reader.caller other.reader.ops) (y, Exclusive)
+            (subst (λ way. Contains (asks_for given events other.reader.t other.reader.caller other.reader.ops) (y, way)) way_is other.asks)))
+
+  -- the writer was, at the one suite, where it wanted it exclusively
+  module _ (f : Fixed given events later writer) (y : ℕ) (wanted : LockMode) (server : ℕ)
+      (is : some_step (refuses writer.t y wanted server) writer.agent (fixed_of given) (begun_world given (events ++ writer.before) writer.agent writer.caller writer.site writer.ops) f.front ≡ true) where
+    abbrev b' : Barred given events later later calm writer writer.after writer.parts Has' stands y wanted server
+    b' = barred writer f y wanted server is
+
+    has' : Contains (asks_for given events writer.t writer.caller writer.ops) (y, b'.mode)
+    has' = asks_it writer f y wanted server is
+
+    writer_refused : (wanted ≡ Exclusive) × (y ≡ meets.suite)
+    writer_refused = of b'.stands
+      where
+        of : IsTheWriters server b'.holder y b'.way ⊎ IsAReaders server b'.holder y b'.way → (wanted ≡ Exclusive) × (y ≡ meets.suite)
+        of (inl its) = absurd (b'.not_own its.number)
+        of (inr other) =
+            let shared = shared_where (asks_for given events other.reader.t other.reader.caller other.reader.ops) y b'.way (reads_first other.reader other.reads) other.asks in (
+              strongest wanted b'.mode b'.strong (this_exclusive y b'.mode b'.way b'.clashing shared),
+              at_suite other.reader other.reads y b'.mode b'.way has' other.asks b'.clashing,
+            )
+
+  -- ---- neither is short
+
+  can_first : CanBe given events
+  can_first = can_front given events later meets.can
+
+  -- votes that were found of the one suite are the first ones
+  first_found : (y : ℕ) (votes : Configuration) (prefix : Prefix) → votes ≡ prefix.votes → WasPrefix (beginning y given) (machine_of given y events).log prefix → y ≡ meets.suite → votes ≡ given.c0
+  first_found y votes prefix is was at =
+      is ∙ first_votes_at given events can_first meets.suite meets.unmoved prefix (subst (λ y. WasPrefix (beginning y given) (machine_of given y events).log prefix) at was)
+
+  module _ (f : Fixed given events later writer) (reader : Begun given events later) (reads : only_reads (its_asks given events later reader) ≡ true) (g : Fixed given events later reader)
+      (other_undecided : IsNotDecided (decisions given (events ++ later)) reader.t) where
+    its : Wants given events later calm writer f []
+    its = wants given events later calm writer f undecided [] (none_apart given events (votes_set (table_of given events) writer.t writer.caller writer.ops))
+
+    theirs : Wants given events later calm reader g []
+    theirs = wants given events later calm reader g other_undecided [] (none_apart given events (votes_set (table_of given events) reader.t reader.caller reader.ops))
+
+    -- some server with a vote refused each
+    some_shut : (votes : Configuration) (open' : ℕ → Bool) (needed : ℕ) → votes_in votes.reps open' < needed → needed ≤ total_votes votes.reps → (server : ℕ) × (0 < votes_at votes.reps server) × (open' server ≡ false)
+    some_shut votes open' needed few most =
+        let all = votes_split votes.reps open' in
+        let s = shared_member (λ _. true) (λ s. not (open' s)) votes.reps (omega (arith, all, few, most)) in
+        (s.server, s.has_vote, open_not (open' s.server) s.in_second)
+
+    refused_writer : (its.mode ≡ Exclusive) × (its.suite ≡ meets.suite)
+    refused_writer =
+        let s = some_shut its.votes its.open' (needed_of its.mode its.votes) its.few its.most in
+        writer_refused f its.suite its.mode s.0 (its.shut s.0 s.1 s.2)
+
+    refused_reader : (server : ℕ) → 0 < votes_at theirs.votes.reps server → theirs.open' server ≡ false → IsRefused theirs.suite server
+    refused_reader server some shut = reader_refused reader reads g theirs.suite theirs.mode server (theirs.shut server some shut)
+
+    at : theirs.suite ≡ meets.suite
+    at =
+        let s = some_shut theirs.votes theirs.open' (needed_of theirs.mode theirs.votes) theirs.few theirs.most in
+        (refused_reader s.0 s.1 s.2).at
+
+    mode_is : theirs.mode ≡ Shared
+    mode_is = shared_where (asks_for given events reader.t reader.caller reader.ops) theirs.suite theirs.mode (reads_first reader reads) theirs.asks
+
+    -- both counted the first votes
+    its_votes_are : its.votes ≡ given.c0
+    its_votes_are = ⊎_elim
+        (λ set.
+        meets.moves_none its.votes
+        (subst (λ y. Contains (its_votes given events later writer) (y, its.votes)) refused_writer.1
+        (subst (λ sets. Contains sets (its.suite, its.votes)) (sym (votes_same given events later calm writer)) set)))
+        (λ (found : WereFound given events later calm writer f its.suite its.votes). first_found its.suite its.votes found.prefix found.is found.was refused_writer.1)
+        its.found
+
+    their_votes_are : theirs.votes ≡ given.c0
+    their_votes_are = ⊎_elim
+        (λ set.
+        absurd (reads_first reader reads theirs.suite
+        (sets_asked (table_of given events) reader.t reader.caller reader.ops (theirs.suite, theirs.votes) (has_from (votes_set (table_of given events) reader.t reader.caller reader.ops) (theirs.suite, theirs.votes) set))))
+        (λ (found : WereFound given events later calm reader g theirs.suite theirs.votes). first_found theirs.suite theirs.votes found.prefix found.is found.was at)
+        theirs.found
+
+    -- so some server refused both, and had granted the writer its lock
+    pub never_both : ⊥
+    never_both =
+        let few : votes_in given.c0.reps its.open' < given.c0.w = subst (λ mode. votes_in given.c0.reps its.open' < needed_of mode given.c0) refused_writer.0 (subst (λ (v : Configuration). votes_in v.reps its.open' < needed_of its.mode v) its_votes_are its.few) in
+        let few' : votes_in given.c0.reps theirs.open' < given.c0.r = subst (λ mode. votes_in given.c0.reps theirs.open' < needed_of mode given.c0) mode_is (subst (λ (v : Configuration). votes_in v.reps theirs.open' < needed_of theirs.mode v) their_votes_are theirs.few) in
+        let all = votes_split given.c0.reps its.open' in
+        let all' = votes_split given.c0.reps theirs.open' in
+        let tight : given.c0.r + given.c0.w ≡ total_votes given.c0.reps + 1 = meets.tight in
+        let s = shared_member (λ s. not (its.open' s)) (λ s. not (theirs.open' s)) given.c0.reps (omega (arith, few, few', all, all', tight)) in
+        let shut = its.shut s.server (subst (λ (v : Configuration). 0 < votes_at v.reps s.server) (sym its_votes_are) s.has_vote) (open_not (its.open' s.server) s.in_first) in
+        let refused = refused_reader s.server (subst (λ (v : Configuration). 0 < votes_at v.reps s.server) (sym their_votes_are) s.has_vote) (open_not (theirs.open' s.server) s.in_second) in
+        let barred' = subst (λ mode. some_step (refuses writer.t its.suite mode s.server) writer.agent (fixed_of given) (begun_world given (events ++ writer.before) writer.agent writer.caller writer.site writer.ops) writer.after ≡ true)
+        refused_writer.0 (barred_then writer f its.suite its.mode s.server shut) in
+        let held' = subst (λ y. some_step (grants writer.t y Exclusive s.server) writer.agent (fixed_of given) (begun_world given (events ++ writer.before) writer.agent writer.caller writer.site writer.ops) writer.after ≡ true)
+        (at ∙ sym refused_writer.1) refused.since in
+        not_both given events (events ++ writer.before) writer.after writer.agent writer.t writer.caller writer.site writer.ops (its_actor given events later calm writer).0 (goes_of given events later calm writer) its.suite Exclusive s.server held' barred'
+
+-- ---- the law
+
+module _ (given : Opening) (events later : List Event) (writer reader : Begun given events later) (meets : ReadersMeet given events later writer) (reads : only_reads (its_asks given events later reader) ≡ true)
+    (job outcome : EndedJob) (ends : EndsThen given (events ++ writer.before) writer.after writer.agent writer.t writer.caller writer.site writer.ops job)
+    (other_ends : EndsThen given (events ++ reader.before) reader.after reader.agent reader.t reader.caller reader.site reader.ops outcome) where
+  fair' : Fair given events later
+  fair' = record { can = meets.can; idle = meets.idle; up = meets.up; free = meets.free; unspoiled = meets.unspoiled }
+
+  neither : is_decided job.ending ≡ false → is_decided outcome.ending ≡ false → ⊥
+  neither undecided other_undecided =
+      let none = undecided_not given events later fair' writer job ends undecided in
+      let quiet = calm given events later writer meets none in
+      never_both given events later writer meets none (fixed_at given events later quiet writer job ends) reader reads (fixed_at given events later quiet reader outcome other_ends)
+      (undecided_not given events later fair' reader outcome other_ends other_undecided)
+
+  pub decided_one : (is_decided job.ending || is_decided outcome.ending) ≡ true
+  decided_one = of (is_decided job.ending) (is_decided outcome.ending) refl refl
+    where
+      of : (a b : Bool) → is_decided job.ending ≡ a → is_decided outcome.ending ≡ b → (a || b) ≡ true
+      of true b one_is other_is = refl
+      of false true one_is other_is = refl
+      of false false one_is other_is = absurd (neither one_is other_is)
+
+pub writer_or_readers_are_decided : WriterOrReadersAreDecided
+writer_or_readers_are_decided given events later writer reader meets reads job outcome ends other_ends = decided_one given events later writer reader meets reads job outcome ends other_ends
