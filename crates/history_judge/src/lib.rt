@@ -15,15 +15,18 @@
 //! table behind them: calls that were told are placed in all, and need no mark. So its work is linear in the length of
 //! the history. A call that changes nothing wherever it is right is placed as soon as it fits. What changes nothing in
 //! one state alone is not: later it may change something. Two that have placed the same calls and come to the same
-//! rows are one. Orders share their beginnings (`links`).
+//! rows are one. A table is copied for each call that is placed on it; but where one alone is kept, the call that is
+//! due is placed on its own table (`stepping`). Orders share their beginnings (`links`).
 //!
 //! **The caller owes** fewer than 2^60 calls, and an opening table without a file or folder of a number that a call
 //! of the history would make. A table that was just opened has none.
 //!
-//! **Files**: `history`, `fits` (whether what was told fits), `trying` (a call on a copy of a table), `quiet` (calls that
-//! change nothing), `window` (which calls are pending), `links`, `placed`, `hints` and `effects` (where the same may be
-//! found), `event`, `search`, `front` (what was told before a time), `verdict`. **Definitions** (`specs/`): `Orders`,
-//! `Histories`, `Fronts`, `Verdicts`; of the search `Searches`, `Reads`, `Windows`, `Links`, `Placing`, `Events`.
+//! **Files**: `history`, `fits` (whether what was told fits), `trying` (a call on a table, or on a copy of it), `quiet`
+//! (calls that change nothing), `window` (which calls are pending), `links`, `placed`, `hints` and `effects` (where the
+//! same may be found), `event`, `stepping` (its first step), `search`, `front` (what was told before a time), `verdict`.
+//!
+//! **Definitions** (`specs/`): `Orders`, `Histories`, `Fronts`, `Verdicts`; of the search `Searches`, `Reads`, `Windows`,
+//! `Links`, `Placing`, `Events`.
 #![tactic(auto)]
 
 mod effects;
@@ -36,6 +39,7 @@ mod links;
 mod placed;
 mod quiet;
 mod search;
+mod stepping;
 mod trying;
 mod verdict;
 mod window;
