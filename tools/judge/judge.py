@@ -12,6 +12,8 @@ import typing
 from common import built, console
 
 DONE, NO_ORDER, FAULTY = 0, 1, 3
+# The program reads no more of a history.
+MOST = 128 << 20
 # So many calls that ran beside the one that is told are told with it.
 MOST_BESIDE = 12
 READS = {"read", "list", "getacl", "getvotes"}
@@ -155,7 +157,7 @@ def script(lines: list[str], order: list[int]) -> list[str]:
 
 
 def run(given: argparse.Namespace) -> int:
-    text = sys.stdin.buffer.read()
+    text = sys.stdin.buffer.read(MOST + 1)
     status, said = built.asked("judge", text, *(["--order"] if given.order else []))
     first, _, rest = said.partition("\n")
     lines = text.decode("latin1").splitlines()
