@@ -7,5 +7,6 @@ pub mod Walks
 pub mod Permitting
 pub mod KnownVotes
 pub mod Operations
+pub mod Granting
 pub mod Transactions
 pub mod code

@@ -8,7 +8,8 @@
 //! before left. At the first refusal the table is as it was, and a denial adds an item to the audit. That is the
 //! definition of a transaction on rows as a finite map, for every table, caller and list of operations
 //! (`transaction`). Out of memory is the one answer beside it, never in place of a refusal of the first operation
-//! that is no denial (`RefusesFirst`).
+//! that is no denial (`RefusesFirst`). `Table::test` says whether a caller is granted what it wants of a file or
+//! folder (`tested`); that is no operation.
 //!
 //! `specs/Operations.antt` reads like the rules. First the path (F1), the length written (F8), unknown servers in
 //! votes (F11), a default list for a file (F12). Then the walk from the root, at each folder its kind (F2), search
@@ -25,7 +26,7 @@
 //! `copies`, `walk`, `edit`, `undo` (taking back needs no memory), `act`, `play`, `table`.
 //!
 //! **Definitions** (`specs/`): `Steps`, `Limits`, `Paths`, `Rows`, `Lists`, `KnownVotes`, `Walks`, `Permitting`,
-//! `Operations`, `Transactions`.
+//! `Operations`, `Granting`, `Transactions`.
 #![tactic(auto)]
 
 mod act;

@@ -7,12 +7,13 @@ use crate::answer::{Answers, Replies};
 use crate::audit::AuditItem;
 use crate::copies::{copied_rows, same_rows};
 use crate::operation::{MAX_OPERATIONS, Op};
+use crate::path::PathText;
 use crate::play::play;
 use crate::refusal::{ApplyError, Refusal, Why};
 use crate::service::Service;
 use crate::stored::{StoredContent, StoredRow, StoredRows};
-use crate::walk::ROOT;
-use acl_core::Caller;
+use crate::walk::{ROOT, permit, reach};
+use acl_core::{Caller, Perms};
 use sorted_map::SortedMap;
 use std::alloc::{AllocError, Global};
 use std::marker::Model;
@@ -41,6 +42,7 @@ impl Model for Table {
 impl Table {
     ghost use Rattle.file_ops.specs.Transactions.{IsUnlessMemory, RefusesFirst, transaction, replies, table_after, left_by};
     ghost use Rattle.file_ops.specs.Rows.{opening};
+    ghost use Rattle.file_ops.specs.Granting.{tested};
 
     /// The table that settings open: the root folder alone, without names.
     pub fn opening(alloc: Global, settings: &Settings) -> Result<Table, AllocError>
@@ -114,6 +116,16 @@ impl Table {
             }
         }
         ApplyError::Refused(refusal)
+    }
+
+    /// Whether a caller is granted what it wants of the file or folder at a path, as `access` asks. It is no
+    /// operation: no denial is kept for the audit.
+    pub fn test(&self, caller: &Caller, path: &PathText, wanted: Perms) -> Result<(), Why>
+        ensures { result ≡ tested self.now.rows caller.now path.now wanted }
+    {
+        let names = path.names().ok_or(Why::BadPath)?;
+        let place = reach(&self.rows, caller, names)?;
+        permit(caller, place, wanted)
     }
 
     /// An equal table, without denials.
