@@ -116,7 +116,16 @@ JUDGED: tuple[tuple[str, str], ...] = (
         "of the history: a client calls, under the number {0}, for user {1} of groups {2}: {3}",
     ),
     (
-        r"ret (\d+) (answered|denied|refused)\b ?(.*)",
+        r"(?:# )?(?:do|call \d+) (\d+) ([\d,]+) test (\S+) ([rwx]+)$",
+        "of the history: whether user {0} of groups {1} is granted {3} at {2}, as `access` asks. `--order` tells it as a"
+        " comment, since `table` has no tests",
+    ),
+    (
+        r"(?:# )?ret (\d+) answered granted$",
+        "of the history: the test that was made last under the number {0} was told that it is granted",
+    ),
+    (
+        r"(?:# )?ret (\d+) (answered|denied|refused)\b ?(.*)",
         "of the history: the call that was made last under the number {0} was told that it is {1}",
     ),
     (r"# \d+ (?:answered|denied|refused)\b", "of `--order`: what `table` answers to the line above it"),

@@ -16,7 +16,7 @@ DONE, NO_ORDER, FAULTY = 0, 1, 3
 MOST = 128 << 20
 # So many calls that ran beside the one that is told are told with it.
 MOST_BESIDE = 12
-READS = {"read", "list", "getacl", "getvotes"}
+READS = {"read", "list", "getacl", "getvotes", "test"}
 
 
 class Parser(argparse.ArgumentParser):
@@ -147,13 +147,29 @@ def smaller(lines: list[str], number: int) -> list[str]:
     return lines
 
 
+def is_test(call: Told) -> bool:
+    """Whether a call asks whether it is granted something: a script of `table` has no such line."""
+    return call.asks.split()[2:3] == ["test"]
+
+
 def script(lines: list[str], order: list[int]) -> list[str]:
-    """The script of `table` that answers as the clients were told, with each line's answer below it."""
+    """The script of `table` that answers as the clients were told, with each line's answer below it. A test is told as a
+    comment: its lines in the history.
+    """
     calls = {call.made: call for call in calls_of(lines)}
-    told = [next(line for line in lines if line.split()[:1] == ["root"])]
-    told += [f"do {calls[place].asks}" for place in order]
-    answers = built.asked("suites", "\n".join([*told, ""]), "table")[1].splitlines()
-    return [told[0], *(part for line, answer in zip(told[1:], answers) for part in (line, f"# {answer}"))]
+    placed = [calls[place] for place in order]
+    root = next(line for line in lines if line.split()[:1] == ["root"])
+    jobs = [f"do {call.asks}" for call in placed if not is_test(call)]
+    answers = built.asked("suites", "\n".join([root, *jobs, ""]), "table")[1].splitlines()
+    played = iter(zip(jobs, answers))
+    told = [root]
+    for call in placed:
+        if is_test(call):
+            told += [f"# {lines[place].strip()}" for place in sorted({call.made, call.told} - {None})]
+        else:
+            line, answer = next(played)
+            told += [line, f"# {answer}"]
+    return told
 
 
 def run(given: argparse.Namespace) -> int:
