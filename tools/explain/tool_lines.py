@@ -117,8 +117,8 @@ JUDGED: tuple[tuple[str, str], ...] = (
     ),
     (
         r"(?:# )?(?:do|call \d+) (\d+) ([\d,]+) test (\S+) ([rwx]+)$",
-        "of the history: whether user {0} of groups {1} is granted {3} at {2}, as `access` asks. `--order` tells it as a"
-        " comment, since `table` has no tests",
+        "of the history: whether user {0} of groups {1} is granted {3} at {2}, as access(2) asks. `--order` tells it as"
+        " a comment, since `table` has no tests",
     ),
     (
         r"(?:# )?ret (\d+) answered granted$",

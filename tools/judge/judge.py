@@ -153,8 +153,8 @@ def is_test(call: Told) -> bool:
 
 
 def script(lines: list[str], order: list[int]) -> list[str]:
-    """The script of `table` that answers as the clients were told, with each line's answer below it. A test is told as a
-    comment: its lines in the history.
+    """The script of `table` that answers as the clients were told, with each line's answer below it. A test is told as
+    comments: its lines in the history.
     """
     calls = {call.made: call for call in calls_of(lines)}
     placed = [calls[place] for place in order]

@@ -1,13 +1,13 @@
-"""python3 tools record FOLDER [--through FOLDER | --nfs URL] [--calls N] [--readers N] [--seed N] [--opens | --access] > HISTORY
+"""python3 tools record FOLDER [--through FOLDER | --nfs URL] [--calls N] [--readers N] [--seed N] [--opens | --access]
+        > HISTORY
 
 Makes calls on files of a real folder as several users at once, and prints what they were told as a history for
 `./suites judge`. The owner (1000) sets lists and writes in FOLDER; readers (1001 and 2000 in turn) read there, or
 through another folder that shows the same files, as a mount of it. A read is an open and a read; with --opens it is an
-open alone, of which `answered` says that it was let; with --access readers ask access(2) whether they may read, which is
-told as a test. When a call began and when it ended is noted by one clock of the
-machine, which all processes share. The files are made in FOLDER, and left there. Needs root, and a file system with
-POSIX access lists. With --nfs all calls go to the NFS server that exports FOLDER by this URL, and the owner sets modes
-in place of lists.
+open alone, of which `answered` says that it was let; with --access it is a test: access(2) is asked whether it may be
+read. When a call began and when it ended is noted by one clock of the machine, which all processes share. The files are
+made in FOLDER, and left there. Needs root, and a file system with POSIX access lists. With --nfs all calls go to the
+NFS server that exports FOLDER by this URL, and the owner sets modes in place of lists.
 """
 import argparse
 import ctypes
