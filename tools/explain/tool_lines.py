@@ -112,6 +112,10 @@ JUDGED: tuple[tuple[str, str], ...] = (
     ),
     (r" +and \d+ more$", "so many more calls ran beside it"),
     (
+        r" +one table could have told: ",
+        "with this answer in the place of the one that fits no order, the history up to there is one table's",
+    ),
+    (
         rf"call (\d+) (\d+) ([\d,]+) ({OPERATION} .*)",
         "of the history: a client calls, under the number {0}, for user {1} of groups {2}: {3}",
     ),
