@@ -11,7 +11,7 @@ import typing
 
 from common import built, console
 
-DONE, NO_ORDER, FAULTY = 0, 1, 3
+DONE, NO_ORDER, FAULTY, UNREAD = 0, 1, 3, 6
 # The program reads no more of a history.
 MOST = 128 << 20
 # So many calls that ran beside the one that is told are told with it.
@@ -236,6 +236,8 @@ def run(given: argparse.Namespace) -> int:
     sys.stdout.flush()
     if status == FAULTY and sys.stderr.isatty():
         console.Teller().say(f"./suites explain {shlex.quote(first)} tells what it means")
+    if status == UNREAD:
+        console.Teller().say("the history is above 128 MiB, or a read or a write failed (./suites explain 'status 6')")
     if status < 0:
         console.Teller().say(console.ended("judge", status))
     return console.status_of(status)
