@@ -47,11 +47,7 @@ fn is_granted(word: &[u8]) -> bool
 }
 
 /// That a test was granted: no more words, and no more parts.
-fn read_granted(
-    alloc: Global,
-    mut words: Words<'_>,
-    mut more: Parts<'_>,
-) -> Result<Seen, LineError>
+fn read_granted(alloc: Global, mut words: Words<'_>, mut more: Parts<'_>) -> Result<Seen, LineError>
     ensures { Gives result (granted_in words.entry more.entry) }
 {
     match (words.next(), more.next()) {
