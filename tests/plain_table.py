@@ -157,9 +157,7 @@ class Table:
     def operation(self, caller: Caller, words: list[str]) -> str:
         """The reply to an operation."""
         verb, path, *more = words
-        names = path.split("/")[1:] if path != "/" else []
-        if not path.startswith("/") or len(names) > MOST_NAMES or any(not is_name(name) for name in names):
-            raise Refused("F1")
+        names = names_of(path)
         if verb in ("file", "folder"):
             return self.make(caller, names, more[0], verb == "folder")
         if verb == "drop":
@@ -187,9 +185,22 @@ class Table:
             return "wrote"
         return f"read {node.holds or '-'}"
 
+    def test(self, caller: Caller, path: str, wanted: str) -> str:
+        """Whether a caller is granted some of r, w and x at a path: the way there grants search, and one entry all."""
+        node = self.nodes[self.reach(caller, names_of(path))]
+        self.permit(node, caller, sum(BITS[letter] for letter in wanted))
+        return "granted"
+
     def call(self, caller: Caller, operations: list[list[str]]) -> tuple["Table", str]:
-        """The table after a call, and what is answered: `answered` and the replies, or why it is refused."""
+        """The table after a call, and what is answered: `answered` and the replies, or why it is refused. A test is no
+        operation, and leaves the table as it is.
+        """
         after, replies = copy.deepcopy(self), list[str]()
+        if operations[0][0] == "test":
+            try:
+                return self, f"answered {self.test(caller, *operations[0][1:])}"
+            except Refused as refused:
+                return self, "denied" if str(refused) == "denied" else f"refused {refused} op 1"
         if len(operations) > MOST_OPERATIONS:
             return self, "refused F10 op 0"
         for place, words in enumerate(operations, 1):
@@ -198,6 +209,14 @@ class Table:
             except Refused as refused:
                 return self, "denied" if str(refused) == "denied" else f"refused {refused} op {place}"
         return after, f"answered {'; '.join(replies)}"
+
+
+def names_of(path: str) -> list[str]:
+    """The names of a path."""
+    names = path.split("/")[1:] if path != "/" else []
+    if not path.startswith("/") or len(names) > MOST_NAMES or any(not is_name(name) for name in names):
+        raise Refused("F1")
+    return names
 
 
 def is_name(text: str) -> bool:

@@ -19,6 +19,7 @@ FORMS = {
     "call": "call NAME UID GIDS OPERATION ; ..",
     "ret": "ret NAME answered|denied|refused ..",
 }
+TEST = "test PATH WANTED, where WANTED is some of r, w and x, in this order"
 
 
 def is_history(text: str) -> bool:
@@ -51,6 +52,8 @@ def of_fault(text: str, name: str, number: int, code: str) -> list[str]:
     first = (line.split() or [""])[0]
     form = FORMS.get(first)
     due = f"The form: {form}" if form else f"A line of a history begins with {quoted.either(FORMS)}."
+    if form and re.match(r"\s*(?:do|call\s+\S+)\s+\S+\s+\S+\s+test(?:\s|$)", line):
+        due = f"The form: {form.replace('OPERATION ; ..', TEST)}."
     above = [f"The first line is `{FORMS['root']}`, and no other one is."] if code == "S2" else []
     return [f"Line {number} of {name}, a history of calls:", "", f"    {quoted.short(line)}", "", *above, due]
 

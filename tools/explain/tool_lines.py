@@ -112,11 +112,24 @@ JUDGED: tuple[tuple[str, str], ...] = (
     ),
     (r" +and \d+ more$", "so many more calls ran beside it"),
     (
+        r" +one table could have told: ",
+        "with this answer in the place of the one that fits no order, the history up to there is one table's",
+    ),
+    (
         rf"call (\d+) (\d+) ([\d,]+) ({OPERATION} .*)",
         "of the history: a client calls, under the number {0}, for user {1} of groups {2}: {3}",
     ),
     (
-        r"ret (\d+) (answered|denied|refused)\b ?(.*)",
+        r"(?:# )?(?:do|call \d+) (\d+) ([\d,]+) test (\S+) ([rwx]+)$",
+        "of the history: whether user {0} of groups {1} is granted {3} at {2}, as access(2) asks. `--order` tells it as"
+        " a comment, since `table` has no tests",
+    ),
+    (
+        r"(?:# )?ret (\d+) answered granted$",
+        "of the history: the test that was made last under the number {0} was told that it is granted",
+    ),
+    (
+        r"(?:# )?ret (\d+) (answered|denied|refused)\b ?(.*)",
         "of the history: the call that was made last under the number {0} was told that it is {1}",
     ),
     (r"# \d+ (?:answered|denied|refused)\b", "of `--order`: what `table` answers to the line above it"),

@@ -1,8 +1,8 @@
 """./suites judge [--order | --small] < HISTORY
 
 Tells whether a history is one plain table's; help/judge.txt tells all of it. The program `judge` does the work. Here
-its words are looked at, and it is told what stands around the line that fits no order (--small: in as few calls as may
-be), or the script that answers so.
+its words are looked at, and it is told what stands around the line that fits no order, and what one table could have
+told there (--small: in as few calls as may be), or the script that answers so.
 """
 import argparse
 import shlex
@@ -11,12 +11,17 @@ import typing
 
 from common import built, console
 
-DONE, NO_ORDER, FAULTY = 0, 1, 3
+DONE, NO_ORDER, FAULTY, UNREAD = 0, 1, 3, 6
 # The program reads no more of a history.
 MOST = 128 << 20
 # So many calls that ran beside the one that is told are told with it.
 MOST_BESIDE = 12
-READS = {"read", "list", "getacl", "getvotes"}
+# What else is told than replies: of a test, and of an operation.
+WALKS = ("F1", "F2", "F4")
+CODES = (*WALKS, "F5", "F6", "F7", "F8", "F9", "F11", "F12")
+# Up to so many lines all that could have been told is looked for; the program judges once for each.
+MOST_TRIED = 20_000
+READS = {"read", "list", "getacl", "getvotes", "test"}
 
 
 class Parser(argparse.ArgumentParser):
@@ -147,19 +152,75 @@ def smaller(lines: list[str], number: int) -> list[str]:
     return lines
 
 
-def script(lines: list[str], order: list[int]) -> list[str]:
-    """The script of `table` that answers as the clients were told, with each line's answer below it."""
+def is_test(call: Told) -> bool:
+    """Whether a call asks whether it is granted something: a script of `table` has no such line."""
+    return call.asks.split()[2:3] == ["test"]
+
+
+def root_of(lines: list[str]) -> str:
+    return next(line for line in lines if line.split()[:1] == ["root"])
+
+
+def played(lines: list[str], order: list[int]) -> list[tuple[Told, str]]:
+    """The calls of an order with what `table` answers to each; to a test, which it has not, nothing."""
     calls = {call.made: call for call in calls_of(lines)}
-    told = [next(line for line in lines if line.split()[:1] == ["root"])]
-    told += [f"do {calls[place].asks}" for place in order]
-    answers = built.asked("suites", "\n".join([*told, ""]), "table")[1].splitlines()
-    return [told[0], *(part for line, answer in zip(told[1:], answers) for part in (line, f"# {answer}"))]
+    placed = [calls[place] for place in order]
+    jobs = [f"do {call.asks}" for call in placed if not is_test(call)]
+    answers = iter(built.asked("suites", "\n".join([root_of(lines), *jobs, ""]), "table")[1].splitlines())
+    return [(call, "" if is_test(call) else next(answers)) for call in placed]
+
+
+def script(lines: list[str], order: list[int]) -> list[str]:
+    """The script of `table` that answers as the clients were told, with each line's answer below it. A test is told as
+    comments: its lines in the history.
+    """
+    told = [root_of(lines)]
+    for call, answer in played(lines, order):
+        if is_test(call):
+            told += [f"# {lines[place].strip()}" for place in sorted({call.made, call.told} - {None})]
+        else:
+            told += [f"do {call.asks}", f"# {answer}"]
+    return told
+
+
+def order_of(said: str) -> list[int]:
+    """The lines, counted from 0, of the calls in the order that the program told."""
+    return [int(one) - 1 for one in said.split("\n")[1:] if one]
+
+
+def told_so(lines: list[str], call: Told, answer: str) -> str:
+    """What is told of a call in an order in which its answer is this; nothing where there is none. `answered` of
+    operations is told with the replies there.
+    """
+    name = call.name or str(1 + max([int(other.name) for other in calls_of(lines) if other.name], default=0))
+    lines = [*lines[: call.made], f"call {name} {call.asks}", *lines[call.made + 1 :], f"ret {name} {answer}"]
+    status, said = built.asked("judge", "\n".join([*lines, ""]), "--order")
+    if status != DONE:
+        return ""
+    if answer != "answered":
+        return answer
+    replies = (there for one, there in played(lines, order_of(said)) if one.made == call.made)
+    return next(replies).partition(" ")[2]
+
+
+def could_be(lines: list[str], number: int) -> list[str]:
+    """What one table could have told on the line that fits no order: with each of these the history up to there has an
+    order. Of a longer history a refusal that is no denial is not looked for.
+    """
+    call = next(call for call in calls_of(lines) if call.told == number)
+    operations = call.asks.count(" ; ") + 1
+    codes = WALKS if is_test(call) else CODES
+    answers = ["answered granted" if is_test(call) else "answered", "denied"]
+    if number <= MOST_TRIED:
+        answers += [f"refused {code} op {place + 1}" for place in range(operations) for code in codes]
+    found = (told_so(lines[:number], call, answer) for answer in answers)
+    return [f"  one table could have told: {answer}" for answer in found if answer]
 
 
 def run(given: argparse.Namespace) -> int:
     text = sys.stdin.buffer.read(MOST + 1)
     status, said = built.asked("judge", text, *(["--order"] if given.order else []))
-    first, _, rest = said.partition("\n")
+    first = said.partition("\n")[0]
     lines = text.decode("latin1").splitlines()
     told = [first] if first else []
     if status == NO_ORDER:
@@ -168,13 +229,15 @@ def run(given: argparse.Namespace) -> int:
             told = [line for line in smaller(lines, number) if line and not line.startswith("#")]
             told.append(f"# {built.asked('judge', chr(10).join([*told, '']))[1].strip()}")
         else:
-            told += around(lines, number)
+            told += [*around(lines, number), *could_be(lines, number)]
     elif status == DONE and given.order:
-        told = [f"# {first}", *script(lines, [int(one) - 1 for one in rest.split()])]
+        told = [f"# {first}", *script(lines, order_of(said))]
     sys.stdout.write("\n".join([*told, ""]) if told else "")
     sys.stdout.flush()
     if status == FAULTY and sys.stderr.isatty():
         console.Teller().say(f"./suites explain {shlex.quote(first)} tells what it means")
+    if status == UNREAD:
+        console.Teller().say("the history is above 128 MiB, or a read or a write failed (./suites explain 'status 6')")
     if status < 0:
         console.Teller().say(console.ended("judge", status))
     return console.status_of(status)

@@ -1,14 +1,16 @@
-"""python3 tools record FOLDER [--through FOLDER | --nfs URL] [--calls N] [--readers N] [--seed N] [--opens] > HISTORY
+"""python3 tools record FOLDER [--through FOLDER | --nfs URL] [--calls N] [--readers N] [--seed N] [--opens | --access]
+        > HISTORY
 
 Makes calls on files of a real folder as several users at once, and prints what they were told as a history for
 `./suites judge`. The owner (1000) sets lists and writes in FOLDER; readers (1001 and 2000 in turn) read there, or
 through another folder that shows the same files, as a mount of it. A read is an open and a read; with --opens it is an
-open alone, of which `answered` says that it was let. When a call began and when it ended is noted by one clock of the
-machine, which all processes share. The files are made in FOLDER, and left there. Needs root, and a file system with
-POSIX access lists. With --nfs all calls go to the NFS server that exports FOLDER by this URL, and the owner sets modes
-in place of lists.
+open alone, of which `answered` says that it was let; with --access it is a test: access(2) is asked whether it may be
+read. When a call began and when it ended is noted by one clock of the machine, which all processes share. The files are
+made in FOLDER, and left there. Needs root, and a file system with POSIX access lists. With --nfs all calls go to the
+NFS server that exports FOLDER by this URL, and the owner sets modes in place of lists.
 """
 import argparse
+import ctypes
 import errno
 import os
 import random
@@ -57,6 +59,13 @@ def read(path: str, only_opens: bool) -> str:
         return "" if only_opens else f" read {os.pread(file, WIDTH, 0).hex() or '-'}"
     finally:
         os.close(file)
+
+
+def test(path: str) -> str:
+    """Asks access(2) whether it may be read; os.access would not tell a denial from another error."""
+    if ctypes.CDLL(None, use_errno=True).access(os.fsencode(path), os.R_OK):
+        raise OSError(ctypes.get_errno(), "access")
+    return " granted"
 
 
 def write(path: str, value: int) -> str:
@@ -136,14 +145,17 @@ def owner(folder: str, calls: int, chosen: random.Random) -> typing.Iterator[Not
             yield noted(0, f"{who} write /{name} {value:0{2 * WIDTH}x}", lambda: write(path, value))
 
 
-def reader(folder: str, client: int, calls: int, only_opens: bool, chosen: random.Random) -> typing.Iterator[Noted]:
+def reader(given: argparse.Namespace, client: int, chosen: random.Random) -> typing.Iterator[Noted]:
     """The calls of a reader."""
     uid = READERS[client % len(READERS)]
     becomes(uid, THEIR_GROUP)
-    for _ in range(calls):
+    for _ in range(given.calls):
         name = f"f{chosen.randrange(FILES)}"
-        path = os.path.join(folder, name)
-        yield noted(client, f"{uid} {THEIR_GROUP} read /{name}", lambda: read(path, only_opens))
+        path, who = os.path.join(given.through or given.folder, name), f"{uid} {THEIR_GROUP}"
+        if given.access:
+            yield noted(client, f"{who} test /{name} r", lambda: test(path))
+        else:
+            yield noted(client, f"{who} read /{name}", lambda: read(path, given.opens))
 
 
 def make_file(path: str, has_lists: bool) -> None:
@@ -198,7 +210,7 @@ def calls_of(given: argparse.Namespace, client: int, chosen: random.Random) -> t
         return reader_there(given.nfs, client, given.calls, given.opens, chosen)
     if client == 0:
         return owner(given.folder, given.calls, chosen)
-    return reader(given.through or given.folder, client, given.calls, given.opens, chosen)
+    return reader(given, client, chosen)
 
 
 def recorded(given: argparse.Namespace) -> list[Noted]:
@@ -237,8 +249,12 @@ def main() -> int:
     read_words.add_argument("--calls", type=int, default=500)
     read_words.add_argument("--readers", type=int, default=2)
     read_words.add_argument("--seed", type=int, default=1)
-    read_words.add_argument("--opens", action="store_true")
+    what = read_words.add_mutually_exclusive_group()
+    what.add_argument("--opens", action="store_true")
+    what.add_argument("--access", action="store_true")
     given = read_words.parse_args()
+    if given.nfs and given.access:
+        read_words.error("with --nfs nobody asks access(2)")
     if os.geteuid() != 0:
         raise console.Stop("this needs root, which makes the calls of other users")
     lines = opening(given.folder, not given.nfs)

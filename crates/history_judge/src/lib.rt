@@ -1,7 +1,8 @@
 //! A judge of concurrent histories against the plain table: it knows nothing of servers and agents.
 //!
 //! A history is a list of calls: who called for what and when, and what was told of it and when, or nothing: such a
-//! call was carried out or not. A call's number is its place in the list, and the number of its transaction. Times
+//! call was carried out or not. A call asks for operations, or for a test: whether it is granted something at a path.
+//! A call's number is its place in the list, and the number of its transaction. Times
 //! are any numbers; one call precedes another where it was told at a time before the other was called. The numbers of
 //! what was made are not compared.
 //!
@@ -44,6 +45,6 @@ mod trying;
 mod verdict;
 mod window;
 
-pub use history::{Call, Ops, Seen, Told};
+pub use history::{Asked, Call, Ops, Seen, Told};
 pub use search::order_of;
 pub use verdict::{Verdict, judge};

@@ -4,8 +4,8 @@ use Rattle.std.specs.Ordering.{nat_cmp}
 use Rattle.std.specs.Str.Lines.{lines}
 use Rattle.sorted_map.specs.SortedMap.{get, insert, remove}
 use Rattle.acl_core.specs.Identity.{Identity}
-use Rattle.file_ops.specs.declared.operation.Op.{Op}
 use Rattle.file_ops.specs.Steps.{◌>>=◌}
+use Rattle.history_judge.specs.declared.history.Asked.{Asked}
 use Rattle.history_judge.specs.declared.history.Call.{Call}
 use Rattle.history_judge.specs.declared.history.Seen.{Seen}
 use Rattle.history_judge.specs.declared.history.Seen.TheVariants.{SomeAnswers}
@@ -29,8 +29,8 @@ abbrev pub nothing : Heard
 nothing = record { rooted = false; calls = []; waiting = [] }
 
 -- a call that was made, and perhaps told, on a line
-abbrev pub made_on : ℕ → Identity → List Op → Option Told → Call
-made_on line caller ops told = record { caller = caller; ops = ops; called = line; told = told }
+abbrev pub made_on : ℕ → Identity → Asked → Option Told → Call
+made_on line caller asked told = record { caller = caller; asked = asked; called = line; told = told }
 
 -- what was told on a line
 abbrev pub told_on : ℕ → Seen → Told
@@ -46,10 +46,10 @@ told_at calls place told (Some call) = slice_set calls place (record call { told
 told_at calls place told None = calls
 
 -- a call whose name is that of no call that was told nothing yet
-abbrev pub called : Heard → ℕ → ℕ → Identity → List Op → Bool → Result Heard LineFault
-called heard line name caller ops true = Err Order
-called heard line name caller ops false =
-    Ok (record { rooted = heard.rooted; calls = heard.calls ++ made_on line caller ops None ∷ []; waiting = insert nat_cmp heard.waiting name (length heard.calls) })
+abbrev pub called : Heard → ℕ → ℕ → Identity → Asked → Bool → Result Heard LineFault
+called heard line name caller asked true = Err Order
+called heard line name caller asked false =
+    Ok (record { rooted = heard.rooted; calls = heard.calls ++ made_on line caller asked None ∷ []; waiting = insert nat_cmp heard.waiting name (length heard.calls) })
 
 -- what the call of a name was told
 abbrev pub told : Heard → ℕ → ℕ → Seen → Option ℕ → Result Heard LineFault
@@ -60,8 +60,8 @@ told heard line name seen (Some place) =
 -- what a line says behind others
 abbrev pub said_on : Heard → ℕ → Said → Result Heard LineFault
 said_on heard line said.Root = if heard.rooted then Err Order else Ok (record heard { rooted = true })
-said_on heard line (said.Do caller ops) = Ok (with_call heard (made_on line caller ops (Some (told_on line SomeAnswers))))
-said_on heard line (said.Call name caller ops) = called heard line name caller ops (is_some (get nat_cmp heard.waiting name))
+said_on heard line (said.Do caller asked) = Ok (with_call heard (made_on line caller asked (Some (told_on line SomeAnswers))))
+said_on heard line (said.Call name caller asked) = called heard line name caller asked (is_some (get nat_cmp heard.waiting name))
 said_on heard line (said.Ret name seen) = told heard line name seen (get nat_cmp heard.waiting name)
 
 -- a line that says something; a line, which may say nothing

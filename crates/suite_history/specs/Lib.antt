@@ -1,4 +1,5 @@
 pub mod Told
+pub mod Asking
 pub mod Lines
 pub mod Histories
 pub mod Shown

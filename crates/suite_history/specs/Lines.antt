@@ -3,42 +3,26 @@ use Rattle.std.specs.Prelude.{ℕ, ◌==◌, Bool, ◌||◌, if◌then◌else◌
 use Rattle.std.specs.List.{slice_split}
 use Rattle.std.specs.Str.{bytes_eq}
 use Rattle.script_text.specs.Words.{words}
-use Rattle.acl_core.specs.Identity.{Identity}
-use Rattle.file_ops.specs.declared.operation.Op.{Op}
 use Rattle.file_ops.specs.Steps.{◌>>=◌}
 use Rattle.suite_script.specs.declared.fault.LineFault.{LineFault}
 use Rattle.suite_script.specs.declared.fault.LineFault.TheVariants.{Form}
-use Rattle.suite_script.specs.code.Kept.{kept}
 use Rattle.suite_script.specs.Forms.{max_number}
-use Rattle.suite_script.specs.Operations.{operations}
-use Rattle.suite_script.specs.Scripts.{no_names}
-use Rattle.suite_script.specs.Words.{Word, caller, number, word}
+use Rattle.suite_script.specs.Words.{Word, number, word}
+use Rattle.suite_history.specs.Asking.{request_in}
 use Rattle.suite_history.specs.Told.{seen_in}
 use Rattle.suite_history.specs.declared.line.Said.{Said}
 use Rattle.suite_history.specs.declared.line.Said.TheVariants.{Root, Do, Call, Ret}
 
--- who asks for what
-pub record Asked : Type 0 where
-  pub caller : Identity
-  pub ops : List Op
-
--- a caller and its operations: of too many, which are refused for that, one more than there may be
-abbrev pub asked_in : List Word → Result Asked LineFault
-asked_in words = do
-  caller ← caller words
-  ops ← operations no_names caller.rest
-  Ok (record { caller = caller.value; ops = kept ops })
-
 abbrev pub do_in : List Word → Result Said LineFault
 do_in words = do
-  asked ← asked_in words
-  Ok (Do asked.caller asked.ops)
+  request ← request_in words
+  Ok (Do request.caller request.asked)
 
 abbrev pub call_in : List Word → Result Said LineFault
 call_in words = do
   name ← number max_number words
-  asked ← asked_in name.rest
-  Ok (Call name.value asked.caller asked.ops)
+  request ← request_in name.rest
+  Ok (Call name.value request.caller request.asked)
 
 -- the words of the first part behind `ret`, and the parts after its semicolon
 abbrev pub told_in : List Word → List (List ℕ) → Result Said LineFault

@@ -1,5 +1,5 @@
 -- What a client was told of its call, as words.
-use Rattle.std.specs.Prelude.{ℕ, ◌==◌, if◌then◌else◌, List, [], ◌∷◌, codes, Option, Some, None, Result, Ok, Err}
+use Rattle.std.specs.Prelude.{ℕ, ◌==◌, Bool, if◌then◌else◌, List, [], ◌∷◌, codes, Option, Some, None, Result, Ok, Err}
 use Rattle.std.specs.List.{find, slice_split}
 use Rattle.std.specs.Str.{bytes_eq}
 use Rattle.script_text.specs.Words.{words}
@@ -113,14 +113,26 @@ refused_in words = do
 
 -- ---- what was told
 
--- some replies; or these, each but the last before a semicolon
-abbrev pub answered_in : List Word → List (List ℕ) → Result Seen LineFault
-answered_in [] [] = Ok SomeAnswers
-answered_in [] (part ∷ more) = Err Form
-answered_in (verb ∷ words) more = do
+-- replies, each but the last before a semicolon
+abbrev pub these_in : Word → List Word → List (List ℕ) → Result Seen LineFault
+these_in verb words more = do
   first ← reply_of verb words
   later ← replies_in more
   Ok (Answered (first ∷ later))
+
+-- that a test was granted, to which there are no replies
+abbrev pub granted_in : List Word → List (List ℕ) → Result Seen LineFault
+granted_in [] [] = Ok (Answered [])
+granted_in words more = Err Form
+
+abbrev pub is_granted : Word → Bool
+is_granted text = bytes_eq text (codes "granted")
+
+-- something; that a test was granted; or these replies
+abbrev pub answered_in : List Word → List (List ℕ) → Result Seen LineFault
+answered_in [] [] = Ok SomeAnswers
+answered_in [] (part ∷ more) = Err Form
+answered_in (verb ∷ words) more = if is_granted verb then granted_in words more else these_in verb words more
 
 abbrev pub denied_in : List Word → Result Seen LineFault
 denied_in words = do

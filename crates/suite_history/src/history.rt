@@ -9,7 +9,7 @@ ghost use Rattle.suite_script.specs.Scripts.{is_skipped};
 
 use crate::line::{HistoryLines, Said, read_line};
 use acl_core::Caller;
-use history_judge::{Call, Ops, Seen, Told};
+use history_judge::{Asked, Call, Seen, Told};
 use script_text::Lines;
 use sorted_map::SortedMap;
 use std::alloc::{AllocError, Global};
@@ -105,12 +105,12 @@ impl Hearing {
                 self.is_rooted = true;
                 Ok(())
             }
-            Said::Do(caller, ops) => {
+            Said::Do(caller, asked) => {
                 let seen = Seen::SomeAnswers;
                 let told = Some(Told { at: number, seen });
-                Ok(self.push(number, caller, ops, told)?)
+                Ok(self.push(number, caller, asked, told)?)
             }
-            Said::Call(name, caller, ops) => self.call(number, name, caller, ops),
+            Said::Call(name, caller, asked) => self.call(number, name, caller, asked),
             Said::Ret(name, seen) => self.ret(number, name, seen),
         }
     }
@@ -120,16 +120,16 @@ impl Hearing {
         &mut self,
         number: u64,
         caller: Caller,
-        ops: Ops,
+        asked: Asked,
         told: Option<Told>,
     ) -> Result<(), AllocError>
-        ensures calls { OnOk result (self.new.calls.items ≡ self.old.calls.items ++ made_on number caller ops told ∷ []) }
+        ensures calls { OnOk result (self.new.calls.items ≡ self.old.calls.items ++ made_on number caller asked told ∷ []) }
         ensures rooted { self.new.is_rooted ≡ self.old.is_rooted }
         ensures waiting { self.new.waiting ≡ self.old.waiting }
     {
         self.calls.push(Call {
             caller,
-            ops,
+            asked,
             called: number,
             told,
         })?;
@@ -137,15 +137,21 @@ impl Hearing {
     }
 
     /// A call, whose name is that of no call that was told nothing yet.
-    fn call(&mut self, number: u64, name: u64, caller: Caller, ops: Ops) -> Result<(), LineError>
-        ensures heard { Hears result self.new (called (heard_in self.old) number name caller ops (is_some (get nat_cmp self.old.waiting name))) }
+    fn call(
+        &mut self,
+        number: u64,
+        name: u64,
+        caller: Caller,
+        asked: Asked,
+    ) -> Result<(), LineError>
+        ensures heard { Hears result self.new (called (heard_in self.old) number name caller asked (is_some (get nat_cmp self.old.waiting name))) }
         ensures few { OnOk result (length self.new.calls.items ≤ length self.old.calls.items + 1) }
     {
         if self.waiting.contains_key(&name) {
             return Err(LineError::Faulty(LineFault::Order));
         }
         self.waiting.insert(name, self.calls.len())?;
-        Ok(self.push(number, caller, ops, None)?)
+        Ok(self.push(number, caller, asked, None)?)
     }
 
     /// What the call of a name was told.

@@ -5,9 +5,12 @@
 //! chose, a number, and then who calls for what; `ret` has the name, and what that client was told. An empty line,
 //! and one that begins with `#`, says nothing. The time of an event is the number of its line.
 //!
-//! What was told is `answered`, with or without the replies as `table` prints them; `denied`; or `refused`, a code
-//! and the operation. The number behind `made` says nothing: each service chooses its own. A call without `ret` was
-//! told nothing: it was carried out or not.
+//! A call asks for operations, or for one test: `test`, a path, and what is wanted there of `r`, `w` and `x`, in this
+//! order. That is no operation, and stands alone.
+//!
+//! What was told is `answered`, with or without the replies as `table` prints them, or with `granted`, of a test;
+//! `denied`; or `refused`, a code and the operation, which is the first one where a test was refused. The number behind
+//! `made` says nothing: each service chooses its own. A call without `ret` was told nothing: it was carried out or not.
 //!
 //! **Promises.** `read_history` gives what the text says, or its first faulty line (`specs/Histories.antt`).
 //! `judge_text` gives what is printed of it, and the exit status: by a verdict on that history (`specs/Shown.antt`).
@@ -17,10 +20,11 @@
 //!
 //! **The caller owes** a text below 2^60 bytes.
 //!
-//! **Files**: `line`, `told`, `reply`, `history`, `shown`. **Definitions** (`specs/`): `Told`, `Lines`, `Histories`,
-//! `Shown`; for the readings of the code `Readings`.
+//! **Files**: `asking`, `told`, `reply`, `line`, `history`, `shown`. **Definitions** (`specs/`): `Asking`, `Told`, `Lines`,
+//! `Histories`, `Shown`; for the readings of the code `Readings`.
 #![tactic(auto)]
 
+mod asking;
 mod history;
 mod line;
 mod reply;

@@ -3,20 +3,18 @@
 ghost use Rattle.std.specs.Prelude.{◌≡◌};
 ghost use Rattle.file_ops.specs.Steps.{found_or};
 ghost use Rattle.script_text.specs.Numbers.{number_up_to};
-ghost use Rattle.suite_history.specs.code.Readings.{GivesAsked};
-ghost use Rattle.suite_history.specs.Lines.{asked_in, call_in, do_in, is_call, is_do, is_ret, is_root, line_in, ret_in, told_in};
+ghost use Rattle.suite_history.specs.Lines.{call_in, do_in, is_call, is_do, is_ret, is_root, line_in, ret_in, told_in};
 ghost use Rattle.suite_script.specs.Forms.{max_number};
 ghost use Rattle.suite_script.specs.Readings.{Gives};
 
+use crate::asking::read_request;
 use crate::told::read_seen;
 use acl_core::Caller;
 use acl_text::Names;
-use history_judge::{Ops, Seen};
+use history_judge::{Asked, Seen};
 use script_text::{Parts, Words, read_number};
 use std::alloc::Global;
-use suite_script::{
-    Language, LineError, LineFault, next_word, read_caller, read_id, read_operations,
-};
+use suite_script::{Language, LineError, LineFault, next_word};
 
 /// What a line says.
 #[derive(Drop)]
@@ -24,9 +22,9 @@ pub(crate) enum Said {
     /// That this is the history's root folder.
     Root,
     /// That this was called for, and answered at once.
-    Do(Caller, Ops),
+    Do(Caller, Asked),
     /// That a client called for this, by the client's own name of the call.
-    Call(u64, Caller, Ops),
+    Call(u64, Caller, Asked),
     /// What the client of this call was told.
     Ret(u64, Seen),
 }
@@ -110,23 +108,12 @@ pub(crate) fn read_line(alloc: Global, line: &[u8]) -> Result<Said, LineError>
     }
 }
 
-/// A caller, and its operations.
-fn read_asked(alloc: Global, mut words: Words<'_>) -> Result<(Caller, Ops), LineError>
-    ensures { GivesAsked result (asked_in words.entry) }
-{
-    let uid = read_id(next_word(&mut words)?)?;
-    let caller = read_caller(uid, next_word(&mut words)?)?;
-    let names = Names::new(alloc);
-    let ops = read_operations(alloc, &names, words)?;
-    Ok((caller, Ops::from_vec(ops)?))
-}
-
 /// What was asked for and answered at once.
 fn read_do(alloc: Global, words: Words<'_>) -> Result<Said, LineError>
     ensures { Gives result (do_in words.entry) }
 {
-    let (caller, ops) = read_asked(alloc, words)?;
-    Ok(Said::Do(caller, ops))
+    let (caller, asked) = read_request(alloc, words)?;
+    Ok(Said::Do(caller, asked))
 }
 
 /// A call's name, and what it asks for.
@@ -134,8 +121,8 @@ fn read_call(alloc: Global, mut words: Words<'_>) -> Result<Said, LineError>
     ensures { Gives result (call_in words.entry) }
 {
     let name = read_name(next_word(&mut words)?)?;
-    let (caller, ops) = read_asked(alloc, words)?;
-    Ok(Said::Call(name, caller, ops))
+    let (caller, asked) = read_request(alloc, words)?;
+    Ok(Said::Call(name, caller, asked))
 }
 
 fn read_name(word: &[u8]) -> Result<u64, LineFault>

@@ -2,7 +2,7 @@
 
 ghost use Rattle.std.specs.Prelude.{◌≡◌, ◌∷◌, []};
 ghost use Rattle.file_ops.specs.Steps.{ok_map};
-ghost use Rattle.suite_history.specs.Told.{answered_in, refusal_in, refused_in, replies_in, seen_in, why_in};
+ghost use Rattle.suite_history.specs.Told.{answered_in, granted_in, is_granted, refusal_in, refused_in, replies_in, seen_in, these_in, why_in};
 ghost use Rattle.suite_history.specs.code.Readings.{AddsReplies};
 ghost use Rattle.suite_script.specs.Readings.{Gives};
 
@@ -29,17 +29,44 @@ pub(crate) fn read_seen(
     }
 }
 
-/// Some replies; or these.
+/// Some replies; that a test was granted; or these replies.
 fn read_answered(alloc: Global, mut words: Words<'_>, more: Parts<'_>) -> Result<Seen, LineError>
     ensures { Gives result (answered_in words.entry more.entry) }
 {
     match words.next() {
         None => some_answers(more),
-        Some(verb) => {
-            let first = reply_of(alloc, verb, &mut words)?;
-            Ok(Seen::Answered(all_replies(alloc, first, more)?))
-        }
+        Some(verb) if is_granted(verb) => read_granted(alloc, words, more),
+        Some(verb) => read_these(alloc, verb, words, more),
     }
+}
+
+fn is_granted(word: &[u8]) -> bool
+    ensures { result ≡ is_granted word.now }
+{
+    word == b"granted".as_slice()
+}
+
+/// That a test was granted: no more words, and no more parts.
+fn read_granted(alloc: Global, mut words: Words<'_>, mut more: Parts<'_>) -> Result<Seen, LineError>
+    ensures { Gives result (granted_in words.entry more.entry) }
+{
+    match (words.next(), more.next()) {
+        (None, None) => Ok(Seen::Answered(Answers::from_vec(Vec::new(alloc))?)),
+        _ => Err(LineError::Faulty(LineFault::Form)),
+    }
+}
+
+/// These replies.
+fn read_these(
+    alloc: Global,
+    verb: &[u8],
+    mut words: Words<'_>,
+    more: Parts<'_>,
+) -> Result<Seen, LineError>
+    ensures { Gives result (these_in verb.now words.entry more.entry) }
+{
+    let first = reply_of(alloc, verb, &mut words)?;
+    Ok(Seen::Answered(all_replies(alloc, first, more)?))
 }
 
 /// Replies that were not kept: no words.

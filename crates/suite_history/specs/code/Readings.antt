@@ -14,9 +14,9 @@ use Rattle.suite_script.specs.declared.fault.ScriptFault.{ScriptFault}
 use Rattle.suite_history.specs.declared.history.Hearing.{Hearing}
 use Rattle.suite_history.specs.declared.history.History as read
 use Rattle.acl_core.specs.Identity.{Identity}
-use Rattle.file_ops.specs.declared.operation.Op.{Op}
+use Rattle.history_judge.specs.declared.history.Asked.{Asked}
 use Rattle.suite_history.specs.Histories.{Heard, History}
-use Rattle.suite_history.specs.Lines.{Asked}
+use Rattle.suite_history.specs.Asking.{Request}
 
 abbrev pub heard_in : Hearing → Heard
 heard_in hearing = record { rooted = hearing.is_rooted; calls = hearing.calls.items; waiting = hearing.waiting }
@@ -60,7 +60,7 @@ AddsReplies (Err (line.Faulty fault)) old new given = given ≡ Err fault
 AddsReplies (Err line.Memory) old new given = Unit {0}
 
 -- who asks for what was read
-abbrev pub GivesAsked : Result (Identity × List Op) LineError → Result Asked LineFault → Type 0
-GivesAsked (Ok asked) given = given ≡ Ok (record { caller = asked.0; ops = asked.1 })
-GivesAsked (Err (line.Faulty fault)) given = given ≡ Err fault
-GivesAsked (Err line.Memory) given = Unit {0}
+abbrev pub GivesRequest : Result (Identity × Asked) LineError → Result Request LineFault → Type 0
+GivesRequest (Ok request) given = given ≡ Ok (record { caller = request.0; asked = request.1 })
+GivesRequest (Err (line.Faulty fault)) given = given ≡ Err fault
+GivesRequest (Err line.Memory) given = Unit {0}

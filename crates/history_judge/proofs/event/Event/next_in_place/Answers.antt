@@ -7,4 +7,5 @@ returns-clause-next c =
     c.args.self.now.due.number c.call_at-call.result.now
     (record { link = c.in_ok-placed.field-0; early = c.join.new.numbers; unfit = c.clear.new.self; effects = c.add.new.self; table = c.apply_fitting.new.table })
     c.requires.holds c.requires.due.waits c.call_at-call.ensures c.if-call-self.false c.requires.lacks
-    (c.in_ok-apply_fitting.ensures.fits c.if-not-branch.false) c.in_ok-placed.ensures.links c.in_ok-placed.ensures.number c.in_ok-join.ensures c.clear.ensures.items
+    (record { fits = c.in_ok-apply_fitting.ensures.fits c.if-not-branch.false; rows = c.in_ok-apply_fitting.ensures.rows; service = c.in_ok-apply_fitting.ensures.service })
+    c.in_ok-placed.ensures.links c.in_ok-placed.ensures.number c.in_ok-join.ensures c.clear.ensures.items
