@@ -1,13 +1,16 @@
--- Two transactions that alone begin in a calm run: where each asks for a lock, what it had before, and that each lock was granted to one of them.
-use Rattle.law_run_recovers.proofs.Vocabulary.{Bool, List, None, Option, Some, [], ap, append-nil, append_assoc, arith, false, inl, inr, length, refl, subst, suc, sym, true, ℕ, ⊎_elim, ◌++◌, ◌==◌, ◌∙◌, ◌∷◌, ◌≡◌, ◌⊎◌, eq-eqb}
+-- Transactions that begin in a calm run: where each asks for a lock, what it had before, and that each lock in its name was granted to it.
+use Rattle.law_run_recovers.proofs.Vocabulary.{Bool, ◌%◌, ◌*◌, ◌+◌, ◌≤◌, Identity, Op, CanBe, can_front, agent_of, agent_at, Agent, begin, started, List, None, Option, Some, [], ap, append-nil, append_assoc, arith, cond, false, inl, inr, length, refl, subst, suc, sym, true, ℕ, ⊎_elim, ◌++◌, ◌==◌, ◌∙◌, ◌∷◌, ◌≡◌, ◌⊎◌, eq-eqb}
 use Rattle.law_run_recovers.proofs.Vocabulary.{after, eqb-true, none-some, same_Some, cons_option, at_has, begins_job, has_append, IsNotDecided, Has, all_at, has_from, State, Lock, decisions_from-append, Decided, answer_in, decided}
 use Rattle.law_run_recovers.proofs.Vocabulary.{decided_as, decided_at, decided_by, decisions, decisions_from, task_at, run, Actor, World, actor_at, opening, server_at, step, Served, Event, Begin, Crash, Forget, Lack, Return}
 use Rattle.law_run_recovers.proofs.Vocabulary.{Step, mode_of, serves, Opening, LockMode, fixed_of, next_of, is_decide, Job, Transaction, Begun, votes_now, asks_for, begun_world, world_after}
 use Rattle.law_run_recovers.proofs.AmongCourse.{head_or, tail_or}
-use Rattle.law_run_recovers.proofs.Keeps.{IsAtWork, after_append, step_asks}
-use Rattle.law_run_recovers.proofs.Sides.{names_one}
+use Rattle.law_run_recovers.proofs.BesideUnmet.{begins_there}
+use Rattle.law_run_recovers.proofs.Keeps.{IsAtWork, after_append, run_at, step_asks}
+use Rattle.law_run_recovers.proofs.Open.{its_begin, begun_there}
+use Rattle.law_run_recovers.proofs.Sides.{compared, its_agent, names_one}
+use Rattle.law_runs.proofs.Begun.{Rises, counts_rise}
 use Rattle.law_runs.proofs.Turns.{no_decide}
-use Rattle.law_run_recovers.proofs.MeetCalm.{Fair, Calm, calm_front, busy_one, one_named}
+use Rattle.law_run_recovers.proofs.MeetCalm.{Fair, Calm, IsOurs, calm_front, ours_front, busy_one, one_named}
 use Rattle.law_run_recovers.proofs.MeetCount.{serves_own}
 use Rattle.law_run_recovers.proofs.MeetLocks.{owned_at}
 use Rattle.law_run_recovers.proofs.MeetQuiet.{GoesQuietly}
@@ -139,7 +142,7 @@ module _ (given : Opening) (events later : List Event) where
         }
 
   -- what it asks for it asks for on the table of the first world, and had before what it asks for before
-  module _ (part : List Event) (calm : Calm given events part) (who : Begun given events later) (so_far back : List Event) (i : ℕ) (split : part ≡ so_far ++ Step i ∷ back) (what : Served)
+  module _ (part : List Event) {still : ℕ → Type 0} (calm : Calm given events part still) (who : Begun given events later) (ours : IsOurs given events part still who.agent who.t who.caller who.ops) (so_far back : List Event) (i : ℕ) (split : part ≡ so_far ++ Step i ∷ back) (what : Served)
       (served : (step (fixed_of given) (run given (events ++ so_far)) (Step i)).done.served ≡ Some what) (t z : ℕ) (lock : for_lock t z what.request.value ≡ true) (at : Place who so_far i t) where
     -- up to there
     abbrev cut : List Event
@@ -148,8 +151,8 @@ module _ (given : Opening) (events later : List Event) where
     cut_is : part ≡ (so_far ++ Step i ∷ []) ++ back
     cut_is = split ∙ sym (append_assoc so_far (Step i ∷ []) back)
 
-    cut_calm : Calm given events (so_far ++ Step i ∷ [])
-    cut_calm = calm_front given events cut back (subst (Calm given events) cut_is calm)
+    cut_calm : Calm given events (so_far ++ Step i ∷ []) still
+    cut_calm = calm_front given events cut back still (subst (λ part. Calm given events part still) cut_is calm)
 
     abbrev mid : List Event
     mid = at.mid ++ Step who.agent ∷ []
@@ -167,8 +170,11 @@ module _ (given : Opening) (events later : List Event) where
       begins = who.begins;
     }
 
+    cut_ours : IsOurs given events (so_far ++ Step i ∷ []) still who.agent who.t who.caller who.ops
+    cut_ours = ours_front given events part cut back still who.agent who.t who.caller who.ops cut_is ours
+
     goes : GoesQuietly given events (events ++ who.before) (at.mid ++ Step who.agent ∷ []) who.agent who.t who.caller who.site who.ops (its_actor given events (so_far ++ Step i ∷ []) cut_calm its).0
-    goes = goes_of given events cut cut_calm its
+    goes = goes_of given events cut cut_calm its cut_ours
 
     world_is : world_after given (events ++ who.before) who.agent who.caller who.site who.ops at.mid ≡ run given (events ++ so_far)
     world_is = run_is given events cut cut_calm its at.mid ∙ ap (λ xs. run given (events ++ xs)) (sym at.parts)
@@ -220,7 +226,7 @@ module _ (given : Opening) (events later : List Event) where
     reached_then =
         reached_wider (votes_now given events) (asks_for given events who.t who.caller who.ops) _ (held_in given events part who.agent who.t)
         (λ y mode server is. held_before y mode server is) (z, mode_of what.request.value)
-        (reaches_now given events (events ++ who.before) mid who.agent who.t who.caller who.site who.ops (its_actor given events cut cut_calm its).0 goes (never_decides given events cut cut_calm its undecided_then)
+        (reaches_now given events (events ++ who.before) mid who.agent who.t who.caller who.site who.ops (its_actor given events cut cut_calm its).0 goes (never_decides given events cut cut_calm its cut_ours undecided_then)
         at.mid [] refl what served_then z lock_then)
       where
         -- what it was granted since its begin it was granted in the part
@@ -246,59 +252,106 @@ module _ (given : Opening) (events later : List Event) where
         (four_from (what.server == what.server) (for_lock who.t z what.request.value) (says_held what.reply.value) (serves (mode_of what.request.value) (mode_of what.request.value)) (eq-eqb what.server what.server refl)
         lock_then held' (serves_own (mode_of what.request.value))))
 
--- ---- both
+-- ---- a number is begun once
 
-module _ (given : Opening) (events later : List Event) (one other : Begun given events later) (alone : (third : Begun given events later) → (third.before ≡ one.before) ⊎ (third.before ≡ other.before)) where
-  -- who asks for a lock in a name is one of both
-  pub place : (part rest : List Event) → later ≡ part ++ rest → Fair given events part → (so_far back : List Event) (i : ℕ) → part ≡ so_far ++ Step i ∷ back → (what : Served)
-      → (step (fixed_of given) (run given (events ++ so_far)) (Step i)).done.served ≡ Some what → (t z : ℕ) → for_lock t z what.request.value ≡ true
-      → Place given events later one so_far i t ⊎ Place given events later other so_far i t
-  place part rest whole fair so_far back i split what served t z lock =
+rises : (given : Opening) (events : List Event) (w : World) → Rises (agent_at w) (agent_at (after (fixed_of given) w events))
+rises given [] w i a at = (a, at, omega arith)
+rises given (event ∷ events) w i a at =
+    let one = counts_rise (fixed_of given) w event i a at in
+    let more = rises given events (step (fixed_of given) w event).world i one.0 one.1 in
+    let first = one.2 in
+    let then' = more.2 in
+    (more.0, more.1, omega (arith, first, then'))
+
+module _ (given : Opening) (all : List Event) (i t : ℕ) (caller : Identity) (site : ℕ) (ops : List Op) (begins : begins_job given (run given all) (Begin i (Transaction caller site ops)) ≡ Some (t, Transaction caller site ops))
+    (between : List Event) (can : CanBe given (all ++ Begin i (Transaction caller site ops) ∷ between)) (caller' : Identity) (site' : ℕ) (ops' : List Op)
+    (again : begins_job given (run given (all ++ Begin i (Transaction caller site ops) ∷ between)) (Begin i (Transaction caller' site' ops')) ≡ Some (t, Transaction caller' site' ops'))
+    (can' : CanBe given ((all ++ Begin i (Transaction caller site ops) ∷ between) ++ Begin i (Transaction caller' site' ops') ∷ [])) where
+  never_again : ⊥
+  never_again =
+      let a = begins_there given (run given all) i t (Transaction caller site ops) begins in
+      let b = begins_there given (run given (all ++ Begin i (Transaction caller site ops) ∷ between)) i t (Transaction caller' site' ops') again in
+      let first = its_begin given all between i t caller site ops a.0 can a.1 begins in
+      let second = its_begin given (all ++ Begin i (Transaction caller site ops) ∷ between) [] i t caller' site' ops' b.0 can' b.1 again in
+      let there = begun_there given all between i t caller site ops a.0 can a.1 begins in
+      let more = rises given between (begun_world given all i caller site ops) i (begin (fixed_of given) a.0.agent (Transaction caller site ops)) (ap agent_of there) in
+      let same : more.0 ≡ b.0.agent =
+      same_Some more.0 b.0.agent (sym more.1 ∙ ap (λ w. agent_at w i) (run_at given all between i t caller site ops a.0 can a.1 begins between) ∙ ap agent_of b.1) in
+      let counted : (begin (fixed_of given) a.0.agent (Transaction caller site ops)).count ≡ a.0.agent.count + 1 =
+      ap (λ b. (cond b (record (started (fixed_of given) a.0.agent (Transaction caller site ops)) { count = a.0.agent.count + 1 }) a.0.agent).count) first.1 in
+      let counts : more.0.count ≡ b.0.agent.count = ap (λ (a : Agent). a.count) same in
+      let at_first = first.0 in
+      let at_last = second.0 in
+      let risen = more.2 in
+      omega (arith, counted, counts, at_first, at_last, risen)
+
+module _ (given : Opening) (events later : List Event) (can : CanBe given (events ++ later)) where
+  not_later : (one two : Begun given events later) → one.t ≡ two.t → (between : List Event) → two.before ≡ one.before ++ Begin one.agent (Transaction one.caller one.site one.ops) ∷ between → ⊥
+  not_later one two same between is =
+      never_again given (events ++ one.before) one.agent one.t one.caller one.site one.ops one.begins between
+      (can_front given ((events ++ one.before) ++ Begin one.agent (Transaction one.caller one.site one.ops) ∷ between) (Begin two.agent (Transaction two.caller two.site two.ops) ∷ two.after) (subst (CanBe given) whole_is can)) two.caller two.site two.ops
+      (subst (λ all. begins_job given (run given all) (Begin one.agent (Transaction two.caller two.site two.ops)) ≡ Some (one.t, Transaction two.caller two.site two.ops)) before_is
+      (subst (λ i. begins_job given (run given (events ++ two.before)) (Begin i (Transaction two.caller two.site two.ops)) ≡ Some (one.t, Transaction two.caller two.site two.ops)) (sym agents)
+      (two.begins ∙ ap (λ t. Some (t, Transaction two.caller two.site two.ops)) (sym same))))
+      (subst (λ i. CanBe given (((events ++ one.before) ++ Begin one.agent (Transaction one.caller one.site one.ops) ∷ between) ++ Begin i (Transaction two.caller two.site two.ops) ∷ [])) (sym agents)
+      (can_front given (((events ++ one.before) ++ Begin one.agent (Transaction one.caller one.site one.ops) ∷ between) ++ Begin two.agent (Transaction two.caller two.site two.ops) ∷ []) two.after
+      (subst (CanBe given) (whole_is ∙ sym (append_assoc ((events ++ one.before) ++ Begin one.agent (Transaction one.caller one.site one.ops) ∷ between) (Begin two.agent (Transaction two.caller two.site two.ops) ∷ []) two.after)) can)))
+    where
+      agents : one.agent ≡ two.agent
+      agents =
+          sym (its_agent given can.accepted (events ++ one.before) one.agent one.t (Transaction one.caller one.site one.ops) one.begins) ∙ ap (λ t. t % 64) same
+          ∙ its_agent given can.accepted (events ++ two.before) two.agent two.t (Transaction two.caller two.site two.ops) two.begins
+
+      before_is : events ++ two.before ≡ (events ++ one.before) ++ Begin one.agent (Transaction one.caller one.site one.ops) ∷ between
+      before_is = ap (λ before. events ++ before) is ∙ sym (append_assoc events one.before (Begin one.agent (Transaction one.caller one.site one.ops) ∷ between))
+
+      whole_is : events ++ later ≡ ((events ++ one.before) ++ Begin one.agent (Transaction one.caller one.site one.ops) ∷ between) ++ Begin two.agent (Transaction two.caller two.site two.ops) ∷ two.after
+      whole_is =
+          ap (λ later. events ++ later) two.parts ∙ sym (append_assoc events two.before (Begin two.agent (Transaction two.caller two.site two.ops) ∷ two.after))
+          ∙ ap (λ front. front ++ Begin two.agent (Transaction two.caller two.site two.ops) ∷ two.after) before_is
+
+  -- two of one number begin at one place
+  pub same_before : (one two : Begun given events later) → one.t ≡ two.t → one.before ≡ two.before
+  same_before one two same =
       ⊎_elim
-      (λ is. inl (place_of given events later part rest whole fair so_far back i split what served t z lock one is))
-      (λ is. inr (place_of given events later part rest whole fair so_far back i split what served t z lock other is))
-      (alone (third given events later part rest whole fair so_far back i split what served t z lock))
+      (λ here. here.0)
+      (λ apart. absurd (⊎_elim (λ first. not_later one two same first.0 first.1) (λ second. not_later two one (sym same) second.0 second.1) apart))
+      (compared one.before two.before (its_event given events later one) (its_event given events later two) one.after two.after (sym one.parts ∙ two.parts))
+
+  -- so who asks for a lock in its name does so at a moment of it
+  pub place : (part rest : List Event) → later ≡ part ++ rest → Fair given events part → (so_far back : List Event) (i : ℕ) → part ≡ so_far ++ Step i ∷ back → (what : Served)
+      → (step (fixed_of given) (run given (events ++ so_far)) (Step i)).done.served ≡ Some what → (t z : ℕ) → for_lock t z what.request.value ≡ true → (who : Begun given events later) → t ≡ who.t → Place given events later who so_far i t
+  place part rest whole fair so_far back i split what served t z lock who same =
+      place_of given events later part rest whole fair so_far back i split what served t z lock who
+      (same_before (third given events later part rest whole fair so_far back i split what served t z lock) who (numbered given events later part rest whole fair so_far back i split what served t z lock ∙ same))
 
   -- ---- a part of the run
 
-  module _ (part rest : List Event) (whole : later ≡ part ++ rest) (calm : Calm given events part) where
-    -- who granted it locks there
-    abbrev pub Held : Begun given events later → ℕ → LockMode → ℕ → Bool
-    Held who = held_in given events part who.agent who.t
-
-    abbrev pub Asks : Begun given events later → List (ℕ × LockMode)
-    Asks who = asks_for given events who.t who.caller who.ops
-
-    -- one of both, as it goes there
-    abbrev pub in_part : (who : Begun given events later) (after : List Event) → part ≡ who.before ++ Begin who.agent (Transaction who.caller who.site who.ops) ∷ after → Begun given events part
-    in_part who after parts = record { before = who.before; after = after; agent = who.agent; t = who.t; caller = who.caller; site = who.site; ops = who.ops; parts = parts; begins = who.begins }
-
-    -- a lock that one of both was granted
-    pub record IsGranted (who : Begun given events later) (s t z : ℕ) (mode : LockMode) : Type 0 where
+  module _ (part rest : List Event) (whole : later ≡ part ++ rest) {still : ℕ → Type 0} (calm : Calm given events part still) (who : Begun given events later) (ours : IsOurs given events part still who.agent who.t who.caller who.ops) where
+    -- a lock that it was granted
+    pub record IsGranted (s t z : ℕ) (mode : LockMode) : Type 0 where
       pub number : t ≡ who.t
       pub reached : Reached (votes_now given events) (asks_for given events who.t who.caller who.ops) (held_in given events part who.agent who.t) (z, mode)
       pub held : held_in given events part who.agent who.t z mode s ≡ true
 
-    module _ (so_far back : List Event) (i : ℕ) (split : part ≡ so_far ++ Step i ∷ back) (what : Served)
-        (served : (step (fixed_of given) (run given (events ++ so_far)) (Step i)).done.served ≡ Some what) (t z : ℕ) (lock : for_lock t z what.request.value ≡ true) where
-      asked_by : (who : Begun given events later) → Place given events later who so_far i t
-          → Reached (votes_now given events) (asks_for given events who.t who.caller who.ops) (held_in given events part who.agent who.t) (z, mode_of what.request.value)
-      asked_by who at = reached_then given events later part calm who so_far back i split what served t z lock at
+    pub granted_now : (so_far back : List Event) (i : ℕ) → part ≡ so_far ++ Step i ∷ back → (what : Served) → (step (fixed_of given) (run given (events ++ so_far)) (Step i)).done.served ≡ Some what
+        → (t z : ℕ) → for_lock t z what.request.value ≡ true → says_held what.reply.value ≡ true → t ≡ who.t → IsGranted what.server t z (mode_of what.request.value)
+    granted_now so_far back i split what served t z lock held' same =
+        let at = place part rest whole calm.fair so_far back i split what served t z lock who same in
+        record {
+          number = same;
+          reached = reached_then given events later part calm who ours so_far back i split what served t z lock at;
+          held = held_then given events later part calm who ours so_far back i split what served t z lock at held';
+        }
 
-      granted_by : (who : Begun given events later) → says_held what.reply.value ≡ true
-          → Place given events later who so_far i t → IsGranted who what.server t z (mode_of what.request.value)
-      granted_by who held' at = record { number = at.number; reached = asked_by who at; held = held_then given events later part calm who so_far back i split what served t z lock at held' }
-
-      places : Place given events later one so_far i t ⊎ Place given events later other so_far i t
-      places = place part rest whole calm.fair so_far back i split what served t z lock
-
-      pub granted_now : says_held what.reply.value ≡ true → IsGranted one what.server t z (mode_of what.request.value) ⊎ IsGranted other what.server t z (mode_of what.request.value)
-      granted_now held' = ⊎_elim (λ at. inl (granted_by one held' at)) (λ at. inr (granted_by other held' at)) places
-
-    -- each lock that there is was granted to one of them
+    -- each of its locks it was granted
     pub all_granted : (so_far back : List Event) → part ≡ so_far ++ back → (s : ℕ) (st : State) → server_at (run given (events ++ so_far)) s ≡ Some st → (lock : Lock) → Has st.locks lock
-        → IsGranted one s lock.t lock.suite lock.mode ⊎ IsGranted other s lock.t lock.suite lock.mode
+        → lock.t ≡ who.t → IsGranted s lock.t lock.suite lock.mode
     all_granted so_far back split s st at lock has =
-        owned_at given events part calm (λ s t z mode. IsGranted one s t z mode ⊎ IsGranted other s t z mode)
-        (λ so_far back i split what served t z lock held'. granted_now so_far back i split what served t z lock held')
+        owned_at given events part calm.fair (λ s t z mode. t ≡ who.t → IsGranted s t z mode)
+        (λ so_far back i split what served t z lock held' same. granted_now so_far back i split what served t z lock held' same)
         (λ s st at lock has. absurd (none_first given events part calm.fair s st at lock has)) so_far back split s st at lock has
+
+-- one, as it goes in a part
+abbrev pub in_part : (given : Opening) (events later part : List Event) (who : Begun given events later) (after : List Event) → part ≡ who.before ++ Begin who.agent (Transaction who.caller who.site who.ops) ∷ after → Begun given events part
+in_part given events later part who after parts = record { before = who.before; after = after; agent = who.agent; t = who.t; caller = who.caller; site = who.site; ops = who.ops; parts = parts; begins = who.begins }

@@ -1,19 +1,21 @@
--- A run in which all servers are up and nothing spoils it: who is busy runs a transaction that began there. It is calm where rows, prefixes and stored copies stand still meanwhile.
+-- A run in which all servers are up and nothing upsets it: who is busy runs a transaction that began there. It is calm where rows, prefixes and stored copies of some suites stand still meanwhile.
 use Rattle.law_run_recovers.proofs.Vocabulary.{List, None, Option, Some, [], ap, append-nil, append_assoc, false, inl, is_some, refl, subst, sym, true, ℕ, ⊎_elim, ◌++◌, ◌∙◌, ◌∷◌, ◌≡◌, eqb-true, false≢true, none-some, same_Some}
 use Rattle.law_run_recovers.proofs.Vocabulary.{cons_option, Identity, Op, CanBe, clear_servers, names_mine, can_front, run_more, all_none, doing_at, doing_of, with_job, AllAt, BeginsNone, event_doing, none_begins, all_idle}
 use Rattle.law_run_recovers.proofs.Vocabulary.{begins_job, all_up, no_locks, machine_of, answers_follow_knowledge, holds_of, same_or, append_has_right, agent_of, IsAnsweredAsKnown, names, begins_now, beginning, WasPrefix, Has}
-use Rattle.law_run_recovers.proofs.Vocabulary.{Ways, by_step, is_answered, State, copy_of, finished, Verdict, Request, Stamped, decisions_from-append, Decided, decided, decisions, decisions_from, run, table_of, Actor, World}
+use Rattle.law_run_recovers.proofs.Vocabulary.{Ways, by_step, is_answered, State, copy_of, finished, row_of, Verdict, Request, Stamped, decisions_from-append, Decided, decided, decisions, decisions_from, run, table_of, Actor, World}
 use Rattle.law_run_recovers.proofs.Vocabulary.{actor_at, opening, server_at, step, Event, Begin, Crash, Forget, Lack, Return, Step, IsAccepted, Opening, Prefix, fixed_of, is_idle, next_of, take_in, Doing, Job, Sweep}
-use Rattle.law_run_recovers.proofs.Vocabulary.{Transaction, Response, Begun, spoils, is_running, running_in, runs}
+use Rattle.law_run_recovers.proofs.Vocabulary.{Transaction, Response, Begun, asks_for, hinders_itself, is_running, running_in, runs}
 use Rattle.rep_core.specs.declared.request.Request.TheVariants as request
 use Rattle.rep_core.specs.declared.reply.Verdict.TheVariants as verdict
 use Rattle.rep_core.specs.Serving as serving
+use Rattle.law_run_recovers.specs.MeetsBeside.{GoesOn, upsets}
 use Rattle.law_run_recovers.proofs.AtWork.{mine_where}
 use Rattle.law_run_recovers.proofs.BesideAll.{asks_busy}
 use Rattle.law_run_recovers.proofs.BesideNext.{mine_taken, mine_runs}
 use Rattle.law_run_recovers.proofs.BesideUnmet.{begins_there}
 use Rattle.law_run_recovers.proofs.Open.{begun_runs}
-use Rattle.law_run_recovers.proofs.Sides.{AllUp, up_next}
+use Rattle.law_run_recovers.proofs.Sides.{AllUp, up_unless}
+use Rattle.law_run_recovers.proofs.Stands.{asks_of}
 
 -- ---- lists
 
@@ -60,22 +62,35 @@ stored_stays st asked z spares = by_step st _ (stored_ways st z) (λ asked new s
 
 -- ---- the run
 
--- nothing spoils it
-pub record Fair (given : Opening) (events later : List Event) : Type 0 where
-  pub can : CanBe given (events ++ later)
-  pub idle : all_idle (run given events) ≡ true
-  pub up : all_up (run given events) ≡ true
-  pub free : no_locks (run given events) ≡ true
-  pub unspoiled : (before after : List Event) (event : Event) → later ≡ before ++ event ∷ after → spoils given (run given (events ++ before)) event ≡ false
+-- nothing upsets it
+abbrev pub Fair : Opening → List Event → List Event → Type 0
+Fair given events later = GoesOn given events later
 
--- and what is decided changes no row and no stored copy, and of no suite a prefix
-pub record Calm (given : Opening) (events later : List Event) : Type 0 where
+-- and what is decided changes of these suites no row, no stored copy, and no prefix that they had
+pub record Calm (given : Opening) (events later : List Event) (still : ℕ → Type 0) : Type 0 where
   pub fair : Fair given events later
-  pub rows : (so_far rest : List Event) → later ≡ so_far ++ rest → (table_of given (events ++ so_far)).rows ≡ (table_of given events).rows
-  pub was : (so_far rest : List Event) → later ≡ so_far ++ rest → (z : ℕ) (prefix : Prefix) → WasPrefix (beginning z given) (machine_of given z (events ++ so_far)).log prefix
+  pub rows : (so_far rest : List Event) → later ≡ so_far ++ rest → (z : ℕ) → still z → row_of (table_of given (events ++ so_far)).rows z ≡ row_of (table_of given events).rows z
+  pub was : (so_far rest : List Event) → later ≡ so_far ++ rest → (z : ℕ) → still z → (prefix : Prefix) → WasPrefix (beginning z given) (machine_of given z (events ++ so_far)).log prefix
       → WasPrefix (beginning z given) (machine_of given z events).log prefix
-  pub stored : (so_far rest : List Event) → later ≡ so_far ++ rest
-      → AllAt (λ s st. (old : State) → server_at (run given events) s ≡ Some old → (z : ℕ) → copy_of st.store z ≡ copy_of old.store z) (run given (events ++ so_far))
+  pub stored : (so_far rest : List Event) → later ≡ so_far ++ rest → (z : ℕ) → still z
+      → AllAt (λ s st. (old : State) → server_at (run given events) s ≡ Some old → copy_of st.store z ≡ copy_of old.store z) (run given (events ++ so_far))
+
+-- A transaction of which all stands still that it asks for, and each step of which is served.
+pub record IsOurs (given : Opening) (events later : List Event) (still : ℕ → Type 0) (agent t : ℕ) (caller : Identity) (ops : List Op) : Type 0 where
+  pub asks : (z : ℕ) → asks_of (asks_for given events t caller ops) z ≡ true → still z
+  pub served : (before after : List Event) (event : Event) → later ≡ before ++ event ∷ after → is_running (run given (events ++ before)) agent t ≡ true
+      → hinders_itself given agent (run given (events ++ before)) event ≡ false
+
+abbrev pub Ours : (given : Opening) (events later : List Event) (still : ℕ → Type 0) → Begun given events later → Type 0
+Ours given events later still one = IsOurs given events later still one.agent one.t one.caller one.ops
+
+-- so it is in a front
+pub ours_front : (given : Opening) (events later so_far rest : List Event) (still : ℕ → Type 0) (agent t : ℕ) (caller : Identity) (ops : List Op) → later ≡ so_far ++ rest
+    → IsOurs given events later still agent t caller ops → IsOurs given events so_far still agent t caller ops
+ours_front given events later so_far rest still agent t caller ops whole ours = record {
+  asks = ours.asks;
+  served = λ before after event split. ours.served before (after ++ rest) event (whole ∙ ap (λ xs. xs ++ rest) split ∙ append_assoc before (event ∷ after) rest);
+}
 
 -- one that began in a front began in all
 abbrev pub onward : (given : Opening) (events so_far more : List Event) → Begun given events so_far → Begun given events (so_far ++ more)
@@ -98,11 +113,11 @@ fair_front given events so_far rest fair = record {
   idle = fair.idle;
   up = fair.up;
   free = fair.free;
-  unspoiled = λ before after event split. fair.unspoiled before (after ++ rest) event (ap (λ xs. xs ++ rest) split ∙ append_assoc before (event ∷ after) rest);
+  even = λ before after event split. fair.even before (after ++ rest) event (ap (λ xs. xs ++ rest) split ∙ append_assoc before (event ∷ after) rest);
 }
 
-pub calm_front : (given : Opening) (events so_far rest : List Event) → Calm given events (so_far ++ rest) → Calm given events so_far
-calm_front given events so_far rest calm = record {
+pub calm_front : (given : Opening) (events so_far rest : List Event) (still : ℕ → Type 0) → Calm given events (so_far ++ rest) still → Calm given events so_far still
+calm_front given events so_far rest still calm = record {
   fair = fair_front given events so_far rest calm.fair;
   rows = λ before after split. calm.rows before (after ++ rest) (ap (λ xs. xs ++ rest) split ∙ append_assoc before after rest);
   was = λ before after split. calm.was before (after ++ rest) (ap (λ xs. xs ++ rest) split ∙ append_assoc before after rest);
@@ -123,7 +138,7 @@ module _ (given : Opening) (events later : List Event) (fair : Fair given events
 
   pub up_at : (so_far rest : List Event) → later ≡ so_far ++ rest → AllUp given accepted (run given (events ++ so_far))
   up_at = along later (λ so_far. AllUp given accepted (run given (events ++ so_far)))
-      (λ so_far rest event split up. subst (AllUp given accepted) (sym (run_next so_far event)) (up_next given accepted (events ++ so_far) event (fair.unspoiled so_far rest event split) up))
+      (λ so_far rest event split up. subst (AllUp given accepted) (sym (run_next so_far event)) (up_unless given accepted (events ++ so_far) event (λ server is. false≢true (sym (fair.even so_far rest event split) ∙ ap (upsets given (run given (events ++ so_far))) is)) up))
       (subst (λ all. AllUp given accepted (run given all)) (sym (append-nil events)) (λ s st at. (clear_servers 0 (run given events) fair.up fair.free s st at).0))
 
   -- ---- who is busy
@@ -182,13 +197,13 @@ module _ (given : Opening) (events later : List Event) (fair : Fair given events
         }
 
     busy_now : (i : ℕ) (here : Actor) → actor_at (step (fixed_of given) (run given (events ++ so_far)) event).world i ≡ Some here → is_idle here.agent.doing ≡ false → Busy (so_far ++ event ∷ []) i here.agent.doing
-    busy_now i here there busy = of event refl (fair.unspoiled so_far rest event split)
+    busy_now i here there busy = of event refl (fair.even so_far rest event split)
       where
         none_so : BeginsNone given i (run given (events ++ so_far)) event → Busy (so_far ++ event ∷ []) i here.agent.doing
         none_so none = subst (BusyNow i) (ap doing_of there) (goes_on i none) busy
 
         -- one begins
-        by : (k : ℕ) (job : Job) → event ≡ Begin k job → (found : Option (ℕ × Job)) → begins_job given (run given (events ++ so_far)) (Begin k job) ≡ found → spoils given (run given (events ++ so_far)) (Begin k job) ≡ false
+        by : (k : ℕ) (job : Job) → event ≡ Begin k job → (found : Option (ℕ × Job)) → begins_job given (run given (events ++ so_far)) (Begin k job) ≡ found → upsets given (run given (events ++ so_far)) (Begin k job) ≡ false
             → Busy (so_far ++ event ∷ []) i here.agent.doing
         by k job is None begins calm = none_so (subst (BeginsNone given i w) (sym is) (none_begins given i w (Begin k job) begins))
         by k (Sweep server) is (Some pair) begins calm = absurd (false≢true (sym calm ∙ ap is_some begins))
@@ -198,7 +213,7 @@ module _ (given : Opening) (events later : List Event) (fair : Fair given events
             (λ apart. none_so (subst (BeginsNone given i w) (sym is) (λ same. absurd (apart (sym same)))))
             (same_or i k)
 
-        of : (same : Event) → event ≡ same → spoils given (run given (events ++ so_far)) same ≡ false → Busy (so_far ++ event ∷ []) i here.agent.doing
+        of : (same : Event) → event ≡ same → upsets given (run given (events ++ so_far)) same ≡ false → Busy (so_far ++ event ∷ []) i here.agent.doing
         of (Begin k job) is calm = by k job is (begins_job given w (Begin k job)) refl calm
         of (Step k) is calm = none_so (subst (BeginsNone given i w) (sym is) tt)
         of (Crash server) is calm = none_so (subst (BeginsNone given i w) (sym is) tt)

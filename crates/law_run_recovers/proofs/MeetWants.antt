@@ -5,7 +5,7 @@ use Rattle.law_run_recovers.proofs.Vocabulary.{decisions_from-append, decisions,
 use Rattle.law_run_recovers.proofs.Vocabulary.{home_of, Transaction, Configuration, total_votes, votes_at, votes_in, IsValid, Begun, votes_set, SetsApart, votes_now, asks_for, first_mode, is_up, shown_at, begun_world}
 use Rattle.file_ops.specs.Rows as rows
 use Rattle.law_run_recovers.proofs.Free.{is_up_of}
-use Rattle.law_run_recovers.proofs.MeetCalm.{Calm, calm_front}
+use Rattle.law_run_recovers.proofs.MeetCalm.{Calm, IsOurs, Ours, calm_front, ours_front}
 use Rattle.law_run_recovers.proofs.Polled.{closed_wider}
 use Rattle.law_run_recovers.proofs.RowVotes.{ListsKnown, set_so, sets_known, sets_valid, prefix_known}
 use Rattle.law_run_recovers.proofs.MeetBehind.{up_voter, valid_was, row_or_old}
@@ -30,7 +30,7 @@ shut_by true true up is = refl
 shut_by true false up is = sym is
 shut_by false b up is = absurd (false≢true up)
 
-module _ (given : Opening) (events later : List Event) (calm : Calm given events later) (who : Begun given events later) (f : Fixed given events later who) where
+module _ (given : Opening) (events later : List Event) {still : ℕ → Type 0} (calm : Calm given events later still) (who : Begun given events later) (ours : Ours given events later still who) (f : Fixed given events later who) where
   -- the run up to where its end is fixed
   abbrev pub upto : List Event
   upto = who.before ++ Begin who.agent (Transaction who.caller who.site who.ops) ∷ f.front
@@ -38,8 +38,11 @@ module _ (given : Opening) (events later : List Event) (calm : Calm given events
   pub whole : later ≡ upto ++ f.back
   whole = part given events later calm who f.front f.back f.parts
 
-  pub calm_upto : Calm given events upto
-  calm_upto = calm_front given events upto f.back (subst (Calm given events) whole calm)
+  pub calm_upto : Calm given events upto still
+  calm_upto = calm_front given events upto f.back still (subst (λ later. Calm given events later still) whole calm)
+
+  pub ours_upto : IsOurs given events upto still who.agent who.t who.caller who.ops
+  ours_upto = ours_front given events later upto f.back still who.agent who.t who.caller who.ops whole ours
 
   abbrev it : Begun given events upto
   it = record { before = who.before; after = f.front; agent = who.agent; t = who.t; caller = who.caller; site = who.site; ops = who.ops; parts = refl; begins = who.begins }
@@ -48,7 +51,7 @@ module _ (given : Opening) (events later : List Event) (calm : Calm given events
   actor = (its_actor given events upto calm_upto it).0
 
   pub goes : GoesQuietly given events (events ++ who.before) f.front who.agent who.t who.caller who.site who.ops actor
-  goes = goes_of given events upto calm_upto it
+  goes = goes_of given events upto calm_upto it ours_upto
 
   abbrev open_to : ℕ → LockMode → ℕ → Bool
   open_to = opens_free given events (events ++ who.before) f.front who.agent who.t who.caller who.site who.ops actor goes
@@ -115,7 +118,7 @@ module _ (given : Opening) (events later : List Event) (calm : Calm given events
 
     pub wants : Wants others
     wants =
-        let never = never_decides given events upto calm_upto it undecided_upto in
+        let never = never_decides given events upto calm_upto it ours_upto undecided_upto in
         let weaker = free_weaker given events (events ++ who.before) f.front who.agent who.t who.caller who.site who.ops actor goes in
         let opens_up = free_up given events (events ++ who.before) f.front who.agent who.t who.caller who.site who.ops actor goes in
         let fits = free_fits given events (events ++ who.before) f.front who.agent who.t who.caller who.site who.ops actor goes in

@@ -12,7 +12,7 @@ use Rattle.law_run_recovers.proofs.HadVotes.{decided_had_votes_up}
 use Rattle.law_run_recovers.proofs.Histories.{finished_before_at_server, changes_are_met_at_server}
 use Rattle.law_run_recovers.proofs.Homes.{homes_go_round}
 use Rattle.law_run_recovers.proofs.InTime.{runs_end_by_the_bounds}
-use Rattle.law_run_recovers.proofs.MeetLaw.{one_that_meets_is_decided, one_that_meets_by_rows_is_decided}
+use Rattle.law_run_recovers.proofs.MeetAlone.{one_that_meets_is_decided, one_that_meets_by_rows_is_decided}
 use Rattle.law_run_recovers.proofs.Rounds.{only_doubts_are_left}
 use Rattle.law_run_recovers.proofs.Rows.{met_demands_are_rows}
 use Rattle.law_run_recovers.proofs.Stored.{all_is_stored}
