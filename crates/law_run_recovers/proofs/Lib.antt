@@ -123,4 +123,5 @@ pub mod ReadersAlone
 pub mod MeetWorked
 pub mod ReadersWorked
 pub mod LawsWorked
+pub mod MeetsBesideWorked
 pub mod ToldWorked

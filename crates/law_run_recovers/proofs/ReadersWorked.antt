@@ -14,7 +14,7 @@ use Rattle.law_run_recovers.proofs.Keeps.{after_append}
 use Rattle.law_run_recovers.proofs.MeetWorked.{one_or_none}
 use Rattle.law_run_recovers.proofs.ValidEvents.{all_by, event_sets_none, valid_event}
 
-accepted : IsAccepted three_agents
+pub accepted : IsAccepted three_agents
 accepted = record {
   some_servers = some_run_revokes.can_be.accepted.some_servers;
   some_agents = (omega arith, omega arith);

@@ -75,8 +75,9 @@ ghost use Rattle.law_run_recovers.specs.LawsWorked.{SomeRunsShowTheLaws};
 
 pub use meeting::{
     one_that_meets_beside_is_decided, one_that_meets_by_rows_is_decided, one_that_meets_is_decided,
-    some_runs_meet, some_runs_meet_by_rows, some_runs_meet_readers,
-    writer_or_reader_beside_is_decided, writer_or_readers_are_decided,
+    some_runs_meet, some_runs_meet_beside, some_runs_meet_by_rows, some_runs_meet_readers,
+    some_runs_meet_readers_beside, writer_or_reader_beside_is_decided,
+    writer_or_readers_are_decided,
 };
 pub use promises::{promise, what_can_be_is_available};
 pub use told::{

@@ -3,6 +3,7 @@
 ghost use Rattle.law_run_recovers.specs.Meets.{OneThatMeetsIsDecided};
 ghost use Rattle.law_run_recovers.specs.MeetsByRows.{OneThatMeetsByRowsIsDecided};
 ghost use Rattle.law_run_recovers.specs.MeetsBeside.{OneThatMeetsBesideIsDecided, WriterOrReaderBesideIsDecided};
+ghost use Rattle.law_run_recovers.specs.MeetsBesideWorked.{SomeRunsMeetBeside, SomeRunsMeetReadersBeside};
 ghost use Rattle.law_run_recovers.specs.MeetsWorked.{SomeRunsMeet, SomeRunsMeetByRows};
 ghost use Rattle.law_run_recovers.specs.Readers.{WriterOrReadersAreDecided};
 ghost use Rattle.law_run_recovers.specs.ReadersWorked.{SomeRunsMeetReaders};
@@ -59,4 +60,16 @@ pub fn writer_or_reader_beside_is_decided()
 /// them is answered. It does nothing.
 pub fn some_runs_meet_readers()
     ensures { SomeRunsMeetReaders }
+{}
+
+/// A law: a run in which two write one file while a third begins again and again at another, for which memory runs out at last;
+/// one of the two is answered, as the law says. It does nothing.
+pub fn some_runs_meet_beside()
+    ensures { SomeRunsMeetBeside }
+{}
+
+/// A law: a run in which one sets the list of a file while two read it, and a fourth writes another file twice; the law says of
+/// it and of one reader that one of both is decided, and that reader is answered. It does nothing.
+pub fn some_runs_meet_readers_beside()
+    ensures { SomeRunsMeetReadersBeside }
 {}
