@@ -1,5 +1,5 @@
 -- Runs in which others are beside those that meet, by computation: one begins again and again at a file of its own, and once memory runs out for it.
-use Rattle.std.specs.Prelude.{◌≡◌, ℕ, zero, suc, true, ◌||◌, List, [], ◌∷◌, ◌++◌}
+use Rattle.std.specs.Prelude.{◌≡◌, ℕ, zero, suc, List, [], ◌∷◌, ◌++◌}
 use Rattle.suite_prefix.specs.SettingsRules.{Opening}
 use Rattle.file_ops.specs.declared.answer.Answer.TheVariants as answer
 use Rattle.rep_core.specs.declared.stamped.Lack.TheVariants as lack
@@ -9,24 +9,15 @@ use Rattle.txn_core.specs.declared.job.Job.TheVariants.{Transaction}
 use Rattle.txn_core.specs.Runs.{owner, other, a}
 use Rattle.run_core.specs.declared.event.Event.{Event}
 use Rattle.run_core.specs.declared.event.Event.TheVariants.{Begin, Step, Lack}
-use Rattle.run_core.specs.declared.done.EndedJob.{EndedJob}
 use Rattle.law_headline.specs.Worked.{with_caches}
 use Rattle.law_runs.specs.Worked.{close_a, read_a, so_many}
-use Rattle.law_run_alone.specs.Undisturbed.{is_decided}
 use Rattle.law_run_recovers.specs.Beside.{Begun}
 use Rattle.law_run_recovers.specs.BesideWorked.{two_made}
 use Rattle.law_run_recovers.specs.Contending.{b, puts}
-use Rattle.law_run_recovers.specs.Local.{EndsThen}
 use Rattle.law_run_recovers.specs.MeetsBeside.{TheyMeetBeside, ReaderMeetsBeside}
+use Rattle.law_run_recovers.specs.MeetsWorked.{OneIsDecidedOf}
 use Rattle.law_run_recovers.specs.ReadersWorked.{three_agents, turns_of_three}
 use Rattle.law_run_recovers.specs.Worked.{endings_in}
-
--- what the law says of two in a run: once both have ended one of them was decided
-abbrev pub OneIsDecidedOf : (given : Opening) (events later : List Event) (one two : Begun given events later) → Type 0
-OneIsDecidedOf given events later one two =
-    (job outcome : EndedJob) → EndsThen given (events ++ one.before) one.after one.agent one.t one.caller one.site one.ops job
-    → EndsThen given (events ++ two.before) two.after two.agent two.t two.caller two.site two.ops outcome
-    → (is_decided job.ending || is_decided outcome.ending) ≡ true
 
 -- ---- two write a file
 
