@@ -389,8 +389,7 @@ module _ (given : Opening) (base events later : List Event) (agent t : ℕ) (cal
               subst (λ found. IsSoAt (known.known_of (known_of more.suites) z) found) (goes.tables next rest split_on z (asked_so z has))
               (knows_table given all can agent took.new more (ap (λ w. actor_at w agent) (sym (is_run next)) ∙ there_next) running_on ordered_on
               (λ z. subst (Stands (machine_of given z all)) (sym number_on) (stands_z z))
-              (λ z. subst (λ t. (machine_of given z all).verdict t ≢ Some AnsweredVerdict) (sym number_on) (unanswered given all can t unrecorded z)))
-              z
+              (λ z. subst (λ t. (machine_of given z all).verdict t ≢ Some AnsweredVerdict) (sym number_on) (unanswered given all can t unrecorded z)) z)
 
       good_step : Good (step_of its)
       good_step =

@@ -302,6 +302,9 @@ exclusive_clashes asked y mode is has =
     subst (λ mode. list_any (clashes (y, mode)) asked ≡ true) (sym is)
     (has_any (clashes (y, Exclusive)) asked some.0 some.1 (ap (λ b. b && true) (eq-eqb y some.0.0 (sym (eqb-true some.0.0 y some.2)))))
 
+never_meets : (lock : Lock) (asked : List (ℕ × LockMode)) → meets_some lock asked ≡ false → list_any (clashes (lock.suite, lock.mode)) asked ≡ true → ⊥
+never_meets lock asked none is = false≢true (sym none ∙ is)
+
 module _ (given : Opening) (events later : List Event) (one other : Begun given events later) (meets : TheyMeetBeside given events later one other) (job outcome : EndedJob)
     (ends : EndsThen given (events ++ one.before) one.after one.agent one.t one.caller one.site one.ops job)
     (other_ends : EndsThen given (events ++ other.before) other.after other.agent other.t other.caller other.site other.ops outcome) where
@@ -328,7 +331,7 @@ module _ (given : Opening) (events later : List Event) (one other : Begun given 
         (λ same. subst (IsNotDecided (decisions given (events ++ later))) (sym same) not_one)
         (λ more. ⊎_elim
         (λ same. subst (IsNotDecided (decisions given (events ++ later))) (sym same) not_other)
-        (λ aside. absurd (false≢true (sym aside ∙ exclusive_clashes (Mine ++ Theirs) lock.suite lock.mode exclusive kept)))
+        (λ aside. absurd (never_meets lock (Mine ++ Theirs) aside (exclusive_clashes (Mine ++ Theirs) lock.suite lock.mode exclusive kept)))
         more)
         (meets.beside so_far rest s lock split (contains_from (locks_at (run given (events ++ so_far)) s) lock (subst (λ found. Has (locks_in found) lock) (sym at) has)))
 
@@ -363,8 +366,8 @@ module _ (given : Opening) (events later : List Event) (one other : Begun given 
         of true is =
             let some = any_has (clashes (lock.suite, lock.mode)) (Theirs ++ Mine) is in
             absurd (⊎_elim
-            (λ there. false≢true (sym none ∙ has_any (clashes (lock.suite, lock.mode)) (Mine ++ Theirs) some.0 (append_has_right Mine Theirs some.0 there) some.2))
-            (λ there. false≢true (sym none ∙ has_any (clashes (lock.suite, lock.mode)) (Mine ++ Theirs) some.0 (append_has_left Mine Theirs some.0 there) some.2))
+            (λ there. never_meets lock (Mine ++ Theirs) none (has_any (clashes (lock.suite, lock.mode)) (Mine ++ Theirs) some.0 (append_has_right Mine Theirs some.0 there) some.2))
+            (λ there. never_meets lock (Mine ++ Theirs) none (has_any (clashes (lock.suite, lock.mode)) (Mine ++ Theirs) some.0 (append_has_left Mine Theirs some.0 there) some.2))
             (has_append Theirs Mine some.0 some.1))
 
     beside_back : AllOthers given events later other one (λ lock. meets_some lock (first_asks given events later other ++ first_asks given events later one) ≡ false)

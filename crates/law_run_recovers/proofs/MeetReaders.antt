@@ -63,6 +63,9 @@ open_not : (b : Bool) → IsTrue (not b) → b ≡ false
 open_not false is = refl
 open_not true is = absurd cc
 
+never_both_ways : (asked : List (ℕ × LockMode)) (y : ℕ) (way : LockMode) → list_any (clashes (y, way)) asked ≡ false → list_any (clashes (y, way)) asked ≡ true → ⊥
+never_both_ways asked y way none is = false≢true (sym none ∙ is)
+
 -- what some step of a front does some step of all does
 some_more : (p : Served → Bool) (agent : ℕ) (fixed : doing.Fixed) (w : World) (front back : List Event) → some_step p agent fixed w front ≡ true → some_step p agent fixed w (front ++ back) ≡ true
 some_more p agent fixed w front back is =
@@ -98,10 +101,10 @@ module _ (given : Opening) (events later : List Event) (writer reader : Begun gi
       let some = any_has (λ (one : ℕ × LockMode). one.0 == y) (mine ++ theirs) kept in
       ⊎_elim
       (λ has. ⊎_elim
-      (λ none. false≢true (sym none ∙ exclusive_clashes mine y way exclusive (has_any (λ (one : ℕ × LockMode). one.0 == y) mine some.0 has some.2)))
+      (λ none. never_both_ways mine y way none (exclusive_clashes mine y way exclusive (has_any (λ (one : ℕ × LockMode). one.0 == y) mine some.0 has some.2)))
       (λ shared. exclusive_not way exclusive shared.1)
       aside.of_writer)
-      (λ has. false≢true (sym aside.of_reader ∙ exclusive_clashes theirs y way exclusive (has_any (λ (one : ℕ × LockMode). one.0 == y) theirs some.0 has some.2)))
+      (λ has. never_both_ways theirs y way aside.of_reader (exclusive_clashes theirs y way exclusive (has_any (λ (one : ℕ × LockMode). one.0 == y) theirs some.0 has some.2)))
       (has_append mine theirs some.0 some.1)
 
   clear : (so_far rest : List Event) → later ≡ so_far ++ rest → (s : ℕ) (st : State) → server_at (run given (events ++ so_far)) s ≡ Some st → (lock : Lock) → Has st.locks lock → Still lock.suite → lock.mode ≡ Exclusive
@@ -238,7 +241,7 @@ module _ (given : Opening) (events later : List Event) (writer reader : Begun gi
           since = subst (λ way. some_step (grants writer.t y way server) writer.agent (fixed_of given) (begun_world given (events ++ writer.before) writer.agent writer.caller writer.site writer.ops) writer.after ≡ true) way_is its.since;
         }
         of (inr (inl own)) = absurd (b.not_own own.0)
-        of (inr (inr aside)) = absurd (false≢true (sym aside.of_reader ∙ has_any (clashes (y, b.way)) theirs (y, b.mode) (has_from theirs (y, b.mode) has) (clashes_back y b.mode b.way b.clashing)))
+        of (inr (inr aside)) = absurd (never_both_ways theirs y b.way aside.of_reader (has_any (clashes (y, b.way)) theirs (y, b.mode) (has_from theirs (y, b.mode) has) (clashes_back y b.mode b.way b.clashing)))
 
   -- the writer was, at the one suite, where it wanted it exclusively
   module _ (f : Fixed given events later writer) (y : ℕ) (wanted : LockMode) (server : ℕ)
@@ -259,7 +262,7 @@ module _ (given : Opening) (events later : List Event) (writer reader : Begun gi
           at_suite y b'.mode b'.way has' its.1 b'.clashing,
         )
         of (inr (inr aside)) = ⊎_elim
-            (λ none. absurd (false≢true (sym none ∙ has_any (clashes (y, b'.way)) mine (y, b'.mode) (has_from mine (y, b'.mode) has') (clashes_back y b'.mode b'.way b'.clashing))))
+            (λ none. absurd (never_both_ways mine y b'.way none (has_any (clashes (y, b'.way)) mine (y, b'.mode) (has_from mine (y, b'.mode) has') (clashes_back y b'.mode b'.way b'.clashing))))
             (λ shared. (strongest wanted b'.mode b'.strong (this_exclusive y b'.mode b'.way b'.clashing shared.1), shared.0))
             aside.of_writer
 
