@@ -327,13 +327,15 @@ module _ (given : Opening) (events later : List Event) (one other : Begun given 
     -- what one of them asks for nobody else has locked exclusively
     clear : (so_far rest : List Event) → later ≡ so_far ++ rest → (s : ℕ) (st : State) → server_at (run given (events ++ so_far)) s ≡ Some st → (lock : Lock) → Has st.locks lock → Still lock.suite → lock.mode ≡ Exclusive
         → IsNotDecided (decisions given (events ++ later)) lock.t
-    clear so_far rest split s st at lock has kept exclusive = ⊎_elim
-        (λ same. subst (IsNotDecided (decisions given (events ++ later))) (sym same) not_one)
-        (λ more. ⊎_elim
-        (λ same. subst (IsNotDecided (decisions given (events ++ later))) (sym same) not_other)
-        (λ aside. absurd (never_meets lock (Mine ++ Theirs) aside (exclusive_clashes (Mine ++ Theirs) lock.suite lock.mode exclusive kept)))
-        more)
-        (meets.beside so_far rest s lock split (contains_from (locks_at (run given (events ++ so_far)) s) lock (subst (λ found. Has (locks_in found) lock) (sym at) has)))
+    clear so_far back split s st at lock has kept exclusive =
+        by lock kept exclusive
+        (meets.beside so_far back s lock split (contains_from (locks_at (run given (events ++ so_far)) s) lock (subst (λ found. Has (locks_in found) lock) (sym at) has)))
+      where
+        by : (lock : Lock) → Still lock.suite → lock.mode ≡ Exclusive
+            → (lock.t ≡ one.t) ⊎ ((lock.t ≡ other.t) ⊎ (meets_some lock (first_asks given events later one ++ first_asks given events later other) ≡ false)) → IsNotDecided (decisions given (events ++ later)) lock.t
+        by lock kept exclusive (inl same) = subst (IsNotDecided (decisions given (events ++ later))) (sym same) not_one
+        by lock kept exclusive (inr (inl same)) = subst (IsNotDecided (decisions given (events ++ later))) (sym same) not_other
+        by lock kept exclusive (inr (inr aside)) = absurd (never_meets lock (Mine ++ Theirs) aside (exclusive_clashes (Mine ++ Theirs) lock.suite lock.mode exclusive kept))
 
     calm : Calm given events later Still
     calm = calm_clear given events later meets.goes Still clear

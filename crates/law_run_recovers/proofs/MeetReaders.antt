@@ -36,7 +36,7 @@ exclusive_not Shared is shared = false≢true (ap is_exclusive is)
 pub reads_none : (asked : List (ℕ × LockMode)) → only_reads asked ≡ true → OnlyReads asked
 reads_none asked reads z has = false≢true (sym (ap not (has_any (λ (one : ℕ × LockMode). is_exclusive one.1) asked (z, Exclusive) has refl)) ∙ reads)
 
-shared_where : (asked : List (ℕ × LockMode)) (z : ℕ) (mode : LockMode) → OnlyReads asked → Contains asked (z, mode) → mode ≡ Shared
+pub shared_where : (asked : List (ℕ × LockMode)) (z : ℕ) (mode : LockMode) → OnlyReads asked → Contains asked (z, mode) → mode ≡ Shared
 shared_where asked z Shared reads has = refl
 shared_where asked z Exclusive reads has = absurd (reads z (has_from asked (z, Exclusive) has))
 
