@@ -1,10 +1,10 @@
 -- Where two alone begin nobody is beside: so what is promised to two that meet while others are beside is promised to them.
 use Rattle.law_run_recovers.proofs.Vocabulary.{Bool, Contains, List, None, Option, Some, [], ap, append-nil, false, inl, inr, is_some, not, refl, subst, sym, true, ℕ, ⊎_elim, ◌&&◌, ◌++◌, ◌==◌, ◌||◌, ◌∙◌, ◌∷◌, ◌≡◌, ◌⊎◌}
-use Rattle.law_run_recovers.proofs.Vocabulary.{eqb-true, false≢true, list_any, Row, row_of, is_decided, IsNotDecided, find_some, Has, contains_from, has_from, State, Lock, decisions, run, table_of, Actor, World, actor_at, has_no_job, server_at}
-use Rattle.law_run_recovers.proofs.Vocabulary.{step, EndedJob, Served, Event, Begin, Crash, Forget, Lack, Return, Step, Opening, LockMode, Exclusive, fixed_of, Sweep, Transaction, Configuration, Begun, clashes, its_asks, spoils, votes_of_row, votes_set}
-use Rattle.law_run_recovers.proofs.Vocabulary.{HasFirstVotes, EndsThen, VotesNeverMovedOf, AreTight, OneThatMeetsIsDecided, TheyMeet, first_clash, its_votes, OneThatMeetsByRowsIsDecided, SetsApart, TheyMeetByRows, votes_now, asks_for}
-use Rattle.law_run_recovers.proofs.Vocabulary.{hinders_itself, is_running, locks_at, locks_in, slice_get, mode_of}
-use Rattle.law_run_recovers.specs.MeetsBeside.{AllOthers, GoesOn, IsServed, TheyMeetBeside, first_asks, meets_some, upsets}
+use Rattle.law_run_recovers.proofs.Vocabulary.{eqb-true, false≢true, list_any, Row, row_of, is_decided, IsNotDecided, find_some, Has, contains_from, has_from, State, Lock, decisions, run, table_of, World, actor_at, has_no_job, server_at}
+use Rattle.law_run_recovers.proofs.Vocabulary.{step, EndedJob, Event, Begin, Crash, Forget, Lack, Return, Step, Opening, LockMode, Exclusive, fixed_of, Sweep, Transaction, Configuration, Begun, clashes, its_asks, spoils, votes_of_row, votes_set}
+use Rattle.law_run_recovers.proofs.Vocabulary.{HasFirstVotes, EndsThen, VotesNeverMovedOf, AreTight, OneThatMeetsIsDecided, TheyMeet, first_clash, its_votes, OneThatMeetsByRowsIsDecided, SetsApart, TheyMeetByRows, votes_now}
+use Rattle.law_run_recovers.proofs.Vocabulary.{hinders_itself, locks_at, locks_in}
+use Rattle.law_run_recovers.specs.MeetsBeside.{GoesOn, IsServed, TheyMeetBeside, first_asks, upsets}
 use Rattle.law_run_recovers.proofs.BesideAll.{no_job_of, not_both}
 use Rattle.law_run_recovers.proofs.MeetAsks.{sets_asked}
 use Rattle.law_run_recovers.proofs.MeetBoth.{same_place, place_of, third, none_first}
@@ -12,7 +12,6 @@ use Rattle.law_run_recovers.proofs.MeetCalmed.{AllCalm, asks_same, votes_same, c
 use Rattle.law_run_recovers.proofs.MeetEnds.{undecided_not}
 use Rattle.law_run_recovers.proofs.MeetLaw.{decided_one}
 use Rattle.law_run_recovers.proofs.MeetLocks.{owned_at}
-use Rattle.law_run_recovers.proofs.MeetTold.{for_lock, says_held}
 
 -- ---- where nothing spoils it
 

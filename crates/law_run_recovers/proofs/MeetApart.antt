@@ -1,5 +1,5 @@
 -- Of two that meet no two locks that clash stand at one server: what one was granted stands as long as it is at work, and keeps out the other.
-use Rattle.law_run_recovers.proofs.Vocabulary.{◌≡◌, ◌⊎◌, ⊎_elim, ℕ, Bool, true, false, List, [], ◌∷◌, ◌++◌, append_assoc, Some, None, is_some, refl, sym, ap, subst, ◌∙◌, ◌==◌, slice_get, false≢true, eqb-true, eq-eqb, same_Some, Opening}
+use Rattle.law_run_recovers.proofs.Vocabulary.{◌≡◌, ⊎_elim, ℕ, Bool, true, false, List, [], ◌∷◌, ◌++◌, append_assoc, Some, None, is_some, refl, sym, ap, subst, ◌∙◌, ◌==◌, slice_get, false≢true, eqb-true, eq-eqb, same_Some, Opening}
 use Rattle.law_run_recovers.proofs.Vocabulary.{LockMode, Shared, Exclusive, serves, Request, Stamped, in_the_way, State, served, answer_of, mode_of, Transaction, fixed_of, next_of, Served, Event, Begin, Step, Actor, World, server_at}
 use Rattle.law_run_recovers.proofs.Vocabulary.{actor_at, step, run, puts_in, CanBe, clashes, Begun, locks_in, locks_at, begun_world, world_after}
 use Rattle.law_run_recovers.proofs.AmongCourse.{tail_or}

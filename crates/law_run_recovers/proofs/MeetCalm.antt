@@ -1,12 +1,11 @@
 -- A run in which all servers are up and nothing upsets it: who is busy runs a transaction that began there. It is calm where rows, prefixes and stored copies of some suites stand still meanwhile.
 use Rattle.law_run_recovers.proofs.Vocabulary.{List, None, Option, Some, [], ap, append-nil, append_assoc, false, inl, is_some, refl, subst, sym, true, ℕ, ⊎_elim, ◌++◌, ◌∙◌, ◌∷◌, ◌≡◌, eqb-true, false≢true, none-some, same_Some}
-use Rattle.law_run_recovers.proofs.Vocabulary.{cons_option, Identity, Op, CanBe, clear_servers, names_mine, can_front, run_more, all_none, doing_at, doing_of, with_job, AllAt, BeginsNone, event_doing, none_begins, all_idle}
-use Rattle.law_run_recovers.proofs.Vocabulary.{begins_job, all_up, no_locks, machine_of, answers_follow_knowledge, holds_of, same_or, append_has_right, agent_of, IsAnsweredAsKnown, names, begins_now, beginning, WasPrefix, Has}
+use Rattle.law_run_recovers.proofs.Vocabulary.{cons_option, Identity, Op, CanBe, clear_servers, names_mine, can_front, run_more, all_none, doing_at, doing_of, with_job, AllAt, BeginsNone, event_doing, none_begins}
+use Rattle.law_run_recovers.proofs.Vocabulary.{begins_job, machine_of, answers_follow_knowledge, holds_of, same_or, append_has_right, agent_of, IsAnsweredAsKnown, names, begins_now, beginning, WasPrefix, Has}
 use Rattle.law_run_recovers.proofs.Vocabulary.{Ways, by_step, is_answered, State, copy_of, finished, row_of, Verdict, Request, Stamped, decisions_from-append, Decided, decided, decisions, decisions_from, run, table_of, Actor, World}
 use Rattle.law_run_recovers.proofs.Vocabulary.{actor_at, opening, server_at, step, Event, Begin, Crash, Forget, Lack, Return, Step, IsAccepted, Opening, Prefix, fixed_of, is_idle, next_of, take_in, Doing, Job, Sweep}
 use Rattle.law_run_recovers.proofs.Vocabulary.{Transaction, Response, Begun, asks_for, hinders_itself, is_running, running_in, runs}
 use Rattle.rep_core.specs.declared.request.Request.TheVariants as request
-use Rattle.rep_core.specs.declared.reply.Verdict.TheVariants as verdict
 use Rattle.rep_core.specs.Serving as serving
 use Rattle.law_run_recovers.specs.MeetsBeside.{GoesOn, upsets}
 use Rattle.law_run_recovers.proofs.AtWork.{mine_where}

@@ -1,16 +1,15 @@
 -- A run is calm at suites at which each exclusive lock that there ever is belongs to one that is never decided: who writes a suite has it locked exclusively as it is decided.
-use Rattle.law_run_recovers.proofs.Vocabulary.{◌≡◌, ◌⊎◌, inl, inr, ⊎_elim, ℕ, ◌+◌, ◌<◌, ◌≤◌, Bool, IsTrue, true, false, cond, List, [], ◌∷◌, ◌++◌, append-nil, append_assoc, Option, Some, None, is_some, Result, Ok, Err, refl, sym, ap, subst, ◌∙◌}
-use Rattle.law_run_recovers.proofs.Vocabulary.{arith, ◌==◌, ◌&&◌, unwrap_or, slice_get, slice_set, nat_cmp, and_parts, eqb-true, false≢true, leb-true, nat_tests, none-some, same_Some, find_some, cons_option, Configuration, Representative}
-use Rattle.law_run_recovers.proofs.Vocabulary.{votes_in, is_write_quorum, IsValid, Opening, Prefix, LockMode, Exclusive, Shared, is_exclusive, row_of, Refusal, Answer, get, Intention, Lock, Request, Stamped, Verdict, State, copy_of, is_own, is_answered}
-use Rattle.law_run_recovers.proofs.Vocabulary.{IsConsistent, HasPreparedLock, served, Has, contains_from, has_from, fixed_of, Granted, Proposal, Running, GatheredSuite, ReadPoint, suite_of, TransactionRun, at_puts, append_has_left, puts_in}
-use Rattle.law_run_recovers.proofs.Vocabulary.{Event, Step, Served, World, server_at, step, opening, run, after, Decided, decided, decisions, decisions_from, decisions_from-append, table_of, finish_is_after, EndedSo, IsNotDecided, answers_follow_knowledge}
-use Rattle.law_run_recovers.proofs.Vocabulary.{IsAnsweredAsKnown, Beginning, row, prefix_at, WasPrefix, beginning, servers_of, home_in, machine_of, to_write, known_by, LogIs, decision_at, event_log, machine_one, all_shown, register, row_shown, Together}
+use Rattle.law_run_recovers.proofs.Vocabulary.{◌≡◌, ◌⊎◌, inl, inr, ℕ, ◌+◌, ◌<◌, ◌≤◌, Bool, true, false, cond, List, [], ◌∷◌, ◌++◌, append-nil, append_assoc, Option, Some, None, Ok, Err, refl, sym, ap, subst, ◌∙◌}
+use Rattle.law_run_recovers.proofs.Vocabulary.{arith, ◌==◌, unwrap_or, slice_get, slice_set, nat_cmp, and_parts, eqb-true, false≢true, leb-true, none-some, same_Some, find_some, Representative}
+use Rattle.law_run_recovers.proofs.Vocabulary.{votes_in, IsValid, Opening, Prefix, LockMode, Exclusive, Shared, is_exclusive, get, Intention, Lock, Verdict, State, copy_of, is_own, is_answered}
+use Rattle.law_run_recovers.proofs.Vocabulary.{HasPreparedLock, served, Has, contains_from, has_from, fixed_of, Proposal, GatheredSuite, ReadPoint, suite_of, at_puts, append_has_left, puts_in}
+use Rattle.law_run_recovers.proofs.Vocabulary.{Event, Step, Served, World, server_at, step, opening, run, after, Decided, decided, decisions, decisions_from, decisions_from-append, finish_is_after, EndedSo, IsNotDecided, answers_follow_knowledge}
+use Rattle.law_run_recovers.proofs.Vocabulary.{IsAnsweredAsKnown, row, prefix_at, beginning, servers_of, machine_of, to_write, known_by, LogIs, decision_at, event_log, machine_one, all_shown, row_shown, Together}
 use Rattle.law_run_recovers.proofs.Vocabulary.{holds_after, all_keep, undecided, Replica, CanBe, can_front, all_consistent, AllAt}
 use Rattle.rep_core.specs.declared.request.Request.TheVariants as request
 use Rattle.rep_core.specs.declared.reply.Verdict.TheVariants as verdict
 use Rattle.rep_core.specs.Locks.{lock_at}
 use Rattle.rep_core.specs.State as state
-use Rattle.run_core.specs.Worlds as worlds
 use Rattle.law_suite_machine.specs.Events as events_of_suite
 use Rattle.law_suite_machine.specs.Machine as machine
 use Rattle.law_suite_machine.specs.Conditions as conditions

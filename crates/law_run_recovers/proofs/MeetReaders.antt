@@ -19,12 +19,11 @@ use Rattle.law_run_recovers.proofs.MeetEnds.{Fixed, undecided_not, fixed_at}
 use Rattle.law_run_recovers.proofs.MeetLaw.{any_back, any_front, exclusive_clashes}
 use Rattle.law_run_recovers.proofs.MeetLocks.{owned_at}
 use Rattle.law_run_recovers.proofs.Stands.{asks_of}
-use Rattle.law_run_recovers.proofs.MeetQuiet.{GoesQuietly}
 use Rattle.law_run_recovers.proofs.MeetReach.{reaches_asks}
 use Rattle.law_run_recovers.proofs.MeetReads.{OnlyReads}
 use Rattle.law_run_recovers.proofs.MeetRun.{its_actor, goes_of, run_is}
 use Rattle.law_run_recovers.proofs.MeetTold.{for_lock, says_held, grants, refuses, some_step, found_in, there_in, four_from, not_both}
-use Rattle.law_run_recovers.proofs.MeetWants.{upto, Wants, WereFound, wants}
+use Rattle.law_run_recovers.proofs.MeetWants.{Wants, WereFound, wants}
 
 -- ---- modes
 

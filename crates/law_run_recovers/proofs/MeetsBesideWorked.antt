@@ -1,5 +1,5 @@
 -- Two users meet, and one that sets a list and one that reads, while another begins again and again beside, by computation.
-use Rattle.law_run_recovers.proofs.Vocabulary.{◌≡◌, ◌⊎◌, inl, inr, ⊎_elim, ℕ, Bool, true, false, List, [], ◌∷◌, ◌++◌, Some, refl, sym, ap, subst, ◌∙◌, ◌+◌, arith, ◌==◌, ◌&&◌, ◌||◌, not, Contains, list_all, list_any, and_parts, eqb-true}
+use Rattle.law_run_recovers.proofs.Vocabulary.{◌≡◌, ◌⊎◌, inl, inr, ⊎_elim, ℕ, Bool, true, false, List, [], ◌∷◌, ◌++◌, refl, sym, ap, subst, ◌∙◌, ◌+◌, arith, ◌==◌, ◌&&◌, ◌||◌, not, Contains, list_all, list_any, and_parts, eqb-true}
 use Rattle.law_run_recovers.proofs.Vocabulary.{false≢true, all_at, at_has, has_from, LockMode, Shared, Exclusive, Configuration, total_votes, needed_of, row_of, Lock, State, Transaction, fixed_of, owner, a, Event, Begin, Lack, World, opening, after, run}
 use Rattle.law_run_recovers.proofs.Vocabulary.{Decided, decisions, decisions_from, table_of, table_after_all, decisions_from-append, EventGivesValidVotes, CanBe, some_run_revokes, Begun, clashes, two_made, puts, b, HasFirstVotes, locks_at}
 use Rattle.law_run_recovers.proofs.Vocabulary.{hinders_itself, is_running}
@@ -8,7 +8,7 @@ use Rattle.rep_core.specs.declared.stamped.Lack.TheVariants as lack
 use Rattle.suite_prefix.specs.SettingsRules.{Opening, IsAccepted}
 use Rattle.law_runs.specs.Worked.{close_a, read_a, so_many}
 use Rattle.txn_core.specs.Runs.{other}
-use Rattle.law_run_recovers.specs.MeetsBeside.{AllOthers, GoesOn, IsServed, ReaderMeetsBeside, ReadsToo, TheyMeetBeside, first_asks, meets_some, upsets}
+use Rattle.law_run_recovers.specs.MeetsBeside.{ReaderMeetsBeside, ReadsToo, TheyMeetBeside, meets_some, upsets}
 use Rattle.law_run_recovers.specs.MeetsBesideWorked.{SomeRunsMeetBeside, SomeRunsMeetReadersBeside, four_agents, reads_beside, turns_of_four, writes_beside}
 use Rattle.law_run_recovers.specs.ReadersWorked.{three_agents, turns_of_three}
 use Rattle.law_run_recovers.proofs.Keeps.{after_append}

@@ -1,10 +1,10 @@
 -- Where all that begin but one only read nobody else is beside: so what is promised to one that writes and one that reads while others are beside is promised to them.
-use Rattle.law_run_recovers.proofs.Vocabulary.{Bool, Contains, List, [], ap, append-nil, false, inl, inr, not, refl, subst, sym, true, ℕ, ⊎_elim, ◌&&◌, ◌++◌, ◌==◌, ◌||◌, ◌∙◌, ◌∷◌, ◌≡◌, ◌⊎◌}
-use Rattle.law_run_recovers.proofs.Vocabulary.{and_parts, and_from, eq-eqb, eqb-true, false≢true, list_any, is_decided, IsNotDecided, Has, any_has, contains_from, has_any, has_from, Lock, decisions, run, table_of, EndedJob, Event, is_exclusive}
-use Rattle.law_run_recovers.proofs.Vocabulary.{Opening, LockMode, Exclusive, Shared, Configuration, Begun, clashes, its_asks, votes_set, EndsThen, its_votes, asks_for, locks_at, ReadersMeet, WriterOrReadersAreDecided, only_reads}
-use Rattle.law_run_recovers.specs.MeetsBeside.{GoesOn, ReaderMeetsBeside, ReadsToo, first_asks, first_sets, meets_some}
+use Rattle.law_run_recovers.proofs.Vocabulary.{Bool, Contains, List, ap, false, inl, inr, refl, subst, sym, true, ℕ, ⊎_elim, ◌++◌, ◌==◌, ◌||◌, ◌∙◌, ◌≡◌, ◌⊎◌}
+use Rattle.law_run_recovers.proofs.Vocabulary.{and_parts, and_from, eq-eqb, eqb-true, false≢true, list_any, is_decided, IsNotDecided, Has, any_has, contains_from, has_any, has_from, Lock, decisions, run, EndedJob, Event, is_exclusive}
+use Rattle.law_run_recovers.proofs.Vocabulary.{Opening, LockMode, Exclusive, Shared, Begun, clashes, its_asks, EndsThen, asks_for, ReadersMeet, WriterOrReadersAreDecided, only_reads}
+use Rattle.law_run_recovers.specs.MeetsBeside.{GoesOn, ReaderMeetsBeside, ReadsToo, first_asks, meets_some}
 use Rattle.law_run_recovers.proofs.MeetAlone.{all_served, lock_in, never_upset}
-use Rattle.law_run_recovers.proofs.MeetAsked.{IsAskedFor, all_asked}
+use Rattle.law_run_recovers.proofs.MeetAsked.{all_asked}
 use Rattle.law_run_recovers.proofs.MeetBoth.{same_place}
 use Rattle.law_run_recovers.proofs.MeetCalm.{Calm, Ours}
 use Rattle.law_run_recovers.proofs.MeetCalmed.{AllCalm, AnySuite, asks_same, calm_of_all, calm_where, votes_same}
