@@ -106,7 +106,6 @@ module _ (given : Opening) (events later : List Event) (one other : Begun given 
       served = all_served given events later meets.unspoiled one;
       other_served = all_served given events later meets.unspoiled other;
       beside = λ before after server lock split has. ⊎_elim (λ same. inl same) (λ same. inr (inl same)) (theirs before after server lock split has);
-      two = meets.two;
       suite = meets.suite;
       mine = meets.mine;
       theirs = meets.theirs;

@@ -4,6 +4,8 @@ use Rattle.law_run_recovers.proofs.Vocabulary.{eq-eqb, eqb-true, false≢true, l
 use Rattle.law_run_recovers.proofs.Vocabulary.{run, table_of, server_at, step, EndedJob, Served, Event, Begin, Step, mode_of, Opening, LockMode, Exclusive, fixed_of, has_vote, Transaction, Configuration, votes_at, Begun, clashes}
 use Rattle.law_run_recovers.proofs.Vocabulary.{any_has, append_has_left, append_has_right, has_append, CanBe, ◌&&◌, votes_set, EndsThen, AreTight, first_clash, locks_at, locks_in}
 use Rattle.law_run_recovers.proofs.Vocabulary.{SetsApart, votes_now, asks_for, shown_at, world_after}
+use Rattle.law_run_recovers.proofs.Vocabulary.{IsTrue, not, ◌≤◌, World, begun_world, needed_of, shared_member, total_votes, votes_in}
+use Rattle.txn_core.specs.Doing as doing
 use Rattle.law_run_recovers.specs.MeetsBeside.{AllOthers, OneThatMeetsBesideIsDecided, TheyMeetBeside, first_asks, meets_some}
 use Rattle.law_run_recovers.proofs.AmongCourse.{head_or, tail_or}
 use Rattle.law_run_recovers.proofs.Keeps.{IsAtWork, at_work_before}
@@ -13,19 +15,68 @@ use Rattle.law_run_recovers.proofs.MeetBehind.{reach, bound}
 use Rattle.law_run_recovers.proofs.MeetBoth.{Place, place, its_event, in_part, cancel, held_in, none_first, IsGranted, granted_now, all_granted}
 use Rattle.law_run_recovers.proofs.MeetCalm.{Calm, IsOurs, Ours, ours_front}
 use Rattle.law_run_recovers.proofs.MeetClear.{calm_clear}
-use Rattle.law_run_recovers.proofs.MeetCount.{Falls, falls_by, Met, OtherMet, Same, IsRefused, IsRefusedToo, not_both_short}
+use Rattle.law_run_recovers.proofs.MeetCount.{votes_split, Falls, falls_by, Met, OtherMet, Same, IsRefused, IsRefusedToo, not_both_short}
 use Rattle.law_run_recovers.proofs.MeetEnds.{fronts, Fixed, undecided_not, fixed_at}
 use Rattle.law_run_recovers.proofs.MeetLocks.{owned_at}
 use Rattle.law_run_recovers.proofs.MeetQuiet.{GoesQuietly}
 use Rattle.law_run_recovers.proofs.Stands.{asks_of}
 use Rattle.law_run_recovers.proofs.MeetReach.{Reached, reaches_asks, reached_first}
 use Rattle.law_run_recovers.proofs.MeetRun.{its_actor, goes_of, run_is}
-use Rattle.law_run_recovers.proofs.MeetTold.{for_lock, says_held, asks_at_work}
+use Rattle.law_run_recovers.proofs.MeetTold.{for_lock, says_held, asks_at_work, refuses, some_step, found_in, there_in}
 use Rattle.law_run_recovers.proofs.MeetWants.{upto, whole, calm_upto, ours_upto, goes as its_goes, had, Wants, wants}
 
 -- what one asks for that clashes with some lock of the other's clashes with one of them
 clashes_some : (others : List (ℕ × LockMode)) (one way : ℕ × LockMode) → Contains others way → clashes one way ≡ true → list_any (clashes one) others ≡ true
 clashes_some others one way has is = has_any (clashes one) others way (has_from others way has) is
+
+-- ---- who is refused
+
+pub none_apart : (given : Opening) (events : List Event) (sets : List (ℕ × Configuration)) → SetsApart given events sets []
+none_apart given events sets one has = inr (λ mode there. has_from [] (one.0, mode) there)
+
+pub open_not : (b : Bool) → IsTrue (not b) → b ≡ false
+open_not false is = refl
+open_not true is = absurd cc
+
+-- what some step of a front does some step of all does
+pub some_more : (p : Served → Bool) (agent : ℕ) (fixed : doing.Fixed) (w : World) (front back : List Event) → some_step p agent fixed w front ≡ true → some_step p agent fixed w (front ++ back) ≡ true
+some_more p agent fixed w front back is =
+    let f = found_in p agent fixed w front is in
+    subst (λ all. some_step p agent fixed w all ≡ true) (sym (ap (λ front. front ++ back) f.parts ∙ append_assoc f.front (Step agent ∷ f.back) back)) (there_in p agent fixed f.front (f.back ++ back) w f.what f.served f.is)
+
+-- where too few are open some server with a vote is not
+pub some_shut : (votes : Configuration) (open' : ℕ → Bool) (needed : ℕ) → votes_in votes.reps open' < needed → needed ≤ total_votes votes.reps → (server : ℕ) × (0 < votes_at votes.reps server) × (open' server ≡ false)
+some_shut votes open' needed few most =
+    let all = votes_split votes.reps open' in
+    let s = shared_member (λ _. true) (λ s. not (open' s)) votes.reps (omega (arith, all, few, most)) in
+    (s.server, s.has_vote, open_not (open' s.server) s.in_second)
+
+-- one in whose way nobody is wants for no votes
+module _ (given : Opening) (events later : List Event) (one : Begun given events later) {still : ℕ → Type 0} (calm : Calm given events later still) (ours : Ours given events later still one)
+    (undecided : IsNotDecided (decisions given (events ++ later)) one.t) (f : Fixed given events later one)
+    (apart : (so_far back : List Event) → later ≡ so_far ++ back → (s : ℕ) (st : State) → server_at (run given (events ++ so_far)) s ≡ Some st → (lock : Lock) → Has st.locks lock
+    → (lock.t ≡ one.t) ⊎ (list_any (clashes (lock.suite, lock.mode)) (asks_for given events one.t one.caller one.ops) ≡ false)) where
+  abbrev its_all : List (ℕ × LockMode)
+  its_all = asks_for given events one.t one.caller one.ops
+
+  abbrev OwnOrApart : ℕ → ℕ → ℕ → LockMode → Type 0
+  OwnOrApart s t y mode = (t ≡ one.t) ⊎ (list_any (clashes (y, mode)) (asks_for given events one.t one.caller one.ops) ≡ false)
+
+  in_no_way : (y : ℕ) (mode way : LockMode) → list_any (clashes (y, way)) (asks_for given events one.t one.caller one.ops) ≡ false → Contains (asks_for given events one.t one.caller one.ops) (y, mode) → clashes (y, mode) (y, way) ≡ true → ⊥
+  in_no_way y mode way none has is = false≢true (sym none ∙ has_any (clashes (y, way)) its_all (y, mode) (has_from its_all (y, mode) has) (clashes_back y mode way is))
+
+  pub never_by_itself : ⊥
+  never_by_itself =
+      let w = wants given events later calm one ours f undecided [] (none_apart given events (votes_set (table_of given events) one.t one.caller one.ops)) in
+      let s = some_shut w.votes w.open' (needed_of w.mode w.votes) w.few w.most in
+      let then' =
+      subst (λ after. some_step (refuses one.t w.suite w.mode s.0) one.agent (fixed_of given) (begun_world given (events ++ one.before) one.agent one.caller one.site one.ops) after ≡ true) (sym f.parts)
+      (some_more (refuses one.t w.suite w.mode s.0) one.agent (fixed_of given) (begun_world given (events ++ one.before) one.agent one.caller one.site one.ops) f.front f.back (w.shut s.0 s.1 s.2)) in
+      let b = barred_by given events later later calm one ours one.after one.parts OwnOrApart (λ so_far back split s st at lock has. apart so_far back split s st at lock has) w.suite w.mode s.0 then' in
+      ⊎_elim
+      (λ own. b.not_own own)
+      (λ none. in_no_way w.suite b.mode b.way none (reaches_asks (votes_now given events) its_all (held_in given events later one.agent one.t) (w.suite, b.mode) b.reached) b.clashing)
+      b.stands
 
 module _ (given : Opening) (events later : List Event) (one other : Begun given events later) {still : ℕ → Type 0} (calm : Calm given events later still) (ours : Ours given events later still one) (other_ours : Ours given events later still other)
     (beside : AllOthers given events later one other (λ lock. meets_some lock (first_asks given events later one ++ first_asks given events later other) ≡ false)) (undecided : IsNotDecided (decisions given (events ++ later)) one.t) (other_undecided : IsNotDecided (decisions given (events ++ later)) other.t) (two : (one.t == other.t) ≡ false)
@@ -352,13 +403,6 @@ module _ (given : Opening) (events later : List Event) (one other : Begun given 
     other_f : Fixed given events later other
     other_f = fixed_at given events later calm other outcome other_ends
 
-    two_back : (other.t == one.t) ≡ false
-    two_back = of (other.t == one.t) refl
-      where
-        of : (b : Bool) → (other.t == one.t) ≡ b → b ≡ false
-        of false is = refl
-        of true is = absurd (false≢true (sym meets.two ∙ eq-eqb one.t other.t (sym (eqb-true other.t one.t is))))
-
     -- the same, the other first
     none_back : (lock : Lock) → meets_some lock (Mine ++ Theirs) ≡ false → meets_some lock (Theirs ++ Mine) ≡ false
     none_back lock none = of (meets_some lock (Theirs ++ Mine)) refl
@@ -378,17 +422,52 @@ module _ (given : Opening) (events later : List Event) (one other : Begun given 
         (λ more. ⊎_elim (λ same. inl same) (λ aside. inr (inr (none_back lock aside))) more)
         (meets.beside before after server lock split has)
 
+    -- they are two
+    module _ (two : (one.t == other.t) ≡ false) where
+      two_back : (other.t == one.t) ≡ false
+      two_back = of (other.t == one.t) refl
+        where
+          of : (b : Bool) → (other.t == one.t) ≡ b → b ≡ false
+          of false is = refl
+          of true is = absurd (false≢true (sym two ∙ eq-eqb one.t other.t (sym (eqb-true other.t one.t is))))
+
+      neither_of_two : ⊥
+      neither_of_two = ⊎_elim
+          (λ first_one.
+          never_both given events later one other calm ours other_ours meets.beside not_one not_other two meets.sets_apart meets.other_sets_apart meets.suite meets.mine meets.theirs meets.first meets.other_first
+          meets.not_both_raise meets.tight f other_f first_one.0 first_one.1)
+          (λ first_other.
+          never_both given events later other one calm other_ours ours beside_back not_other not_one two_back meets.other_sets_apart meets.sets_apart
+          meets.suite meets.theirs meets.mine meets.other_first meets.first (clashes_back meets.suite meets.mine meets.theirs meets.not_both_raise)
+          (tight_back (votes_now given events meets.suite) meets.suite Mine Theirs meets.tight) other_f f first_other.0 first_other.1)
+          (fronts (upto given events later calm one ours f) (upto given events later calm other other_ours other_f) f.back other_f.back
+          (sym (whole given events later calm one ours f) ∙ whole given events later calm other other_ours other_f))
+
+    -- or one, in whose way nobody is
+    none_mine : (lock : Lock) → meets_some lock (Mine ++ Theirs) ≡ false → list_any (clashes (lock.suite, lock.mode)) (asks_for given events one.t one.caller one.ops) ≡ false
+    none_mine lock none = of (meets_some lock Mine) refl
+      where
+        of : (b : Bool) → meets_some lock Mine ≡ b → meets_some lock Mine ≡ false
+        of false is = is
+        of true is = absurd (never_meets lock (Mine ++ Theirs) none (any_front (clashes (lock.suite, lock.mode)) Mine Theirs is))
+
+    apart_from_others : one.t ≡ other.t → (so_far back : List Event) → later ≡ so_far ++ back → (s : ℕ) (st : State) → server_at (run given (events ++ so_far)) s ≡ Some st → (lock : Lock) → Has st.locks lock
+        → (lock.t ≡ one.t) ⊎ (list_any (clashes (lock.suite, lock.mode)) (asks_for given events one.t one.caller one.ops) ≡ false)
+    apart_from_others same so_far back split s st at lock has =
+        by lock (meets.beside so_far back s lock split (contains_from (locks_at (run given (events ++ so_far)) s) lock (subst (λ found. Has (locks_in found) lock) (sym at) has)))
+      where
+        by : (lock : Lock) → (lock.t ≡ one.t) ⊎ ((lock.t ≡ other.t) ⊎ (meets_some lock (first_asks given events later one ++ first_asks given events later other) ≡ false))
+            → (lock.t ≡ one.t) ⊎ (list_any (clashes (lock.suite, lock.mode)) (asks_for given events one.t one.caller one.ops) ≡ false)
+        by lock (inl own) = inl own
+        by lock (inr (inl own)) = inl (own ∙ sym same)
+        by lock (inr (inr aside)) = inr (none_mine lock aside)
+
     pub neither : ⊥
-    neither = ⊎_elim
-        (λ first_one.
-        never_both given events later one other calm ours other_ours meets.beside not_one not_other meets.two meets.sets_apart meets.other_sets_apart meets.suite meets.mine meets.theirs meets.first meets.other_first
-        meets.not_both_raise meets.tight f other_f first_one.0 first_one.1)
-        (λ first_other.
-        never_both given events later other one calm other_ours ours beside_back not_other not_one two_back meets.other_sets_apart meets.sets_apart
-        meets.suite meets.theirs meets.mine meets.other_first meets.first (clashes_back meets.suite meets.mine meets.theirs meets.not_both_raise)
-        (tight_back (votes_now given events meets.suite) meets.suite Mine Theirs meets.tight) other_f f first_other.0 first_other.1)
-        (fronts (upto given events later calm one ours f) (upto given events later calm other other_ours other_f) f.back other_f.back
-        (sym (whole given events later calm one ours f) ∙ whole given events later calm other other_ours other_f))
+    neither = of (one.t == other.t) refl
+      where
+        of : (b : Bool) → (one.t == other.t) ≡ b → ⊥
+        of false two = neither_of_two two
+        of true same = never_by_itself given events later one calm ours not_one f (apart_from_others (eqb-true one.t other.t same))
 
   pub decided_one : (is_decided job.ending || is_decided outcome.ending) ≡ true
   decided_one = of (is_decided job.ending) (is_decided outcome.ending) refl refl

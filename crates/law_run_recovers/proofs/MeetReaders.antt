@@ -16,7 +16,7 @@ use Rattle.law_run_recovers.proofs.MeetCalm.{Calm, Ours}
 use Rattle.law_run_recovers.proofs.MeetClear.{calm_clear}
 use Rattle.law_run_recovers.proofs.MeetCount.{votes_split, serves_own}
 use Rattle.law_run_recovers.proofs.MeetEnds.{Fixed, undecided_not, fixed_at}
-use Rattle.law_run_recovers.proofs.MeetLaw.{any_back, any_front, exclusive_clashes}
+use Rattle.law_run_recovers.proofs.MeetLaw.{any_back, any_front, exclusive_clashes, none_apart, open_not, some_more, some_shut}
 use Rattle.law_run_recovers.proofs.MeetLocks.{owned_at}
 use Rattle.law_run_recovers.proofs.Stands.{asks_of}
 use Rattle.law_run_recovers.proofs.MeetReach.{reaches_asks}
@@ -55,21 +55,8 @@ strongest Exclusive mode strong is = refl
 strongest Shared Exclusive strong is = absurd (false≢true strong)
 strongest Shared Shared strong is = is
 
-none_apart : (given : Opening) (events : List Event) (sets : List (ℕ × Configuration)) → SetsApart given events sets []
-none_apart given events sets one has = inr (λ mode there. has_from [] (one.0, mode) there)
-
-open_not : (b : Bool) → IsTrue (not b) → b ≡ false
-open_not false is = refl
-open_not true is = absurd cc
-
 never_both_ways : (asked : List (ℕ × LockMode)) (y : ℕ) (way : LockMode) → list_any (clashes (y, way)) asked ≡ false → list_any (clashes (y, way)) asked ≡ true → ⊥
 never_both_ways asked y way none is = false≢true (sym none ∙ is)
-
--- what some step of a front does some step of all does
-some_more : (p : Served → Bool) (agent : ℕ) (fixed : doing.Fixed) (w : World) (front back : List Event) → some_step p agent fixed w front ≡ true → some_step p agent fixed w (front ++ back) ≡ true
-some_more p agent fixed w front back is =
-    let f = found_in p agent fixed w front is in
-    subst (λ all. some_step p agent fixed w all ≡ true) (sym (ap (λ front. front ++ back) f.parts ∙ append_assoc f.front (Step agent ∷ f.back) back)) (there_in p agent fixed f.front (f.back ++ back) w f.what f.served f.is)
 
 module _ (given : Opening) (events later : List Event) (writer reader : Begun given events later) (meets : ReaderMeetsBeside given events later writer reader)
     (undecided : IsNotDecided (decisions given (events ++ later)) writer.t) (other_undecided : IsNotDecided (decisions given (events ++ later)) reader.t) where
@@ -281,13 +268,6 @@ module _ (given : Opening) (events later : List Event) (writer reader : Begun gi
 
     theirs' : Wants given events later calm reader other_ours g []
     theirs' = wants given events later calm reader other_ours g other_undecided [] (none_apart given events (votes_set (table_of given events) reader.t reader.caller reader.ops))
-
-    -- some server with a vote refused each
-    some_shut : (votes : Configuration) (open' : ℕ → Bool) (needed : ℕ) → votes_in votes.reps open' < needed → needed ≤ total_votes votes.reps → (server : ℕ) × (0 < votes_at votes.reps server) × (open' server ≡ false)
-    some_shut votes open' needed few most =
-        let all = votes_split votes.reps open' in
-        let s = shared_member (λ _. true) (λ s. not (open' s)) votes.reps (omega (arith, all, few, most)) in
-        (s.server, s.has_vote, open_not (open' s.server) s.in_second)
 
     refused_writer : (its.mode ≡ Exclusive) × (its.suite ≡ meets.suite)
     refused_writer =

@@ -149,7 +149,6 @@ they_meet = record {
       (λ same. inl same)
       (λ more. ⊎_elim (λ same. inr (inl same)) (λ aside. inr (inr (not_so (meets_some lock (asked ++ asked)) aside))) more)
       (kind_at three_agents writes_beside 0 64 1 1 is_aside all_hold before after' server lock split has);
-  two = refl;
   suite = 1;
   mine = Exclusive;
   theirs = Exclusive;

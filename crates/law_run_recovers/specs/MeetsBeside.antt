@@ -1,6 +1,6 @@
 -- Transactions that meet while others are beside, which may begin again and again, whatever they do: as long as no lock of theirs is in the way of what the two ask
 -- for. They may be in each other's way, end undecided, write other files, and read what both only read.
-use Rattle.std.specs.Prelude.{◌≡◌, ◌⊎◌, ℕ, ◌+◌, ◌==◌, Bool, true, false, ◌||◌, is_some, List, ◌∷◌, ◌++◌, Contains, Some}
+use Rattle.std.specs.Prelude.{◌≡◌, ◌⊎◌, ℕ, ◌+◌, Bool, true, false, ◌||◌, is_some, List, ◌∷◌, ◌++◌, Contains, Some}
 use Rattle.std.specs.List.{list_any}
 use Rattle.vote_core.specs.Quorums.{Configuration, total_votes}
 use Rattle.suite_prefix.specs.SettingsRules.{Opening}
@@ -78,7 +78,6 @@ pub record TheyMeetBeside (given : Opening) (events later : List Event) (one oth
   pub served : IsServed given events later one
   pub other_served : IsServed given events later other
   pub beside : AllOthers given events later one other (λ lock. meets_some lock (first_asks given events later one ++ first_asks given events later other) ≡ false)
-  pub two : (one.t == other.t) ≡ false
   pub suite : ℕ
   pub mine : LockMode
   pub theirs : LockMode
