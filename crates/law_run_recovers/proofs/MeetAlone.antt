@@ -3,8 +3,8 @@ use Rattle.law_run_recovers.proofs.Vocabulary.{Bool, Contains, List, None, Optio
 use Rattle.law_run_recovers.proofs.Vocabulary.{eqb-true, false≢true, list_any, Row, row_of, is_decided, IsNotDecided, find_some, Has, contains_from, has_from, State, Lock, decisions, run, table_of, World, actor_at, has_no_job, server_at}
 use Rattle.law_run_recovers.proofs.Vocabulary.{step, EndedJob, Event, Begin, Crash, Forget, Lack, Return, Step, Opening, LockMode, Exclusive, fixed_of, Sweep, Transaction, Configuration, Begun, clashes, its_asks, spoils, votes_of_row, votes_set}
 use Rattle.law_run_recovers.proofs.Vocabulary.{HasFirstVotes, EndsThen, VotesNeverMovedOf, AreTight, OneThatMeetsIsDecided, TheyMeet, first_clash, its_votes, OneThatMeetsByRowsIsDecided, SetsApart, TheyMeetByRows, votes_now}
-use Rattle.law_run_recovers.proofs.Vocabulary.{hinders_itself, locks_at, locks_in}
-use Rattle.law_run_recovers.specs.MeetsBeside.{GoesOn, IsServed, TheyMeetBeside, first_asks, upsets}
+use Rattle.law_run_recovers.proofs.Vocabulary.{and_parts, list_all, is_idle, Doing, Actor, hinders_itself, locks_at, locks_in}
+use Rattle.law_run_recovers.specs.MeetsBeside.{GoesOn, IsServed, TheyMeetBeside, first_asks, sweeps_now, upsets}
 use Rattle.law_run_recovers.proofs.BesideAll.{no_job_of, not_both}
 use Rattle.law_run_recovers.proofs.MeetAsks.{sets_asked}
 use Rattle.law_run_recovers.proofs.MeetBoth.{same_place, place_of, third, none_first}
@@ -50,6 +50,17 @@ module _ (given : Opening) (events later : List Event) (unspoiled : (before afte
   pub never_upset : (before after : List Event) (event : Event) → later ≡ before ++ event ∷ after → upsets given (run given (events ++ before)) event ≡ false
   never_upset before after event split = upsets_not given (run given (events ++ before)) event (unspoiled before after event split)
 
+-- where every agent is idle nobody sweeps
+pub idle_unswept : (actors : List Actor) → list_all (λ (actor : Actor). is_idle actor.agent.doing) actors ≡ true → list_any (λ (actor : Actor). sweeps_now actor.agent.doing) actors ≡ false
+idle_unswept [] all = refl
+idle_unswept (actor ∷ actors) all =
+    let parts = and_parts (is_idle actor.agent.doing) (list_all (λ (actor : Actor). is_idle actor.agent.doing) actors) all in
+    ap (λ b. b || list_any (λ (actor : Actor). sweeps_now actor.agent.doing) actors) (none actor.agent.doing parts.0) ∙ idle_unswept actors parts.1
+  where
+    none : (doing : Option Doing) → is_idle doing ≡ true → sweeps_now doing ≡ false
+    none None is = refl
+    none (Some doing) is = absurd (false≢true is)
+
 -- a lock that is there
 pub lock_in : (w : World) (server : ℕ) (lock : Lock) → Contains (locks_at w server) lock → (st : State) × (server_at w server ≡ Some st) × Has st.locks lock
 lock_in w server lock has = of (server_at w server) refl (has_from (locks_at w server) lock has)
@@ -64,7 +75,7 @@ module _ (given : Opening) (events later : List Event) (one other : Begun given 
     (ends : EndsThen given (events ++ one.before) one.after one.agent one.t one.caller one.site one.ops job)
     (other_ends : EndsThen given (events ++ other.before) other.after other.agent other.t other.caller other.site other.ops outcome) where
   goes : GoesOn given events later
-  goes = record { can = meets.can; idle = meets.idle; up = meets.up; free = meets.free; even = never_upset given events later meets.unspoiled }
+  goes = record { can = meets.can; up = meets.up; unswept = idle_unswept (run given events).agents meets.idle; even = never_upset given events later meets.unspoiled }
 
   -- each lock is one of theirs
   theirs : (before after : List Event) (server : ℕ) (lock : Lock) → later ≡ before ++ after → Contains (locks_at (run given (events ++ before)) server) lock → (lock.t ≡ one.t) ⊎ (lock.t ≡ other.t)
@@ -73,10 +84,10 @@ module _ (given : Opening) (events later : List Event) (one other : Begun given 
       owned_at given events later goes (λ s t z mode. (t ≡ one.t) ⊎ (t ≡ other.t))
       (λ so_far back i split what served t z lock held.
       ⊎_elim
-      (λ at. inl (place_of given events later later [] (sym (append-nil later)) goes so_far back i split what served t z lock one at).number)
-      (λ at. inr (place_of given events later later [] (sym (append-nil later)) goes so_far back i split what served t z lock other at).number)
-      (meets.alone (third given events later later [] (sym (append-nil later)) goes so_far back i split what served t z lock)))
-      (λ s st at lock has. absurd (none_first given events later goes s st at lock has)) before after split server there.0 there.1 lock there.2
+      (λ at. inl (place_of given events later later [] (sym (append-nil later)) goes meets.idle so_far back i split what served t z lock one at).number)
+      (λ at. inr (place_of given events later later [] (sym (append-nil later)) goes meets.idle so_far back i split what served t z lock other at).number)
+      (meets.alone (third given events later later [] (sym (append-nil later)) goes meets.idle so_far back i split what served t z lock)))
+      (λ s st at lock has. absurd (none_first given events meets.free s st at lock has)) before after split server there.0 there.1 lock there.2
 
   module _ (undecided : is_decided job.ending ≡ false) (other_undecided : is_decided outcome.ending ≡ false) where
     not_one : IsNotDecided (decisions given (events ++ later)) one.t
@@ -88,7 +99,7 @@ module _ (given : Opening) (events later : List Event) (one other : Begun given 
     -- whoever began is one of both, so nothing is decided
     calm : AllCalm given events later
     calm =
-        calm_where given events later goes (all_served given events later meets.unspoiled) (λ third. inl (λ decision there same.
+        calm_where given events later goes meets.idle meets.free (all_served given events later meets.unspoiled) (λ third. inl (λ decision there same.
         ⊎_elim
         (λ at. not_one decision there (same ∙ (same_place given events later third one at).t))
         (λ at. not_other decision there (same ∙ (same_place given events later third other at).t))

@@ -1,21 +1,23 @@
 -- Transactions that begin in a calm run: where each asks for a lock, what it had before, and that each lock in its name was granted to it.
-use Rattle.law_run_recovers.proofs.Vocabulary.{Bool, ◌%◌, ◌+◌, Identity, Op, CanBe, can_front, agent_of, agent_at, Agent, begin, started, List, None, Option, Some, [], ap, append-nil, append_assoc, arith, cond, false, length, refl, subst, suc, sym, true, ℕ, ⊎_elim, ◌++◌, ◌==◌, ◌∙◌, ◌∷◌, ◌≡◌, ◌⊎◌, eq-eqb}
+use Rattle.law_run_recovers.proofs.Vocabulary.{◌*◌, false≢true, all_idle, no_locks, holds_of, ◌<◌, Bool, ◌%◌, ◌+◌, Identity, Op, CanBe, can_front, agent_of, agent_at, Agent, begin, started, List, None, Option, Some, [], ap, append-nil, append_assoc, arith, cond, false, length, refl, subst, suc, sym, true, ℕ, ⊎_elim, ◌++◌, ◌==◌, ◌∙◌, ◌∷◌, ◌≡◌, ◌⊎◌, eq-eqb}
 use Rattle.law_run_recovers.proofs.Vocabulary.{after, eqb-true, none-some, same_Some, cons_option, at_has, begins_job, has_append, IsNotDecided, Has, all_at, has_from, State, Lock, decisions_from-append, Decided, answer_in, decided}
 use Rattle.law_run_recovers.proofs.Vocabulary.{decided_as, decided_at, decided_by, decisions, decisions_from, task_at, run, Actor, World, actor_at, opening, server_at, step, Served, Event, Begin, Crash, Forget, Lack, Return}
 use Rattle.law_run_recovers.proofs.Vocabulary.{Step, mode_of, serves, Opening, LockMode, fixed_of, next_of, is_decide, Job, Transaction, Begun, votes_now, asks_for, begun_world, world_after}
 use Rattle.law_run_recovers.proofs.AmongCourse.{head_or, tail_or}
 use Rattle.law_run_recovers.proofs.BesideUnmet.{begins_there}
-use Rattle.law_run_recovers.proofs.Keeps.{IsAtWork, after_append, run_at, step_asks}
-use Rattle.law_run_recovers.proofs.Open.{its_begin, begun_there}
+use Rattle.law_run_recovers.proofs.Keeps.{IsAtWork, after_append, step_asks}
+use Rattle.law_run_recovers.proofs.Open.{its_begin}
 use Rattle.law_run_recovers.proofs.Sides.{compared, its_agent, names_one}
-use Rattle.law_runs.proofs.Begun.{Rises, counts_rise}
+use Rattle.law_runs.proofs.Begun.{Rises, agents_ask_for_themselves, counts_rise}
+use Rattle.law_runs.specs.Numbers.{AsksForItself, AsksToSweep}
+use Rattle.law_run_alone.proofs.Named.{all_named, not_begun}
 use Rattle.law_runs.proofs.Turns.{no_decide}
 use Rattle.law_run_recovers.proofs.MeetCalm.{Fair, Calm, IsOurs, calm_front, ours_front, busy_one, one_named}
 use Rattle.law_run_recovers.proofs.MeetCount.{serves_own}
 use Rattle.law_run_recovers.proofs.MeetLocks.{owned_at}
 use Rattle.law_run_recovers.proofs.MeetQuiet.{GoesQuietly}
 use Rattle.law_run_recovers.proofs.MeetReach.{Reached, reached_wider, reaches_now}
-use Rattle.law_run_recovers.proofs.MeetRun.{its_actor, goes_of, never_decides, run_is}
+use Rattle.law_run_recovers.proofs.MeetRun.{its_actor, goes_of, never_decides, rest_of_last, run_is}
 use Rattle.law_run_recovers.proofs.MeetTold.{for_lock, for_lock_named, says_held, asks_at_work, grants, some_step, found_in, there_in, four_from}
 use Rattle.law_run_recovers.proofs.MeetUndecided.{not_decided_at_work, lock_decides_none}
 
@@ -79,10 +81,10 @@ held_in given events part agent t z mode server = some_step (grants t z mode ser
 pub world_in : (given : Opening) (events part : List Event) → after (fixed_of given) (run given events) part ≡ run given (events ++ part)
 world_in given events part = sym (after_append (fixed_of given) events part (opening given))
 
--- no server has a lock as it begins
-pub none_first : (given : Opening) (events later : List Event) → Fair given events later → (s : ℕ) (st : State) → server_at (run given (events ++ [])) s ≡ Some st → (lock : Lock) → Has st.locks lock → ⊥
-none_first given events later fair s st at lock has =
-    of st.locks (all_at (λ (st : State). length st.locks == 0) (run given events).servers st fair.free (at_has (run given events).servers s st (ap (λ all. server_at (run given all) s) (sym (append-nil events)) ∙ at))) lock has
+-- where no server has a lock as these events begin
+pub none_first : (given : Opening) (events : List Event) → no_locks (run given events) ≡ true → (s : ℕ) (st : State) → server_at (run given (events ++ [])) s ≡ Some st → (lock : Lock) → Has st.locks lock → ⊥
+none_first given events free s st at lock has =
+    of st.locks (all_at (λ (st : State). length st.locks == 0) (run given events).servers st free (at_has (run given events).servers s st (ap (λ all. server_at (run given all) s) (sym (append-nil events)) ∙ at))) lock has
   where
     of : (locks : List Lock) → (length locks == 0) ≡ true → (lock : Lock) → Has locks lock → ⊥
     of [] is lock has = has
@@ -98,8 +100,8 @@ module _ (given : Opening) (events later : List Event) where
     pub who_is : i ≡ who.agent
     pub number : t ≡ who.t
 
-  -- who asks for a lock in a name is one that began
-  module _ (part rest : List Event) (whole : later ≡ part ++ rest) (fair : Fair given events part) (so_far back : List Event) (i : ℕ) (split : part ≡ so_far ++ Step i ∷ back) (what : Served)
+  -- who asks for a lock in a name is one that began, where every agent was idle
+  module _ (part rest : List Event) (whole : later ≡ part ++ rest) (fair : Fair given events part) (idle : all_idle (run given events) ≡ true) (so_far back : List Event) (i : ℕ) (split : part ≡ so_far ++ Step i ∷ back) (what : Served)
       (served : (step (fixed_of given) (run given (events ++ so_far)) (Step i)).done.served ≡ Some what) (t z : ℕ) (lock : for_lock t z what.request.value ≡ true) where
     abbrev pub w : World
     w = run given (events ++ so_far)
@@ -108,13 +110,13 @@ module _ (given : Opening) (events later : List Event) where
     asks = step_asks (fixed_of given) w i (actor_at w i) what served
 
     abbrev pub b : Begun given events so_far
-    b = (busy_one given events part fair so_far (Step i ∷ back) split i asks.0 asks.1 (what.server, what.request.value) asks.2).one
+    b = (busy_one given events part fair idle so_far (Step i ∷ back) split i asks.0 asks.1 (what.server, what.request.value) asks.2).one
 
     who_asks : b.agent ≡ i
-    who_asks = (busy_one given events part fair so_far (Step i ∷ back) split i asks.0 asks.1 (what.server, what.request.value) asks.2).who
+    who_asks = (busy_one given events part fair idle so_far (Step i ∷ back) split i asks.0 asks.1 (what.server, what.request.value) asks.2).who
 
     numbered : b.t ≡ t
-    numbered = names_one b.t t what.request.value (one_named given events part fair so_far (Step i ∷ back) split i asks.0 asks.1 (what.server, what.request.value) asks.2) (for_lock_named t z what.request.value lock).0
+    numbered = names_one b.t t what.request.value (one_named given events part fair idle so_far (Step i ∷ back) split i asks.0 asks.1 (what.server, what.request.value) asks.2) (for_lock_named t z what.request.value lock).0
 
     abbrev pub third : Begun given events later
     third = record {
@@ -252,7 +254,7 @@ module _ (given : Opening) (events later : List Event) where
         (four_from (what.server == what.server) (for_lock who.t z what.request.value) (says_held what.reply.value) (serves (mode_of what.request.value) (mode_of what.request.value)) (eq-eqb what.server what.server refl)
         lock_then held' (serves_own (mode_of what.request.value))))
 
--- ---- a number is begun once
+-- ---- counts
 
 rises : (given : Opening) (events : List Event) (w : World) → Rises (agent_at w) (agent_at (after (fixed_of given) w events))
 rises given [] w i a at = (a, at, omega arith)
@@ -263,67 +265,79 @@ rises given (event ∷ events) w i a at =
     let then' = more.2 in
     (more.0, more.1, omega (arith, first, then'))
 
-module _ (given : Opening) (all : List Event) (i t : ℕ) (caller : Identity) (site : ℕ) (ops : List Op) (begins : begins_job given (run given all) (Begin i (Transaction caller site ops)) ≡ Some (t, Transaction caller site ops))
-    (between : List Event) (can : CanBe given (all ++ Begin i (Transaction caller site ops) ∷ between)) (caller' : Identity) (site' : ℕ) (ops' : List Op)
-    (again : begins_job given (run given (all ++ Begin i (Transaction caller site ops) ∷ between)) (Begin i (Transaction caller' site' ops')) ≡ Some (t, Transaction caller' site' ops'))
-    (can' : CanBe given ((all ++ Begin i (Transaction caller site ops) ∷ between) ++ Begin i (Transaction caller' site' ops') ∷ [])) where
-  never_again : ⊥
-  never_again =
-      let a = begins_there given (run given all) i t (Transaction caller site ops) begins in
-      let b = begins_there given (run given (all ++ Begin i (Transaction caller site ops) ∷ between)) i t (Transaction caller' site' ops') again in
-      let first = its_begin given all between i t caller site ops a.0 can a.1 begins in
-      let second = its_begin given (all ++ Begin i (Transaction caller site ops) ∷ between) [] i t caller' site' ops' b.0 can' b.1 again in
-      let there = begun_there given all between i t caller site ops a.0 can a.1 begins in
-      let more = rises given between (begun_world given all i caller site ops) i (begin (fixed_of given) a.0.agent (Transaction caller site ops)) (ap agent_of there) in
-      let same : more.0 ≡ b.0.agent =
-      same_Some more.0 b.0.agent (sym more.1 ∙ ap (λ w. agent_at w i) (run_at given all between i t caller site ops a.0 can a.1 begins between) ∙ ap agent_of b.1) in
-      let counted : (begin (fixed_of given) a.0.agent (Transaction caller site ops)).count ≡ a.0.agent.count + 1 =
-      ap (λ b. (cond b (record (started (fixed_of given) a.0.agent (Transaction caller site ops)) { count = a.0.agent.count + 1 }) a.0.agent).count) first.1 in
-      let counts : more.0.count ≡ b.0.agent.count = ap (λ (a : Agent). a.count) same in
-      let at_first = first.0 in
-      let at_last = second.0 in
-      let risen = more.2 in
-      omega (arith, counted, counts, at_first, at_last, risen)
-
 module _ (given : Opening) (events later : List Event) (can : CanBe given (events ++ later)) where
-  not_later : (one two : Begun given events later) → one.t ≡ two.t → (between : List Event) → two.before ≡ one.before ++ Begin one.agent (Transaction one.caller one.site one.ops) ∷ between → ⊥
-  not_later one two same between is =
-      never_again given (events ++ one.before) one.agent one.t one.caller one.site one.ops one.begins between
-      (can_front given ((events ++ one.before) ++ Begin one.agent (Transaction one.caller one.site one.ops) ∷ between) (Begin two.agent (Transaction two.caller two.site two.ops) ∷ two.after) (subst (CanBe given) whole_is can)) two.caller two.site two.ops
-      (subst (λ all. begins_job given (run given all) (Begin one.agent (Transaction two.caller two.site two.ops)) ≡ Some (one.t, Transaction two.caller two.site two.ops)) before_is
-      (subst (λ i. begins_job given (run given (events ++ two.before)) (Begin i (Transaction two.caller two.site two.ops)) ≡ Some (one.t, Transaction two.caller two.site two.ops)) (sym agents)
-      (two.begins ∙ ap (λ t. Some (t, Transaction two.caller two.site two.ops)) (sym same))))
-      (subst (λ i. CanBe given (((events ++ one.before) ++ Begin one.agent (Transaction one.caller one.site one.ops) ∷ between) ++ Begin i (Transaction two.caller two.site two.ops) ∷ [])) (sym agents)
-      (can_front given (((events ++ one.before) ++ Begin one.agent (Transaction one.caller one.site one.ops) ∷ between) ++ Begin two.agent (Transaction two.caller two.site two.ops) ∷ []) two.after
-      (subst (CanBe given) (whole_is ∙ sym (append_assoc ((events ++ one.before) ++ Begin one.agent (Transaction one.caller one.site one.ops) ∷ between) (Begin two.agent (Transaction two.caller two.site two.ops) ∷ []) two.after)) can)))
+  -- what has begun was not begun before it began
+  not_before : (who : Begun given events later) (so_far more : List Event) → who.before ≡ so_far ++ more → (i : ℕ) (here : Actor) → actor_at (run given (events ++ so_far)) i ≡ Some here → i ≡ who.agent
+      → who.t + 64 ≡ 64 * here.agent.count + i → ⊥
+  not_before who so_far more is i here there same last =
+      let a = begins_there given (run given (events ++ who.before)) who.agent who.t (Transaction who.caller who.site who.ops) who.begins in
+      let first = (its_begin given (events ++ who.before) who.after who.agent who.t who.caller who.site who.ops a.0
+      (subst (CanBe given) (ap (λ later. events ++ later) who.parts ∙ sym (append_assoc events who.before (Begin who.agent (Transaction who.caller who.site who.ops) ∷ who.after))) can) a.1 who.begins).0 in
+      let risen = rises given more (run given (events ++ so_far)) i here.agent (ap agent_of there) in
+      let world : after (fixed_of given) (run given (events ++ so_far)) more ≡ run given (events ++ who.before) =
+      world_in' (events ++ so_far) more ∙ ap (run given) (append_assoc events so_far more ∙ ap (λ before. events ++ before) (sym is)) in
+      let now : risen.0 ≡ a.0.agent = same_Some risen.0 a.0.agent (sym risen.1 ∙ ap (λ w. agent_at w i) world ∙ ap (agent_at (run given (events ++ who.before))) same ∙ ap agent_of a.1) in
+      let counts : risen.0.count ≡ a.0.agent.count = ap (λ (a : Agent). a.count) now in
+      let up = risen.2 in
+      omega (arith, last, first, counts, up, same)
     where
-      agents : one.agent ≡ two.agent
-      agents =
-          sym (its_agent given can.accepted (events ++ one.before) one.agent one.t (Transaction one.caller one.site one.ops) one.begins) ∙ ap (λ t. t % 64) same
-          ∙ its_agent given can.accepted (events ++ two.before) two.agent two.t (Transaction two.caller two.site two.ops) two.begins
+      world_in' : (all more : List Event) → after (fixed_of given) (run given all) more ≡ run given (all ++ more)
+      world_in' all more = sym (after_append (fixed_of given) all more (opening given))
 
-      before_is : events ++ two.before ≡ (events ++ one.before) ++ Begin one.agent (Transaction one.caller one.site one.ops) ∷ between
-      before_is = ap (λ before. events ++ before) is ∙ sym (append_assoc events one.before (Begin one.agent (Transaction one.caller one.site one.ops) ∷ between))
-
-      whole_is : events ++ later ≡ ((events ++ one.before) ++ Begin one.agent (Transaction one.caller one.site one.ops) ∷ between) ++ Begin two.agent (Transaction two.caller two.site two.ops) ∷ two.after
-      whole_is =
-          ap (λ later. events ++ later) two.parts ∙ sym (append_assoc events two.before (Begin two.agent (Transaction two.caller two.site two.ops) ∷ two.after))
-          ∙ ap (λ front. front ++ Begin two.agent (Transaction two.caller two.site two.ops) ∷ two.after) before_is
-
-  -- two of one number begin at one place
-  pub same_before : (one two : Begun given events later) → one.t ≡ two.t → one.before ≡ two.before
-  same_before one two same =
-      ⊎_elim
-      (λ here. here.0)
-      (λ apart. absurd (⊎_elim (λ first. not_later one two same first.0 first.1) (λ second. not_later two one (sym same) second.0 second.1) apart))
-      (compared one.before two.before (its_event given events later one) (its_event given events later two) one.after two.after (sym one.parts ∙ two.parts))
-
-  -- so who asks for a lock in its name does so at a moment of it
+  -- who asks for a lock in its name does so at a moment of it
   pub place : (part rest : List Event) → later ≡ part ++ rest → Fair given events part → (so_far back : List Event) (i : ℕ) → part ≡ so_far ++ Step i ∷ back → (what : Served)
       → (step (fixed_of given) (run given (events ++ so_far)) (Step i)).done.served ≡ Some what → (t z : ℕ) → for_lock t z what.request.value ≡ true → (who : Begun given events later) → t ≡ who.t → Place given events later who so_far i t
   place part rest whole fair so_far back i split what served t z lock who same =
-      place_of given events later part rest whole fair so_far back i split what served t z lock who
-      (same_before (third given events later part rest whole fair so_far back i split what served t z lock) who (numbered given events later part rest whole fair so_far back i split what served t z lock ∙ same))
+      ⊎_elim
+      (λ here. absurd (not_step i who.agent (Transaction who.caller who.site who.ops) here.1))
+      (λ apart. ⊎_elim
+      (λ early. absurd (not_before who so_far (Step i ∷ early.0) early.1 i asks'.0 asks'.1 agents last))
+      (λ late. record { mid = late.0; parts = late.1; who_is = agents; number = same })
+      apart)
+      (compared so_far who.before (Step i) (its_event given events later who) (back ++ rest) who.after
+      (sym (append_assoc so_far (Step i ∷ back) rest) ∙ ap (λ part. part ++ rest) (sym split) ∙ sym whole ∙ who.parts))
+    where
+      not_step : (i k : ℕ) (job : Job) → Step i ≡ Begin k job → ⊥
+      not_step i k job is = cc
+
+      asks' : (here : Actor) × (actor_at (run given (events ++ so_far)) i ≡ Some here) × (next_of (fixed_of given) here.agent ≡ Some (what.server, what.request.value))
+      asks' = step_asks (fixed_of given) (run given (events ++ so_far)) i (actor_at (run given (events ++ so_far)) i) what served
+
+      itself : AsksForItself given i asks'.0.agent what.server what.request.value
+      itself = ⊎_elim
+          (λ own. own)
+          (λ (sweeps : AsksToSweep asks'.0.agent what.request.value). absurd (false≢true (sym (for_lock_named t z what.request.value lock).2 ∙ sweeps.swept)))
+          (agents_ask_for_themselves given can.accepted (events ++ so_far) i asks'.0 what.server what.request.value asks'.1 asks'.2)
+
+      number : itself.task.t ≡ who.t
+      number = names_one itself.task.t t what.request.value itself.named (for_lock_named t z what.request.value lock).0 ∙ same
+
+      small : i < 64
+      small = (holds_of given can.accepted (events ++ so_far)).agents.small i asks'.0.agent (ap agent_of asks'.1)
+
+      last : who.t + 64 ≡ 64 * asks'.0.agent.count + i
+      last = let is = itself.last in let same' = number in omega (arith, is, same')
+
+      agents : i ≡ who.agent
+      agents =
+          sym (rest_of_last who.t asks'.0.agent.count i last small) ∙ its_agent given can.accepted (events ++ who.before) who.agent who.t (Transaction who.caller who.site who.ops) who.begins
+
+  -- and no server has a lock of it as these events begin
+  pub none_yet : (who : Begun given events later) (s : ℕ) (st : State) → server_at (run given (events ++ [])) s ≡ Some st → (lock : Lock) → Has st.locks lock → lock.t ≡ who.t → ⊥
+  none_yet who s st at lock has same =
+      let named = (all_named given can.accepted events s st (ap (λ all. server_at (run given all) s) (sym (append-nil events)) ∙ at)).locks lock has in
+      let risen = rises given who.before (run given events) named.index named.agent named.at in
+      let rising = named.before in
+      let more = risen.2 in
+      not_begun given can.accepted (events ++ who.before) who.agent who.t (Transaction who.caller who.site who.ops) who.begins
+      (record {
+        index = named.index;
+        agent = risen.0;
+        at = ap (λ w. agent_at w named.index) (after_append (fixed_of given) events who.before (opening given)) ∙ risen.1;
+        place = named.place;
+        numbered = sym same ∙ named.numbered;
+        before = omega (arith, rising, more);
+      })
 
   -- ---- a part of the run
 
@@ -350,7 +364,7 @@ module _ (given : Opening) (events later : List Event) (can : CanBe given (event
     all_granted so_far back split s st at lock has =
         owned_at given events part calm.fair (λ s t z mode. t ≡ who.t → IsGranted s t z mode)
         (λ so_far back i split what served t z lock held' same. granted_now so_far back i split what served t z lock held' same)
-        (λ s st at lock has. absurd (none_first given events part calm.fair s st at lock has)) so_far back split s st at lock has
+        (λ s st at lock has same. absurd (none_yet who s st at lock has same)) so_far back split s st at lock has
 
 -- one, as it goes in a part
 abbrev pub in_part : (given : Opening) (events later part : List Event) (who : Begun given events later) (after : List Event) → part ≡ who.before ++ Begin who.agent (Transaction who.caller who.site who.ops) ∷ after → Begun given events part

@@ -1,5 +1,5 @@
 -- A run is calm, whatever the suite, where each transaction that begins is never decided, or asks for nothing exclusively.
-use Rattle.law_run_recovers.proofs.Vocabulary.{Bool, Contains, inl, inr, List, None, Option, Some, [], ap, append-nil, append_assoc, cond, false, refl, slice_get, slice_set, subst, sym, true, ℕ, ⊎_elim, ◌*◌, ◌++◌, ◌+◌, ◌==◌, ◌∙◌, ◌∷◌, ◌≡◌}
+use Rattle.law_run_recovers.proofs.Vocabulary.{all_idle, no_locks, can_front, arith, nat_tests, list_all, length, not, and_parts, and_from, ◌&&◌, ◌||◌, Bool, Contains, inl, inr, List, None, Option, Some, [], ap, append-nil, append_assoc, cond, false, refl, slice_get, slice_set, subst, sym, true, ℕ, ⊎_elim, ◌*◌, ◌++◌, ◌+◌, ◌==◌, ◌∙◌, ◌∷◌, ◌≡◌}
 use Rattle.law_run_recovers.proofs.Vocabulary.{◌⊎◌, eqb-true, false≢true, same_Some, cons_option, nat_cmp, PlainTable, AuditItem, all_keep, CanBe, LogIs, decision_at, event_log, machine_one, all_consistent, AllAt, machine_of}
 use Rattle.law_run_recovers.proofs.Vocabulary.{finish_is_after, at_puts, append_has_left, service_stays, puts_in, IsAnsweredAsKnown, IsNotDecided, EndedSo, beginning, WasPrefix, copy_in-with_copies, Has, contains_from}
 use Rattle.law_run_recovers.proofs.Vocabulary.{has_from, HasPreparedLock, IsConsistent, Intention, has_lock, in_the_way, with_prepared, after_down, after_locking, after_record, after_up, audit_of, is_answered, prepares}
@@ -14,6 +14,7 @@ use Rattle.law_suite_machine.specs.Machine as machine
 use Rattle.law_one_table.proofs.Effects as effects
 use Rattle.law_run_recovers.specs.MeetsBeside.{IsServed}
 use Rattle.law_run_machine.specs.Machines.{moved}
+use Rattle.law_run_recovers.proofs.Found.{all_answer}
 use Rattle.law_run_recovers.proofs.Keeps.{IsAtWork, at_work}
 use Rattle.law_run_recovers.proofs.Serves.{Serves, event_serves}
 use Rattle.law_run_recovers.proofs.Still.{IsOpen}
@@ -32,6 +33,7 @@ use Rattle.law_run_recovers.proofs.MeetUndecided.{not_decided_at_work}
 
 pub record AllCalm (given : Opening) (events later : List Event) : Type 0 where
   pub fair : Fair given events later
+  pub free : no_locks (run given events) ≡ true
   pub rows : (so_far rest : List Event) → later ≡ so_far ++ rest → (table_of given (events ++ so_far)).rows ≡ (table_of given events).rows
   pub was : (so_far rest : List Event) → later ≡ so_far ++ rest → (z : ℕ) (prefix : Prefix) → WasPrefix (beginning z given) (machine_of given z (events ++ so_far)).log prefix
       → WasPrefix (beginning z given) (machine_of given z events).log prefix
@@ -41,12 +43,26 @@ pub record AllCalm (given : Opening) (events later : List Event) : Type 0 where
 abbrev pub AnySuite : ℕ → Type 0
 AnySuite z = Unit {0}
 
+-- no server has a lock, so none that is up
+free_up : (servers : List State) → list_all (λ (st : State). length st.locks == 0) servers ≡ true → list_all (λ (st : State). not st.up || (length st.locks == 0)) servers ≡ true
+free_up [] all = refl
+free_up (st ∷ servers) all =
+    let parts = and_parts (length st.locks == 0) (list_all (λ (st : State). length st.locks == 0) servers) all in
+    and_from (not st.up || (length st.locks == 0)) (list_all (λ (st : State). not st.up || (length st.locks == 0)) servers) (or_so (not st.up) (length st.locks == 0) parts.0) (free_up servers parts.1)
+  where
+    or_so : (a b : Bool) → b ≡ true → (a || b) ≡ true
+    or_so a b is = grind (arith, nat_tests)
+
 pub calm_of_all : (given : Opening) (events later : List Event) → AllCalm given events later → Calm given events later AnySuite
 calm_of_all given events later all = record {
   fair = all.fair;
   rows = λ so_far rest split z _. ap (λ rows. row_of rows z) (all.rows so_far rest split);
   was = λ so_far rest split z _ prefix was. all.was so_far rest split z prefix was;
   stored = λ so_far rest split z _ s st at old was. all.stored so_far rest split s st at old was z;
+  answers = λ z _.
+      let can = can_front given events later all.fair.can in
+      all_answer given z (machine_of given z events) (run given events) (effects.inv given events (all_keep given events can) z) (effects.follows given events (all_keep given events can) z).shows
+      (all_consistent given events) (free_up (run given events).servers all.free);
 }
 
 -- ---- the same table
@@ -190,7 +206,7 @@ module _ (given : Opening) (events so_far : List Event) (calm : Calm given event
 
 -- ---- all along
 
-module _ (given : Opening) (events later : List Event) (fair : Fair given events later) (served_all : (one : Begun given events later) → IsServed given events later one)
+module _ (given : Opening) (events later : List Event) (fair : Fair given events later) (idle : all_idle (run given events) ≡ true) (free : no_locks (run given events) ≡ true) (served_all : (one : Begun given events later) → IsServed given events later one)
     (quiet : (one : Begun given events later) → IsNotDecided (decisions given (events ++ later)) one.t ⊎ OnlyReads (its_asks given events later one)) where
   -- one front
   record IsStill (so_far : List Event) : Type 0 where
@@ -204,6 +220,7 @@ module _ (given : Opening) (events later : List Event) (fair : Fair given events
   calm_of : (so_far rest : List Event) → later ≡ so_far ++ rest → AllStill so_far → AllCalm given events so_far
   calm_of so_far rest split all = record {
     fair = fair_front given events so_far rest (subst (Fair given events) split fair);
+    free = free;
     rows = λ xs ys is. (all xs ys is).rows;
     was = λ xs ys is. (all xs ys is).was;
     stored = λ xs ys is. (all xs ys is).stored;
@@ -297,8 +314,8 @@ module _ (given : Opening) (events later : List Event) (fair : Fair given events
       was = λ z prefix was. was_before given base event can_next d is it.so reads z prefix was;
     }
       where
-        it : IsOfOne given events later fair so_far rest event split d is
-        it = decided_of_one given events later fair so_far rest event split d is
+        it : IsOfOne given events later fair idle so_far rest event split d is
+        it = decided_of_one given events later fair idle so_far rest event split d is
 
         asked : (d.caller ≡ it.one.caller) × (d.ops ≡ it.one.ops)
         asked = decided_as_asked given events so_far calm_here event d it.so it.one (ours_of it.one) it.who it.runs_it
@@ -335,8 +352,8 @@ module _ (given : Opening) (events later : List Event) (fair : Fair given events
         lock : HasPreparedLock st.locks intention.t z
         lock = (all_consistent given base s st at).locked z intention there
 
-        it : IsAskedFor given events so_far calm_here ours_of s lock.lock.t lock.lock.suite lock.lock.mode
-        it = all_asked given events so_far calm_here ours_of so_far [] (sym (append-nil so_far)) s st at lock.lock (has_from st.locks lock.lock lock.there)
+        it : IsAskedFor given events so_far calm_here idle free ours_of s lock.lock.t lock.lock.suite lock.lock.mode
+        it = all_asked given events so_far calm_here idle free ours_of so_far [] (sym (append-nil so_far)) s st at lock.lock (has_from st.locks lock.lock lock.there)
 
         exclusive : (mode : LockMode) → is_exclusive mode ≡ true → mode ≡ Exclusive
         exclusive Exclusive is = refl

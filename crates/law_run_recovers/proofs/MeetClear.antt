@@ -1,11 +1,11 @@
 -- A run is calm at suites at which each exclusive lock that there ever is belongs to one that is never decided: who writes a suite has it locked exclusively as it is decided.
-use Rattle.law_run_recovers.proofs.Vocabulary.{◌≡◌, ◌⊎◌, inl, inr, ℕ, ◌+◌, ◌<◌, ◌≤◌, Bool, true, false, cond, List, [], ◌∷◌, ◌++◌, append-nil, append_assoc, Option, Some, None, Ok, Err, refl, sym, ap, subst, ◌∙◌}
+use Rattle.law_run_recovers.proofs.Vocabulary.{home_in, ◌≡◌, ◌⊎◌, inl, inr, ℕ, ◌+◌, ◌<◌, ◌≤◌, Bool, true, false, cond, List, [], ◌∷◌, ◌++◌, append-nil, append_assoc, Option, Some, None, Ok, Err, refl, sym, ap, subst, ◌∙◌}
 use Rattle.law_run_recovers.proofs.Vocabulary.{arith, ◌==◌, unwrap_or, slice_get, slice_set, nat_cmp, and_parts, eqb-true, false≢true, leb-true, none-some, same_Some, find_some, Representative}
 use Rattle.law_run_recovers.proofs.Vocabulary.{votes_in, IsValid, Opening, Prefix, LockMode, Exclusive, Shared, is_exclusive, get, Intention, Lock, Verdict, State, copy_of, is_own, is_answered}
 use Rattle.law_run_recovers.proofs.Vocabulary.{HasPreparedLock, served, Has, contains_from, has_from, fixed_of, Proposal, GatheredSuite, ReadPoint, suite_of, at_puts, append_has_left, puts_in}
 use Rattle.law_run_recovers.proofs.Vocabulary.{Event, Step, Served, World, server_at, step, opening, run, after, Decided, decided, decisions, decisions_from, decisions_from-append, finish_is_after, EndedSo, IsNotDecided, answers_follow_knowledge}
 use Rattle.law_run_recovers.proofs.Vocabulary.{IsAnsweredAsKnown, row, prefix_at, beginning, servers_of, machine_of, to_write, known_by, LogIs, decision_at, event_log, machine_one, all_shown, row_shown, Together}
-use Rattle.law_run_recovers.proofs.Vocabulary.{holds_after, all_keep, undecided, Replica, CanBe, can_front, all_consistent, AllAt}
+use Rattle.law_run_recovers.proofs.Vocabulary.{holds_after, all_keep, undecided, Replica, Shows, effect, plan_of, is_up, up_in, shown_at, shown_in, CanBe, can_front, all_consistent, AllAt}
 use Rattle.rep_core.specs.declared.request.Request.TheVariants as request
 use Rattle.rep_core.specs.declared.reply.Verdict.TheVariants as verdict
 use Rattle.rep_core.specs.Locks.{lock_at}
@@ -181,7 +181,8 @@ leaves_at given all z d unlocked event can is =
 
 module _ (given : Opening) (events later : List Event) (fair : Fair given events later) (still : ℕ → Type 0)
     (clear : (so_far rest : List Event) → later ≡ so_far ++ rest → (s : ℕ) (st : State) → server_at (run given (events ++ so_far)) s ≡ Some st → (lock : Lock) → Has st.locks lock → still lock.suite → lock.mode ≡ Exclusive
-    → IsNotDecided (decisions given (events ++ later)) lock.t) where
+    → IsNotDecided (decisions given (events ++ later)) lock.t)
+    (none_there : (s : ℕ) (st : State) → server_at (run given (events ++ [])) s ≡ Some st → (lock : Lock) → Has st.locks lock → still lock.suite → lock.mode ≡ Exclusive → ⊥) where
   module _ (z : ℕ) (kept : still z) where
     abbrev Stored : ℕ → State → Type 0
     Stored s st = (old : State) → server_at (run given events) s ≡ Some old → copy_of st.store z ≡ copy_of old.store z
@@ -303,6 +304,31 @@ module _ (given : Opening) (events later : List Event) (fair : Fair given events
     still_at : (so_far rest : List Event) → later ≡ so_far ++ rest → IsStill so_far
     still_at = along later IsStill (λ so_far rest event split here. still_next so_far rest event split here) still_first
 
+  -- as they begin nobody intends anything of such a suite, so what is stored is in effect
+  stored_there : (z : ℕ) → still z → (i : ℕ) → is_up (run given events) i ≡ true → (effect (machine_of given z events) i).prefix ≡ shown_at (fixed_of given) (run given events) z i
+  stored_there z kept i up = of (server_at (run given events) i) refl up
+    where
+      shows : Shows z (home_in given) (servers_of given (run given events)) (machine_of given z events)
+      shows = (effects.follows given events (all_keep given events (can_front given events later fair.can)) z).shows
+
+      of : (found : Option State) → server_at (run given events) i ≡ found → up_in found ≡ true → (effect (machine_of given z events) i).prefix ≡ shown_at (fixed_of given) (run given events) z i
+      of None at up = absurd (false≢true up)
+      of (Some st) at up =
+          let w = machine_of given z events in
+          let is : servers_of given (run given events) i ≡ st = ap (λ found. unwrap_or found (state.opening i given)) at in
+          let plan = (shows.at i).plan ∙ ap (λ (st : State). plan_of (get nat_cmp st.store.intentions z) (copy_of st.store z)) is
+          ∙ ap (λ found. plan_of found (copy_of st.store z)) (none (get nat_cmp st.store.intentions z) refl) in
+          ap (λ plan. (machine.in_effect w.verdict plan (w.copy i)).prefix) plan
+          ∙ ap (λ (copy : Replica). copy.prefix) (shows.at i).copy
+          ∙ ap (λ (st : State). (copy_of st.store z).prefix) is
+          ∙ sym (ap (λ found. shown_in (fixed_of given) found z) at)
+        where
+          none : (found : Option Intention) → get nat_cmp st.store.intentions z ≡ found → get nat_cmp st.store.intentions z ≡ None
+          none None there = there
+          none (Some intention) there =
+              let lock = (all_consistent given events i st at).locked z intention there in
+              absurd (none_there i st (ap (λ all. server_at (run given all) i) (append-nil events) ∙ at) lock.lock (has_from st.locks lock.lock lock.there) (subst still (sym lock.on_it) kept) (exclusive_is lock.lock.mode lock.exclusive))
+
   pub calm_clear : Calm given events later still
   calm_clear = record {
     fair = fair;
@@ -314,6 +340,7 @@ module _ (given : Opening) (events later : List Event) (fair : Fair given events
         let now = still_at z kept so_far rest split in
         (subst (λ (held : Replica). prefix.pver ≤ held.prefix.pver) now.row_is was.0, sym (now.prefixes prefix.pver) ∙ was.1);
     stored = λ so_far rest split z kept. (still_at z kept so_far rest split).stored;
+    answers = λ z kept. record { up = λ i up. up; stored = λ i up. stored_there z kept i up };
   }
     where
       can_first : CanBe given events

@@ -7,7 +7,7 @@ use Rattle.law_run_recovers.proofs.Vocabulary.{mode_asked, Cache, forgotten, End
 use Rattle.law_run_recovers.proofs.Vocabulary.{TransactionRun, Running, After, GoesOn, Ends, home_of, execute, given_in, changes_of, decision_of, request_in, after_reply, Agent, Taken, fixed_of, is_idle, next_in, next_of}
 use Rattle.law_run_recovers.proofs.Vocabulary.{left, with_step, take_in, take, begins, begin, started, exchanges, is_decide, said_by, asks_same, Keeps, nothing_held, plus_all, begin_keeps, after-append, Served, Event, Begin}
 use Rattle.law_run_recovers.proofs.Vocabulary.{Step, Actor, World, server_at, actor_at, step, run, decisions, table_of, holds_of, service_stays, agent_of, WasPrefix, beginning, machine_of, CanBe, all_keep, IsMine, can_front, Finds}
-use Rattle.law_run_recovers.proofs.Vocabulary.{Stands, all_consistent, has_any, ◌==◌, is_resolve, never_resolves, is_up, locks_asked, asks_for, first_mode, runs, world_after}
+use Rattle.law_run_recovers.proofs.Vocabulary.{Stands, has_any, ◌==◌, is_resolve, never_resolves, is_up, locks_asked, asks_for, first_mode, runs, world_after}
 use Rattle.file_ops.specs.Rows as rows
 use Rattle.file_exec.specs.Known as known
 use Rattle.rep_core.specs.declared.request.Request.TheVariants as request
@@ -28,7 +28,7 @@ use Rattle.law_run_recovers.proofs.AtWork.{stands_next, locks_stand}
 use Rattle.law_run_recovers.proofs.BesideNext.{mine_taken}
 use Rattle.law_run_recovers.proofs.Early.{early_asks, fetch_is}
 use Rattle.law_run_recovers.proofs.Executes.{begin_stands}
-use Rattle.law_run_recovers.proofs.Found.{Answering, all_answer}
+use Rattle.law_run_recovers.proofs.Found.{Answering}
 use Rattle.law_run_recovers.proofs.Heard.{LockRight, RightFor, reply_stands}
 use Rattle.law_run_recovers.proofs.Keeps.{IsAtWork, works, at_work, at_work_before, run_at}
 use Rattle.law_run_recovers.proofs.KnownIsTheTables.{unanswered, knows_table, unrecorded_on}
@@ -79,10 +79,9 @@ module _ (given : Opening) (base events later : List Event) (agent t : ℕ) (cal
     abbrev pub Known : ℕ → Prefix → Type 0
     Known z prefix = WasPrefix (beginning z given) (machine_of given z base).log prefix
 
-    pub answering : (z : ℕ) → Answering (fixed_of given) (run given base) z (machine_of given z base) (finds_at sight z)
-    answering z =
-        let all = all_answer given z (machine_of given z base) (run given base) (effects.inv given base (all_keep given base goes.can_base) z)
-        (effects.follows given base (all_keep given base goes.can_base) z).shows (all_consistent given base) goes.free in
+    pub answering : (z : ℕ) → asks_of (asks_for given base t caller ops) z ≡ true → Answering (fixed_of given) (run given base) z (machine_of given z base) (finds_at sight z)
+    answering z has =
+        let all = goes.answers z has in
         record { up = λ i is. opens_up z (sight.first z) i is; stored = λ i is. all.stored i (opens_up z (sight.first z) i is) }
 
     -- by its number
@@ -93,7 +92,7 @@ module _ (given : Opening) (base events later : List Event) (agent t : ℕ) (cal
     ground = record {
       first = λ z. ap (λ n. first_mode (locks_asked (table_of given base) n caller ops) z) (sym number);
       rules = λ z start is may.
-          rules_of given z (machine_of given z base) (run given base) (effects.inv given base (all_keep given base goes.can_base) z) (finds_at sight z) (answering z) start (goes.starts z start (asked_so z is) may);
+          rules_of given z (machine_of given z base) (run given base) (effects.inv given base (all_keep given base goes.can_base) z) (finds_at sight z) (answering z (asked_so z is)) start (goes.starts z start (asked_so z is) may);
       valid = λ z prefix was. subst (λ (p : Prefix). IsValid p.votes) was.1 ((effects.inv given base (all_keep given base goes.can_base) z).logged.valid prefix.pver);
     }
 

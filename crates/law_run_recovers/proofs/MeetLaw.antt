@@ -12,7 +12,7 @@ use Rattle.law_run_recovers.proofs.Keeps.{IsAtWork, at_work_before}
 use Rattle.law_run_recovers.proofs.MeetApart.{clashes_back, Room, granted_since, stand_apart}
 use Rattle.law_run_recovers.proofs.MeetBarred.{barred_by}
 use Rattle.law_run_recovers.proofs.MeetBehind.{reach, bound}
-use Rattle.law_run_recovers.proofs.MeetBoth.{Place, place, its_event, in_part, cancel, held_in, none_first, IsGranted, granted_now, all_granted}
+use Rattle.law_run_recovers.proofs.MeetBoth.{Place, place, its_event, in_part, cancel, held_in, none_yet, IsGranted, granted_now, all_granted}
 use Rattle.law_run_recovers.proofs.MeetCalm.{Calm, IsOurs, Ours, ours_front}
 use Rattle.law_run_recovers.proofs.MeetClear.{calm_clear}
 use Rattle.law_run_recovers.proofs.MeetCount.{votes_split, Falls, falls_by, Met, OtherMet, Same, IsRefused, IsRefusedToo, not_both_short}
@@ -294,7 +294,7 @@ module _ (given : Opening) (events later : List Event) (one other : Begun given 
       owned_at given events all all_calm.fair (λ s t y mode. t ≡ one.t → Granted' s t y mode)
       (λ so_far back i split what served t y lock said same.
       stands_before so_far back i split what served t y lock (place given events later can all other_f.back all_whole all_calm.fair so_far back i split what served t y lock one same) said)
-      (λ s st at lock has. absurd (none_first given events all all_calm.fair s st at lock has)) so_far back split s st at lock has
+      (λ s st at lock has same. absurd (none_yet given events later can one s st at lock has same)) so_far back split s st at lock has
 
   stands_too : (so_far back : List Event) → all ≡ so_far ++ back → (s : ℕ) (st : State) → server_at (run given (events ++ so_far)) s ≡ Some st → (lock : Lock) → Has st.locks lock → StandsToo s lock.t lock.suite lock.mode
   stands_too so_far back split s st at lock has = ⊎_elim
@@ -329,8 +329,9 @@ module _ (given : Opening) (events later : List Event) (one other : Begun given 
   pub never_both : ⊥
   never_both =
       let its = its_goes given events later calm one ours f in
-      not_both_short mine theirs (votes_now given events) shows' newest' z m k tight has_first has_other_first clash held other_held apart (reach given events its.can_base its.free calm.fair.up)
-      (bound given events its.can_base its.free calm.fair.up) its_wants.suite its_wants.mode its_wants.asks its_wants.votes its_wants.open' its_wants.few its_wants.most its_falls refused
+      let is_met = has_any (λ (one : ℕ × LockMode). one.0 == z) mine (z, m) (has_from mine (z, m) has_first) (eq-eqb z z refl) in
+      not_both_short mine theirs (votes_now given events) shows' newest' z m k tight has_first has_other_first clash held other_held apart (reach given events its.can_base calm.fair.up z (its.answers z is_met))
+      (bound given events its.can_base calm.fair.up z (its.answers z is_met)) its_wants.suite its_wants.mode its_wants.asks its_wants.votes its_wants.open' its_wants.few its_wants.most its_falls refused
       other_wants.suite other_wants.mode other_wants.asks other_wants.votes other_wants.open' other_wants.few other_wants.most other_falls refused_too
 
 -- ---- the law
@@ -388,8 +389,19 @@ module _ (given : Opening) (events later : List Event) (one other : Begun given 
         by lock kept exclusive (inr (inl same)) = subst (IsNotDecided (decisions given (events ++ later))) (sym same) not_other
         by lock kept exclusive (inr (inr aside)) = absurd (never_meets lock (Mine ++ Theirs) aside (exclusive_clashes (Mine ++ Theirs) lock.suite lock.mode exclusive kept))
 
+    none_there : (s : ℕ) (st : State) → server_at (run given (events ++ [])) s ≡ Some st → (lock : Lock) → Has st.locks lock → Still lock.suite → lock.mode ≡ Exclusive → ⊥
+    none_there s st at lock has kept exclusive =
+        by lock has kept exclusive
+        (meets.beside [] later s lock refl (contains_from (locks_at (run given (events ++ [])) s) lock (subst (λ found. Has (locks_in found) lock) (sym at) has)))
+      where
+        by : (lock : Lock) → Has st.locks lock → Still lock.suite → lock.mode ≡ Exclusive
+            → (lock.t ≡ one.t) ⊎ ((lock.t ≡ other.t) ⊎ (meets_some lock (first_asks given events later one ++ first_asks given events later other) ≡ false)) → ⊥
+        by lock has kept exclusive (inl same) = none_yet given events later meets.goes.can one s st at lock has same
+        by lock has kept exclusive (inr (inl same)) = none_yet given events later meets.goes.can other s st at lock has same
+        by lock has kept exclusive (inr (inr aside)) = never_meets lock (Mine ++ Theirs) aside (exclusive_clashes (Mine ++ Theirs) lock.suite lock.mode exclusive kept)
+
     calm : Calm given events later Still
-    calm = calm_clear given events later meets.goes Still clear
+    calm = calm_clear given events later meets.goes Still clear none_there
 
     ours : Ours given events later Still one
     ours = record { asks = λ z has. any_front (λ (one : ℕ × LockMode). one.0 == z) Mine Theirs has; served = meets.served }

@@ -137,10 +137,10 @@ module _ (given : Opening) (base events later : List Event) (agent t : ℕ) (cal
         × (newer_by (fixed_of given) (run given base) (finds_at S z) z (led_to_by (fixed_of given) (run given base) (finds_at S z) z start) ≡ None)
     ends_at z start asks' may =
         let end = led given z (machine_of given z base) (run given base) (effects.inv given base (all_keep given base goes.can_base) z) (finds_at S z)
-        (answering given base events later agent t caller site ops actor goes opens weaker opens_up fits z) start (goes.starts z start asks' may) in
+        (answering given base events later agent t caller site ops actor goes opens weaker opens_up fits z asks') start (goes.starts z start asks' may) in
         (end.was, end.last)
 
-    is_asked : (one : ℕ × LockMode) → Contains (asks_for given base t caller ops) one → asks_of (asks_for given base t caller ops) one.0 ≡ true
+    pub is_asked : (one : ℕ × LockMode) → Contains (asks_for given base t caller ops) one → asks_of (asks_for given base t caller ops) one.0 ≡ true
     is_asked one has = has_any (λ (other : ℕ × LockMode). other.0 == one.0) asked one (has_from asked one has) (eq-eqb one.0 one.0 refl)
 
     -- where enough of those are open, they are the row's
@@ -151,7 +151,7 @@ module _ (given : Opening) (base events later : List Event) (agent t : ℕ) (cal
         let z = one.0 in
         let end = ends_at z start (is_asked one has) may in
         let is = found_is_row given z (machine_of given z base) (run given base) (effects.inv given base (all_keep given base goes.can_base) z) (finds_at S z)
-        (answering given base events later agent t caller site ops actor goes opens weaker opens_up fits z) (found z start) end.0 end.1 (quorum one.1 refl met) in
+        (answering given base events later agent t caller site ops actor goes opens weaker opens_up fits z (is_asked one has)) (found z start) end.0 end.1 (quorum one.1 refl met) in
         ap (λ (prefix : Prefix). prefix.votes) is ∙ row_votes given base goes.can_base z (row_at given base z) refl
       where
         votes : Configuration

@@ -11,7 +11,7 @@ use Rattle.law_run_recovers.proofs.Unmoved.{first_votes_at}
 use Rattle.law_run_recovers.proofs.MeetApart.{clashes_back}
 use Rattle.law_run_recovers.proofs.MeetAsks.{sets_asked}
 use Rattle.law_run_recovers.proofs.MeetBarred.{Barred, barred_by}
-use Rattle.law_run_recovers.proofs.MeetBoth.{Place, place, its_event, cancel, held_in, none_first, reached_then}
+use Rattle.law_run_recovers.proofs.MeetBoth.{Place, place, its_event, cancel, held_in, none_yet, reached_then}
 use Rattle.law_run_recovers.proofs.MeetCalm.{Calm, Ours}
 use Rattle.law_run_recovers.proofs.MeetClear.{calm_clear}
 use Rattle.law_run_recovers.proofs.MeetCount.{votes_split, serves_own}
@@ -103,8 +103,17 @@ module _ (given : Opening) (events later : List Event) (writer reader : Begun gi
       more)
       (others so_far rest split s st at lock has)
 
+  none_there : (s : ℕ) (st : State) → server_at (run given (events ++ [])) s ≡ Some st → (lock : Lock) → Has st.locks lock → Still lock.suite → lock.mode ≡ Exclusive → ⊥
+  none_there s st at lock has kept exclusive = ⊎_elim
+      (λ same. none_yet given events later meets.goes.can writer s st at lock has same)
+      (λ more. ⊎_elim
+      (λ same. none_yet given events later meets.goes.can reader s st at lock has same)
+      (λ aside. aside_shares lock.suite lock.mode exclusive kept aside)
+      more)
+      (others [] later refl s st at lock has)
+
   calm : Calm given events later Still
-  calm = calm_clear given events later meets.goes Still clear
+  calm = calm_clear given events later meets.goes Still clear none_there
 
   ours : Ours given events later Still writer
   ours = record { asks = λ z has. any_front (λ (one : ℕ × LockMode). one.0 == z) mine theirs has; served = meets.served }
@@ -172,14 +181,14 @@ module _ (given : Opening) (events later : List Event) (writer reader : Begun gi
   of_writer so_far back split s st at lock has =
       owned_at given events later calm.fair (λ s t y mode. t ≡ writer.t → IsTheWriters s t y mode)
       (λ so_far back i split what served t y lock held same. by_writer so_far back i split what served t y lock held (place_as so_far back i split what served t y lock held writer same))
-      (λ s st at lock has. absurd (none_first given events later calm.fair s st at lock has)) so_far back split s st at lock has
+      (λ s st at lock has same. absurd (none_yet given events later calm.fair.can writer s st at lock has same)) so_far back split s st at lock has
 
   of_reader : (so_far back : List Event) → later ≡ so_far ++ back → (s : ℕ) (st : State) → server_at (run given (events ++ so_far)) s ≡ Some st → (lock : Lock) → Has st.locks lock → lock.t ≡ reader.t
       → Contains (asks_for given events reader.t reader.caller reader.ops) (lock.suite, lock.mode)
   of_reader so_far back split s st at lock has =
       owned_at given events later calm.fair (λ s t y mode. t ≡ reader.t → Contains (asks_for given events reader.t reader.caller reader.ops) (y, mode))
       (λ so_far back i split what served t y lock held same. asks_as so_far back i split what served t y lock held reader other_ours (place_as so_far back i split what served t y lock held reader same))
-      (λ s st at lock has. absurd (none_first given events later calm.fair s st at lock has)) so_far back split s st at lock has
+      (λ s st at lock has same. absurd (none_yet given events later calm.fair.can reader s st at lock has same)) so_far back split s st at lock has
 
   stands : (so_far back : List Event) → later ≡ so_far ++ back → (s : ℕ) (st : State) → server_at (run given (events ++ so_far)) s ≡ Some st → (lock : Lock) → Has st.locks lock → Has' s lock.t lock.suite lock.mode
   stands so_far back split s st at lock has = ⊎_elim

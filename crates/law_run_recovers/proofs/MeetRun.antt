@@ -3,31 +3,28 @@ use Rattle.law_run_recovers.proofs.Vocabulary.{Bool, Err, List, None, Ok, Option
 use Rattle.law_run_recovers.proofs.Vocabulary.{◌≡◌, and_from, and_parts, eq-eqb, eqb-true, false≢true, nat_tests, same_Some, list_all, undecided, CanBe, decides, IsNotDecided, names, contains_from, recorded, reply_down, reply_of}
 use Rattle.law_run_recovers.proofs.Vocabulary.{reply_up, verdict_of, State, record_of, copy_of, Request, Decided, answer_in, decided, decided_as, decided_at, decided_by, decisions, task_at, task_of, to_decide, run, table_of}
 use Rattle.law_run_recovers.proofs.Vocabulary.{Actor, World, actor_at, server_at, step, Served, Event, Begin, Crash, Forget, Lack, Return, Step, next, Opening, Replica, fixed_of, next_in, next_of, Doing, Running}
-use Rattle.law_run_recovers.proofs.Vocabulary.{RunningSweep, Task, is_decide, decision_of, Transaction, Begun, row_of, is_up, shown_at, shown_in, up_in, bereaves, hinders_itself, is_running, is_telling, of_up, robs, running_in}
+use Rattle.law_run_recovers.proofs.Vocabulary.{◌*◌, ◌+◌, ◌<◌, zero, suc, agent_of, answers_follow_knowledge, holds_of, names_mine, rest_of, RunningSweep, Task, is_decide, decision_of, Transaction, Begun, row_of, is_up, shown_at, shown_in, up_in, bereaves, hinders_itself, is_running, is_telling, of_up, robs, running_in}
 use Rattle.law_run_recovers.proofs.Vocabulary.{runs, takes, up_and, world_after}
 use Rattle.rep_core.specs.declared.request.Request.TheVariants as request
 use Rattle.rep_core.specs.declared.reply.Reply.TheVariants as reply
 use Rattle.txn_core.specs.Doing as doing
 use Rattle.law_run_recovers.specs.MeetsBeside.{upsets}
 use Rattle.law_run_recovers.proofs.BesideUnmet.{then_is, begins_there}
-use Rattle.law_run_recovers.proofs.Keeps.{IsAtWork, step_asks}
+use Rattle.law_run_recovers.proofs.AtWork.{mine_where}
+use Rattle.law_run_recovers.proofs.BesideAll.{asks_busy}
+use Rattle.law_run_recovers.proofs.Keeps.{IsAtWork, last_of, step_asks}
 use Rattle.law_run_recovers.proofs.Polled.{dver_in, dver_at}
 use Rattle.law_run_recovers.proofs.Rows.{start_was}
 use Rattle.law_run_recovers.proofs.Sides.{names_one, takes_named, its_agent, up_same}
 use Rattle.law_run_recovers.proofs.StepsServed.{OwnTook, own_took}
 use Rattle.law_run_recovers.proofs.Unrobbed.{unrecorded_at}
-use Rattle.law_run_recovers.proofs.MeetCalm.{Calm, Ours, accepted, can_at, up_at, busy_one, one_named, decided_has, decided_of_one}
+use Rattle.law_run_recovers.proofs.MeetCalm.{Calm, Ours, accepted, can_at, up_at, some_run, decided_has}
 use Rattle.law_run_recovers.proofs.MeetQuiet.{GoesQuietly}
 
--- no server has a lock, so none that is up
-free_up : (servers : List State) → list_all (λ (st : State). length st.locks == 0) servers ≡ true → list_all (λ (st : State). not st.up || (length st.locks == 0)) servers ≡ true
-free_up [] all = refl
-free_up (st ∷ servers) all =
-    let parts = and_parts (length st.locks == 0) (list_all (λ (st : State). length st.locks == 0) servers) all in
-    and_from (not st.up || (length st.locks == 0)) (list_all (λ (st : State). not st.up || (length st.locks == 0)) servers) (or_so (not st.up) (length st.locks == 0) parts.0) (free_up servers parts.1)
-  where
-    or_so : (a b : Bool) → b ≡ true → (a || b) ≡ true
-    or_so a b is = grind (arith, nat_tests)
+-- a number that is the last of an agent has it as its rest
+pub rest_of_last : (t count i : ℕ) → t + 64 ≡ 64 * count + i → i < 64 → t % 64 ≡ i
+rest_of_last t zero i is small = absurd (omega (arith, is, small))
+rest_of_last t (suc count) i is small = ap (λ n. n % 64) (let same : t ≡ 64 * count + i = omega (arith, is) in same) ∙ rest_of count i small
 
 all_none : (a b c : Bool) → a ≡ false → b ≡ false → c ≡ false → (a || (b || c)) ≡ false
 all_none a b c one two three = grind (arith, nat_tests)
@@ -74,12 +71,14 @@ module _ (given : Opening) (events later : List Event) {still : ℕ → Type 0} 
     named_not : (i : ℕ) → (i == one.agent) ≡ false → (what : Served) → (step (fixed_of given) (run given (events ++ front)) (Step i)).done.served ≡ Some what → names one.t what.request.value ≡ true → ⊥
     named_not i apart what served named =
         let asks = step_asks (fixed_of given) w i (actor_at w i) what served in
-        let busy = busy_one given events later calm.fair front (event ∷ rest) (part so_far (event ∷ rest) split) i asks.0 asks.1 (what.server, what.request.value) asks.2 in
-        let same = names_one one.t busy.one.t what.request.value named (one_named given events later calm.fair front (event ∷ rest) (part so_far (event ∷ rest) split) i asks.0 asks.1 (what.server, what.request.value) asks.2) in
-        let agents : one.agent ≡ busy.one.agent =
-        sym (its_agent given calm.fair.can.accepted (events ++ one.before) one.agent one.t (Transaction one.caller one.site one.ops) one.begins) ∙ ap (λ t. t % 64) same
-        ∙ its_agent given calm.fair.can.accepted (events ++ busy.one.before) busy.one.agent busy.one.t (Transaction busy.one.caller busy.one.site busy.one.ops) busy.one.begins in
-        false≢true (sym apart ∙ eq-eqb i one.agent (sym busy.who ∙ sym agents))
+        let busy = some_run given events later calm.fair front (event ∷ rest) (part so_far (event ∷ rest) split) i asks.0 asks.1 (asks_busy given asks.0.agent (what.server, what.request.value) asks.2) in
+        let mine = names_mine (fixed_of given) busy.0 asks.0.agent.doing (what.server, what.request.value) (mine_where busy.0 asks.0.agent.doing busy.1) asks.2 in
+        let same = names_one one.t busy.0 what.request.value named mine in
+        let last = last_of (decisions given (events ++ front)) i asks.0.agent.count busy.0 asks.0.agent.doing
+        ((holds_of given calm.fair.can.accepted (events ++ front)).agents.at i asks.0.agent (ap agent_of asks.1)) busy.1 in
+        let small = (holds_of given calm.fair.can.accepted (events ++ front)).agents.small i asks.0.agent (ap agent_of asks.1) in
+        let its = its_agent given calm.fair.can.accepted (events ++ one.before) one.agent one.t (Transaction one.caller one.site one.ops) one.begins in
+        false≢true (sym apart ∙ eq-eqb i one.agent (sym (rest_of_last busy.0 asks.0.agent.count i last small) ∙ ap (λ t. t % 64) (sym same) ∙ its))
 
     not_robbed : (i : ℕ) → (i == one.agent) ≡ false → of_up (takes one.t) (run given (events ++ front)) (step (fixed_of given) (run given (events ++ front)) (Step i)).done.served ≡ false
     not_robbed i apart = of (step (fixed_of given) w (Step i)).done.served refl
@@ -162,7 +161,7 @@ module _ (given : Opening) (events later : List Event) {still : ℕ → Type 0} 
   goes_of ours = record {
     can = can_all;
     can_base = subst (CanBe given) (append-nil events) (can_at given events later calm.fair [] later refl);
-    free = free_up (run given events).servers calm.fair.free;
+    answers = λ z has. calm.answers z (ours.asks z has);
     there = its_actor.1;
     begins = one.begins;
     spared = spared ours;
@@ -211,10 +210,10 @@ module _ (given : Opening) (events later : List Event) {still : ℕ → Type 0} 
           none None is = refl
           none (Some d) is =
               let cut = part so_far (Step one.agent ∷ rest) split in
-              let it = decided_of_one given events later calm.fair (one.before ++ begins_event ∷ so_far) rest (Step one.agent) cut d is in
-              let same = same_Some it.so.actor here (sym it.so.there ∙ ap (actor_at (run given (events ++ (one.before ++ begins_event ∷ so_far)))) (same_step it.so.number one.agent (sym it.so.step)) ∙ ap (λ w. actor_at w one.agent) (sym (run_is so_far)) ∙ there) in
-              let number = eqb-true it.so.txn_run.task.t one.t (ap (runs one.t) (sym it.so.running) ∙ ap (λ (a : Actor). runs one.t a.agent.doing) same ∙ runs_here) in
-              absurd (undecided d (contains_from (decisions given (events ++ later)) d (decided_has given events later calm.fair (one.before ++ begins_event ∷ so_far) rest (Step one.agent) cut d is)) (it.so.t ∙ number))
+              let so = answers_follow_knowledge given (events ++ (one.before ++ begins_event ∷ so_far)) (Step one.agent) d is in
+              let same = same_Some so.actor here (sym so.there ∙ ap (actor_at (run given (events ++ (one.before ++ begins_event ∷ so_far)))) (same_step so.number one.agent (sym so.step)) ∙ ap (λ w. actor_at w one.agent) (sym (run_is so_far)) ∙ there) in
+              let number = eqb-true so.txn_run.task.t one.t (ap (runs one.t) (sym so.running) ∙ ap (λ (a : Actor). runs one.t a.agent.doing) same ∙ runs_here) in
+              absurd (undecided d (contains_from (decisions given (events ++ later)) d (decided_has given events later calm.fair (one.before ++ begins_event ∷ so_far) rest (Step one.agent) cut d is)) (so.t ∙ number))
 
       served_so : is_some (step (fixed_of given) (then_at so_far) (Step one.agent)).done.served ≡ true
       served_so = hindered (is_some (step (fixed_of given) w (Step one.agent)).done.served) (robs given one.agent one.t w (Step one.agent)) (bereaves given one.agent one.t w (Step one.agent))

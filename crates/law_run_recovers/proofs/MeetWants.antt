@@ -13,7 +13,7 @@ use Rattle.law_run_recovers.proofs.MeetCount.{Falls}
 use Rattle.law_run_recovers.proofs.MeetCourse.{sight, answering, short_at}
 use Rattle.law_run_recovers.proofs.MeetEnds.{Fixed}
 use Rattle.law_run_recovers.proofs.MeetQuiet.{GoesQuietly}
-use Rattle.law_run_recovers.proofs.MeetReach.{wide, wanting}
+use Rattle.law_run_recovers.proofs.MeetReach.{is_asked, wide, wanting}
 use Rattle.law_run_recovers.proofs.MeetRun.{part, its_actor, goes_of, never_decides}
 use Rattle.law_run_recovers.proofs.MeetTold.{for_lock, says_held, grants, refuses, some_step, found_in, four, opens_free, free_weaker, free_up, free_fits}
 
@@ -141,9 +141,10 @@ module _ (given : Opening) (events later : List Event) {still : ℕ → Type 0} 
           most = in_range one.votes one.mode (set_valid (one.suite, one.votes) has);
           found = inl set.1;
           falls = ⊎_elim (λ same. inl same) (λ none. inr (inr none)) (apart (one.suite, one.votes) set.1);
-          shut = λ server has_vote is. barred server (up_voter given events goes.can_base goes.free calm.fair.up one.votes (set_known (one.suite, one.votes) has) server has_vote) is;
+          shut = λ server has_vote is. barred server (up_voter given events goes.can_base calm.fair.up one.votes (set_known (one.suite, one.votes) has) server has_vote) is;
         })
         (λ found.
+        let has_asked' = is_asked given events (events ++ who.before) f.front who.agent who.t who.caller who.site who.ops actor goes never open_to weaker opens_up fits (one.suite, one.mode) one.asks in
         let known = prefix_known given goes.can_base.accepted.known_servers events goes.can_base one.suite found.prefix found.was in
         record {
           suite = one.suite;
@@ -152,7 +153,7 @@ module _ (given : Opening) (events later : List Event) {still : ℕ → Type 0} 
           votes = one.votes;
           open' = open_to one.suite one.mode;
           few = one.few;
-          most = in_range one.votes one.mode (subst IsValid (sym found.is) (valid_was given events goes.can_base goes.free calm.fair.up one.suite found.prefix found.was));
+          most = in_range one.votes one.mode (subst IsValid (sym found.is) (valid_was given events goes.can_base calm.fair.up one.suite found.prefix found.was));
           found = inr (record { prefix = found.prefix; is = found.is; was = found.was });
           falls = ⊎_elim
               (λ row. inl (found.is ∙ row))
@@ -170,9 +171,9 @@ module _ (given : Opening) (events later : List Event) {still : ℕ → Type 0} 
                     subst (λ server. (shown_at (fixed_of given) (run given events) one.suite server).pver ≤ found.prefix.pver) (eqb-true g.what.server other facts.0)
                     (found.top g.front g.back g.what g.parts g.served facts.1 facts.2);
               })))
-              (row_or_old given events goes.can_base goes.free calm.fair.up one.suite found.prefix found.was
+              (row_or_old given events goes.can_base calm.fair.up one.suite (goes.answers one.suite has_asked') found.prefix found.was
               (open_to one.suite (first_mode (asks_for given events who.t who.caller who.ops) one.suite))
-              (answering given events (events ++ who.before) f.front who.agent who.t who.caller who.site who.ops actor goes open_to weaker opens_up fits one.suite) found.last known);
-          shut = λ server has_vote is. barred server (up_voter given events goes.can_base goes.free calm.fair.up one.votes (subst (ListsKnown given.servers) (sym found.is) known) server has_vote) is;
+              (answering given events (events ++ who.before) f.front who.agent who.t who.caller who.site who.ops actor goes open_to weaker opens_up fits one.suite has_asked') found.last known);
+          shut = λ server has_vote is. barred server (up_voter given events goes.can_base calm.fair.up one.votes (subst (ListsKnown given.servers) (sym found.is) known) server has_vote) is;
         })
         one.how

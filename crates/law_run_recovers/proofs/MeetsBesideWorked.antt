@@ -142,7 +142,7 @@ tight Exclusive Exclusive = refl
 
 they_meet : TheyMeetBeside three_agents two_made writes_beside one two
 they_meet = record {
-  goes = record { can = they_can; idle = refl; up = refl; free = refl; even = even three_agents writes_beside 0 64 1 1 is_aside all_hold };
+  goes = record { can = they_can; up = refl; unswept = refl; even = even three_agents writes_beside 0 64 1 1 is_aside all_hold };
   served = first_served three_agents writes_beside 0 64 1 1 is_aside all_hold;
   other_served = second_served three_agents writes_beside 0 64 1 1 is_aside all_hold;
   beside = λ before after' server lock split has. ⊎_elim
@@ -264,7 +264,7 @@ unmoved before later parts = ⊎_elim
 
 reader_meets : ReaderMeetsBeside four_agents two_made reads_beside writer reader
 reader_meets = record {
-  goes = record { can = four_can; idle = refl; up = refl; free = refl; even = even four_agents reads_beside 1 1 0 64 reads_so all_read };
+  goes = record { can = four_can; up = refl; unswept = refl; even = even four_agents reads_beside 1 1 0 64 reads_so all_read };
   served = first_served four_agents reads_beside 1 1 0 64 reads_so all_read;
   reader_served = second_served four_agents reads_beside 1 1 0 64 reads_so all_read;
   suite = 1;

@@ -3,7 +3,7 @@ use Rattle.law_run_recovers.proofs.Vocabulary.{Bool, Contains, List, ap, false, 
 use Rattle.law_run_recovers.proofs.Vocabulary.{and_parts, and_from, eq-eqb, eqb-true, false≢true, list_any, is_decided, IsNotDecided, Has, any_has, contains_from, has_any, has_from, Lock, decisions, run, EndedJob, Event, is_exclusive}
 use Rattle.law_run_recovers.proofs.Vocabulary.{Opening, LockMode, Exclusive, Shared, Begun, clashes, its_asks, EndsThen, asks_for, ReadersMeet, WriterOrReadersAreDecided, only_reads}
 use Rattle.law_run_recovers.specs.MeetsBeside.{GoesOn, ReaderMeetsBeside, ReadsToo, first_asks, meets_some}
-use Rattle.law_run_recovers.proofs.MeetAlone.{all_served, lock_in, never_upset}
+use Rattle.law_run_recovers.proofs.MeetAlone.{all_served, idle_unswept, lock_in, never_upset}
 use Rattle.law_run_recovers.proofs.MeetAsked.{all_asked}
 use Rattle.law_run_recovers.proofs.MeetBoth.{same_place}
 use Rattle.law_run_recovers.proofs.MeetCalm.{Calm, Ours}
@@ -42,7 +42,7 @@ module _ (given : Opening) (events later : List Event) (writer reader : Begun gi
     (job outcome : EndedJob) (ends : EndsThen given (events ++ writer.before) writer.after writer.agent writer.t writer.caller writer.site writer.ops job)
     (other_ends : EndsThen given (events ++ reader.before) reader.after reader.agent reader.t reader.caller reader.site reader.ops outcome) where
   goes : GoesOn given events later
-  goes = record { can = meets.can; idle = meets.idle; up = meets.up; free = meets.free; even = never_upset given events later meets.unspoiled }
+  goes = record { can = meets.can; up = meets.up; unswept = idle_unswept (run given events).agents meets.idle; even = never_upset given events later meets.unspoiled }
 
   module _ (undecided : is_decided job.ending ≡ false) where
     none : IsNotDecided (decisions given (events ++ later)) writer.t
@@ -50,7 +50,7 @@ module _ (given : Opening) (events later : List Event) (writer reader : Begun gi
 
     calm : AllCalm given events later
     calm =
-        calm_where given events later goes (all_served given events later meets.unspoiled) (λ other.
+        calm_where given events later goes meets.idle meets.free (all_served given events later meets.unspoiled) (λ other.
         ⊎_elim
         (λ same. inl (λ d there is. none d there (is ∙ (same_place given events later other writer same).t)))
         (λ reads. inr (reads_none (its_asks given events later other) reads))
@@ -102,7 +102,7 @@ module _ (given : Opening) (events later : List Event) (writer reader : Begun gi
       suite = meets.suite;
       beside = λ before after server lock split has.
           let there = lock_in (run given (events ++ before)) server lock has in
-          let asked = all_asked given events later any_calm any_ours before after split server there.0 there.1 lock there.2 in
+          let asked = all_asked given events later any_calm meets.idle meets.free any_ours before after split server there.0 there.1 lock there.2 in
           ⊎_elim
           (λ same. inl (asked.number ∙ (same_place given events later asked.who writer same).t))
           (λ other_reads. inr (inr (reads_too asked.who other_reads lock asked.asks)))

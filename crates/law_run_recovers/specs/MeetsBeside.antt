@@ -1,6 +1,6 @@
 -- Transactions that meet while others are beside, which may begin again and again, whatever they do: as long as no lock of theirs is in the way of what the two ask
 -- for. They may be in each other's way, end undecided, write other files, and read what both only read.
-use Rattle.std.specs.Prelude.{◌≡◌, ◌⊎◌, ℕ, ◌+◌, Bool, true, false, ◌||◌, is_some, List, ◌∷◌, ◌++◌, Contains, Some}
+use Rattle.std.specs.Prelude.{◌≡◌, ◌⊎◌, ℕ, ◌+◌, Bool, true, false, ◌||◌, is_some, List, ◌∷◌, ◌++◌, Contains, Option, Some, None}
 use Rattle.std.specs.List.{list_any}
 use Rattle.vote_core.specs.Quorums.{Configuration, total_votes}
 use Rattle.suite_prefix.specs.SettingsRules.{Opening}
@@ -9,15 +9,16 @@ use Rattle.suite_prefix.specs.declared.lock_mode.LockMode.TheVariants.{Shared}
 use Rattle.file_ops.specs.Rows.{row_of}
 use Rattle.rep_core.specs.declared.lock.Lock.{Lock}
 use Rattle.txn_core.specs.declared.job.Job.TheVariants.{Sweep}
+use Rattle.txn_core.specs.Doing.{Doing, Running, RunningSweep}
 use Rattle.run_core.specs.declared.event.Event.{Event}
 use Rattle.run_core.specs.declared.event.Event.TheVariants.{Begin, Crash}
 use Rattle.run_core.specs.declared.done.EndedJob.{EndedJob}
-use Rattle.run_core.specs.Worlds.{World}
+use Rattle.run_core.specs.Worlds.{Actor, World}
 use Rattle.run_core.specs.Runs.{run}
 use Rattle.run_core.specs.TableOfRun.{table_of}
 use Rattle.law_headline.specs.Premises.{CanBe}
-use Rattle.law_run_alone.specs.Alone.{all_idle, begins_job}
-use Rattle.law_run_alone.specs.Undisturbed.{all_up, no_locks, is_decided}
+use Rattle.law_run_alone.specs.Alone.{begins_job}
+use Rattle.law_run_alone.specs.Undisturbed.{all_up, is_decided}
 use Rattle.law_run_recovers.specs.Standing.{locks_at}
 use Rattle.law_run_recovers.specs.Beside.{clashes, Begun}
 use Rattle.law_run_recovers.specs.Demands.{votes_set}
@@ -37,12 +38,17 @@ upsets given world (Begin agent (Sweep server)) = is_some (begins_job given worl
 upsets given world (Crash server) = true
 upsets given world event = false
 
--- They begin where every agent is idle, every server is up and no lock is left; and nothing upsets them.
+-- an agent is at a sweep
+abbrev pub sweeps_now : Option Doing → Bool
+sweeps_now (Some (RunningSweep sweep_run)) = true
+sweeps_now (Some (Running txn_run)) = false
+sweeps_now None = false
+
+-- They begin where every server is up and nobody sweeps, others being anywhere in their transactions; and nothing upsets them.
 pub record GoesOn (given : Opening) (events later : List Event) : Type 0 where
   pub can : CanBe given (events ++ later)
-  pub idle : all_idle (run given events) ≡ true
   pub up : all_up (run given events) ≡ true
-  pub free : no_locks (run given events) ≡ true
+  pub unswept : list_any (λ (actor : Actor). sweeps_now actor.agent.doing) (run given events).agents ≡ false
   pub even : (before after : List Event) (event : Event) → later ≡ before ++ event ∷ after → upsets given (run given (events ++ before)) event ≡ false
 
 -- each step of one is served, as long as it runs
