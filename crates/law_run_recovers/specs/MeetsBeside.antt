@@ -1,5 +1,6 @@
 -- Transactions that meet while others are beside, which may begin again and again, whatever they do: as long as no lock of theirs is in the way of what the two ask
--- for. They may be in each other's way, end undecided, write other files, and read what both only read.
+-- for. They may be in each other's way, end undecided, write other files, and read what both only read. Their locks count, not what they ask for on the table as
+-- they begin: one begins to write a name that is not there, a second one makes it, and the first locks what that made.
 use Rattle.std.specs.Prelude.{◌≡◌, ◌⊎◌, ℕ, ◌+◌, Bool, true, false, ◌||◌, is_some, List, ◌∷◌, ◌++◌, Contains, Option, Some, None}
 use Rattle.std.specs.List.{list_any}
 use Rattle.vote_core.specs.Quorums.{Configuration, total_votes}
