@@ -269,7 +269,6 @@ module _ (given : Opening) (events later : List Event) (fair : Fair given events
         (append_has_right (decisions given all) (decisions_from (fixed_of given) (run given all) (event ∷ rest)) d
         (subst (λ found. Has (cons_option found (decisions_from (fixed_of given) (step (fixed_of given) (run given all) event).world rest)) d) (sym is) (inl refl))))
 
-
   -- ---- where every agent was idle
 
   module _ (idle : all_idle (run given events) ≡ true) where

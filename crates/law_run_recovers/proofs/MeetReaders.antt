@@ -31,7 +31,6 @@ exclusive_not : (way : LockMode) → way ≡ Exclusive → way ≡ Shared → �
 exclusive_not Exclusive is shared = false≢true (sym (ap is_exclusive shared))
 exclusive_not Shared is shared = false≢true (ap is_exclusive is)
 
-
 pub reads_none : (asked : List (ℕ × LockMode)) → only_reads asked ≡ true → OnlyReads asked
 reads_none asked reads z has = false≢true (sym (ap not (has_any (λ (one : ℕ × LockMode). is_exclusive one.1) asked (z, Exclusive) has refl)) ∙ reads)
 

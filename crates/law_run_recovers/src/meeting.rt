@@ -23,9 +23,9 @@ pub fn one_that_meets_by_rows_is_decided()
     ensures { OneThatMeetsByRowsIsDecided }
 {}
 
-/// A law: so it is where others are beside, who may begin again and again, whatever they do and however they end, as long as no
-/// lock of theirs is ever in the way of what the two ask for; no server crashes, nobody sweeps, and each step of the two is
-/// served. It does nothing.
+/// A law: so it is where others are beside, who may be at work already and begin again and again, whatever they do and however
+/// they end, as long as no lock of theirs is ever in the way of what the two ask for; every server is up and stays so, nobody
+/// sweeps, and each step of the two is served. It does nothing.
 pub fn one_that_meets_beside_is_decided()
     ensures { OneThatMeetsBesideIsDecided }
 {}
@@ -62,8 +62,8 @@ pub fn some_runs_meet_readers()
     ensures { SomeRunsMeetReaders }
 {}
 
-/// A law: a run in which two write one file while a third begins again and again at another, for which memory runs out at last;
-/// one of the two is answered, as the law says. It does nothing.
+/// A law: a run in which two write one file while a third is in the midst of a write of another, and begins one more, for which
+/// memory runs out; one of the two is answered, as the law says. It does nothing.
 pub fn some_runs_meet_beside()
     ensures { SomeRunsMeetBeside }
 {}
