@@ -1,5 +1,5 @@
 -- Transactions that begin in a calm run: where each asks for a lock, what it had before, and that each lock in its name was granted to it.
-use Rattle.law_run_recovers.proofs.Vocabulary.{◌*◌, false≢true, all_idle, no_locks, holds_of, ◌<◌, Bool, ◌%◌, ◌+◌, Identity, Op, CanBe, can_front, agent_of, agent_at, Agent, begin, started, List, None, Option, Some, [], ap, append-nil, append_assoc, arith, cond, false, length, refl, subst, suc, sym, true, ℕ, ⊎_elim, ◌++◌, ◌==◌, ◌∙◌, ◌∷◌, ◌≡◌, ◌⊎◌, eq-eqb}
+use Rattle.law_run_recovers.proofs.Vocabulary.{◌*◌, false≢true, all_idle, no_locks, holds_of, ◌<◌, Bool, ◌+◌, CanBe, agent_of, agent_at, Agent, List, None, Option, Some, [], ap, append-nil, append_assoc, arith, false, length, refl, subst, suc, sym, true, ℕ, ⊎_elim, ◌++◌, ◌==◌, ◌∙◌, ◌∷◌, ◌≡◌, ◌⊎◌, eq-eqb}
 use Rattle.law_run_recovers.proofs.Vocabulary.{after, eqb-true, none-some, same_Some, cons_option, at_has, begins_job, has_append, IsNotDecided, Has, all_at, has_from, State, Lock, decisions_from-append, Decided, answer_in, decided}
 use Rattle.law_run_recovers.proofs.Vocabulary.{decided_as, decided_at, decided_by, decisions, decisions_from, task_at, run, Actor, World, actor_at, opening, server_at, step, Served, Event, Begin, Crash, Forget, Lack, Return}
 use Rattle.law_run_recovers.proofs.Vocabulary.{Step, mode_of, serves, Opening, LockMode, fixed_of, next_of, is_decide, Job, Transaction, Begun, votes_now, asks_for, begun_world, world_after}

@@ -1,5 +1,5 @@
 -- A run is calm, whatever the suite, where each transaction that begins is never decided, or asks for nothing exclusively.
-use Rattle.law_run_recovers.proofs.Vocabulary.{all_idle, no_locks, can_front, arith, nat_tests, list_all, length, not, and_parts, and_from, ◌&&◌, ◌||◌, Bool, Contains, inl, inr, List, None, Option, Some, [], ap, append-nil, append_assoc, cond, false, refl, slice_get, slice_set, subst, sym, true, ℕ, ⊎_elim, ◌*◌, ◌++◌, ◌+◌, ◌==◌, ◌∙◌, ◌∷◌, ◌≡◌}
+use Rattle.law_run_recovers.proofs.Vocabulary.{all_idle, no_locks, can_front, arith, nat_tests, list_all, length, not, and_parts, and_from, ◌||◌, Bool, Contains, inl, inr, List, None, Option, Some, [], ap, append-nil, append_assoc, cond, false, refl, slice_get, slice_set, subst, sym, true, ℕ, ⊎_elim, ◌*◌, ◌++◌, ◌+◌, ◌==◌, ◌∙◌, ◌∷◌, ◌≡◌}
 use Rattle.law_run_recovers.proofs.Vocabulary.{◌⊎◌, eqb-true, false≢true, same_Some, cons_option, nat_cmp, PlainTable, AuditItem, all_keep, CanBe, LogIs, decision_at, event_log, machine_one, all_consistent, AllAt, machine_of}
 use Rattle.law_run_recovers.proofs.Vocabulary.{finish_is_after, at_puts, append_has_left, service_stays, puts_in, IsAnsweredAsKnown, IsNotDecided, EndedSo, beginning, WasPrefix, copy_in-with_copies, Has, contains_from}
 use Rattle.law_run_recovers.proofs.Vocabulary.{has_from, HasPreparedLock, IsConsistent, Intention, has_lock, in_the_way, with_prepared, after_down, after_locking, after_record, after_up, audit_of, is_answered, prepares}

@@ -1,11 +1,10 @@
 -- One that writes and one that only reads, whatever others do beside: a reader that ends undecided was refused by locks of the writer that are enough to write, and so the writer was not.
-use Rattle.law_run_recovers.proofs.Vocabulary.{Bool, Contains, IsTrue, List, Some, [], ap, append-nil, append_assoc, arith, false, inl, inr, not, refl, subst, sym, true, ℕ, ⊎_elim, ◌&&◌, ◌++◌, ◌+◌, ◌<◌, ◌==◌, ◌||◌, ◌∙◌, ◌∷◌, ◌≡◌}
-use Rattle.law_run_recovers.proofs.Vocabulary.{◌≤◌, ◌⊎◌, eq-eqb, false≢true, CanBe, can_front, is_decided, machine_of, IsNotDecided, beginning, WasPrefix, Has, has_any, has_from, State, Lock, decisions, run, table_of}
-use Rattle.law_run_recovers.proofs.Vocabulary.{World, server_at, step, EndedJob, Served, Event, Begin, Step, mode_of, needed_of, is_exclusive, serves, Opening, Prefix, LockMode, Exclusive, Shared, fixed_of, Transaction}
-use Rattle.law_run_recovers.proofs.Vocabulary.{shared_member, Configuration, total_votes, votes_at, votes_in, Begun, clashes, votes_set, EndsThen, SetsApart, votes_now, asks_for, any_has, contains_from, has_append, list_any, locks_at, locks_in}
+use Rattle.law_run_recovers.proofs.Vocabulary.{Bool, Contains, List, Some, [], ap, append-nil, append_assoc, arith, false, inl, inr, not, refl, subst, sym, true, ℕ, ⊎_elim, ◌&&◌, ◌++◌, ◌+◌, ◌<◌, ◌==◌, ◌||◌, ◌∙◌, ◌∷◌, ◌≡◌}
+use Rattle.law_run_recovers.proofs.Vocabulary.{◌⊎◌, eq-eqb, false≢true, CanBe, can_front, is_decided, machine_of, IsNotDecided, beginning, WasPrefix, Has, has_any, has_from, State, Lock, decisions, run, table_of}
+use Rattle.law_run_recovers.proofs.Vocabulary.{server_at, step, EndedJob, Served, Event, Begin, Step, mode_of, needed_of, is_exclusive, serves, Opening, Prefix, LockMode, Exclusive, Shared, fixed_of, Transaction}
+use Rattle.law_run_recovers.proofs.Vocabulary.{shared_member, Configuration, total_votes, votes_at, votes_in, Begun, clashes, votes_set, EndsThen, votes_now, asks_for, any_has, contains_from, has_append, list_any, locks_at, locks_in}
 use Rattle.law_run_recovers.proofs.Vocabulary.{only_reads, begun_world}
 use Rattle.law_run_recovers.specs.MeetsBeside.{ReaderMeetsBeside, ReadsToo, WriterOrReaderBesideIsDecided, first_sets}
-use Rattle.txn_core.specs.Doing as doing
 use Rattle.law_run_recovers.proofs.AmongCourse.{tail_or}
 use Rattle.law_run_recovers.proofs.Unmoved.{first_votes_at}
 use Rattle.law_run_recovers.proofs.MeetApart.{clashes_back}
@@ -22,7 +21,7 @@ use Rattle.law_run_recovers.proofs.Stands.{asks_of}
 use Rattle.law_run_recovers.proofs.MeetReach.{reaches_asks}
 use Rattle.law_run_recovers.proofs.MeetReads.{OnlyReads}
 use Rattle.law_run_recovers.proofs.MeetRun.{its_actor, goes_of, run_is}
-use Rattle.law_run_recovers.proofs.MeetTold.{for_lock, says_held, grants, refuses, some_step, found_in, there_in, four_from, not_both}
+use Rattle.law_run_recovers.proofs.MeetTold.{for_lock, says_held, grants, refuses, some_step, there_in, four_from, not_both}
 use Rattle.law_run_recovers.proofs.MeetWants.{Wants, WereFound, wants}
 
 -- ---- modes
