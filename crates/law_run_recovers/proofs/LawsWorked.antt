@@ -21,7 +21,7 @@ use Rattle.law_runs.specs.Worked.{two_agents, so_many}
 use Rattle.law_run_alone.proofs.Worked.{some_runs_go_alone}
 use Rattle.law_run_recovers.proofs.AloneLaws.{ends_are_by_votes}
 use Rattle.law_run_recovers.proofs.AmongLaws.{among_locks_end_by_votes}
-use Rattle.law_run_recovers.proofs.Blocking.{one_crash_blocks, some_server_blocks}
+use Rattle.law_run_recovers.proofs.Blocking.{blocked_by_doubts, one_crash_blocks, some_server_blocks}
 use Rattle.law_run_recovers.proofs.Swept.{sweeps_leave_doubts}
 use Rattle.law_run_recovers.proofs.UnmetLaws.{unmet_end_by_votes}
 use Rattle.law_run_recovers.proofs.ValidEvents.{all_by, event_sets_none, valid_event}
@@ -365,6 +365,7 @@ doubts_left = record {
   is_up_still = refl;
   cannot_either = refl;
   leaves = sweeps_leave_doubts two_agents in_the_dark (so_many 2 1) 1 1 0 sweeps_one;
+  blocked = λ want. blocked_by_doubts two_agents in_the_dark 1 sweep_up sweeps_all 129 want;
   blocker = some_server_blocks two_agents in_the_dark 1 sweep_up sweeps_all 129 (wants_a two_agents.c0) (valid_votes two_agents.c0 refl) refl;
   was_its_home = its_home;
 }

@@ -1,7 +1,8 @@
 -- Runs that the laws of who is alone, unmet, among locks and told as at its begin are about, and those of sweeps that leave a doubt, by computation; and what the laws say of them.
-use Rattle.std.specs.Prelude.{◌≡◌, ℕ, true, false, List, [], ◌∷◌, ◌++◌, Contains, Some}
-use Rattle.vote_core.specs.Quorums.{Configuration}
+use Rattle.std.specs.Prelude.{◌≡◌, ℕ, ◌+◌, nat_le, true, false, List, [], ◌∷◌, ◌++◌, Contains, Some}
+use Rattle.vote_core.specs.Quorums.{Configuration, total_votes, votes_in}
 use Rattle.suite_prefix.specs.declared.lock_mode.LockMode.TheVariants.{Exclusive}
+use Rattle.suite_collect.specs.Collecting.{needed_of}
 use Rattle.file_ops.specs.declared.answer.Answer.TheVariants as answer
 use Rattle.file_ops.specs.declared.operation.Action.TheVariants as action
 use Rattle.txn_core.specs.declared.ending.Ending.TheVariants.{Answered, Undecided}
@@ -25,7 +26,7 @@ use Rattle.law_run_recovers.specs.Unmet.{begun_world, world_after, GoesUnmet}
 use Rattle.law_run_recovers.specs.Among.{EndsByOpenVotes, GoesAmongLocks}
 use Rattle.law_run_recovers.specs.Told.{everywhere, ToldAsAtItsBegin}
 use Rattle.law_run_recovers.specs.OpenDemands.{Want}
-use Rattle.law_run_recovers.specs.Blocking.{IsBlocker, SweepsAll, WasItsHome, can_have}
+use Rattle.law_run_recovers.specs.Blocking.{IsBlocker, SweepsAll, WasItsHome, blocks, can_have}
 use Rattle.law_run_recovers.specs.BesideWorked.{turns}
 use Rattle.law_run_recovers.specs.Contending.{one_server, b, puts, both_made}
 use Rattle.law_run_recovers.specs.Worked.{endings_in, stopped, in_the_dark}
@@ -105,9 +106,12 @@ pub record DoubtsAreLeft : Type 0 where
   pub all_were_up : all_up (run two_agents stopped) ≡ true
   pub is_up_still : is_up (run two_agents in_the_dark) 0 ≡ true
   pub cannot_either : can_have two_agents (in_the_dark ++ sweeps 1 sweep_up) 129 (wants_a at_the_first) ≡ false
-  -- the laws say what the sweep leaves, and that some server blocks; of the second it is the crashed one, which was the home of a transaction that stood prepared
+  -- the laws say what the sweep leaves, which votes are open by the servers that block, and that some server does; of the second it is the crashed one, which was
+  -- the home of a transaction that stood prepared
   pub leaves : (job : EndedJob) → Contains (outcomes (dones (fixed_of two_agents) (step (fixed_of two_agents) (run two_agents in_the_dark) (Begin 1 (Sweep 0))).world (so_many 2 1))) job → job.agent ≡ 1
       → LeavesDoubts two_agents in_the_dark (so_many 2 1) 1 0 job
+  pub blocked : (want : Want) → can_have two_agents (in_the_dark ++ sweeps 1 sweep_up) 129 want
+      ≡ nat_le (needed_of want.mode want.votes + votes_in want.votes.reps (blocks (fixed_of two_agents) (run two_agents in_the_dark) 129 want.suite want.mode)) (total_votes want.votes.reps)
   pub blocker : IsBlocker two_agents (run two_agents in_the_dark) 129 (wants_a two_agents.c0)
   pub was_its_home : WasItsHome two_agents (run two_agents stopped) 129 (wants_a at_the_first) 1
 
