@@ -342,13 +342,13 @@ opened B given start (suc count) (suc s) st is = opened B given (start + 1) coun
 idle_sweeps : (B : ℕ → Type 0) (given : Opening) → AllSweeps B (opening given)
 idle_sweeps B given i actor is = subst (λ (agent : Agent). InSweep B agent.doing) (sym (fresh_agents given i actor.agent (ap agent_of is)).0) tt
 
-all_named : (given : Opening) → IsAccepted given → (events : List Event) → AllServers (NamesOnly (Begun (agent_at (run given events)))) (run given events)
+pub all_named : (given : Opening) → IsAccepted given → (events : List Event) → AllServers (NamesOnly (Begun (agent_at (run given events)))) (run given events)
 all_named given accepted events =
     let B : ℕ → Type 0 = Begun (agent_at (run given events)) in
     run_named B (fixed_of given) events (opening given) [] [] (holds_at_first given accepted) (λ t begun. begun) (λ s st at. opened B given 0 given.servers s st at) (idle_sweeps B given)
 
 -- a transaction that begins only now was not begun before
-not_begun : (given : Opening) → IsAccepted given → (events : List Event) (i t : ℕ) (job : Job) → begins_job given (run given events) (Begin i job) ≡ Some (t, job) → Begun (agent_at (run given events)) t → ⊥
+pub not_begun : (given : Opening) → IsAccepted given → (events : List Event) (i t : ℕ) (job : Job) → begins_job given (run given events) (Begin i job) ≡ Some (t, job) → Begun (agent_at (run given events)) t → ⊥
 not_begun given accepted events i t job begins begun = of (actor_at (run given events) i) refl begins
   where
     holds : Holds (fixed_of given) (run given events) (decisions given events) (ended given events)

@@ -1,5 +1,5 @@
 -- Runs that the laws are about, by computation.
-use Rattle.law_run_recovers.proofs.Vocabulary.{◌≡◌, ℕ, zero, suc, ◌<◌, Bool, true, false, List, [], ◌∷◌, ◌++◌, Option, Some, None, is_some, refl, sym, ap, subst, ◌∙◌, arith, ◌==◌, ◌&&◌, ◌||◌, not, nat_lt, Contains, list_all, list_any}
+use Rattle.law_run_recovers.proofs.Vocabulary.{◌≡◌, ⊎_elim, ℕ, zero, suc, ◌<◌, Bool, true, false, List, [], ◌∷◌, ◌++◌, Option, Some, None, is_some, refl, sym, ap, subst, ◌∙◌, arith, ◌==◌, ◌&&◌, ◌||◌, not, nat_lt, Contains, list_all, list_any}
 use Rattle.law_run_recovers.proofs.Vocabulary.{false≢true, and_parts, eqb-true, nat_tests, slice_get, nat_cmp, LockMode, Identity, Op, Opening, State, all_at, at_has, has_from, Transaction, Sweep, Event, Begin}
 use Rattle.law_run_recovers.proofs.Vocabulary.{Actor, World, server_at, actor_at, step, after, run, fixed_of, Fixed, owner, a, Cache, EventGivesValidVotes, CanBe, is_up, up_in, asks_for, way_in, way_at}
 use Rattle.law_run_recovers.proofs.Vocabulary.{is_way_met, in_its_way, StandsOpen, StandsStill, AreNear, is_running, Configuration, Representative, IsValid, max_servers, hinders_itself, robs, begun_world, world_after}
@@ -8,15 +8,22 @@ use Rattle.std.proofs.Common.{lit<}
 use Rattle.std.proofs.lemmas.List.Elements.{All-from_recursion}
 use Rattle.std.specs.FinSet.{contains-empty}
 use Rattle.vote_core.proofs.Faults.{accepted_without_fault}
-use Rattle.vote_core.specs.Validity.{first_fault}
+use Rattle.vote_core.specs.Validity.{IsAccepted as VotesAccepted, first_fault}
 use Rattle.vote_core.specs.declared.fault.VotesFault.{VotesFault}
 use Rattle.suite_prefix.specs.SettingsRules.{IsAccepted}
-use Rattle.law_run_recovers.specs.Contending.{one_server}
-use Rattle.law_run_recovers.specs.LawsWorked.{b_locked, a_locked, sweep_up, IsMetByNobody, IsAmongLocks, DoubtsAreLeft}
+use Rattle.law_run_recovers.specs.Blocking.{WasItsHome}
+use Rattle.law_run_recovers.specs.Contending.{both_made, one_server}
+use Rattle.law_run_recovers.specs.Laws.{GoesAlone}
+use Rattle.law_run_recovers.specs.LawsWorked.{a_locked, at_the_first, b_locked, sweep_up, wants_a, IsAlone, IsAmongLocks, IsMetByNobody, DoubtsAreLeft}
 use Rattle.law_run_recovers.specs.Sweeping.{SweepsAlone}
-use Rattle.law_run_recovers.specs.Worked.{in_the_dark}
+use Rattle.law_run_recovers.specs.Worked.{in_the_dark, stopped}
 use Rattle.law_runs.specs.Worked.{two_agents, so_many}
 use Rattle.law_run_alone.proofs.Worked.{some_runs_go_alone}
+use Rattle.law_run_recovers.proofs.AloneLaws.{ends_are_by_votes}
+use Rattle.law_run_recovers.proofs.AmongLaws.{among_locks_end_by_votes}
+use Rattle.law_run_recovers.proofs.Blocking.{blocked_by_doubts, one_crash_blocks, some_server_blocks}
+use Rattle.law_run_recovers.proofs.Swept.{sweeps_leave_doubts}
+use Rattle.law_run_recovers.proofs.UnmetLaws.{unmet_end_by_votes}
 use Rattle.law_run_recovers.proofs.ValidEvents.{all_by, event_sets_none, valid_event}
 
 -- ---- lists
@@ -266,6 +273,26 @@ met_by_nobody = record {
   actor = (its_actor b_locked refl).0;
   goes = goes_unmet;
   ends = refl;
+  so = unmet_end_by_votes one_server b_locked (turns 6) 0 64 owner 0 writes_a (its_actor b_locked refl).0 goes_unmet;
+}
+
+-- ---- it goes alone
+
+goes_alone : GoesAlone one_server both_made (so_many 10 0) 0 64 owner 0 (puts a 0 ∷ []) (its_actor both_made refl).0
+goes_alone = record {
+  can = one_can (both_made ++ Begin 0 (Transaction owner 0 writes_a) ∷ so_many 10 0) refl;
+  there = (its_actor both_made refl).1;
+  begins = refl;
+  free = refl;
+  alone = refl;
+}
+
+pub goes_by_itself : IsAlone
+goes_by_itself = record {
+  actor = (its_actor both_made refl).0;
+  goes = goes_alone;
+  ends = refl;
+  so = ends_are_by_votes one_server both_made (so_many 10 0) 0 64 owner 0 writes_a (its_actor both_made refl).0 goes_alone;
 }
 
 -- ---- it goes among locks
@@ -292,6 +319,7 @@ among_locks = record {
   actor = (its_actor a_locked refl).0;
   goes = goes_among;
   ends = refl;
+  so = among_locks_end_by_votes one_server a_locked (so_many 6 0) 0 64 owner 0 writes_a (its_actor a_locked refl).0 goes_among;
 }
 
 -- ---- a sweep leaves a doubt
@@ -303,6 +331,9 @@ sweeps_one = record {
   up = refl;
   alone = refl;
 }
+
+first_accepted : VotesAccepted 3 at_the_first
+first_accepted = accepted_without_fault 3 at_the_first refl (All-from_recursion (λ (rep : Representative). rep.1 < 256) at_the_first.reps (lit< tt, tt))
 
 covers_up : (server : ℕ) → is_up (run two_agents in_the_dark) server ≡ true → list_any (λ (one : ℕ × List Event). one.0 == server) sweep_up ≡ true
 covers_up zero up = refl
@@ -318,6 +349,13 @@ sweeps_all = record {
   all = covers_up;
 }
 
+-- the crashed server was the home; it has no vote there
+its_home : WasItsHome two_agents (run two_agents stopped) 129 (wants_a at_the_first) 1
+its_home = ⊎_elim
+    (λ voted. absurd (false≢true voted))
+    (λ was. was)
+    (one_crash_blocks two_agents stopped 1 1 sweep_up refl sweeps_all 129 (wants_a at_the_first) first_accepted refl)
+
 pub doubts_left : DoubtsAreLeft
 doubts_left = record {
   sweeps_one = sweeps_one;
@@ -326,4 +364,8 @@ doubts_left = record {
   all_were_up = refl;
   is_up_still = refl;
   cannot_either = refl;
+  leaves = sweeps_leave_doubts two_agents in_the_dark (so_many 2 1) 1 1 0 sweeps_one;
+  blocked = λ want. blocked_by_doubts two_agents in_the_dark 1 sweep_up sweeps_all 129 want;
+  blocker = some_server_blocks two_agents in_the_dark 1 sweep_up sweeps_all 129 (wants_a two_agents.c0) (valid_votes two_agents.c0 refl) refl;
+  was_its_home = its_home;
 }

@@ -115,9 +115,13 @@ pub mod MeetWants
 pub mod MeetReads
 pub mod MeetAsked
 pub mod MeetCalmed
-pub mod MeetReaders
+pub mod MeetClear
 pub mod MeetLaw
+pub mod MeetAlone
+pub mod MeetReaders
+pub mod ReadersAlone
 pub mod MeetWorked
 pub mod ReadersWorked
 pub mod LawsWorked
+pub mod MeetsBesideWorked
 pub mod ToldWorked

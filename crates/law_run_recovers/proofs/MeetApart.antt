@@ -1,13 +1,13 @@
 -- Of two that meet no two locks that clash stand at one server: what one was granted stands as long as it is at work, and keeps out the other.
-use Rattle.law_run_recovers.proofs.Vocabulary.{◌≡◌, ◌⊎◌, ⊎_elim, ℕ, Bool, true, false, List, [], ◌∷◌, ◌++◌, append_assoc, Some, None, is_some, refl, sym, ap, subst, ◌∙◌, ◌==◌, slice_get, false≢true, eqb-true, eq-eqb, same_Some, Opening}
+use Rattle.law_run_recovers.proofs.Vocabulary.{◌≡◌, ⊎_elim, ℕ, Bool, true, false, List, [], ◌∷◌, ◌++◌, append_assoc, Some, None, is_some, refl, sym, ap, subst, ◌∙◌, ◌==◌, slice_get, false≢true, eqb-true, eq-eqb, same_Some, Opening}
 use Rattle.law_run_recovers.proofs.Vocabulary.{LockMode, Shared, Exclusive, serves, Request, Stamped, in_the_way, State, served, answer_of, mode_of, Transaction, fixed_of, next_of, Served, Event, Begin, Step, Actor, World, server_at}
-use Rattle.law_run_recovers.proofs.Vocabulary.{actor_at, step, run, puts_in, clashes, Begun, locks_in, locks_at, begun_world, world_after}
+use Rattle.law_run_recovers.proofs.Vocabulary.{actor_at, step, run, puts_in, CanBe, clashes, Begun, locks_in, locks_at, begun_world, world_after}
 use Rattle.law_run_recovers.proofs.AmongCourse.{tail_or}
 use Rattle.law_run_recovers.proofs.Keeps.{IsAtWork, step_asks}
 use Rattle.law_run_recovers.proofs.Sides.{compared, names_one}
 use Rattle.law_run_recovers.proofs.StepsServed.{OwnTook, own_took}
 use Rattle.law_run_recovers.proofs.MeetBoth.{Place, place, its_event, held_in, world_in, in_part, cancel, agent_in}
-use Rattle.law_run_recovers.proofs.MeetCalm.{Calm, up_at}
+use Rattle.law_run_recovers.proofs.MeetCalm.{Calm, IsOurs, up_at}
 use Rattle.law_run_recovers.proofs.MeetCount.{clash_wider, serves_own}
 use Rattle.law_run_recovers.proofs.MeetEnds.{Fixed}
 use Rattle.law_run_recovers.proofs.MeetLocks.{HasMode, Granted, granted, keeps_out, keeps_to}
@@ -27,7 +27,7 @@ clashes_back y Exclusive Exclusive is = is
 
 -- ---- what was granted
 
-module _ (given : Opening) (events part : List Event) (calm : Calm given events part) (agent t y : ℕ) (mode : LockMode) (server : ℕ) where
+module _ (given : Opening) (events part : List Event) {still : ℕ → Type 0} (calm : Calm given events part still) (agent t y : ℕ) (mode : LockMode) (server : ℕ) where
   -- the step in which it was
   pub record Got : Type 0 where
     pub front : List Event
@@ -106,14 +106,14 @@ module _ (given : Opening) (events part : List Event) (calm : Calm given events 
 
 -- ---- both
 
-module _ (given : Opening) (events later : List Event) (one other : Begun given events later) (alone : (third : Begun given events later) → (third.before ≡ one.before) ⊎ (third.before ≡ other.before))
-    (part rest : List Event) (whole : later ≡ part ++ rest) (calm : Calm given events part) where
+module _ (given : Opening) (events later : List Event) (one other : Begun given events later) (can : CanBe given (events ++ later))
+    (part rest : List Event) (whole : later ≡ part ++ rest) {still : ℕ → Type 0} (calm : Calm given events part still) where
   -- a part of the run in which it is at work to the end
   pub record Room (who : Begun given events later) : Type 0 where
     pub fixed : Fixed given events later who
     pub more : List Event
     pub room : who.before ++ Begin who.agent (Transaction who.caller who.site who.ops) ∷ fixed.front ≡ part ++ more
-    pub mine : (so_far : List Event) (i t : ℕ) → t ≡ who.t → Place given events later one so_far i t ⊎ Place given events later other so_far i t → Place given events later who so_far i t
+    pub ours : IsOurs given events part still who.agent who.t who.caller who.ops
 
   -- what it was granted there it was granted since its begin, while it was at work
   module _ (who : Begun given events later) (room : Room who) (y server : ℕ) (a : LockMode) (is : held_in given events part who.agent who.t y a server ≡ true) where
@@ -127,7 +127,7 @@ module _ (given : Opening) (events later : List Event) (one other : Begun given 
     lock_then = (four (f.what.server == server) (for_lock who.t y f.what.request.value) (says_held f.what.reply.value) (serves (mode_of f.what.request.value) a) f.is).1
 
     at : Place given events later who f.front who.agent who.t
-    at = room.mine f.front who.agent who.t refl (place given events later one other alone part rest whole calm.fair f.front f.back who.agent f.parts f.what served_then who.t y lock_then)
+    at = place given events later can part rest whole calm.fair f.front f.back who.agent f.parts f.what served_then who.t y lock_then who refl
 
     abbrev its_begin : Event
     its_begin = its_event given events later who
@@ -146,7 +146,7 @@ module _ (given : Opening) (events later : List Event) (one other : Begun given 
         subst (λ front. some_step (grants who.t y a server) who.agent (fixed_of given) (begun_world given (events ++ who.before) who.agent who.caller who.site who.ops) front ≡ true) (sym front_then)
         (there_in (grants who.t y a server) who.agent (fixed_of given) at.mid (f.back ++ room.more) (begun_world given (events ++ who.before) who.agent who.caller who.site who.ops) f.what
         (ap (λ w. (step (fixed_of given) w (Step who.agent)).done.served)
-        (run_is given events part calm (in_part given events later one other alone part rest whole calm who (at.mid ++ Step who.agent ∷ f.back) all_then) at.mid ∙ ap (λ front. run given (events ++ front)) (sym at.parts))
+        (run_is given events part calm (in_part given events later part who (at.mid ++ Step who.agent ∷ f.back) all_then) at.mid ∙ ap (λ front. run given (events ++ front)) (sym at.parts))
         ∙ served_then) f.is)
 
   -- what it was granted keeps out the other from there on
@@ -154,8 +154,7 @@ module _ (given : Opening) (events later : List Event) (one other : Begun given 
       (g : Got given events part calm who.agent who.t y a server) (h : Got given events part calm agent u y b server) (clash : clashes (y, a) (y, b) ≡ true)
       (between : List Event) (order : h.front ≡ g.front ++ Step who.agent ∷ between) where
     its : Place given events later who g.front who.agent who.t
-    its = room.mine g.front who.agent who.t refl
-        (place given events later one other alone part rest whole calm.fair g.front g.back who.agent g.parts g.what g.served who.t y g.lock)
+    its = place given events later can part rest whole calm.fair g.front g.back who.agent g.parts g.what g.served who.t y g.lock who refl
 
     abbrev begins : Event
     begins = its_event given events later who
@@ -173,13 +172,13 @@ module _ (given : Opening) (events later : List Event) (one other : Begun given 
         (sym g.parts ∙ h.parts ∙ ap (λ front. front ++ Step agent ∷ h.back) order ∙ append_assoc g.front (Step who.agent ∷ between) (Step agent ∷ h.back)))
 
     abbrev actor : Actor
-    actor = (its_actor given events part calm (in_part given events later one other alone part rest whole calm who (its.mid ++ Step who.agent ∷ g.back) all_is)).0
+    actor = (its_actor given events part calm (in_part given events later part who (its.mid ++ Step who.agent ∷ g.back) all_is)).0
 
     goes : GoesQuietly given events (events ++ who.before) (its.mid ++ Step who.agent ∷ g.back) who.agent who.t who.caller who.site who.ops actor
-    goes = goes_of given events part calm (in_part given events later one other alone part rest whole calm who (its.mid ++ Step who.agent ∷ g.back) all_is)
+    goes = goes_of given events part calm (in_part given events later part who (its.mid ++ Step who.agent ∷ g.back) all_is) room.ours
 
     world_at : (so_far : List Event) → world_after given (events ++ who.before) who.agent who.caller who.site who.ops so_far ≡ run given (events ++ (who.before ++ Begin who.agent (Transaction who.caller who.site who.ops) ∷ so_far))
-    world_at so_far = run_is given events part calm (in_part given events later one other alone part rest whole calm who (its.mid ++ Step who.agent ∷ g.back) all_is) so_far
+    world_at so_far = run_is given events part calm (in_part given events later part who (its.mid ++ Step who.agent ∷ g.back) all_is) so_far
 
     after_is : its.mid ++ Step who.agent ∷ g.back ≡ (on ++ between) ++ Step agent ∷ h.back
     after_is =

@@ -8,7 +8,7 @@ use Rattle.rep_core.specs.declared.reply.Reply.TheVariants as reply
 use Rattle.law_run_recovers.proofs.Keeps.{step_asks}
 use Rattle.law_run_recovers.proofs.StepsServed.{OwnTook, own_took}
 use Rattle.law_run_recovers.proofs.MeetBoth.{its_event, held_in, reached_then}
-use Rattle.law_run_recovers.proofs.MeetCalm.{Calm, up_at}
+use Rattle.law_run_recovers.proofs.MeetCalm.{Calm, IsOurs, up_at}
 use Rattle.law_run_recovers.proofs.MeetReach.{Reached}
 use Rattle.law_run_recovers.proofs.MeetRun.{run_is}
 use Rattle.law_run_recovers.proofs.MeetTold.{for_lock, says_busy, refuses, some_step, Found, found_in, four}
@@ -77,8 +77,8 @@ refused_way t z st request.Return up lock said = absurd (false≢true lock)
 
 -- ---- in a part of the run
 
-module _ (given : Opening) (events later part : List Event) (calm : Calm given events part)
-    (who : Begun given events later) (after' : List Event) (parts : part ≡ who.before ++ Begin who.agent (Transaction who.caller who.site who.ops) ∷ after')
+module _ (given : Opening) (events later part : List Event) {still : ℕ → Type 0} (calm : Calm given events part still)
+    (who : Begun given events later) (ours : IsOurs given events part still who.agent who.t who.caller who.ops) (after' : List Event) (parts : part ≡ who.before ++ Begin who.agent (Transaction who.caller who.site who.ops) ∷ after')
     (O : ℕ → ℕ → ℕ → LockMode → Type 0)
     (owned : (so_far back : List Event) → part ≡ so_far ++ back → (s : ℕ) (st : State) → server_at (run given (events ++ so_far)) s ≡ Some st → (lock : Lock) → Has st.locks lock → O s lock.t lock.suite lock.mode) where
   abbrev its : Begun given events part
@@ -152,5 +152,5 @@ module _ (given : Opening) (events later part : List Event) (calm : Calm given e
       not_own = way.not_own;
       clashing = way.clashing;
       stands = subst (λ y. O server way.lock.t y way.lock.mode) way.suite (owned so_far (Step who.agent ∷ f.back) split server took.st there way.lock way.has);
-      reached = reached_then given events later part calm who so_far f.back who.agent split f.what served' who.t y facts.1 (record { mid = f.front; parts = refl; who_is = refl; number = refl });
+      reached = reached_then given events later part calm who ours so_far f.back who.agent split f.what served' who.t y facts.1 (record { mid = f.front; parts = refl; who_is = refl; number = refl });
     }

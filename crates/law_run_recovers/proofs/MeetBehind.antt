@@ -1,11 +1,11 @@
 -- Votes of a suite that were found are the row's, or some of them is of a server that shows a newer prefix; and in every quorum of the row's votes some server shows the
--- row's prefix. So it is where all servers are up and have no lock.
+-- row's prefix. So it is where all servers are up and what is stored is in effect.
 use Rattle.law_run_recovers.proofs.Vocabulary.{◌≡◌, ◌⊎◌, inl, inr, ⊎_elim, ℕ, ◌+◌, ◌<◌, ◌≤◌, Bool, true, false, cond, List, [], ◌∷◌, length, Option, Some, None, refl, sym, ap, subst, ◌∙◌, arith, ◌==◌, ◌&&◌, nat_lt, All}
 use Rattle.law_run_recovers.proofs.Vocabulary.{false≢true, and_parts, and_from, or_cases, eqb-true, le-leb, nat_tests, slice_get_within, Representative, Configuration, votes_in, votes_at, total_votes, IsValid, Opening, Prefix, LockMode, Shared}
 use Rattle.law_run_recovers.proofs.Vocabulary.{Exclusive, State, Has, contains_from, All-contains, needed_of, fixed_of, Event, server_at, run, row, prefix_at, WasPrefix, IsQuorum, effect, Inv, beginning, machine_of, row_at, CanBe, all_keep}
-use Rattle.law_run_recovers.proofs.Vocabulary.{all_consistent, all_up, so_many, up_free, is_up, shown_at, shown_in, newer_by, votes_now}
+use Rattle.law_run_recovers.proofs.Vocabulary.{all_up, so_many, is_up, shown_at, shown_in, newer_by, votes_now}
 use Rattle.law_one_table.proofs.Effects as effects
-use Rattle.law_run_recovers.proofs.Found.{Answering, all_answer, has_vote, voting, still_quorum, none_newer}
+use Rattle.law_run_recovers.proofs.Found.{Answering, has_vote, voting, still_quorum, none_newer}
 use Rattle.law_run_recovers.proofs.Free.{is_up_of}
 use Rattle.law_run_recovers.proofs.Rows.{row_votes}
 use Rattle.law_run_recovers.proofs.RowVotes.{ListsKnown, row_known}
@@ -43,7 +43,7 @@ all_votes : (reps : List Representative) → votes_in reps (λ _. true) ≡ tota
 all_votes [] = refl
 all_votes (rep ∷ reps) = ap (λ n. rep.1 + n) (all_votes reps)
 
-module _ (given : Opening) (events : List Event) (can : CanBe given events) (free : up_free (run given events) ≡ true) (up : all_up (run given events) ≡ true) where
+module _ (given : Opening) (events : List Event) (can : CanBe given events) (up : all_up (run given events) ≡ true) where
   inv : (z : ℕ) → Inv (beginning z given) (machine_of given z events)
   inv z = effects.inv given events (all_keep given events can) z
 
@@ -54,9 +54,9 @@ module _ (given : Opening) (events : List Event) (can : CanBe given events) (fre
   abbrev pub shown : ℕ → ℕ → ℕ
   shown z server = (shown_at (fixed_of given) (run given events) z server).pver
 
-  stored : (z i : ℕ) → is_up (run given events) i ≡ true → (effect (machine_of given z events) i).prefix ≡ shown_at (fixed_of given) (run given events) z i
-  stored z i =
-      (all_answer given z (machine_of given z events) (run given events) (inv z) (effects.follows given events (all_keep given events can) z).shows (all_consistent given events) free).stored i
+  -- what is stored of a suite is in effect
+  abbrev pub Shown : ℕ → Type 0
+  Shown z = Answering (fixed_of given) (run given events) z (machine_of given z events) (is_up (run given events))
 
   pub up_voter : (votes : Configuration) → ListsKnown given.servers votes → (i : ℕ) → 0 < votes_at votes.reps i → is_up (run given events) i ≡ true
   up_voter votes known i some = is_up_of given events up i (known_voter given.servers votes.reps i known some)
@@ -71,11 +71,11 @@ module _ (given : Opening) (events : List Event) (can : CanBe given events) (fre
     in_set : set server ≡ true
     shows : (prefix.pver < shown z server) ⊎ (top z ≤ shown z server)
 
-  reached : (z : ℕ) (prefix : Prefix) → WasPrefix (beginning z given) (machine_of given z events).log prefix → (set : ℕ → Bool) → IsQuorum prefix.votes set → ListsKnown given.servers prefix.votes → Reached z prefix set
-  reached z prefix was set quorum known =
+  reached : (z : ℕ) → Shown z → (prefix : Prefix) → WasPrefix (beginning z given) (machine_of given z events).log prefix → (set : ℕ → Bool) → IsQuorum prefix.votes set → ListsKnown given.servers prefix.votes → Reached z prefix set
+  reached z all prefix was set quorum known =
       let x = (inv z).current.reach prefix.pver was.0 (voting prefix.votes.reps set) (subst (λ (p : Prefix). IsQuorum p.votes (voting prefix.votes.reps set)) (sym was.1) (still_quorum prefix.votes set quorum)) in
       let parts = and_parts (set x.0) (has_vote prefix.votes.reps x.0) x.1 in
-      let same = stored z x.0 (up_voter prefix.votes known x.0 (has_votes prefix.votes.reps x.0 parts.1)) in
+      let same = all.stored x.0 (up_voter prefix.votes known x.0 (has_votes prefix.votes.reps x.0 parts.1)) in
       record {
         server = x.0;
         voter = parts.1;
@@ -97,13 +97,13 @@ module _ (given : Opening) (events : List Event) (can : CanBe given events) (fre
   valid_now z = subst IsValid (votes_are z) (valid_was z (row (beginning z given) (machine_of given z events).log).prefix (row_was z))
 
   -- so in each of the row's votes some server shows the newest
-  pub reach : (z : ℕ) (mode : LockMode) (set : ℕ → Bool) → needed_of mode (votes_now given events z) ≤ votes_in (votes_now given events z).reps set
+  pub reach : (z : ℕ) → Shown z → (mode : LockMode) (set : ℕ → Bool) → needed_of mode (votes_now given events z) ≤ votes_in (votes_now given events z).reps set
       → (server : ℕ) × (0 < votes_at (votes_now given events z).reps server) × (set server ≡ true) × (top z ≤ shown z server)
-  reach z mode set =
+  reach z all mode set =
       subst (λ (v : Configuration). needed_of mode v ≤ votes_in v.reps set → (server : ℕ) × (0 < votes_at v.reps server) × (set server ≡ true) × (top z ≤ shown z server)) (votes_are z)
       (λ enough.
       let newest = (row (beginning z given) (machine_of given z events).log).prefix in
-      let x = reached z newest (row_was z) set (quorum mode newest.votes enough) (subst (ListsKnown given.servers) (sym (votes_are z)) (row_known given can.accepted.known_servers events z)) in
+      let x = reached z all newest (row_was z) set (quorum mode newest.votes enough) (subst (ListsKnown given.servers) (sym (votes_are z)) (row_known given can.accepted.known_servers events z)) in
       (x.server, has_votes newest.votes.reps x.server x.voter, x.in_set, ⊎_elim (λ above. omega (arith, above)) (λ most. most) x.shows))
     where
       quorum : (mode : LockMode) (v : Configuration) → needed_of mode v ≤ votes_in v.reps set → IsQuorum v set
@@ -111,20 +111,20 @@ module _ (given : Opening) (events : List Event) (can : CanBe given events) (fre
       quorum Exclusive v enough = inr (le-leb v.w (votes_in v.reps set) enough)
 
   -- and nobody shows a newer one
-  pub bound : (z server : ℕ) → 0 < shown z server → shown z server ≤ top z
-  bound z server some = of (server_at (run given events) server) refl some
+  pub bound : (z : ℕ) → Shown z → (server : ℕ) → 0 < shown z server → shown z server ≤ top z
+  bound z all server some = of (server_at (run given events) server) refl some
     where
       of : (found : Option State) → server_at (run given events) server ≡ found → 0 < (shown_in (fixed_of given) found z).pver → shown z server ≤ top z
       of None at some = absurd (omega (arith, some))
       of (Some st) at some =
           let within : server < length (run given events).servers = slice_get_within (run given events).servers server st at in
           let many = (so_many given events).0 in
-          let same = stored z server (is_up_of given events up server (omega (arith, within, many))) in
+          let same = all.stored server (is_up_of given events up server (omega (arith, within, many))) in
           (subst (WasPrefix (beginning z given) (machine_of given z events).log) same ((inv z).current.were server).0).0
 
   -- ---- votes that were found
 
-  module _ (z : ℕ) (prefix : Prefix) (was : WasPrefix (beginning z given) (machine_of given z events).log prefix) (answers : ℕ → Bool)
+  module _ (z : ℕ) (all : Shown z) (prefix : Prefix) (was : WasPrefix (beginning z given) (machine_of given z events).log prefix) (answers : ℕ → Bool)
       (answering : Answering (fixed_of given) (run given events) z (machine_of given z events) answers) (last : newer_by (fixed_of given) (run given events) answers z prefix ≡ None) (known : ListsKnown given.servers prefix.votes) where
     pub record IsOld : Type 0 where
       pub server : ℕ
@@ -153,7 +153,7 @@ module _ (given : Opening) (events : List Event) (can : CanBe given events) (fre
             total = subst (λ n. prefix.votes.r ≤ n) (sym (all_votes prefix.votes.reps)) (valid_was z prefix was).r_in_range.1
 
             x : Reached z prefix (λ _. true)
-            x = reached z prefix was (λ _. true) (inl (le-leb prefix.votes.r (votes_in prefix.votes.reps (λ _. true)) total)) known
+            x = reached z all prefix was (λ _. true) (inl (le-leb prefix.votes.r (votes_in prefix.votes.reps (λ _. true)) total)) known
 
             newer' : prefix.pver < shown z x.server
             newer' = ⊎_elim (λ above. above) (λ most. omega (arith, older, most)) x.shows

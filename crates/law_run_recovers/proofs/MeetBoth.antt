@@ -1,18 +1,23 @@
--- Two transactions that alone begin in a calm run: where each asks for a lock, what it had before, and that each lock was granted to one of them.
-use Rattle.law_run_recovers.proofs.Vocabulary.{Bool, List, None, Option, Some, [], ap, append-nil, append_assoc, arith, false, inl, inr, length, refl, subst, suc, sym, true, ℕ, ⊎_elim, ◌++◌, ◌==◌, ◌∙◌, ◌∷◌, ◌≡◌, ◌⊎◌, eq-eqb}
+-- Transactions that begin in a calm run: where each asks for a lock, what it had before, and that each lock in its name was granted to it.
+use Rattle.law_run_recovers.proofs.Vocabulary.{◌*◌, false≢true, all_idle, no_locks, holds_of, ◌<◌, Bool, ◌+◌, CanBe, agent_of, agent_at, Agent, List, None, Option, Some, [], ap, append-nil, append_assoc, arith, false, length, refl, subst, suc, sym, true, ℕ, ⊎_elim, ◌++◌, ◌==◌, ◌∙◌, ◌∷◌, ◌≡◌, ◌⊎◌, eq-eqb}
 use Rattle.law_run_recovers.proofs.Vocabulary.{after, eqb-true, none-some, same_Some, cons_option, at_has, begins_job, has_append, IsNotDecided, Has, all_at, has_from, State, Lock, decisions_from-append, Decided, answer_in, decided}
 use Rattle.law_run_recovers.proofs.Vocabulary.{decided_as, decided_at, decided_by, decisions, decisions_from, task_at, run, Actor, World, actor_at, opening, server_at, step, Served, Event, Begin, Crash, Forget, Lack, Return}
 use Rattle.law_run_recovers.proofs.Vocabulary.{Step, mode_of, serves, Opening, LockMode, fixed_of, next_of, is_decide, Job, Transaction, Begun, votes_now, asks_for, begun_world, world_after}
 use Rattle.law_run_recovers.proofs.AmongCourse.{head_or, tail_or}
+use Rattle.law_run_recovers.proofs.BesideUnmet.{begins_there}
 use Rattle.law_run_recovers.proofs.Keeps.{IsAtWork, after_append, step_asks}
-use Rattle.law_run_recovers.proofs.Sides.{names_one}
+use Rattle.law_run_recovers.proofs.Open.{its_begin}
+use Rattle.law_run_recovers.proofs.Sides.{compared, its_agent, names_one}
+use Rattle.law_runs.proofs.Begun.{Rises, agents_ask_for_themselves, counts_rise}
+use Rattle.law_runs.specs.Numbers.{AsksForItself, AsksToSweep}
+use Rattle.law_run_alone.proofs.Named.{all_named, not_begun}
 use Rattle.law_runs.proofs.Turns.{no_decide}
-use Rattle.law_run_recovers.proofs.MeetCalm.{Fair, Calm, calm_front, busy_one, one_named}
+use Rattle.law_run_recovers.proofs.MeetCalm.{Fair, Calm, IsOurs, calm_front, ours_front, busy_one, one_named}
 use Rattle.law_run_recovers.proofs.MeetCount.{serves_own}
 use Rattle.law_run_recovers.proofs.MeetLocks.{owned_at}
 use Rattle.law_run_recovers.proofs.MeetQuiet.{GoesQuietly}
 use Rattle.law_run_recovers.proofs.MeetReach.{Reached, reached_wider, reaches_now}
-use Rattle.law_run_recovers.proofs.MeetRun.{its_actor, goes_of, never_decides, run_is}
+use Rattle.law_run_recovers.proofs.MeetRun.{its_actor, goes_of, never_decides, rest_of_last, run_is}
 use Rattle.law_run_recovers.proofs.MeetTold.{for_lock, for_lock_named, says_held, asks_at_work, grants, some_step, found_in, there_in, four_from}
 use Rattle.law_run_recovers.proofs.MeetUndecided.{not_decided_at_work, lock_decides_none}
 
@@ -76,10 +81,10 @@ held_in given events part agent t z mode server = some_step (grants t z mode ser
 pub world_in : (given : Opening) (events part : List Event) → after (fixed_of given) (run given events) part ≡ run given (events ++ part)
 world_in given events part = sym (after_append (fixed_of given) events part (opening given))
 
--- no server has a lock as it begins
-pub none_first : (given : Opening) (events later : List Event) → Fair given events later → (s : ℕ) (st : State) → server_at (run given (events ++ [])) s ≡ Some st → (lock : Lock) → Has st.locks lock → ⊥
-none_first given events later fair s st at lock has =
-    of st.locks (all_at (λ (st : State). length st.locks == 0) (run given events).servers st fair.free (at_has (run given events).servers s st (ap (λ all. server_at (run given all) s) (sym (append-nil events)) ∙ at))) lock has
+-- where no server has a lock as these events begin
+pub none_first : (given : Opening) (events : List Event) → no_locks (run given events) ≡ true → (s : ℕ) (st : State) → server_at (run given (events ++ [])) s ≡ Some st → (lock : Lock) → Has st.locks lock → ⊥
+none_first given events free s st at lock has =
+    of st.locks (all_at (λ (st : State). length st.locks == 0) (run given events).servers st free (at_has (run given events).servers s st (ap (λ all. server_at (run given all) s) (sym (append-nil events)) ∙ at))) lock has
   where
     of : (locks : List Lock) → (length locks == 0) ≡ true → (lock : Lock) → Has locks lock → ⊥
     of [] is lock has = has
@@ -95,8 +100,8 @@ module _ (given : Opening) (events later : List Event) where
     pub who_is : i ≡ who.agent
     pub number : t ≡ who.t
 
-  -- who asks for a lock in a name is one that began
-  module _ (part rest : List Event) (whole : later ≡ part ++ rest) (fair : Fair given events part) (so_far back : List Event) (i : ℕ) (split : part ≡ so_far ++ Step i ∷ back) (what : Served)
+  -- who asks for a lock in a name is one that began, where every agent was idle
+  module _ (part rest : List Event) (whole : later ≡ part ++ rest) (fair : Fair given events part) (idle : all_idle (run given events) ≡ true) (so_far back : List Event) (i : ℕ) (split : part ≡ so_far ++ Step i ∷ back) (what : Served)
       (served : (step (fixed_of given) (run given (events ++ so_far)) (Step i)).done.served ≡ Some what) (t z : ℕ) (lock : for_lock t z what.request.value ≡ true) where
     abbrev pub w : World
     w = run given (events ++ so_far)
@@ -105,13 +110,13 @@ module _ (given : Opening) (events later : List Event) where
     asks = step_asks (fixed_of given) w i (actor_at w i) what served
 
     abbrev pub b : Begun given events so_far
-    b = (busy_one given events part fair so_far (Step i ∷ back) split i asks.0 asks.1 (what.server, what.request.value) asks.2).one
+    b = (busy_one given events part fair idle so_far (Step i ∷ back) split i asks.0 asks.1 (what.server, what.request.value) asks.2).one
 
     who_asks : b.agent ≡ i
-    who_asks = (busy_one given events part fair so_far (Step i ∷ back) split i asks.0 asks.1 (what.server, what.request.value) asks.2).who
+    who_asks = (busy_one given events part fair idle so_far (Step i ∷ back) split i asks.0 asks.1 (what.server, what.request.value) asks.2).who
 
     numbered : b.t ≡ t
-    numbered = names_one b.t t what.request.value (one_named given events part fair so_far (Step i ∷ back) split i asks.0 asks.1 (what.server, what.request.value) asks.2) (for_lock_named t z what.request.value lock).0
+    numbered = names_one b.t t what.request.value (one_named given events part fair idle so_far (Step i ∷ back) split i asks.0 asks.1 (what.server, what.request.value) asks.2) (for_lock_named t z what.request.value lock).0
 
     abbrev pub third : Begun given events later
     third = record {
@@ -139,7 +144,7 @@ module _ (given : Opening) (events later : List Event) where
         }
 
   -- what it asks for it asks for on the table of the first world, and had before what it asks for before
-  module _ (part : List Event) (calm : Calm given events part) (who : Begun given events later) (so_far back : List Event) (i : ℕ) (split : part ≡ so_far ++ Step i ∷ back) (what : Served)
+  module _ (part : List Event) {still : ℕ → Type 0} (calm : Calm given events part still) (who : Begun given events later) (ours : IsOurs given events part still who.agent who.t who.caller who.ops) (so_far back : List Event) (i : ℕ) (split : part ≡ so_far ++ Step i ∷ back) (what : Served)
       (served : (step (fixed_of given) (run given (events ++ so_far)) (Step i)).done.served ≡ Some what) (t z : ℕ) (lock : for_lock t z what.request.value ≡ true) (at : Place who so_far i t) where
     -- up to there
     abbrev cut : List Event
@@ -148,8 +153,8 @@ module _ (given : Opening) (events later : List Event) where
     cut_is : part ≡ (so_far ++ Step i ∷ []) ++ back
     cut_is = split ∙ sym (append_assoc so_far (Step i ∷ []) back)
 
-    cut_calm : Calm given events (so_far ++ Step i ∷ [])
-    cut_calm = calm_front given events cut back (subst (Calm given events) cut_is calm)
+    cut_calm : Calm given events (so_far ++ Step i ∷ []) still
+    cut_calm = calm_front given events cut back still (subst (λ part. Calm given events part still) cut_is calm)
 
     abbrev mid : List Event
     mid = at.mid ++ Step who.agent ∷ []
@@ -167,8 +172,11 @@ module _ (given : Opening) (events later : List Event) where
       begins = who.begins;
     }
 
+    cut_ours : IsOurs given events (so_far ++ Step i ∷ []) still who.agent who.t who.caller who.ops
+    cut_ours = ours_front given events part cut back still who.agent who.t who.caller who.ops cut_is ours
+
     goes : GoesQuietly given events (events ++ who.before) (at.mid ++ Step who.agent ∷ []) who.agent who.t who.caller who.site who.ops (its_actor given events (so_far ++ Step i ∷ []) cut_calm its).0
-    goes = goes_of given events cut cut_calm its
+    goes = goes_of given events cut cut_calm its cut_ours
 
     world_is : world_after given (events ++ who.before) who.agent who.caller who.site who.ops at.mid ≡ run given (events ++ so_far)
     world_is = run_is given events cut cut_calm its at.mid ∙ ap (λ xs. run given (events ++ xs)) (sym at.parts)
@@ -220,7 +228,7 @@ module _ (given : Opening) (events later : List Event) where
     reached_then =
         reached_wider (votes_now given events) (asks_for given events who.t who.caller who.ops) _ (held_in given events part who.agent who.t)
         (λ y mode server is. held_before y mode server is) (z, mode_of what.request.value)
-        (reaches_now given events (events ++ who.before) mid who.agent who.t who.caller who.site who.ops (its_actor given events cut cut_calm its).0 goes (never_decides given events cut cut_calm its undecided_then)
+        (reaches_now given events (events ++ who.before) mid who.agent who.t who.caller who.site who.ops (its_actor given events cut cut_calm its).0 goes (never_decides given events cut cut_calm its cut_ours undecided_then)
         at.mid [] refl what served_then z lock_then)
       where
         -- what it was granted since its begin it was granted in the part
@@ -246,59 +254,118 @@ module _ (given : Opening) (events later : List Event) where
         (four_from (what.server == what.server) (for_lock who.t z what.request.value) (says_held what.reply.value) (serves (mode_of what.request.value) (mode_of what.request.value)) (eq-eqb what.server what.server refl)
         lock_then held' (serves_own (mode_of what.request.value))))
 
--- ---- both
+-- ---- counts
 
-module _ (given : Opening) (events later : List Event) (one other : Begun given events later) (alone : (third : Begun given events later) → (third.before ≡ one.before) ⊎ (third.before ≡ other.before)) where
-  -- who asks for a lock in a name is one of both
+rises : (given : Opening) (events : List Event) (w : World) → Rises (agent_at w) (agent_at (after (fixed_of given) w events))
+rises given [] w i a at = (a, at, omega arith)
+rises given (event ∷ events) w i a at =
+    let one = counts_rise (fixed_of given) w event i a at in
+    let more = rises given events (step (fixed_of given) w event).world i one.0 one.1 in
+    let first = one.2 in
+    let then' = more.2 in
+    (more.0, more.1, omega (arith, first, then'))
+
+module _ (given : Opening) (events later : List Event) (can : CanBe given (events ++ later)) where
+  -- what has begun was not begun before it began
+  not_before : (who : Begun given events later) (so_far more : List Event) → who.before ≡ so_far ++ more → (i : ℕ) (here : Actor) → actor_at (run given (events ++ so_far)) i ≡ Some here → i ≡ who.agent
+      → who.t + 64 ≡ 64 * here.agent.count + i → ⊥
+  not_before who so_far more is i here there same last =
+      let a = begins_there given (run given (events ++ who.before)) who.agent who.t (Transaction who.caller who.site who.ops) who.begins in
+      let first = (its_begin given (events ++ who.before) who.after who.agent who.t who.caller who.site who.ops a.0
+      (subst (CanBe given) (ap (λ later. events ++ later) who.parts ∙ sym (append_assoc events who.before (Begin who.agent (Transaction who.caller who.site who.ops) ∷ who.after))) can) a.1 who.begins).0 in
+      let risen = rises given more (run given (events ++ so_far)) i here.agent (ap agent_of there) in
+      let world : after (fixed_of given) (run given (events ++ so_far)) more ≡ run given (events ++ who.before) =
+      world_in' (events ++ so_far) more ∙ ap (run given) (append_assoc events so_far more ∙ ap (λ before. events ++ before) (sym is)) in
+      let now : risen.0 ≡ a.0.agent = same_Some risen.0 a.0.agent (sym risen.1 ∙ ap (λ w. agent_at w i) world ∙ ap (agent_at (run given (events ++ who.before))) same ∙ ap agent_of a.1) in
+      let counts : risen.0.count ≡ a.0.agent.count = ap (λ (a : Agent). a.count) now in
+      let up = risen.2 in
+      omega (arith, last, first, counts, up, same)
+    where
+      world_in' : (all more : List Event) → after (fixed_of given) (run given all) more ≡ run given (all ++ more)
+      world_in' all more = sym (after_append (fixed_of given) all more (opening given))
+
+  -- who asks for a lock in its name does so at a moment of it
   pub place : (part rest : List Event) → later ≡ part ++ rest → Fair given events part → (so_far back : List Event) (i : ℕ) → part ≡ so_far ++ Step i ∷ back → (what : Served)
-      → (step (fixed_of given) (run given (events ++ so_far)) (Step i)).done.served ≡ Some what → (t z : ℕ) → for_lock t z what.request.value ≡ true
-      → Place given events later one so_far i t ⊎ Place given events later other so_far i t
-  place part rest whole fair so_far back i split what served t z lock =
+      → (step (fixed_of given) (run given (events ++ so_far)) (Step i)).done.served ≡ Some what → (t z : ℕ) → for_lock t z what.request.value ≡ true → (who : Begun given events later) → t ≡ who.t → Place given events later who so_far i t
+  place part rest whole fair so_far back i split what served t z lock who same =
       ⊎_elim
-      (λ is. inl (place_of given events later part rest whole fair so_far back i split what served t z lock one is))
-      (λ is. inr (place_of given events later part rest whole fair so_far back i split what served t z lock other is))
-      (alone (third given events later part rest whole fair so_far back i split what served t z lock))
+      (λ here. absurd (not_step i who.agent (Transaction who.caller who.site who.ops) here.1))
+      (λ apart. ⊎_elim
+      (λ early. absurd (not_before who so_far (Step i ∷ early.0) early.1 i asks'.0 asks'.1 agents last))
+      (λ late. record { mid = late.0; parts = late.1; who_is = agents; number = same })
+      apart)
+      (compared so_far who.before (Step i) (its_event given events later who) (back ++ rest) who.after
+      (sym (append_assoc so_far (Step i ∷ back) rest) ∙ ap (λ part. part ++ rest) (sym split) ∙ sym whole ∙ who.parts))
+    where
+      not_step : (i k : ℕ) (job : Job) → Step i ≡ Begin k job → ⊥
+      not_step i k job is = cc
+
+      asks' : (here : Actor) × (actor_at (run given (events ++ so_far)) i ≡ Some here) × (next_of (fixed_of given) here.agent ≡ Some (what.server, what.request.value))
+      asks' = step_asks (fixed_of given) (run given (events ++ so_far)) i (actor_at (run given (events ++ so_far)) i) what served
+
+      itself : AsksForItself given i asks'.0.agent what.server what.request.value
+      itself = ⊎_elim
+          (λ own. own)
+          (λ (sweeps : AsksToSweep asks'.0.agent what.request.value). absurd (false≢true (sym (for_lock_named t z what.request.value lock).2 ∙ sweeps.swept)))
+          (agents_ask_for_themselves given can.accepted (events ++ so_far) i asks'.0 what.server what.request.value asks'.1 asks'.2)
+
+      number : itself.task.t ≡ who.t
+      number = names_one itself.task.t t what.request.value itself.named (for_lock_named t z what.request.value lock).0 ∙ same
+
+      small : i < 64
+      small = (holds_of given can.accepted (events ++ so_far)).agents.small i asks'.0.agent (ap agent_of asks'.1)
+
+      last : who.t + 64 ≡ 64 * asks'.0.agent.count + i
+      last = let is = itself.last in let same' = number in omega (arith, is, same')
+
+      agents : i ≡ who.agent
+      agents =
+          sym (rest_of_last who.t asks'.0.agent.count i last small) ∙ its_agent given can.accepted (events ++ who.before) who.agent who.t (Transaction who.caller who.site who.ops) who.begins
+
+  -- and no server has a lock of it as these events begin
+  pub none_yet : (who : Begun given events later) (s : ℕ) (st : State) → server_at (run given (events ++ [])) s ≡ Some st → (lock : Lock) → Has st.locks lock → lock.t ≡ who.t → ⊥
+  none_yet who s st at lock has same =
+      let named = (all_named given can.accepted events s st (ap (λ all. server_at (run given all) s) (sym (append-nil events)) ∙ at)).locks lock has in
+      let risen = rises given who.before (run given events) named.index named.agent named.at in
+      let rising = named.before in
+      let more = risen.2 in
+      not_begun given can.accepted (events ++ who.before) who.agent who.t (Transaction who.caller who.site who.ops) who.begins
+      (record {
+        index = named.index;
+        agent = risen.0;
+        at = ap (λ w. agent_at w named.index) (after_append (fixed_of given) events who.before (opening given)) ∙ risen.1;
+        place = named.place;
+        numbered = sym same ∙ named.numbered;
+        before = omega (arith, rising, more);
+      })
 
   -- ---- a part of the run
 
-  module _ (part rest : List Event) (whole : later ≡ part ++ rest) (calm : Calm given events part) where
-    -- who granted it locks there
-    abbrev pub Held : Begun given events later → ℕ → LockMode → ℕ → Bool
-    Held who = held_in given events part who.agent who.t
-
-    abbrev pub Asks : Begun given events later → List (ℕ × LockMode)
-    Asks who = asks_for given events who.t who.caller who.ops
-
-    -- one of both, as it goes there
-    abbrev pub in_part : (who : Begun given events later) (after : List Event) → part ≡ who.before ++ Begin who.agent (Transaction who.caller who.site who.ops) ∷ after → Begun given events part
-    in_part who after parts = record { before = who.before; after = after; agent = who.agent; t = who.t; caller = who.caller; site = who.site; ops = who.ops; parts = parts; begins = who.begins }
-
-    -- a lock that one of both was granted
-    pub record IsGranted (who : Begun given events later) (s t z : ℕ) (mode : LockMode) : Type 0 where
+  module _ (part rest : List Event) (whole : later ≡ part ++ rest) {still : ℕ → Type 0} (calm : Calm given events part still) (who : Begun given events later) (ours : IsOurs given events part still who.agent who.t who.caller who.ops) where
+    -- a lock that it was granted
+    pub record IsGranted (s t z : ℕ) (mode : LockMode) : Type 0 where
       pub number : t ≡ who.t
       pub reached : Reached (votes_now given events) (asks_for given events who.t who.caller who.ops) (held_in given events part who.agent who.t) (z, mode)
       pub held : held_in given events part who.agent who.t z mode s ≡ true
 
-    module _ (so_far back : List Event) (i : ℕ) (split : part ≡ so_far ++ Step i ∷ back) (what : Served)
-        (served : (step (fixed_of given) (run given (events ++ so_far)) (Step i)).done.served ≡ Some what) (t z : ℕ) (lock : for_lock t z what.request.value ≡ true) where
-      asked_by : (who : Begun given events later) → Place given events later who so_far i t
-          → Reached (votes_now given events) (asks_for given events who.t who.caller who.ops) (held_in given events part who.agent who.t) (z, mode_of what.request.value)
-      asked_by who at = reached_then given events later part calm who so_far back i split what served t z lock at
+    pub granted_now : (so_far back : List Event) (i : ℕ) → part ≡ so_far ++ Step i ∷ back → (what : Served) → (step (fixed_of given) (run given (events ++ so_far)) (Step i)).done.served ≡ Some what
+        → (t z : ℕ) → for_lock t z what.request.value ≡ true → says_held what.reply.value ≡ true → t ≡ who.t → IsGranted what.server t z (mode_of what.request.value)
+    granted_now so_far back i split what served t z lock held' same =
+        let at = place part rest whole calm.fair so_far back i split what served t z lock who same in
+        record {
+          number = same;
+          reached = reached_then given events later part calm who ours so_far back i split what served t z lock at;
+          held = held_then given events later part calm who ours so_far back i split what served t z lock at held';
+        }
 
-      granted_by : (who : Begun given events later) → says_held what.reply.value ≡ true
-          → Place given events later who so_far i t → IsGranted who what.server t z (mode_of what.request.value)
-      granted_by who held' at = record { number = at.number; reached = asked_by who at; held = held_then given events later part calm who so_far back i split what served t z lock at held' }
-
-      places : Place given events later one so_far i t ⊎ Place given events later other so_far i t
-      places = place part rest whole calm.fair so_far back i split what served t z lock
-
-      pub granted_now : says_held what.reply.value ≡ true → IsGranted one what.server t z (mode_of what.request.value) ⊎ IsGranted other what.server t z (mode_of what.request.value)
-      granted_now held' = ⊎_elim (λ at. inl (granted_by one held' at)) (λ at. inr (granted_by other held' at)) places
-
-    -- each lock that there is was granted to one of them
+    -- each of its locks it was granted
     pub all_granted : (so_far back : List Event) → part ≡ so_far ++ back → (s : ℕ) (st : State) → server_at (run given (events ++ so_far)) s ≡ Some st → (lock : Lock) → Has st.locks lock
-        → IsGranted one s lock.t lock.suite lock.mode ⊎ IsGranted other s lock.t lock.suite lock.mode
+        → lock.t ≡ who.t → IsGranted s lock.t lock.suite lock.mode
     all_granted so_far back split s st at lock has =
-        owned_at given events part calm (λ s t z mode. IsGranted one s t z mode ⊎ IsGranted other s t z mode)
-        (λ so_far back i split what served t z lock held'. granted_now so_far back i split what served t z lock held')
-        (λ s st at lock has. absurd (none_first given events part calm.fair s st at lock has)) so_far back split s st at lock has
+        owned_at given events part calm.fair (λ s t z mode. t ≡ who.t → IsGranted s t z mode)
+        (λ so_far back i split what served t z lock held' same. granted_now so_far back i split what served t z lock held' same)
+        (λ s st at lock has same. absurd (none_yet who s st at lock has same)) so_far back split s st at lock has
+
+-- one, as it goes in a part
+abbrev pub in_part : (given : Opening) (events later part : List Event) (who : Begun given events later) (after : List Event) → part ≡ who.before ++ Begin who.agent (Transaction who.caller who.site who.ops) ∷ after → Begun given events part
+in_part given events later part who after parts = record { before = who.before; after = after; agent = who.agent; t = who.t; caller = who.caller; site = who.site; ops = who.ops; parts = parts; begins = who.begins }

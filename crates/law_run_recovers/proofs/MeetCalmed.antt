@@ -1,9 +1,9 @@
--- A run is calm where each transaction that begins is never decided, or asks for nothing exclusively.
-use Rattle.law_run_recovers.proofs.Vocabulary.{Bool, Contains, inl, inr, List, None, Option, Some, [], ap, append-nil, append_assoc, cond, false, refl, slice_get, slice_set, subst, sym, true, ℕ, ⊎_elim, ◌*◌, ◌++◌, ◌+◌, ◌==◌, ◌∙◌, ◌∷◌, ◌≡◌}
+-- A run is calm, whatever the suite, where each transaction that begins is never decided, or asks for nothing exclusively.
+use Rattle.law_run_recovers.proofs.Vocabulary.{all_idle, no_locks, can_front, arith, nat_tests, list_all, length, not, and_parts, and_from, ◌||◌, Bool, Contains, inl, inr, List, None, Option, Some, [], ap, append-nil, append_assoc, cond, false, refl, slice_get, slice_set, subst, sym, true, ℕ, ⊎_elim, ◌*◌, ◌++◌, ◌+◌, ◌==◌, ◌∙◌, ◌∷◌, ◌≡◌}
 use Rattle.law_run_recovers.proofs.Vocabulary.{◌⊎◌, eqb-true, false≢true, same_Some, cons_option, nat_cmp, PlainTable, AuditItem, all_keep, CanBe, LogIs, decision_at, event_log, machine_one, all_consistent, AllAt, machine_of}
 use Rattle.law_run_recovers.proofs.Vocabulary.{finish_is_after, at_puts, append_has_left, service_stays, puts_in, IsAnsweredAsKnown, IsNotDecided, EndedSo, beginning, WasPrefix, copy_in-with_copies, Has, contains_from}
 use Rattle.law_run_recovers.proofs.Vocabulary.{has_from, HasPreparedLock, IsConsistent, Intention, has_lock, in_the_way, with_prepared, after_down, after_locking, after_record, after_up, audit_of, is_answered, prepares}
-use Rattle.law_run_recovers.proofs.Vocabulary.{verdict_of, served, State, record_of, copy_of, finished, intended, left_by, Lock, Verdict, Request, Stamped, decisions_from-append, Decided, decided, decisions, decisions_from, run}
+use Rattle.law_run_recovers.proofs.Vocabulary.{verdict_of, served, State, record_of, copy_of, row_of, finished, intended, left_by, Lock, Verdict, Request, Stamped, decisions_from-append, Decided, decided, decisions, decisions_from, run}
 use Rattle.law_run_recovers.proofs.Vocabulary.{table_after_all, table_of, Actor, World, actor_at, opening, server_at, step, Served, Event, Begin, get, is_exclusive, Opening, Prefix, LockMode, Exclusive, Shared, fixed_of}
 use Rattle.law_run_recovers.proofs.Vocabulary.{Doing, Running, Task, TransactionRun, Transaction, Begun, its_asks, locks_asked, votes_set, its_votes, asks_for, runs, world_after}
 use Rattle.rep_core.specs.declared.request.Request.TheVariants as request
@@ -12,12 +12,14 @@ use Rattle.rep_core.specs.Store as store
 use Rattle.file_ops.specs.Rows as rows
 use Rattle.law_suite_machine.specs.Machine as machine
 use Rattle.law_one_table.proofs.Effects as effects
+use Rattle.law_run_recovers.specs.MeetsBeside.{IsServed}
 use Rattle.law_run_machine.specs.Machines.{moved}
+use Rattle.law_run_recovers.proofs.Found.{all_answer}
 use Rattle.law_run_recovers.proofs.Keeps.{IsAtWork, at_work}
 use Rattle.law_run_recovers.proofs.Serves.{Serves, event_serves}
 use Rattle.law_run_recovers.proofs.Still.{IsOpen}
 use Rattle.law_run_recovers.proofs.MeetBoth.{cancel}
-use Rattle.law_run_recovers.proofs.MeetCalm.{Fair, Calm, along, fair_front, can_at, accepted, run_next, decided_has, IsOfOne, decided_of_one}
+use Rattle.law_run_recovers.proofs.MeetCalm.{Fair, Calm, Ours, along, fair_front, can_at, accepted, run_next, decided_has, IsOfOne, decided_of_one}
 use Rattle.law_run_recovers.proofs.MeetCourse.{Course, course_at}
 use Rattle.law_run_recovers.proofs.MeetEnds.{fronts}
 use Rattle.law_run_recovers.proofs.MeetAsked.{IsAskedFor, all_asked}
@@ -27,9 +29,45 @@ use Rattle.law_run_recovers.proofs.MeetRun.{its_actor, goes_of, never_decides, r
 use Rattle.law_run_recovers.proofs.MeetTold.{opens_held, held_weaker, held_up, held_fits}
 use Rattle.law_run_recovers.proofs.MeetUndecided.{not_decided_at_work}
 
+-- ---- of every suite
+
+pub record AllCalm (given : Opening) (events later : List Event) : Type 0 where
+  pub fair : Fair given events later
+  pub free : no_locks (run given events) ≡ true
+  pub rows : (so_far rest : List Event) → later ≡ so_far ++ rest → (table_of given (events ++ so_far)).rows ≡ (table_of given events).rows
+  pub was : (so_far rest : List Event) → later ≡ so_far ++ rest → (z : ℕ) (prefix : Prefix) → WasPrefix (beginning z given) (machine_of given z (events ++ so_far)).log prefix
+      → WasPrefix (beginning z given) (machine_of given z events).log prefix
+  pub stored : (so_far rest : List Event) → later ≡ so_far ++ rest
+      → AllAt (λ s st. (old : State) → server_at (run given events) s ≡ Some old → (z : ℕ) → copy_of st.store z ≡ copy_of old.store z) (run given (events ++ so_far))
+
+abbrev pub AnySuite : ℕ → Type 0
+AnySuite z = Unit {0}
+
+-- no server has a lock, so none that is up
+free_up : (servers : List State) → list_all (λ (st : State). length st.locks == 0) servers ≡ true → list_all (λ (st : State). not st.up || (length st.locks == 0)) servers ≡ true
+free_up [] all = refl
+free_up (st ∷ servers) all =
+    let parts = and_parts (length st.locks == 0) (list_all (λ (st : State). length st.locks == 0) servers) all in
+    and_from (not st.up || (length st.locks == 0)) (list_all (λ (st : State). not st.up || (length st.locks == 0)) servers) (or_so (not st.up) (length st.locks == 0) parts.0) (free_up servers parts.1)
+  where
+    or_so : (a b : Bool) → b ≡ true → (a || b) ≡ true
+    or_so a b is = grind (arith, nat_tests)
+
+pub calm_of_all : (given : Opening) (events later : List Event) → AllCalm given events later → Calm given events later AnySuite
+calm_of_all given events later all = record {
+  fair = all.fair;
+  rows = λ so_far rest split z _. ap (λ rows. row_of rows z) (all.rows so_far rest split);
+  was = λ so_far rest split z _ prefix was. all.was so_far rest split z prefix was;
+  stored = λ so_far rest split z _ s st at old was. all.stored so_far rest split s st at old was z;
+  answers = λ z _.
+      let can = can_front given events later all.fair.can in
+      all_answer given z (machine_of given z events) (run given events) (effects.inv given events (all_keep given events can) z) (effects.follows given events (all_keep given events can) z).shows
+      (all_consistent given events) (free_up (run given events).servers all.free);
+}
+
 -- ---- the same table
 
-module _ (given : Opening) (events later : List Event) (calm : Calm given events later) (who : Begun given events later) where
+module _ (given : Opening) (events later : List Event) (calm : AllCalm given events later) (who : Begun given events later) where
   abbrev its_table : PlainTable
   its_table = table_of given (events ++ who.before)
 
@@ -53,7 +91,7 @@ module _ (given : Opening) (events later : List Event) (calm : Calm given events
 -- ---- what a server has stored
 
 -- what is finished of a transaction that intends nothing there leaves it
-finished_none : (st : State) (t z : ℕ) → IsConsistent st → ((intention : Intention) → get nat_cmp st.store.intentions z ≡ Some intention → intention.t ≡ t → ⊥) → copy_of (finished t true st.store) z ≡ copy_of st.store z
+pub finished_none : (st : State) (t z : ℕ) → IsConsistent st → ((intention : Intention) → get nat_cmp st.store.intentions z ≡ Some intention → intention.t ≡ t → ⊥) → copy_of (finished t true st.store) z ≡ copy_of st.store z
 finished_none st t z is none = copy_in-with_copies st.store.c0 t st.store.intentions st.store.copies z is.sound.rising ∙ of (get nat_cmp st.store.intentions z) refl
   where
     of : (found : Option Intention) → get nat_cmp st.store.intentions z ≡ found → store.in_effect found (λ u. u == t) (copy_of st.store z) ≡ copy_of st.store z
@@ -110,13 +148,13 @@ module _ (st : State) (asked : Stamped Request) (z : ℕ) (ends : (t : ℕ) (v :
   down_so request.Crash = refl
   down_so request.Return = refl
 
-  served_so : copy_of (served st asked).store z ≡ copy_of st.store z
+  pub served_so : copy_of (served st asked).store z ≡ copy_of st.store z
   served_so = either_so st.up (after_up st asked.value) (after_down st asked.value) (up_so asked.value refl) (down_so asked.value)
 
 -- ---- a transaction of which the run has the task
 
-module _ (given : Opening) (events so_far : List Event) (calm : Calm given events so_far) (event : Event) (d : Decided) (so : IsAnsweredAsKnown given (run given (events ++ so_far)) event d)
-    (one : Begun given events so_far) (who : one.agent ≡ so.number) (runs_it : runs one.t so.actor.agent.doing ≡ true) where
+module _ (given : Opening) (events so_far : List Event) (calm : Calm given events so_far AnySuite) (event : Event) (d : Decided) (so : IsAnsweredAsKnown given (run given (events ++ so_far)) event d)
+    (one : Begun given events so_far) (ours : Ours given events so_far AnySuite one) (who : one.agent ≡ so.number) (runs_it : runs one.t so.actor.agent.doing ≡ true) where
   abbrev w : World
   w = world_after given (events ++ one.before) one.agent one.caller one.site one.ops one.after
 
@@ -136,7 +174,7 @@ module _ (given : Opening) (events so_far : List Event) (calm : Calm given event
   actor = (its_actor given events so_far calm one).0
 
   goes : GoesQuietly given events (events ++ one.before) one.after one.agent one.t one.caller one.site one.ops (its_actor given events so_far calm one).0
-  goes = goes_of given events so_far calm one
+  goes = goes_of given events so_far calm one ours
 
   none : IsNotDecided (decisions given (events ++ so_far)) one.t
   none d there same =
@@ -151,7 +189,7 @@ module _ (given : Opening) (events so_far : List Event) (calm : Calm given event
       course_at given events (events ++ one.before) one.after one.agent one.t one.caller one.site one.ops actor goes
       (opens_held given events (events ++ one.before) one.after one.agent one.t one.caller one.site one.ops actor goes) (held_weaker given events (events ++ one.before) one.after one.agent one.t one.caller one.site one.ops actor goes)
       (held_up given events (events ++ one.before) one.after one.agent one.t one.caller one.site one.ops actor goes) (held_fits given events (events ++ one.before) one.after one.agent one.t one.caller one.site one.ops actor goes)
-      (never_decides given events so_far calm one none) one.after [] (sym (append-nil one.after)) works_now
+      (never_decides given events so_far calm one ours none) one.after [] (sym (append-nil one.after)) works_now
 
   same_run : (a b : TransactionRun) → ◌≡◌ {A = Option Doing} (Some (Running a)) (Some (Running b)) → a ≡ b
   same_run a b is = cc
@@ -168,7 +206,7 @@ module _ (given : Opening) (events so_far : List Event) (calm : Calm given event
 
 -- ---- all along
 
-module _ (given : Opening) (events later : List Event) (fair : Fair given events later)
+module _ (given : Opening) (events later : List Event) (fair : Fair given events later) (idle : all_idle (run given events) ≡ true) (free : no_locks (run given events) ≡ true) (served_all : (one : Begun given events later) → IsServed given events later one)
     (quiet : (one : Begun given events later) → IsNotDecided (decisions given (events ++ later)) one.t ⊎ OnlyReads (its_asks given events later one)) where
   -- one front
   record IsStill (so_far : List Event) : Type 0 where
@@ -179,9 +217,10 @@ module _ (given : Opening) (events later : List Event) (fair : Fair given events
   abbrev AllStill : List Event → Type 0
   AllStill so_far = (xs ys : List Event) → so_far ≡ xs ++ ys → IsStill xs
 
-  calm_of : (so_far rest : List Event) → later ≡ so_far ++ rest → AllStill so_far → Calm given events so_far
+  calm_of : (so_far rest : List Event) → later ≡ so_far ++ rest → AllStill so_far → AllCalm given events so_far
   calm_of so_far rest split all = record {
     fair = fair_front given events so_far rest (subst (Fair given events) split fair);
+    free = free;
     rows = λ xs ys is. (all xs ys is).rows;
     was = λ xs ys is. (all xs ys is).was;
     stored = λ xs ys is. (all xs ys is).stored;
@@ -204,8 +243,11 @@ module _ (given : Opening) (events later : List Event) (fair : Fair given events
   -- ---- one event more
 
   module _ (so_far rest : List Event) (event : Event) (split : later ≡ so_far ++ event ∷ rest) (all : AllStill so_far) where
-    calm : Calm given events so_far
+    calm : AllCalm given events so_far
     calm = calm_of so_far (event ∷ rest) split all
+
+    calm_here : Calm given events so_far AnySuite
+    calm_here = calm_of_all given events so_far calm
 
     here : IsStill so_far
     here = all so_far [] (sym (append-nil so_far))
@@ -225,6 +267,12 @@ module _ (given : Opening) (events later : List Event) (fair : Fair given events
       ops = b.ops;
       parts = split ∙ ap (λ xs. xs ++ event ∷ rest) b.parts ∙ append_assoc b.before (Begin b.agent (Transaction b.caller b.site b.ops) ∷ b.after) (event ∷ rest);
       begins = b.begins;
+    }
+
+    ours_of : (b : Begun given events so_far) → Ours given events so_far AnySuite b
+    ours_of b = record {
+      asks = λ z has. tt;
+      served = λ before after one parts. served_all (raised b) before (after ++ event ∷ rest) one (split ∙ ap (λ xs. xs ++ event ∷ rest) parts ∙ append_assoc before (one ∷ after) (event ∷ rest));
     }
 
     -- who was decided asks for nothing exclusively, on the first table
@@ -266,11 +314,11 @@ module _ (given : Opening) (events later : List Event) (fair : Fair given events
       was = λ z prefix was. was_before given base event can_next d is it.so reads z prefix was;
     }
       where
-        it : IsOfOne given events later fair so_far rest event split d is
-        it = decided_of_one given events later fair so_far rest event split d is
+        it : IsOfOne given events later fair idle so_far rest event split d is
+        it = decided_of_one given events later fair idle so_far rest event split d is
 
         asked : (d.caller ≡ it.one.caller) × (d.ops ≡ it.one.ops)
-        asked = decided_as_asked given events so_far calm event d it.so it.one it.who it.runs_it
+        asked = decided_as_asked given events so_far calm_here event d it.so it.one (ours_of it.one) it.who it.runs_it
 
         none_not : IsNotDecided (decisions given (events ++ later)) it.one.t → ⊥
         none_not none = none d (contains_from (decisions given (events ++ later)) d (decided_has given events later fair so_far rest event split d is)) it.number
@@ -304,8 +352,8 @@ module _ (given : Opening) (events later : List Event) (fair : Fair given events
         lock : HasPreparedLock st.locks intention.t z
         lock = (all_consistent given base s st at).locked z intention there
 
-        it : IsAskedFor given events so_far calm s lock.lock.t lock.lock.suite lock.lock.mode
-        it = all_asked given events so_far calm so_far [] (sym (append-nil so_far)) s st at lock.lock (has_from st.locks lock.lock lock.there)
+        it : IsAskedFor given events so_far calm_here idle free ours_of s lock.lock.t lock.lock.suite lock.lock.mode
+        it = all_asked given events so_far calm_here idle free ours_of so_far [] (sym (append-nil so_far)) s st at lock.lock (has_from st.locks lock.lock lock.there)
 
         exclusive : (mode : LockMode) → is_exclusive mode ≡ true → mode ≡ Exclusive
         exclusive Exclusive is = refl
@@ -380,7 +428,7 @@ module _ (given : Opening) (events later : List Event) (fair : Fair given events
             longer_not : ◌≡◌ {A = List Event} (event ∷ []) (e ∷ x ∷ (more ++ ys)) → ⊥
             longer_not is = cc
 
-  pub calm_where : Calm given events later
+  pub calm_where : AllCalm given events later
   calm_where =
       calm_of later [] (sym (append-nil later))
       (along later AllStill (λ so_far rest event split all. all_next so_far rest event split all) all_first later [] (sym (append-nil later)))

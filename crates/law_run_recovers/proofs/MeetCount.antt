@@ -98,8 +98,8 @@ module _ (mine theirs : List (ℕ × LockMode)) (rows : ℕ → Configuration) (
 
   -- the newest prefix of a suite is shown in every quorum of its row's votes, and none that is newer
   module _ (apart : (y server : ℕ) (a b : LockMode) → held y a server ≡ true → other_held y b server ≡ true → clashes (y, a) (y, b) ≡ true → ⊥)
-      (reach : (y : ℕ) (mode : LockMode) (set : ℕ → Bool) → needed_of mode (rows y) ≤ votes_in (rows y).reps set → (server : ℕ) × (0 < votes_at (rows y).reps server) × (set server ≡ true) × (last y ≤ shown y server))
-      (bound : (y server : ℕ) → 0 < shown y server → shown y server ≤ last y)
+      (reach : (mode : LockMode) (set : ℕ → Bool) → needed_of mode (rows z) ≤ votes_in (rows z).reps set → (server : ℕ) × (0 < votes_at (rows z).reps server) × (set server ≡ true) × (last z ≤ shown z server))
+      (bound : (server : ℕ) → 0 < shown z server → shown z server ≤ last z)
       (y : ℕ) (wanted : LockMode) (asks : Contains mine (y, wanted)) (votes : Configuration) (open' : ℕ → Bool) (few : votes_in votes.reps open' < needed_of wanted votes) (most : needed_of wanted votes ≤ total_votes votes.reps)
       (falls : Falls rows held shown theirs y votes open')
       (refused : (server : ℕ) → 0 < votes_at votes.reps server → open' server ≡ false → IsRefused y wanted server) where
@@ -166,11 +166,11 @@ module _ (mine theirs : List (ℕ × LockMode)) (rows : ℕ → Configuration) (
         -- it holds the newest prefix, and so has found it
         by_old : IsBehind held shown y votes open' → ⊥
         by_old b =
-            let x = reach z m (held z m) met in
+            let x = reach m (held z m) met in
             let newest = x.3 in
             let below = subst (λ y. shown y x.0 ≤ b.prefix) at (b.below m x.0 (subst (λ y. held y m x.0 ≡ true) (sym at) x.2)) in
             let newer = subst (λ y. b.prefix < shown y b.server) at b.newer in
-            let most' = bound z b.server (shows_newer b.prefix (shown z b.server) newer) in
+            let most' = bound b.server (shows_newer b.prefix (shown z b.server) newer) in
             omega (arith, newest, below, newer, most')
 
         of : Falls rows held shown theirs y votes open' → ⊥
@@ -245,12 +245,12 @@ module _ (mine theirs : List (ℕ × LockMode)) (rows : ℕ → Configuration) (
           let few'' = subst (λ (v : Configuration). votes_in v.reps other_open < needed_of wanted' v) row' few' in
           let all' = votes_split (rows z).reps other_open in
           let sum' = sum in
-          let x = reach z wanted (λ s. not (other_open s)) (omega (arith, few'', all', sum')) in
+          let x = reach wanted (λ s. not (other_open s)) (omega (arith, few'', all', sum')) in
           let h = one_has x.0 (subst (λ (v : Configuration). 0 < votes_at v.reps x.0) (sym row') x.1) (not_so (other_open x.0) x.2) in
           let newest = x.3 in
           let below = subst (λ y. shown y x.0 ≤ b.prefix) at (b.below m x.0 (subst (λ y. held y m x.0 ≡ true) (sym at) h)) in
           let newer = subst (λ y. b.prefix < shown y b.server) at b.newer in
-          let most'' = bound z b.server (shows_newer b.prefix (shown z b.server) newer) in
+          let most'' = bound b.server (shows_newer b.prefix (shown z b.server) newer) in
           omega (arith, newest, below, newer, most'')
 
       other_behind : votes ≡ rows z → IsBehind other_held shown y' votes' other_open → ⊥
@@ -258,12 +258,12 @@ module _ (mine theirs : List (ℕ × LockMode)) (rows : ℕ → Configuration) (
           let few'' = subst (λ (v : Configuration). votes_in v.reps open' < needed_of wanted v) row few in
           let all' = votes_split (rows z).reps open' in
           let sum' = sum in
-          let x = reach z wanted' (λ s. not (open' s)) (omega (arith, few'', all', sum')) in
+          let x = reach wanted' (λ s. not (open' s)) (omega (arith, few'', all', sum')) in
           let o = other_has x.0 (subst (λ (v : Configuration). 0 < votes_at v.reps x.0) (sym row) x.1) (not_so (open' x.0) x.2) in
           let newest = x.3 in
           let below = subst (λ y. shown y x.0 ≤ b.prefix) at' (b.below o.0 x.0 (subst (λ y. other_held y o.0 x.0 ≡ true) (sym at') o.1)) in
           let newer = subst (λ y. b.prefix < shown y b.server) at' b.newer in
-          let most'' = bound z b.server (shows_newer b.prefix (shown z b.server) newer) in
+          let most'' = bound b.server (shows_newer b.prefix (shown z b.server) newer) in
           omega (arith, newest, below, newer, most'')
 
       -- each found older votes than the other

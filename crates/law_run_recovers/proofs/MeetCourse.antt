@@ -1,13 +1,13 @@
 -- How a transaction stands in whose run nothing is decided, at each moment at which it is at work: servers are open to it that a sight says, as long as this fits what
 -- it is told; and where its end is fixed some want of it is not met by these.
 use Rattle.law_run_recovers.proofs.Vocabulary.{◌≡◌, ◌≢◌, ◌⊎◌, inl, inr, ⊎_elim, ℕ, Bool, true, false, cond, List, [], ◌∷◌, ◌++◌, append-nil, append_assoc, Option, Some, None, is_some, refl, sym, ap, subst, ◌∙◌, ◌*◌, ◌+◌, ◌||◌, nat_cmp}
-use Rattle.law_run_recovers.proofs.Vocabulary.{eq-eqb, none-some, same_Some, IsOrdered, Identity, IsValid, Opening, Prefix, LockMode, Shared, Exclusive, Op, PlainTable, row_of, AgreesWith, IsSoAt, Lock, Request, Reply, is_prepared}
+use Rattle.law_run_recovers.proofs.Vocabulary.{eq-eqb, none-some, same_Some, IsOrdered, Identity, IsValid, Opening, Prefix, LockMode, Shared, Exclusive, Op, PlainTable, row_of, IsSoAt, Lock, Request, Reply, is_prepared}
 use Rattle.law_run_recovers.proofs.Vocabulary.{in_the_way, copy_of, State, record_of, reply_of, reply_up, reply_down, poll_reply, locking_reply, stands_prepared, can_prepare, recorded, verdict_of, Asked, Poll, Upgrade, request_for}
 use Rattle.law_run_recovers.proofs.Vocabulary.{mode_asked, Cache, forgotten, Ending, Undecided, Cause, Transaction, Replied, Suites, suite_of, known_of, parts_at, Task, Phase, Gathering, Fetching, Preparing, Deciding, Finishing}
 use Rattle.law_run_recovers.proofs.Vocabulary.{TransactionRun, Running, After, GoesOn, Ends, home_of, execute, given_in, changes_of, decision_of, request_in, after_reply, Agent, Taken, fixed_of, is_idle, next_in, next_of}
 use Rattle.law_run_recovers.proofs.Vocabulary.{left, with_step, take_in, take, begins, begin, started, exchanges, is_decide, said_by, asks_same, Keeps, nothing_held, plus_all, begin_keeps, after-append, Served, Event, Begin}
 use Rattle.law_run_recovers.proofs.Vocabulary.{Step, Actor, World, server_at, actor_at, step, run, decisions, table_of, holds_of, service_stays, agent_of, WasPrefix, beginning, machine_of, CanBe, all_keep, IsMine, can_front, Finds}
-use Rattle.law_run_recovers.proofs.Vocabulary.{Stands, all_consistent, is_resolve, never_resolves, is_up, locks_asked, asks_for, first_mode, runs, world_after}
+use Rattle.law_run_recovers.proofs.Vocabulary.{Stands, has_any, ◌==◌, is_resolve, never_resolves, is_up, locks_asked, asks_for, first_mode, runs, world_after}
 use Rattle.file_ops.specs.Rows as rows
 use Rattle.file_exec.specs.Known as known
 use Rattle.rep_core.specs.declared.request.Request.TheVariants as request
@@ -22,11 +22,13 @@ use Rattle.law_runs.proofs.Words as words
 use Rattle.law_suite_machine.specs.Machine.{Answered as AnsweredVerdict}
 use Rattle.law_one_table.proofs.Effects as effects
 use Rattle.law_run_recovers.proofs.Apart.{Apart, hint_forgotten}
+use Rattle.law_run_recovers.proofs.Asked.{asked_exclusive, onto_so_far}
+use Rattle.law_run_recovers.proofs.Asking.{onto}
 use Rattle.law_run_recovers.proofs.AtWork.{stands_next, locks_stand}
 use Rattle.law_run_recovers.proofs.BesideNext.{mine_taken}
 use Rattle.law_run_recovers.proofs.Early.{early_asks, fetch_is}
 use Rattle.law_run_recovers.proofs.Executes.{begin_stands}
-use Rattle.law_run_recovers.proofs.Found.{Answering, all_answer}
+use Rattle.law_run_recovers.proofs.Found.{Answering}
 use Rattle.law_run_recovers.proofs.Heard.{LockRight, RightFor, reply_stands}
 use Rattle.law_run_recovers.proofs.Keeps.{IsAtWork, works, at_work, at_work_before, run_at}
 use Rattle.law_run_recovers.proofs.KnownIsTheTables.{unanswered, knows_table, unrecorded_on}
@@ -77,17 +79,20 @@ module _ (given : Opening) (base events later : List Event) (agent t : ℕ) (cal
     abbrev pub Known : ℕ → Prefix → Type 0
     Known z prefix = WasPrefix (beginning z given) (machine_of given z base).log prefix
 
-    pub answering : (z : ℕ) → Answering (fixed_of given) (run given base) z (machine_of given z base) (finds_at sight z)
-    answering z =
-        let all = all_answer given z (machine_of given z base) (run given base) (effects.inv given base (all_keep given base goes.can_base) z)
-        (effects.follows given base (all_keep given base goes.can_base) z).shows (all_consistent given base) goes.free in
+    pub answering : (z : ℕ) → asks_of (asks_for given base t caller ops) z ≡ true → Answering (fixed_of given) (run given base) z (machine_of given z base) (finds_at sight z)
+    answering z has =
+        let all = goes.answers z has in
         record { up = λ i is. opens_up z (sight.first z) i is; stored = λ i is. all.stored i (opens_up z (sight.first z) i is) }
+
+    -- by its number
+    asked_so : (z : ℕ) → asks_of (locks_on (table_of given base) its) z ≡ true → asks_of (asks_for given base t caller ops) z ≡ true
+    asked_so z is = subst (λ n. asks_of (locks_asked (table_of given base) n caller ops) z ≡ true) number is
 
     pub ground : Ground (fixed_of given) (run given base) sight actor.agent.cache site (locks_on (table_of given base) its) Known
     ground = record {
       first = λ z. ap (λ n. first_mode (locks_asked (table_of given base) n caller ops) z) (sym number);
       rules = λ z start is may.
-          rules_of given z (machine_of given z base) (run given base) (effects.inv given base (all_keep given base goes.can_base) z) (finds_at sight z) (answering z) start (goes.starts z start may);
+          rules_of given z (machine_of given z base) (run given base) (effects.inv given base (all_keep given base goes.can_base) z) (finds_at sight z) (answering z (asked_so z is)) start (goes.starts z start (asked_so z is) may);
       valid = λ z prefix was. subst (λ (p : Prefix). IsValid p.votes) was.1 ((effects.inv given base (all_keep given base goes.can_base) z).logged.valid prefix.pver);
     }
 
@@ -262,8 +267,8 @@ module _ (given : Opening) (base events later : List Event) (agent t : ℕ) (cal
           replies_up ∙ ap (reply_up took.st) is
           ∙ ap (λ b. cond b (poll_reply took.st t z Exclusive) reply.Lost) (subst (Finds took.st) is its_finds)
 
-      lock_right : (z : ℕ) (question : Asked) → took.asked.1 ≡ request_for t z question → Answers (fixed_of given) (run given base) sight z question took.asked.0 said
-      lock_right z question is = subst (Answers (fixed_of given) (run given base) sight z question took.asked.0) (sym (says z question is)) (of (in_the_way t z (mode_asked question) took.st.locks) refl)
+      lock_right : (z : ℕ) → asks_of (locks_on (table_of given base) its) z ≡ true → (question : Asked) → took.asked.1 ≡ request_for t z question → Answers (fixed_of given) (run given base) sight z question took.asked.0 said
+      lock_right z has question is = subst (Answers (fixed_of given) (run given base) sight z question took.asked.0) (sym (says z question is)) (of (in_the_way t z (mode_asked question) took.st.locks) refl)
         where
           fit : ((prefix : Prefix) (dver : ℕ) → said ≡ reply.Held prefix dver → opens z (mode_asked question) took.asked.0 ≡ true)
               × ((holder : ℕ) (prepared : Bool) → said ≡ reply.Busy holder prepared → opens z (mode_asked question) took.asked.0 ≡ false)
@@ -271,22 +276,25 @@ module _ (given : Opening) (base events later : List Event) (agent t : ℕ) (cal
 
           of : (found : Option Lock) → in_the_way t z (mode_asked question) took.st.locks ≡ found → Answers (fixed_of given) (run given base) sight z question took.asked.0 (locking_reply found (copy_of took.st.store z))
           of None found =
-              let copy = goes.stored so_far (Step agent ∷ rest) split took.asked.0 took.st took.at z in
+              let copy = goes.stored so_far (Step agent ∷ rest) split took.asked.0 took.st took.at z (asked_so z has) in
               (fit.0 (copy_of took.st.store z).prefix (copy_of took.st.store z).dver (says z question is ∙ ap (λ found. locking_reply found (copy_of took.st.store z)) found), copy.0, copy.1)
           of (Some lock) found = (fit.1 lock.t lock.prepared (says z question is ∙ ap (λ found. locking_reply found (copy_of took.st.store z)) found), refl)
 
-      lock_here : (z : ℕ) → LockRight (fixed_of given) (run given base) sight its.t z took.asked.0 took.asked.1 said
-      lock_here z question asked' = lock_right z question (asked' ∙ ap (λ n. request_for n z question) number)
+      lock_here : (z : ℕ) → asks_of (locks_on (table_of given base) its) z ≡ true → LockRight (fixed_of given) (run given base) sight its.t z took.asked.0 took.asked.1 said
+      lock_here z has question asked' = lock_right z has question (asked' ∙ ap (λ n. request_for n z question) number)
 
       right_for : (now : Cache) (suites : Suites) (phase : Phase) → PhaseIn suites now phase → IsOpenPhase phase → request_in (fixed_of given) its suites phase ≡ Some (took.asked.0, took.asked.1)
           → RightFor (fixed_of given) (run given base) sight its phase took.asked.0 took.asked.1 said
-      right_for now suites (Gathering z) at open' asks' = lock_here z
+      right_for now suites (Gathering z) at open' asks' = lock_here z at.0.found.asked
       right_for now suites (Fetching z) at open' asks' =
           let is = fetch_is its z (suite_of suites z) took.asked.0 took.asked.1 asks' in
           ap (λ said. is_some (given_in said))
           (replies_up ∙ ap (reply_up took.st) is ∙ ap (λ b. cond b (gives (copy_of took.st.store z)) reply.Lost) (subst (Finds took.st) is its_finds))
       right_for now suites (doing.Widening [] granted) at open' asks' = tt
-      right_for now suites (doing.Widening (z ∷ left) granted) at open' asks' = lock_here z
+      right_for now suites (doing.Widening (z ∷ left) granted) at open' asks' =
+          lock_here z (subst (λ all. asks_of all z ≡ true) (sym at.sets.all)
+          (has_any (λ (one : ℕ × LockMode). one.0 == z) (onto at.sets.so_far []) (z, Exclusive)
+          (onto_so_far at.sets.so_far [] (z, Exclusive) (asked_exclusive at.sets.so_far z (at.sets.exclusive (z, at.votes) (inl refl)))) (eq-eqb z z refl)))
       right_for now suites (Preparing [] outcome) at open' asks' = absurd (none-some (took.asked.0, took.asked.1) asks')
       right_for now suites (Preparing (server ∷ left) outcome) at open' asks' =
           let parts' = parts_at suites (changes_of outcome) server in
@@ -376,12 +384,11 @@ module _ (given : Opening) (base events later : List Event) (agent t : ℕ) (cal
               (begin_keeps (fixed_of given) actor.agent (Transaction caller site ops) (idle_before given base events later agent t caller site ops actor goes)))).0
 
           knows_on : (z : ℕ) → asks_of (locks_on (table_of given base) its) z ≡ true → IsSoAt (known.known_of (known_of more.suites) z) (row_of (table_of given base).rows z)
-          knows_on z _ =
-              subst (λ all. AgreesWith (known_of more.suites) (row_of all)) (goes.tables next rest split_on)
+          knows_on z has =
+              subst (λ found. IsSoAt (known.known_of (known_of more.suites) z) found) (goes.tables next rest split_on z (asked_so z has))
               (knows_table given all can agent took.new more (ap (λ w. actor_at w agent) (sym (is_run next)) ∙ there_next) running_on ordered_on
               (λ z. subst (Stands (machine_of given z all)) (sym number_on) (stands_z z))
-              (λ z. subst (λ t. (machine_of given z all).verdict t ≢ Some AnsweredVerdict) (sym number_on) (unanswered given all can t unrecorded z)))
-              z
+              (λ z. subst (λ t. (machine_of given z all).verdict t ≢ Some AnsweredVerdict) (sym number_on) (unanswered given all can t unrecorded z)) z)
 
       good_step : Good (step_of its)
       good_step =

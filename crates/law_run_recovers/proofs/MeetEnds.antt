@@ -102,7 +102,7 @@ module _ (given : Opening) (events later : List Event) (fair : Fair given events
 abbrev pub Fixed : (given : Opening) (events later : List Event) → Begun given events later → Type 0
 Fixed given events later who = Cut (λ so_far. IsAtWork (world_after given (events ++ who.before) who.agent who.caller who.site who.ops so_far) who.agent who.t) who.after
 
-module _ (given : Opening) (events later : List Event) (calm : Calm given events later) (who : Begun given events later) (job : EndedJob)
+module _ (given : Opening) (events later : List Event) {still : ℕ → Type 0} (calm : Calm given events later still) (who : Begun given events later) (job : EndedJob)
     (ends : EndsThen given (events ++ who.before) who.after who.agent who.t who.caller who.site who.ops job) where
   pub fixed_at : Fixed given events later who
   fixed_at =

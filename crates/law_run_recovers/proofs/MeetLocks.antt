@@ -15,7 +15,7 @@ use Rattle.law_run_recovers.proofs.Keeps.{IsAtWork, run_at, step_asks}
 use Rattle.law_run_recovers.proofs.Owned.{AllOwned, MayLock, owned_stays}
 use Rattle.law_run_recovers.proofs.Serves.{Serves, event_serves}
 use Rattle.law_run_recovers.proofs.StepsServed.{OwnTook, own_took}
-use Rattle.law_run_recovers.proofs.MeetCalm.{Calm, along, run_next, up_at}
+use Rattle.law_run_recovers.proofs.MeetCalm.{Fair, along, run_next, up_at}
 use Rattle.law_run_recovers.proofs.MeetQuiet.{GoesQuietly, next_is}
 use Rattle.law_run_recovers.proofs.MeetTold.{for_lock, says_held}
 
@@ -287,7 +287,7 @@ module _ (given : Opening) (base events later : List Event) (agent t : ℕ) (cal
 
 -- ---- each lock was granted
 
-module _ (given : Opening) (events later : List Event) (calm : Calm given events later) (O : ℕ → ℕ → ℕ → LockMode → Type 0)
+module _ (given : Opening) (events later : List Event) (fair : Fair given events later) (O : ℕ → ℕ → ℕ → LockMode → Type 0)
     (asks : (so_far rest : List Event) (i : ℕ) → later ≡ so_far ++ Step i ∷ rest → (what : Served) → (step (fixed_of given) (run given (events ++ so_far)) (Step i)).done.served ≡ Some what → (t z : ℕ)
     → for_lock t z what.request.value ≡ true → says_held what.reply.value ≡ true → O what.server t z (mode_of what.request.value)) where
   abbrev OwnedAt : ℕ → State → Type 0
@@ -369,7 +369,7 @@ module _ (given : Opening) (events later : List Event) (calm : Calm given events
             let puts = puts_in w.servers took.asked.0 took.st (served took.st stamped) took.at in
             elim (at_puts (slice_get w.servers) (slice_get (slice_set w.servers took.asked.0 (served took.st stamped))) took.asked.0 took.st (served took.st stamped) puts s st (ap (λ servers. slice_get servers s) (sym took.servers) ∙ at)) [
               | inl here' ↦ subst (λ s. OwnedAt s st) (sym here'.at) (subst (OwnedAt took.asked.0) (sym here'.is)
-                  (owned_served took.asked.0 took.st stamped (up_at given events later calm.fair so_far (Step i ∷ rest) split_i took.asked.0 took.st took.at) took.room (all took.asked.0 took.st took.at)
+                  (owned_served took.asked.0 took.st stamped (up_at given events later fair so_far (Step i ∷ rest) split_i took.asked.0 took.st took.at) took.room (all took.asked.0 took.st took.at)
                   (λ t z lock held. asks so_far rest i split_i _ took.done t z lock held) took.asked.1 refl))
               | inr there' ↦ all s st there'.was
             ]
@@ -388,4 +388,4 @@ module _ (given : Opening) (events later : List Event) (calm : Calm given events
   pub owned_at : ((s : ℕ) (st : State) → server_at (run given (events ++ [])) s ≡ Some st → AllOwned (O s) st.locks) → (so_far rest : List Event) → later ≡ so_far ++ rest
       → (s : ℕ) (st : State) → server_at (run given (events ++ so_far)) s ≡ Some st → AllOwned (O s) st.locks
   owned_at first = along later (λ so_far. AllAt OwnedAt (run given (events ++ so_far)))
-      (λ so_far rest event split all. subst (AllAt OwnedAt) (sym (run_next given events later calm.fair so_far event)) (owned_next so_far rest event split all event refl)) first
+      (λ so_far rest event split all. subst (AllAt OwnedAt) (sym (run_next given events later fair so_far event)) (owned_next so_far rest event split all event refl)) first

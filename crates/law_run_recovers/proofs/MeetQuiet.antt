@@ -1,19 +1,21 @@
--- A transaction in whose run nothing is decided: no server is down or crashes, nobody takes a lock of it, stored copies and the table stand still.
+-- A transaction in whose run nothing is decided that touches it: no server is down or crashes, nobody takes a lock of it, and of what it asks for stored copies and rows stand still.
 use Rattle.law_run_recovers.proofs.Vocabulary.{◌≡◌, ◌⊎◌, inl, ⊎_elim, ℕ, Bool, true, false, cond, List, [], ◌∷◌, ◌++◌, Some, None, is_some, refl, sym, ap, subst, ◌∙◌, arith, ◌==◌, ◌&&◌, ◌||◌, not, nat_lt, false≢true, and_parts}
 use Rattle.law_run_recovers.proofs.Vocabulary.{and_from, eq-eqb, nat_tests, same_Some, Identity, Opening, Prefix, LockMode, Shared, Exclusive, serves, Op, Request, reply_of, copy_of, State, Has, has_any, find_some, Said, is_held}
 use Rattle.law_run_recovers.proofs.Vocabulary.{mode_of, Transaction, Replied, Agent, fixed_of, is_idle, has_sense, max_jobs, next_of, take, begin, forget, after_all, Exchange, exchange_of, of_job, locks, has_said, is_said, holding}
 use Rattle.law_run_recovers.proofs.Vocabulary.{refusing, heard_in, after-append, exchanges-take, exchanges-forget, Served, Event, Begin, Step, Actor, World, server_at, actor_at, step, run, table_of, gathers_in_order, WasPrefix}
-use Rattle.law_run_recovers.proofs.Vocabulary.{beginning, machine_of, append_has_left, append_has_right, CanBe, begins_job, is_up, up_free, shown_at, MayStart, begun_world, world_after, robs, hinders_itself, bereaves}
+use Rattle.law_run_recovers.proofs.Vocabulary.{beginning, machine_of, append_has_left, append_has_right, CanBe, begins_job, is_up, shown_at, asks_for, row_of, MayStart, begun_world, world_after, robs, hinders_itself, bereaves}
 use Rattle.rep_core.specs.declared.request.Request.TheVariants as request
 use Rattle.txn_core.specs.Agents as agents
 use Rattle.law_agents.specs.Gathers as gathers
 use Rattle.law_agents.specs.Orders.{number_of}
 use Rattle.law_run_recovers.proofs.AmongCourse.{parted}
 use Rattle.law_run_recovers.proofs.Apart.{Apart, event_apart}
+use Rattle.law_run_recovers.proofs.Found.{Answering}
 use Rattle.law_run_recovers.proofs.Keeps.{IsAtWork, works, after_append, at_work_before}
 use Rattle.law_run_recovers.proofs.MeetCalm.{along}
 use Rattle.law_run_recovers.proofs.Open.{its_begin, begun_there}
 use Rattle.law_run_recovers.proofs.Polled.{dver_at}
+use Rattle.law_run_recovers.proofs.Stands.{asks_of}
 use Rattle.law_run_recovers.proofs.Still.{IsOpen}
 use Rattle.law_run_recovers.proofs.StepsServed.{own_took}
 
@@ -21,20 +23,21 @@ module _ (given : Opening) (base events later : List Event) (agent t : ℕ) (cal
   abbrev then : List Event → World
   then so_far = world_after given events agent caller site ops so_far
 
-  -- All that follows goes back to the world after the base events, in which no server has a lock.
+  -- All that follows goes back to the world after the base events, in which what is stored of what it asks for is in effect; and what it asks for is read off their table.
   pub record GoesQuietly : Type 0 where
     pub can : CanBe given (events ++ Begin agent (Transaction caller site ops) ∷ later)
     pub can_base : CanBe given base
-    pub free : up_free (run given base) ≡ true
+    pub answers : (z : ℕ) → asks_of (asks_for given base t caller ops) z ≡ true → Answering (fixed_of given) (run given base) z (machine_of given z base) (is_up (run given base))
     pub there : actor_at (run given events) agent ≡ Some actor
     pub begins : begins_job given (run given events) (Begin agent (Transaction caller site ops)) ≡ Some (t, Transaction caller site ops)
     pub spared : (so_far rest : List Event) (event : Event) → later ≡ so_far ++ event ∷ rest → IsAtWork (then so_far) agent t
         → (hinders_itself given agent (then so_far) event || (robs given agent t (then so_far) event || bereaves given agent t (then so_far) event)) ≡ false
     pub up : (so_far rest : List Event) → later ≡ so_far ++ rest → (server : ℕ) (st : State) → server_at (then so_far) server ≡ Some st → (st.up ≡ true) × (is_up (run given base) server ≡ true)
-    pub stored : (so_far rest : List Event) → later ≡ so_far ++ rest → (server : ℕ) (st : State) → server_at (then so_far) server ≡ Some st → (z : ℕ)
+    pub stored : (so_far rest : List Event) → later ≡ so_far ++ rest → (server : ℕ) (st : State) → server_at (then so_far) server ≡ Some st → (z : ℕ) → asks_of (asks_for given base t caller ops) z ≡ true
         → ((copy_of st.store z).prefix ≡ shown_at (fixed_of given) (run given base) z server) × ((copy_of st.store z).dver ≡ dver_at (run given base) z server)
-    pub tables : (so_far rest : List Event) → later ≡ so_far ++ rest → (table_of given (events ++ Begin agent (Transaction caller site ops) ∷ so_far)).rows ≡ (table_of given base).rows
-    pub starts : (z : ℕ) (start : Prefix) → MayStart (fixed_of given) actor.agent.cache site z start → WasPrefix (beginning z given) (machine_of given z base).log start
+    pub tables : (so_far rest : List Event) → later ≡ so_far ++ rest → (z : ℕ) → asks_of (asks_for given base t caller ops) z ≡ true
+        → row_of (table_of given (events ++ Begin agent (Transaction caller site ops) ∷ so_far)).rows z ≡ row_of (table_of given base).rows z
+    pub starts : (z : ℕ) (start : Prefix) → asks_of (asks_for given base t caller ops) z ≡ true → MayStart (fixed_of given) actor.agent.cache site z start → WasPrefix (beginning z given) (machine_of given z base).log start
 
 -- ---- what it was told
 

@@ -1,7 +1,7 @@
 -- A transaction in whose run nothing is decided: whatever lock it asks for, it has had all those before, by the votes of the rows; and where its end is fixed, too few votes
 -- were open of one, as they are found.
 use Rattle.law_run_recovers.proofs.Vocabulary.{◌≡◌, ◌⊎◌, inl, inr, ⊎_elim, ℕ, ◌≤◌, ◌<◌, Bool, true, false, cond, List, [], ◌∷◌, ◌++◌, Option, Some, None, Result, Ok, Err, refl, sym, ap, subst, ◌∙◌, arith, ◌==◌, not, nat_le, map, find}
-use Rattle.law_run_recovers.proofs.Vocabulary.{Contains, false≢true, and_parts, eqb-true, ltb-false, nat_tests, none-some, same_Some, Identity, Configuration, votes_in, votes_in-wider, Opening, Prefix, LockMode, Shared, Exclusive, serves, Answer, Op}
+use Rattle.law_run_recovers.proofs.Vocabulary.{Contains, false≢true, and_parts, eq-eqb, eqb-true, has_any, ltb-false, nat_tests, none-some, same_Some, Identity, Configuration, votes_in, votes_in-wider, Opening, Prefix, LockMode, Shared, Exclusive, serves, Answer, Op}
 use Rattle.law_run_recovers.proofs.Vocabulary.{Refusal, Request, Reply, row_of, needs, transaction, find_some, Has, has_from, has_map, contains_from, holds, newest, Collector, all_told, Asked, Poll, Upgrade, needed_of, wanted, mode_of, mode_asked, request_for, Cache, Undecided, Replied, Suites, suite_of, parts_at}
 use Rattle.law_run_recovers.proofs.Vocabulary.{Phase, Gathering, Fetching, Preparing, Deciding, Finishing, home_of, request_in, asked_for, changes_of, decision_of, fixed_of, next_in, next_of, is_decide, asks_same, Served, Event, Step}
 use Rattle.law_run_recovers.proofs.Vocabulary.{Actor, actor_at, step, run, table_of, WasPrefix, IsQuorum, beginning, machine_of, row_at, all_keep, is_up, shown_at, newer_by, locks_asked, votes_set, is_met, demand_by, led_to_by, MayStart, ending_by, ending_of, answer_on}
@@ -22,7 +22,7 @@ use Rattle.law_run_recovers.proofs.Leading.{led}
 use Rattle.law_run_recovers.proofs.OpenRows.{weaker_first, up_to}
 use Rattle.law_run_recovers.proofs.Polled.{Sight, finds_at, opens_wider, held_open}
 use Rattle.law_run_recovers.proofs.Rows.{row_votes}
-use Rattle.law_run_recovers.proofs.Stands.{IsRight, IsHad, locks_on, sets_on, of_lock, of_votes, unmet, EndsAs, IsLed}
+use Rattle.law_run_recovers.proofs.Stands.{asks_of, IsRight, IsHad, locks_on, sets_on, of_lock, of_votes, unmet, EndsAs, IsLed}
 use Rattle.law_run_recovers.proofs.Widened.{same_mode}
 use Rattle.law_run_recovers.proofs.MeetAsks.{sets_asked}
 use Rattle.law_run_recovers.proofs.MeetCourse.{Course, Short, PhaseIn, its, number, sight, answering, Fits, course_at}
@@ -132,13 +132,16 @@ module _ (given : Opening) (base events later : List Event) (agent t : ℕ) (cal
     abbrev found : ℕ → Prefix → Prefix
     found z start = led_to_by (fixed_of given) (run given base) (finds_at S z) z start
 
-    ends_at : (z : ℕ) (start : Prefix) → MayStart (fixed_of given) actor.agent.cache site z start
+    ends_at : (z : ℕ) (start : Prefix) → asks_of (asks_for given base t caller ops) z ≡ true → MayStart (fixed_of given) actor.agent.cache site z start
         → (WasPrefix (beginning z given) (machine_of given z base).log (led_to_by (fixed_of given) (run given base) (finds_at S z) z start))
         × (newer_by (fixed_of given) (run given base) (finds_at S z) z (led_to_by (fixed_of given) (run given base) (finds_at S z) z start) ≡ None)
-    ends_at z start may =
+    ends_at z start asks' may =
         let end = led given z (machine_of given z base) (run given base) (effects.inv given base (all_keep given base goes.can_base) z) (finds_at S z)
-        (answering given base events later agent t caller site ops actor goes opens weaker opens_up fits z) start (goes.starts z start may) in
+        (answering given base events later agent t caller site ops actor goes opens weaker opens_up fits z asks') start (goes.starts z start asks' may) in
         (end.was, end.last)
+
+    pub is_asked : (one : ℕ × LockMode) → Contains (asks_for given base t caller ops) one → asks_of (asks_for given base t caller ops) one.0 ≡ true
+    is_asked one has = has_any (λ (other : ℕ × LockMode). other.0 == one.0) asked one (has_from asked one has) (eq-eqb one.0 one.0 refl)
 
     -- where enough of those are open, they are the row's
     found_row : (one : ℕ × LockMode) → Contains (asks_for given base t caller ops) one → (start : Prefix) → MayStart (fixed_of given) actor.agent.cache site one.0 start
@@ -146,9 +149,9 @@ module _ (given : Opening) (base events later : List Event) (agent t : ℕ) (cal
         → (led_to_by (fixed_of given) (run given base) (finds_at S one.0) one.0 start).votes ≡ votes_now given base one.0
     found_row one has start may met =
         let z = one.0 in
-        let end = ends_at z start may in
+        let end = ends_at z start (is_asked one has) may in
         let is = found_is_row given z (machine_of given z base) (run given base) (effects.inv given base (all_keep given base goes.can_base) z) (finds_at S z)
-        (answering given base events later agent t caller site ops actor goes opens weaker opens_up fits z) (found z start) end.0 end.1 (quorum one.1 refl met) in
+        (answering given base events later agent t caller site ops actor goes opens weaker opens_up fits z (is_asked one has)) (found z start) end.0 end.1 (quorum one.1 refl met) in
         ap (λ (prefix : Prefix). prefix.votes) is ∙ row_votes given base goes.can_base z (row_at given base z) refl
       where
         votes : Configuration
@@ -223,7 +226,7 @@ module _ (given : Opening) (base events later : List Event) (agent t : ℕ) (cal
         of_led : (one : ℕ × LockMode) → Contains (asks_for given base t caller ops) one → Led (of_lock (fixed_of given) (run given base) S short.right.1.start one) → unmet S (of_lock (fixed_of given) (run given base) S short.right.1.start one) ≡ true → IsWanting
         of_led one has led few =
             let z = one.0 in
-            let end = ends_at z (short.right.1.start z) (short.right.1.from z) in
+            let end = ends_at z (short.right.1.start z) (is_asked one has) (short.right.1.from z) in
             record {
               suite = z;
               mode = one.1;

@@ -1,38 +1,42 @@
--- A transaction that begins in a calm run goes quietly: nobody hinders or robs it, servers stay up and show what they showed, and it never asks to be decided.
-use Rattle.law_run_recovers.proofs.Vocabulary.{Bool, Err, List, None, Ok, Option, Some, [], ap, append-nil, append_assoc, arith, cond, false, is_some, length, not, refl, subst, sym, true, ℕ, ◌%◌, ◌&&◌, ◌++◌, ◌==◌, ◌||◌, ◌∙◌, ◌∷◌}
-use Rattle.law_run_recovers.proofs.Vocabulary.{◌≡◌, and_from, and_parts, eq-eqb, eqb-true, false≢true, nat_tests, same_Some, list_all, undecided, CanBe, decides, IsNotDecided, names, contains_from, recorded, reply_down, reply_of}
+-- A transaction that begins in a calm run goes quietly: nobody hinders or robs it, servers stay up and show what they showed of what it asks for, and it never asks to be decided.
+use Rattle.law_run_recovers.proofs.Vocabulary.{Bool, Err, List, None, Ok, Option, Some, [], ap, append-nil, append_assoc, arith, cond, false, is_some, not, refl, subst, sym, true, ℕ, ◌%◌, ◌&&◌, ◌++◌, ◌==◌, ◌||◌, ◌∙◌, ◌∷◌}
+use Rattle.law_run_recovers.proofs.Vocabulary.{◌≡◌, eq-eqb, eqb-true, false≢true, nat_tests, same_Some, undecided, CanBe, decides, IsNotDecided, names, contains_from, recorded, reply_down, reply_of}
 use Rattle.law_run_recovers.proofs.Vocabulary.{reply_up, verdict_of, State, record_of, copy_of, Request, Decided, answer_in, decided, decided_as, decided_at, decided_by, decisions, task_at, task_of, to_decide, run, table_of}
-use Rattle.law_run_recovers.proofs.Vocabulary.{Actor, World, actor_at, has_no_job, server_at, step, Served, Event, Begin, Crash, Forget, Lack, Return, Step, next, Opening, Replica, fixed_of, next_in, next_of, Doing, Running}
-use Rattle.law_run_recovers.proofs.Vocabulary.{RunningSweep, Task, is_decide, decision_of, Transaction, Begun, spoils, is_up, shown_at, shown_in, up_in, bereaves, hinders_itself, is_running, is_telling, of_up, robs, running_in}
+use Rattle.law_run_recovers.proofs.Vocabulary.{Actor, World, actor_at, server_at, step, Served, Event, Begin, Crash, Forget, Lack, Return, Step, next, Opening, Replica, fixed_of, next_in, next_of, Doing, Running}
+use Rattle.law_run_recovers.proofs.Vocabulary.{◌*◌, ◌+◌, ◌<◌, zero, suc, agent_of, answers_follow_knowledge, holds_of, names_mine, rest_of, RunningSweep, Task, is_decide, decision_of, Transaction, Begun, row_of, is_up, shown_at, shown_in, up_in, bereaves, hinders_itself, is_running, is_telling, of_up, robs, running_in}
 use Rattle.law_run_recovers.proofs.Vocabulary.{runs, takes, up_and, world_after}
 use Rattle.rep_core.specs.declared.request.Request.TheVariants as request
 use Rattle.rep_core.specs.declared.reply.Reply.TheVariants as reply
 use Rattle.txn_core.specs.Doing as doing
-use Rattle.law_run_recovers.proofs.BesideAll.{own_served, others_none, not_both, no_job_of}
+use Rattle.law_run_recovers.specs.MeetsBeside.{upsets}
 use Rattle.law_run_recovers.proofs.BesideUnmet.{then_is, begins_there}
-use Rattle.law_run_recovers.proofs.Keeps.{IsAtWork, step_asks}
+use Rattle.law_run_recovers.proofs.AtWork.{mine_where}
+use Rattle.law_run_recovers.proofs.BesideAll.{asks_busy}
+use Rattle.law_run_recovers.proofs.Keeps.{IsAtWork, last_of, step_asks}
 use Rattle.law_run_recovers.proofs.Polled.{dver_in, dver_at}
 use Rattle.law_run_recovers.proofs.Rows.{start_was}
 use Rattle.law_run_recovers.proofs.Sides.{names_one, takes_named, its_agent, up_same}
 use Rattle.law_run_recovers.proofs.StepsServed.{OwnTook, own_took}
 use Rattle.law_run_recovers.proofs.Unrobbed.{unrecorded_at}
-use Rattle.law_run_recovers.proofs.MeetCalm.{Calm, accepted, can_at, up_at, busy_one, one_named, decided_has, decided_of_one}
+use Rattle.law_run_recovers.proofs.MeetCalm.{Calm, Ours, accepted, can_at, up_at, some_run, decided_has}
 use Rattle.law_run_recovers.proofs.MeetQuiet.{GoesQuietly}
 
--- no server has a lock, so none that is up
-free_up : (servers : List State) → list_all (λ (st : State). length st.locks == 0) servers ≡ true → list_all (λ (st : State). not st.up || (length st.locks == 0)) servers ≡ true
-free_up [] all = refl
-free_up (st ∷ servers) all =
-    let parts = and_parts (length st.locks == 0) (list_all (λ (st : State). length st.locks == 0) servers) all in
-    and_from (not st.up || (length st.locks == 0)) (list_all (λ (st : State). not st.up || (length st.locks == 0)) servers) (or_so (not st.up) (length st.locks == 0) parts.0) (free_up servers parts.1)
-  where
-    or_so : (a b : Bool) → b ≡ true → (a || b) ≡ true
-    or_so a b is = grind (arith, nat_tests)
+-- a number that is the last of an agent has it as its rest
+pub rest_of_last : (t count i : ℕ) → t + 64 ≡ 64 * count + i → i < 64 → t % 64 ≡ i
+rest_of_last t zero i is small = absurd (omega (arith, is, small))
+rest_of_last t (suc count) i is small = ap (λ n. n % 64) (let same : t ≡ 64 * count + i = omega (arith, is) in same) ∙ rest_of count i small
 
-both_none : (a b c : Bool) → (a || b) ≡ false → c ≡ false → (a || (b || c)) ≡ false
-both_none a b c one two = grind (arith, nat_tests)
+all_none : (a b c : Bool) → a ≡ false → b ≡ false → c ≡ false → (a || (b || c)) ≡ false
+all_none a b c one two three = grind (arith, nat_tests)
 
-module _ (given : Opening) (events later : List Event) (calm : Calm given events later) (one : Begun given events later) where
+first_not : (a b c : Bool) → a ≡ true → (not a && b && c) ≡ false
+first_not true b c is = refl
+first_not false b c is = absurd (false≢true is)
+
+last_not : (a b c : Bool) → c ≡ false → (a && b && c) ≡ false
+last_not a b c is = grind (arith, nat_tests)
+
+module _ (given : Opening) (events later : List Event) {still : ℕ → Type 0} (calm : Calm given events later still) (one : Begun given events later) where
   abbrev pub begins_event : Event
   begins_event = Begin one.agent (Transaction one.caller one.site one.ops)
 
@@ -61,18 +65,20 @@ module _ (given : Opening) (events later : List Event) (calm : Calm given events
     abbrev w : World
     w = run given (events ++ front)
 
-    quiet : spoils given (run given (events ++ front)) event ≡ false
-    quiet = calm.fair.unspoiled front rest event (part so_far (event ∷ rest) split)
+    quiet : upsets given (run given (events ++ front)) event ≡ false
+    quiet = calm.fair.even front rest event (part so_far (event ∷ rest) split)
 
     named_not : (i : ℕ) → (i == one.agent) ≡ false → (what : Served) → (step (fixed_of given) (run given (events ++ front)) (Step i)).done.served ≡ Some what → names one.t what.request.value ≡ true → ⊥
     named_not i apart what served named =
         let asks = step_asks (fixed_of given) w i (actor_at w i) what served in
-        let busy = busy_one given events later calm.fair front (event ∷ rest) (part so_far (event ∷ rest) split) i asks.0 asks.1 (what.server, what.request.value) asks.2 in
-        let same = names_one one.t busy.one.t what.request.value named (one_named given events later calm.fair front (event ∷ rest) (part so_far (event ∷ rest) split) i asks.0 asks.1 (what.server, what.request.value) asks.2) in
-        let agents : one.agent ≡ busy.one.agent =
-        sym (its_agent given calm.fair.can.accepted (events ++ one.before) one.agent one.t (Transaction one.caller one.site one.ops) one.begins) ∙ ap (λ t. t % 64) same
-        ∙ its_agent given calm.fair.can.accepted (events ++ busy.one.before) busy.one.agent busy.one.t (Transaction busy.one.caller busy.one.site busy.one.ops) busy.one.begins in
-        false≢true (sym apart ∙ eq-eqb i one.agent (sym busy.who ∙ sym agents))
+        let busy = some_run given events later calm.fair front (event ∷ rest) (part so_far (event ∷ rest) split) i asks.0 asks.1 (asks_busy given asks.0.agent (what.server, what.request.value) asks.2) in
+        let mine = names_mine (fixed_of given) busy.0 asks.0.agent.doing (what.server, what.request.value) (mine_where busy.0 asks.0.agent.doing busy.1) asks.2 in
+        let same = names_one one.t busy.0 what.request.value named mine in
+        let last = last_of (decisions given (events ++ front)) i asks.0.agent.count busy.0 asks.0.agent.doing
+        ((holds_of given calm.fair.can.accepted (events ++ front)).agents.at i asks.0.agent (ap agent_of asks.1)) busy.1 in
+        let small = (holds_of given calm.fair.can.accepted (events ++ front)).agents.small i asks.0.agent (ap agent_of asks.1) in
+        let its = its_agent given calm.fair.can.accepted (events ++ one.before) one.agent one.t (Transaction one.caller one.site one.ops) one.begins in
+        false≢true (sym apart ∙ eq-eqb i one.agent (sym (rest_of_last busy.0 asks.0.agent.count i last small) ∙ ap (λ t. t % 64) (sym same) ∙ its))
 
     not_robbed : (i : ℕ) → (i == one.agent) ≡ false → of_up (takes one.t) (run given (events ++ front)) (step (fixed_of given) (run given (events ++ front)) (Step i)).done.served ≡ false
     not_robbed i apart = of (step (fixed_of given) w (Step i)).done.served refl
@@ -93,48 +99,37 @@ module _ (given : Opening) (events later : List Event) (calm : Calm given events
         of None served = refl
         of (Some what) served = at_server what served (server_at w what.server)
 
-    module _ (running : is_running (run given (events ++ front)) one.agent one.t ≡ true) where
-      has_job : has_no_job (actor_at (run given (events ++ front)) one.agent) ≡ false
-      has_job = no_job_of one.t (actor_at w one.agent) running
+    robbed_not : (event : Event) → robs given one.agent one.t (run given (events ++ front)) event ≡ false
+    robbed_not (Begin i job) = refl
+    robbed_not (Crash server) = refl
+    robbed_not (Return server) = refl
+    robbed_not (Forget i site) = refl
+    robbed_not (Lack i why) = refl
+    robbed_not (Step i) = by (i == one.agent) refl
+      where
+        by : (b : Bool) → (i == one.agent) ≡ b
+            → (not (i == one.agent) && not (is_telling (run given (events ++ front)) one.agent) && of_up (takes one.t) (run given (events ++ front)) (step (fixed_of given) (run given (events ++ front)) (Step i)).done.served) ≡ false
+        by true same = first_not (i == one.agent) (not (is_telling w one.agent)) (of_up (takes one.t) w (step (fixed_of given) w (Step i)).done.served) same
+        by false apart = last_not (not (i == one.agent)) (not (is_telling w one.agent)) (of_up (takes one.t) w (step (fixed_of given) w (Step i)).done.served) (not_robbed i apart)
 
-      free_hand : (event : Event) → spoils given (run given (events ++ front)) event ≡ false → (hinders_itself given one.agent (run given (events ++ front)) event || robs given one.agent one.t (run given (events ++ front)) event) ≡ false
-      free_hand (Begin i job) calm_here = refl
-      free_hand (Crash server) calm_here = refl
-      free_hand (Return server) calm_here = refl
-      free_hand (Forget i site) calm_here = refl
-      free_hand (Lack i why) calm_here = by (i == one.agent) refl
-        where
-          by : (b : Bool) → (i == one.agent) ≡ b → (b || false) ≡ false
-          by true same = absurd (false≢true (sym calm_here ∙ ap not (ap (λ i. has_no_job (actor_at w i)) (eqb-true i one.agent same) ∙ has_job)))
-          by false apart = refl
-      free_hand (Step i) calm_here = by (i == one.agent) refl
-        where
-          by : (b : Bool) → (i == one.agent) ≡ b
-              → (((i == one.agent) && not (is_some (step (fixed_of given) (run given (events ++ front)) (Step i)).done.served))
-              || (not (i == one.agent) && not (is_telling (run given (events ++ front)) one.agent) && of_up (takes one.t) (run given (events ++ front)) (step (fixed_of given) (run given (events ++ front)) (Step i)).done.served)) ≡ false
-          by true same =
-              own_served (i == one.agent) (is_some (step (fixed_of given) w (Step i)).done.served) (not (is_telling w one.agent)) (of_up (takes one.t) w (step (fixed_of given) w (Step i)).done.served) same
-              (not_both (has_no_job (actor_at w i)) (is_some (step (fixed_of given) w (Step i)).done.served) calm_here (ap (λ i. has_no_job (actor_at w i)) (eqb-true i one.agent same) ∙ has_job))
-          by false apart =
-              others_none (i == one.agent) (is_some (step (fixed_of given) w (Step i)).done.served) (not (is_telling w one.agent)) (of_up (takes one.t) w (step (fixed_of given) w (Step i)).done.served) apart (not_robbed i apart)
+    none_crashes : (event : Event) → upsets given (run given (events ++ front)) event ≡ false → bereaves given one.agent one.t (run given (events ++ front)) event ≡ false
+    none_crashes (Begin i job) calm_here = refl
+    none_crashes (Step i) calm_here = refl
+    none_crashes (Crash server) calm_here = absurd (false≢true (sym calm_here))
+    none_crashes (Return server) calm_here = refl
+    none_crashes (Forget i site) calm_here = refl
+    none_crashes (Lack i why) calm_here = refl
 
-      none_crashes : (event : Event) → spoils given (run given (events ++ front)) event ≡ false → bereaves given one.agent one.t (run given (events ++ front)) event ≡ false
-      none_crashes (Begin i job) calm_here = refl
-      none_crashes (Step i) calm_here = refl
-      none_crashes (Crash server) calm_here = absurd (false≢true (sym calm_here))
-      none_crashes (Return server) calm_here = refl
-      none_crashes (Forget i site) calm_here = refl
-      none_crashes (Lack i why) calm_here = refl
-
-      spared_now : (hinders_itself given one.agent (run given (events ++ front)) event || (robs given one.agent one.t (run given (events ++ front)) event || bereaves given one.agent one.t (run given (events ++ front)) event)) ≡ false
-      spared_now =
-          both_none (hinders_itself given one.agent w event) (robs given one.agent one.t w event) (bereaves given one.agent one.t w event) (free_hand event quiet) (none_crashes event quiet)
-
-  spared : (so_far rest : List Event) (event : Event) → one.after ≡ so_far ++ event ∷ rest → IsAtWork (then_at so_far) one.agent one.t
-      → (hinders_itself given one.agent (then_at so_far) event || (robs given one.agent one.t (then_at so_far) event || bereaves given one.agent one.t (then_at so_far) event)) ≡ false
-  spared so_far rest event split work =
-      subst (λ w. (hinders_itself given one.agent w event || (robs given one.agent one.t w event || bereaves given one.agent one.t w event)) ≡ false) (sym (run_is so_far))
-      (spared_now so_far rest event split (ap (λ w. is_running w one.agent one.t) (sym (run_is so_far)) ∙ work.running))
+  module _ (ours : Ours given events later still one) where
+    pub spared : (so_far rest : List Event) (event : Event) → one.after ≡ so_far ++ event ∷ rest → IsAtWork (then_at so_far) one.agent one.t
+        → (hinders_itself given one.agent (then_at so_far) event || (robs given one.agent one.t (then_at so_far) event || bereaves given one.agent one.t (then_at so_far) event)) ≡ false
+    spared so_far rest event split work =
+        let front = one.before ++ begins_event ∷ so_far in
+        let w = run given (events ++ front) in
+        subst (λ w. (hinders_itself given one.agent w event || (robs given one.agent one.t w event || bereaves given one.agent one.t w event)) ≡ false) (sym (run_is so_far))
+        (all_none (hinders_itself given one.agent w event) (robs given one.agent one.t w event) (bereaves given one.agent one.t w event)
+        (ours.served front rest event (part so_far (event ∷ rest) split) (ap (λ w. is_running w one.agent one.t) (sym (run_is so_far)) ∙ work.running))
+        (robbed_not so_far rest event split event) (none_crashes so_far rest event split event (quiet so_far rest event split)))
 
   -- ---- servers
 
@@ -151,31 +146,31 @@ module _ (given : Opening) (events later : List Event) (calm : Calm given events
         (subst (λ all. (s : ℕ) (st : State) → server_at (run given all) s ≡ Some st → st.up ≡ true) (append-nil events) (up_at given events later calm.fair [] later refl)) server)
         ∙ ap up_in at_run ∙ up_now
 
-    shows_same : (z : ℕ) → ((copy_of st.store z).prefix ≡ shown_at (fixed_of given) (run given events) z server) × ((copy_of st.store z).dver ≡ dver_at (run given events) z server)
-    shows_same z = of (server_at (run given events) server) refl up_first
+    shows_same : (z : ℕ) → still z → ((copy_of st.store z).prefix ≡ shown_at (fixed_of given) (run given events) z server) × ((copy_of st.store z).dver ≡ dver_at (run given events) z server)
+    shows_same z kept = of (server_at (run given events) server) refl up_first
       where
         of : (found : Option State) → server_at (run given events) server ≡ found → up_in found ≡ true → ((copy_of st.store z).prefix ≡ shown_in (fixed_of given) found z) × ((copy_of st.store z).dver ≡ dver_in found z)
         of None was up = absurd (false≢true up)
         of (Some old) was up =
-            let same = calm.stored (one.before ++ begins_event ∷ so_far) rest (part so_far rest split) server st at_run old was z in
+            let same = calm.stored (one.before ++ begins_event ∷ so_far) rest (part so_far rest split) z kept server st at_run old was in
             (ap (λ (copy : Replica). copy.prefix) same, ap (λ (copy : Replica). copy.dver) same)
 
   -- ---- so it goes quietly
 
-  pub goes_of : GoesQuietly given events (events ++ one.before) one.after one.agent one.t one.caller one.site one.ops its_actor.0
-  goes_of = record {
+  pub goes_of : Ours given events later still one → GoesQuietly given events (events ++ one.before) one.after one.agent one.t one.caller one.site one.ops its_actor.0
+  goes_of ours = record {
     can = can_all;
     can_base = subst (CanBe given) (append-nil events) (can_at given events later calm.fair [] later refl);
-    free = free_up (run given events).servers calm.fair.free;
+    answers = λ z has. calm.answers z (ours.asks z has);
     there = its_actor.1;
     begins = one.begins;
-    spared = spared;
+    spared = spared ours;
     up = λ so_far rest split server st at. (up_now so_far rest split server st at, up_first so_far rest split server st at);
-    stored = shows_same;
-    tables = λ so_far rest split.
-        ap (λ all. (table_of given all).rows) (append_assoc events one.before (begins_event ∷ so_far)) ∙ calm.rows (one.before ++ begins_event ∷ so_far) rest (part so_far rest split);
-    starts = λ z start may.
-        calm.was one.before (begins_event ∷ one.after) one.parts z start
+    stored = λ so_far rest split server st at z has. shows_same so_far rest split server st at z (ours.asks z has);
+    tables = λ so_far rest split z has.
+        ap (λ all. row_of (table_of given all).rows z) (append_assoc events one.before (begins_event ∷ so_far)) ∙ calm.rows (one.before ++ begins_event ∷ so_far) rest (part so_far rest split) z (ours.asks z has);
+    starts = λ z start has may.
+        calm.was one.before (begins_event ∷ one.after) one.parts z (ours.asks z has) start
         (start_was given (events ++ one.before) (can_at given events later calm.fair one.before (begins_event ∷ one.after) one.parts) z one.agent one.site its_actor.0 start its_actor.1 may);
   }
 
@@ -195,9 +190,9 @@ module _ (given : Opening) (events later : List Event) (calm : Calm given events
       answers (Ok granted) = refl
       answers (Err refusal) = refl
 
-  pub never_decides : IsNotDecided (decisions given (events ++ later)) one.t → (so_far rest : List Event) → one.after ≡ so_far ++ Step one.agent ∷ rest → IsAtWork (world_after given (events ++ one.before) one.agent one.caller one.site one.ops so_far) one.agent one.t → (here : Actor)
+  pub never_decides : Ours given events later still one → IsNotDecided (decisions given (events ++ later)) one.t → (so_far rest : List Event) → one.after ≡ so_far ++ Step one.agent ∷ rest → IsAtWork (world_after given (events ++ one.before) one.agent one.caller one.site one.ops so_far) one.agent one.t → (here : Actor)
       → actor_at (world_after given (events ++ one.before) one.agent one.caller one.site one.ops so_far) one.agent ≡ Some here → (asked : ℕ × Request) → next_of (fixed_of given) here.agent ≡ Some asked → is_decide asked.1 ≡ false
-  never_decides undecided so_far rest split work here there asked next = of (is_decide asked.1) refl
+  never_decides ours undecided so_far rest split work here there asked next = of (is_decide asked.1) refl
     where
       w : World
       w = then_at so_far
@@ -215,17 +210,17 @@ module _ (given : Opening) (events later : List Event) (calm : Calm given events
           none None is = refl
           none (Some d) is =
               let cut = part so_far (Step one.agent ∷ rest) split in
-              let it = decided_of_one given events later calm.fair (one.before ++ begins_event ∷ so_far) rest (Step one.agent) cut d is in
-              let same = same_Some it.so.actor here (sym it.so.there ∙ ap (actor_at (run given (events ++ (one.before ++ begins_event ∷ so_far)))) (same_step it.so.number one.agent (sym it.so.step)) ∙ ap (λ w. actor_at w one.agent) (sym (run_is so_far)) ∙ there) in
-              let number = eqb-true it.so.txn_run.task.t one.t (ap (runs one.t) (sym it.so.running) ∙ ap (λ (a : Actor). runs one.t a.agent.doing) same ∙ runs_here) in
-              absurd (undecided d (contains_from (decisions given (events ++ later)) d (decided_has given events later calm.fair (one.before ++ begins_event ∷ so_far) rest (Step one.agent) cut d is)) (it.so.t ∙ number))
+              let so = answers_follow_knowledge given (events ++ (one.before ++ begins_event ∷ so_far)) (Step one.agent) d is in
+              let same = same_Some so.actor here (sym so.there ∙ ap (actor_at (run given (events ++ (one.before ++ begins_event ∷ so_far)))) (same_step so.number one.agent (sym so.step)) ∙ ap (λ w. actor_at w one.agent) (sym (run_is so_far)) ∙ there) in
+              let number = eqb-true so.txn_run.task.t one.t (ap (runs one.t) (sym so.running) ∙ ap (λ (a : Actor). runs one.t a.agent.doing) same ∙ runs_here) in
+              absurd (undecided d (contains_from (decisions given (events ++ later)) d (decided_has given events later calm.fair (one.before ++ begins_event ∷ so_far) rest (Step one.agent) cut d is)) (so.t ∙ number))
 
       served_so : is_some (step (fixed_of given) (then_at so_far) (Step one.agent)).done.served ≡ true
       served_so = hindered (is_some (step (fixed_of given) w (Step one.agent)).done.served) (robs given one.agent one.t w (Step one.agent)) (bereaves given one.agent one.t w (Step one.agent))
           (subst
           (λ b. ((b && not (is_some (step (fixed_of given) w (Step one.agent)).done.served))
           || (robs given one.agent one.t w (Step one.agent) || bereaves given one.agent one.t w (Step one.agent))) ≡ false) (eq-eqb one.agent one.agent refl)
-          (spared so_far rest (Step one.agent) split work))
+          (spared ours so_far rest (Step one.agent) split work))
         where
           hindered : (s r b : Bool) → ((true && not s) || (r || b)) ≡ false → s ≡ true
           hindered s r b is = grind (arith, nat_tests)
@@ -244,7 +239,7 @@ module _ (given : Opening) (events later : List Event) (calm : Calm given events
           let value : took.asked.1 ≡ request.Decide txn_run.task.t (decision_of txn_run.task d.outcome) = ap (λ (asked : ℕ × Request). asked.1) same ∙ d.decide in
           let number = eqb-true txn_run.task.t one.t running in
           let none = ap (record_of took.st) number
-          ∙ unrecorded_at given (events ++ one.before) one.after one.agent one.t one.caller one.site one.ops its_actor.0 can_all its_actor.1 one.begins spared so_far (Step one.agent ∷ rest) split work took.asked.0 took.st took.at in
+          ∙ unrecorded_at given (events ++ one.before) one.after one.agent one.t one.caller one.site one.ops its_actor.0 can_all its_actor.1 one.begins (spared ours) so_far (Step one.agent ∷ rest) split work took.asked.0 took.st took.at in
           false≢true (ap is_some (sym none_now)
           ∙ ap (λ served. is_some (decided_by w (task_at (actor_at w one.agent)) served)) took.done
           ∙ ap (λ found. is_some (decided_at (server_at w took.asked.0) (to_decide took.asked.1) (decided_as (task_at found) (answer_in (reply_of took.st took.asked.1))))) there

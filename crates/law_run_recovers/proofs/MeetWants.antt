@@ -5,7 +5,7 @@ use Rattle.law_run_recovers.proofs.Vocabulary.{decisions_from-append, decisions,
 use Rattle.law_run_recovers.proofs.Vocabulary.{home_of, Transaction, Configuration, total_votes, votes_at, votes_in, IsValid, Begun, votes_set, SetsApart, votes_now, asks_for, first_mode, is_up, shown_at, begun_world}
 use Rattle.file_ops.specs.Rows as rows
 use Rattle.law_run_recovers.proofs.Free.{is_up_of}
-use Rattle.law_run_recovers.proofs.MeetCalm.{Calm, calm_front}
+use Rattle.law_run_recovers.proofs.MeetCalm.{Calm, IsOurs, Ours, calm_front, ours_front}
 use Rattle.law_run_recovers.proofs.Polled.{closed_wider}
 use Rattle.law_run_recovers.proofs.RowVotes.{ListsKnown, set_so, sets_known, sets_valid, prefix_known}
 use Rattle.law_run_recovers.proofs.MeetBehind.{up_voter, valid_was, row_or_old}
@@ -13,7 +13,7 @@ use Rattle.law_run_recovers.proofs.MeetCount.{Falls}
 use Rattle.law_run_recovers.proofs.MeetCourse.{sight, answering, short_at}
 use Rattle.law_run_recovers.proofs.MeetEnds.{Fixed}
 use Rattle.law_run_recovers.proofs.MeetQuiet.{GoesQuietly}
-use Rattle.law_run_recovers.proofs.MeetReach.{wide, wanting}
+use Rattle.law_run_recovers.proofs.MeetReach.{is_asked, wide, wanting}
 use Rattle.law_run_recovers.proofs.MeetRun.{part, its_actor, goes_of, never_decides}
 use Rattle.law_run_recovers.proofs.MeetTold.{for_lock, says_held, grants, refuses, some_step, found_in, four, opens_free, free_weaker, free_up, free_fits}
 
@@ -30,7 +30,7 @@ shut_by true true up is = refl
 shut_by true false up is = sym is
 shut_by false b up is = absurd (false≢true up)
 
-module _ (given : Opening) (events later : List Event) (calm : Calm given events later) (who : Begun given events later) (f : Fixed given events later who) where
+module _ (given : Opening) (events later : List Event) {still : ℕ → Type 0} (calm : Calm given events later still) (who : Begun given events later) (ours : Ours given events later still who) (f : Fixed given events later who) where
   -- the run up to where its end is fixed
   abbrev pub upto : List Event
   upto = who.before ++ Begin who.agent (Transaction who.caller who.site who.ops) ∷ f.front
@@ -38,8 +38,11 @@ module _ (given : Opening) (events later : List Event) (calm : Calm given events
   pub whole : later ≡ upto ++ f.back
   whole = part given events later calm who f.front f.back f.parts
 
-  pub calm_upto : Calm given events upto
-  calm_upto = calm_front given events upto f.back (subst (Calm given events) whole calm)
+  pub calm_upto : Calm given events upto still
+  calm_upto = calm_front given events upto f.back still (subst (λ later. Calm given events later still) whole calm)
+
+  pub ours_upto : IsOurs given events upto still who.agent who.t who.caller who.ops
+  ours_upto = ours_front given events later upto f.back still who.agent who.t who.caller who.ops whole ours
 
   abbrev it : Begun given events upto
   it = record { before = who.before; after = f.front; agent = who.agent; t = who.t; caller = who.caller; site = who.site; ops = who.ops; parts = refl; begins = who.begins }
@@ -48,7 +51,7 @@ module _ (given : Opening) (events later : List Event) (calm : Calm given events
   actor = (its_actor given events upto calm_upto it).0
 
   pub goes : GoesQuietly given events (events ++ who.before) f.front who.agent who.t who.caller who.site who.ops actor
-  goes = goes_of given events upto calm_upto it
+  goes = goes_of given events upto calm_upto it ours_upto
 
   abbrev open_to : ℕ → LockMode → ℕ → Bool
   open_to = opens_free given events (events ++ who.before) f.front who.agent who.t who.caller who.site who.ops actor goes
@@ -115,7 +118,7 @@ module _ (given : Opening) (events later : List Event) (calm : Calm given events
 
     pub wants : Wants others
     wants =
-        let never = never_decides given events upto calm_upto it undecided_upto in
+        let never = never_decides given events upto calm_upto it ours_upto undecided_upto in
         let weaker = free_weaker given events (events ++ who.before) f.front who.agent who.t who.caller who.site who.ops actor goes in
         let opens_up = free_up given events (events ++ who.before) f.front who.agent who.t who.caller who.site who.ops actor goes in
         let fits = free_fits given events (events ++ who.before) f.front who.agent who.t who.caller who.site who.ops actor goes in
@@ -138,9 +141,10 @@ module _ (given : Opening) (events later : List Event) (calm : Calm given events
           most = in_range one.votes one.mode (set_valid (one.suite, one.votes) has);
           found = inl set.1;
           falls = ⊎_elim (λ same. inl same) (λ none. inr (inr none)) (apart (one.suite, one.votes) set.1);
-          shut = λ server has_vote is. barred server (up_voter given events goes.can_base goes.free calm.fair.up one.votes (set_known (one.suite, one.votes) has) server has_vote) is;
+          shut = λ server has_vote is. barred server (up_voter given events goes.can_base calm.fair.up one.votes (set_known (one.suite, one.votes) has) server has_vote) is;
         })
         (λ found.
+        let has_asked' = is_asked given events (events ++ who.before) f.front who.agent who.t who.caller who.site who.ops actor goes never open_to weaker opens_up fits (one.suite, one.mode) one.asks in
         let known = prefix_known given goes.can_base.accepted.known_servers events goes.can_base one.suite found.prefix found.was in
         record {
           suite = one.suite;
@@ -149,7 +153,7 @@ module _ (given : Opening) (events later : List Event) (calm : Calm given events
           votes = one.votes;
           open' = open_to one.suite one.mode;
           few = one.few;
-          most = in_range one.votes one.mode (subst IsValid (sym found.is) (valid_was given events goes.can_base goes.free calm.fair.up one.suite found.prefix found.was));
+          most = in_range one.votes one.mode (subst IsValid (sym found.is) (valid_was given events goes.can_base calm.fair.up one.suite found.prefix found.was));
           found = inr (record { prefix = found.prefix; is = found.is; was = found.was });
           falls = ⊎_elim
               (λ row. inl (found.is ∙ row))
@@ -167,9 +171,9 @@ module _ (given : Opening) (events later : List Event) (calm : Calm given events
                     subst (λ server. (shown_at (fixed_of given) (run given events) one.suite server).pver ≤ found.prefix.pver) (eqb-true g.what.server other facts.0)
                     (found.top g.front g.back g.what g.parts g.served facts.1 facts.2);
               })))
-              (row_or_old given events goes.can_base goes.free calm.fair.up one.suite found.prefix found.was
+              (row_or_old given events goes.can_base calm.fair.up one.suite (goes.answers one.suite has_asked') found.prefix found.was
               (open_to one.suite (first_mode (asks_for given events who.t who.caller who.ops) one.suite))
-              (answering given events (events ++ who.before) f.front who.agent who.t who.caller who.site who.ops actor goes open_to weaker opens_up fits one.suite) found.last known);
-          shut = λ server has_vote is. barred server (up_voter given events goes.can_base goes.free calm.fair.up one.votes (subst (ListsKnown given.servers) (sym found.is) known) server has_vote) is;
+              (answering given events (events ++ who.before) f.front who.agent who.t who.caller who.site who.ops actor goes open_to weaker opens_up fits one.suite has_asked') found.last known);
+          shut = λ server has_vote is. barred server (up_voter given events goes.can_base calm.fair.up one.votes (subst (ListsKnown given.servers) (sym found.is) known) server has_vote) is;
         })
         one.how

@@ -11,6 +11,9 @@ use Rattle.law_run_recovers.proofs.ValidEvents.{all_by, event_sets_none, valid_e
 use Rattle.law_run_recovers.proofs.Keeps.{after_append}
 use Rattle.law_run_recovers.proofs.LawsWorked.{votes_fit, valid_votes}
 use Rattle.law_run_recovers.specs.Contending.{at_the_last}
+use Rattle.law_run_recovers.specs.Meets.{TheyMeet}
+use Rattle.law_run_recovers.specs.MeetsByRows.{TheyMeetByRows}
+use Rattle.law_run_recovers.proofs.MeetAlone.{one_that_meets_by_rows_is_decided, one_that_meets_is_decided}
 use Rattle.law_run_recovers.proofs.MeetCount.{Same}
 
 they_can : CanBe with_caches (two_made ++ two_meet)
@@ -86,32 +89,36 @@ no_votes = []
 none_set : (set : ℕ × Configuration) → Contains no_votes set → ⊥
 none_set set has = has_from no_votes set has
 
+they_meet : TheyMeet with_caches two_made two_meet one other
+they_meet = record {
+  can = they_can;
+  idle = refl;
+  up = refl;
+  free = refl;
+  unspoiled = λ before rest event split.
+      subst (λ world. spoils with_caches world event ≡ false) (sym (after_append (fixed_of with_caches) two_made before (opening with_caches))) (none_spoils_it two_meet before event rest (run with_caches two_made) refl split);
+  two = refl;
+  alone = alone two_made;
+  suite = 1;
+  mine = Exclusive;
+  theirs = Exclusive;
+  first = refl;
+  other_first = refl;
+  not_both_raise = refl;
+  tight = λ mine theirs has there clash. tight mine theirs;
+  unmoved = unmoved;
+  other_unmoved = unmoved;
+  moves_none = λ set has. absurd (none_set set has);
+  other_moves_none = λ set has. absurd (none_set set has);
+}
+
 pub some_runs_meet : SomeRunsMeet
 some_runs_meet = record {
   one = one;
   other = other;
-  meets = record {
-    can = they_can;
-    idle = refl;
-    up = refl;
-    free = refl;
-    unspoiled = λ before rest event split.
-        subst (λ world. spoils with_caches world event ≡ false) (sym (after_append (fixed_of with_caches) two_made before (opening with_caches))) (none_spoils_it two_meet before event rest (run with_caches two_made) refl split);
-    two = refl;
-    alone = alone two_made;
-    suite = 1;
-    mine = Exclusive;
-    theirs = Exclusive;
-    first = refl;
-    other_first = refl;
-    not_both_raise = refl;
-    tight = λ mine theirs has there clash. tight mine theirs;
-    unmoved = unmoved;
-    other_unmoved = unmoved;
-    moves_none = λ set has. absurd (none_set set has);
-    other_moves_none = λ set has. absurd (none_set set has);
-  };
+  meets = they_meet;
   ends = refl;
+  so = one_that_meets_is_decided with_caches two_made two_meet one other they_meet;
 }
 
 -- ---- where votes were moved
@@ -156,30 +163,34 @@ last_tight Shared Exclusive = refl
 last_tight Exclusive Shared = refl
 last_tight Exclusive Exclusive = refl
 
+they_meet_by_rows : TheyMeetByRows with_caches votes_moved two_meet first_then second_then
+they_meet_by_rows = record {
+  can = moved_can;
+  idle = refl;
+  up = refl;
+  free = refl;
+  unspoiled = λ before rest event split.
+      subst (λ world. spoils with_caches world event ≡ false) (sym (after_append (fixed_of with_caches) votes_moved before (opening with_caches)))
+      (none_spoils_it two_meet before event rest (run with_caches votes_moved) refl split);
+  two = refl;
+  alone = alone votes_moved;
+  suite = 1;
+  mine = Exclusive;
+  theirs = Exclusive;
+  first = refl;
+  other_first = refl;
+  not_both_raise = refl;
+  tight = λ mine theirs has there clash. last_tight mine theirs;
+  sets_apart = λ set has. absurd (none_set set has);
+  other_sets_apart = λ set has. absurd (none_set set has);
+}
+
 pub some_runs_meet_by_rows : SomeRunsMeetByRows
 some_runs_meet_by_rows = record {
   one = first_then;
   other = second_then;
-  meets = record {
-    can = moved_can;
-    idle = refl;
-    up = refl;
-    free = refl;
-    unspoiled = λ before rest event split.
-        subst (λ world. spoils with_caches world event ≡ false) (sym (after_append (fixed_of with_caches) votes_moved before (opening with_caches)))
-        (none_spoils_it two_meet before event rest (run with_caches votes_moved) refl split);
-    two = refl;
-    alone = alone votes_moved;
-    suite = 1;
-    mine = Exclusive;
-    theirs = Exclusive;
-    first = refl;
-    other_first = refl;
-    not_both_raise = refl;
-    tight = λ mine theirs has there clash. last_tight mine theirs;
-    sets_apart = λ set has. absurd (none_set set has);
-    other_sets_apart = λ set has. absurd (none_set set has);
-  };
+  meets = they_meet_by_rows;
   moved = refl;
   ends = refl;
+  so = one_that_meets_by_rows_is_decided with_caches votes_moved two_meet first_then second_then they_meet_by_rows;
 }

@@ -12,7 +12,9 @@ use Rattle.law_run_recovers.proofs.HadVotes.{decided_had_votes_up}
 use Rattle.law_run_recovers.proofs.Histories.{finished_before_at_server, changes_are_met_at_server}
 use Rattle.law_run_recovers.proofs.Homes.{homes_go_round}
 use Rattle.law_run_recovers.proofs.InTime.{runs_end_by_the_bounds}
-use Rattle.law_run_recovers.proofs.MeetLaw.{one_that_meets_is_decided, one_that_meets_by_rows_is_decided}
+use Rattle.law_run_recovers.proofs.MeetAlone.{one_that_meets_is_decided, one_that_meets_by_rows_is_decided}
+use Rattle.law_run_recovers.proofs.MeetLaw.{one_that_meets_beside_is_decided}
+use Rattle.law_run_recovers.proofs.MeetReaders.{writer_or_reader_beside_is_decided}
 use Rattle.law_run_recovers.proofs.Rounds.{only_doubts_are_left}
 use Rattle.law_run_recovers.proofs.Rows.{met_demands_are_rows}
 use Rattle.law_run_recovers.proofs.Stored.{all_is_stored}
@@ -55,6 +57,8 @@ available sites given events can = record {
   beside_ends = side_by_side_end_by_votes given events;
   one_that_meets = one_that_meets_is_decided given events;
   meets_by_rows = one_that_meets_by_rows_is_decided given events;
+  meets_beside = one_that_meets_beside_is_decided given events;
+  reader_beside = writer_or_reader_beside_is_decided given events;
   finished = finished_before_at_server given events can;
   changes_met = changes_are_met_at_server given events can;
   homes = homes_go_round given;

@@ -2,7 +2,7 @@
 use Rattle.law_run_recovers.proofs.Vocabulary.{Bool, Contains, List, [], ap, arith, false, inl, inr, not, refl, subst, sym, true, ℕ, ⊎_elim, ◌&&◌, ◌++◌, ◌==◌, ◌∙◌, ◌∷◌, ◌≡◌, ◌⊎◌, and_parts, false≢true, list_all, list_any, row_of}
 use Rattle.law_run_recovers.proofs.Vocabulary.{after, some_run_revokes, CanBe, EventGivesValidVotes, any_has, has_any, has_from, decisions_from-append, Decided, decisions, decisions_from, run, table_after_all, table_of, World, opening}
 use Rattle.law_run_recovers.proofs.Vocabulary.{step, Event, Begin, is_exclusive, LockMode, Exclusive, Shared, fixed_of, owner, Transaction, Configuration, Begun, clashes, its_asks, spoils, two_made, HasFirstVotes}
-use Rattle.law_run_recovers.proofs.Vocabulary.{asks_for, only_reads}
+use Rattle.law_run_recovers.proofs.Vocabulary.{asks_for, only_reads, ReadersMeet}
 use Rattle.suite_prefix.specs.SettingsRules.{IsAccepted}
 use Rattle.file_ops.specs.Rows as rows
 use Rattle.law_runs.specs.Worked.{close_a, read_a}
@@ -12,9 +12,10 @@ use Rattle.law_run_recovers.proofs.AmongCourse.{head_or, tail_or}
 use Rattle.law_run_recovers.proofs.BesideWorked.{is_step, none_begins}
 use Rattle.law_run_recovers.proofs.Keeps.{after_append}
 use Rattle.law_run_recovers.proofs.MeetWorked.{one_or_none}
+use Rattle.law_run_recovers.proofs.ReadersAlone.{writer_or_readers_are_decided}
 use Rattle.law_run_recovers.proofs.ValidEvents.{all_by, event_sets_none, valid_event}
 
-accepted : IsAccepted three_agents
+pub accepted : IsAccepted three_agents
 accepted = record {
   some_servers = some_run_revokes.can_be.accepted.some_servers;
   some_agents = (omega arith, omega arith);
@@ -129,25 +130,29 @@ unmoved before later parts = ⊎_elim
 abbrev no_votes : List (ℕ × Configuration)
 no_votes = []
 
+readers_meet : ReadersMeet three_agents two_made closed_while_read writer
+readers_meet = record {
+  can = they_can;
+  idle = refl;
+  up = refl;
+  free = refl;
+  unspoiled = λ before rest event split.
+      subst (λ world. spoils three_agents world event ≡ false) (sym (after_append (fixed_of three_agents) two_made before (opening three_agents)))
+      (none_spoils_it closed_while_read before event rest (run three_agents two_made) refl split);
+  others_read = others_read;
+  suite = 1;
+  at_it = at_it;
+  tight = refl;
+  unmoved = unmoved;
+  moves_none = λ votes has. absurd (has_from no_votes (1, votes) has);
+}
+
 pub some_runs_meet_readers : SomeRunsMeetReaders
 some_runs_meet_readers = record {
   writer = writer;
   reader = reader;
-  meets = record {
-    can = they_can;
-    idle = refl;
-    up = refl;
-    free = refl;
-    unspoiled = λ before rest event split.
-        subst (λ world. spoils three_agents world event ≡ false) (sym (after_append (fixed_of three_agents) two_made before (opening three_agents)))
-        (none_spoils_it closed_while_read before event rest (run three_agents two_made) refl split);
-    others_read = others_read;
-    suite = 1;
-    at_it = at_it;
-    tight = refl;
-    unmoved = unmoved;
-    moves_none = λ votes has. absurd (has_from no_votes (1, votes) has);
-  };
+  meets = readers_meet;
   reads = refl;
   ends = refl;
+  so = writer_or_readers_are_decided three_agents two_made closed_while_read writer reader readers_meet refl;
 }

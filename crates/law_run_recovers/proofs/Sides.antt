@@ -113,17 +113,20 @@ module _ (given : Opening) (accepted : IsAccepted given) where
   abbrev pub AllUp : World → Type 0
   AllUp world = AllServers (λ (st : State). st.up ≡ true) world
 
-  pub up_next : (all : List Event) (event : Event) → spoils given (run given all) event ≡ false → AllUp (run given all) → AllUp (step (fixed_of given) (run given all) event).world
-  up_next all event calm up = asks_servers (fixed_of given) (λ s st. st.up ≡ true) (λ s asked. is_crash asked ≡ false) (λ s st asked other up. up_stays st asked other up) (run given all) up event (may event calm)
+  pub up_unless : (all : List Event) (event : Event) → ((server : ℕ) → event ≡ Crash server → ⊥) → AllUp (run given all) → AllUp (step (fixed_of given) (run given all) event).world
+  up_unless all event none up = asks_servers (fixed_of given) (λ s st. st.up ≡ true) (λ s asked. is_crash asked ≡ false) (λ s st asked other up. up_stays st asked other up) (run given all) up event (may event none)
     where
-      may : (event : Event) → spoils given (run given all) event ≡ false → MayAsk (fixed_of given) (λ s asked. is_crash asked ≡ false) (run given all) event
-      may (Step i) calm = λ actor asked is next.
+      may : (event : Event) → ((server : ℕ) → event ≡ Crash server → ⊥) → MayAsk (fixed_of given) (λ s asked. is_crash asked ≡ false) (run given all) event
+      may (Step i) none = λ actor asked is next.
           ⊎_elim (λ self. never_crash self.task.t asked.1 (inl self.named)) (λ sweeps. never_crash 0 asked.1 (inr sweeps.swept)) (agents_ask_for_themselves given accepted all i actor asked.0 asked.1 is next)
-      may (Crash server) calm = absurd (false≢true (sym calm))
-      may (Return server) calm = refl
-      may (Begin i job) calm = tt
-      may (Forget i site) calm = tt
-      may (Lack i why) calm = tt
+      may (Crash server) none = absurd (none server refl)
+      may (Return server) none = refl
+      may (Begin i job) none = tt
+      may (Forget i site) none = tt
+      may (Lack i why) none = tt
+
+  pub up_next : (all : List Event) (event : Event) → spoils given (run given all) event ≡ false → AllUp (run given all) → AllUp (step (fixed_of given) (run given all) event).world
+  up_next all event calm up = up_unless all event (λ server is. false≢true (sym calm ∙ ap (spoils given (run given all)) is)) up
 
   up_there : (world : World) (server : ℕ) → AllUp world → is_up world server ≡ is_some (server_at world server)
   up_there world server up = of (server_at world server) refl

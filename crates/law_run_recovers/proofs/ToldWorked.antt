@@ -7,7 +7,8 @@ use Rattle.suite_prefix.specs.code.Equality.{same_prefix, same_prefix_decides}
 use Rattle.law_run_recovers.specs.Contending.{one_server, both_made}
 use Rattle.law_run_recovers.specs.LawsWorked.{read_between, IsToldAsAtItsBegin, SomeRunsShowTheLaws}
 use Rattle.law_run_recovers.specs.Told.{shows_same, SameWay, told_as_first, AsAtItsBegin, ToldAsAtItsBegin}
-use Rattle.law_run_recovers.proofs.LawsWorked.{happens_at, unless, not_so, same_bool, same_is, same_way, way_is, one_can, its_actor, met_by_nobody, among_locks, doubts_left}
+use Rattle.law_run_recovers.proofs.ToldLaws.{told_end_by_votes}
+use Rattle.law_run_recovers.proofs.LawsWorked.{happens_at, unless, not_so, same_bool, same_is, same_way, way_is, one_can, its_actor, goes_by_itself, met_by_nobody, among_locks, doubts_left}
 
 -- ---- what it is told at a moment
 
@@ -122,7 +123,8 @@ told_as_begun = record {
   goes = goes;
   was_in_its_way = refl;
   ends = refl;
+  so = told_end_by_votes one_server both_made read_between 0 64 owner 0 (puts a 0 ∷ []) (its_actor both_made refl).0 goes;
 }
 
 pub some_runs_show_the_laws : SomeRunsShowTheLaws
-some_runs_show_the_laws = record { unmet = met_by_nobody; among = among_locks; told = told_as_begun; doubts = doubts_left }
+some_runs_show_the_laws = record { alone = goes_by_itself; unmet = met_by_nobody; among = among_locks; told = told_as_begun; doubts = doubts_left }

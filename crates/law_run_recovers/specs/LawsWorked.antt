@@ -1,30 +1,46 @@
--- Runs that the laws of who is unmet, among locks and told as at its begin are about, and those of sweeps that leave a doubt, by computation.
-use Rattle.std.specs.Prelude.{◌≡◌, ℕ, true, false, List, [], ◌∷◌, ◌++◌, Some}
-use Rattle.vote_core.specs.Quorums.{Configuration}
+-- Runs that the laws of who is alone, unmet, among locks and told as at its begin are about, and those of sweeps that leave a doubt, by computation; and what the laws say of them.
+use Rattle.std.specs.Prelude.{◌≡◌, ℕ, ◌+◌, nat_le, true, false, List, [], ◌∷◌, ◌++◌, Contains, Some}
+use Rattle.vote_core.specs.Quorums.{Configuration, total_votes, votes_in}
 use Rattle.suite_prefix.specs.declared.lock_mode.LockMode.TheVariants.{Exclusive}
+use Rattle.suite_collect.specs.Collecting.{needed_of}
 use Rattle.file_ops.specs.declared.answer.Answer.TheVariants as answer
 use Rattle.file_ops.specs.declared.operation.Action.TheVariants as action
 use Rattle.txn_core.specs.declared.ending.Ending.TheVariants.{Answered, Undecided}
 use Rattle.txn_core.specs.declared.ending.Cause.TheVariants.{Busy}
-use Rattle.txn_core.specs.declared.job.Job.TheVariants.{Transaction}
+use Rattle.txn_core.specs.declared.job.Job.TheVariants.{Transaction, Sweep}
+use Rattle.txn_core.specs.Agents.{fixed_of}
 use Rattle.txn_core.specs.Runs.{owner, a, op}
 use Rattle.run_core.specs.declared.event.Event.{Event}
 use Rattle.run_core.specs.declared.event.Event.TheVariants.{Begin}
-use Rattle.run_core.specs.Worlds.{Actor}
-use Rattle.run_core.specs.Runs.{run}
+use Rattle.run_core.specs.declared.done.EndedJob.{EndedJob}
+use Rattle.run_core.specs.Worlds.{Actor, step}
+use Rattle.run_core.specs.Runs.{dones, outcomes, run}
 use Rattle.law_runs.specs.Worked.{two_agents, so_many}
 use Rattle.law_run_alone.specs.Undisturbed.{all_up}
 use Rattle.law_run_recovers.specs.Standing.{is_up}
-use Rattle.law_run_recovers.specs.Sweeping.{sweeps, SweepsAlone}
+use Rattle.law_run_recovers.specs.Laws.{GoesAlone, EndsByVotes}
+use Rattle.law_run_recovers.specs.Local.{EndsThen}
+use Rattle.law_run_recovers.specs.Sweeping.{sweeps, LeavesDoubts, SweepsAlone}
 use Rattle.law_run_recovers.specs.Near.{way_at}
-use Rattle.law_run_recovers.specs.Unmet.{world_after, GoesUnmet}
-use Rattle.law_run_recovers.specs.Among.{GoesAmongLocks}
-use Rattle.law_run_recovers.specs.Told.{ToldAsAtItsBegin}
+use Rattle.law_run_recovers.specs.Unmet.{begun_world, world_after, GoesUnmet}
+use Rattle.law_run_recovers.specs.Among.{EndsByOpenVotes, GoesAmongLocks}
+use Rattle.law_run_recovers.specs.Told.{everywhere, ToldAsAtItsBegin}
 use Rattle.law_run_recovers.specs.OpenDemands.{Want}
-use Rattle.law_run_recovers.specs.Blocking.{SweepsAll, can_have}
+use Rattle.law_run_recovers.specs.Blocking.{IsBlocker, SweepsAll, WasItsHome, blocks, can_have}
 use Rattle.law_run_recovers.specs.BesideWorked.{turns}
 use Rattle.law_run_recovers.specs.Contending.{one_server, b, puts, both_made}
 use Rattle.law_run_recovers.specs.Worked.{endings_in, stopped, in_the_dark}
+
+-- ---- it goes alone
+
+-- it writes `/a`, and nobody else does anything
+pub record IsAlone : Type 0 where
+  pub actor : Actor
+  pub goes : GoesAlone one_server both_made (so_many 10 0) 0 64 owner 0 (puts a 0 ∷ []) actor
+  pub ends : endings_in one_server (both_made ++ Begin 0 (Transaction owner 0 (puts a 0 ∷ [])) ∷ so_many 10 0) ≡
+      (0, Answered (answer.Made 1 ∷ answer.Made 2 ∷ [])) ∷ (64, Answered (answer.Wrote ∷ [])) ∷ []
+  pub so : (job : EndedJob) → Contains (outcomes (dones (fixed_of one_server) (begun_world one_server both_made 0 owner 0 (puts a 0 ∷ [])) (so_many 10 0))) job → job.agent ≡ 0
+      → EndsByVotes one_server both_made 64 owner 0 (puts a 0 ∷ []) actor.agent.cache job
 
 -- ---- nobody meets it, and another is at work beside
 
@@ -37,6 +53,7 @@ pub record IsMetByNobody : Type 0 where
   pub goes : GoesUnmet one_server b_locked (turns 6) 0 64 owner 0 (puts a 0 ∷ []) actor
   pub ends : endings_in one_server (b_locked ++ Begin 0 (Transaction owner 0 (puts a 0 ∷ [])) ∷ turns 6) ≡
       (0, Answered (answer.Made 1 ∷ answer.Made 2 ∷ [])) ∷ (1, Answered (answer.Wrote ∷ [])) ∷ (64, Answered (answer.Wrote ∷ [])) ∷ []
+  pub so : (job : EndedJob) → EndsThen one_server b_locked (turns 6) 0 64 owner 0 (puts a 0 ∷ []) job → EndsByVotes one_server b_locked 64 owner 0 (puts a 0 ∷ []) actor.agent.cache job
 
 -- ---- it goes among locks, one of which is in its way
 
@@ -49,6 +66,7 @@ pub record IsAmongLocks : Type 0 where
   pub goes : GoesAmongLocks one_server a_locked (so_many 6 0) 0 64 owner 0 (puts a 0 ∷ []) actor
   pub ends : endings_in one_server (a_locked ++ Begin 0 (Transaction owner 0 (puts a 0 ∷ [])) ∷ so_many 6 0) ≡
       (0, Answered (answer.Made 1 ∷ answer.Made 2 ∷ [])) ∷ (64, Undecided (Busy 0 1)) ∷ []
+  pub so : (job : EndedJob) → EndsThen one_server a_locked (so_many 6 0) 0 64 owner 0 (puts a 0 ∷ []) job → EndsByOpenVotes one_server a_locked 64 owner 0 (puts a 0 ∷ []) actor.agent.cache goes.near job
 
 -- ---- it is told as at its begin, though a lock came in its way and went
 
@@ -65,6 +83,7 @@ pub record IsToldAsAtItsBegin : Type 0 where
   pub was_in_its_way : way_at (world_after one_server both_made 0 owner 0 (puts a 0 ∷ []) locks_it) 64 1 Exclusive 0 ≡ Some (Some 1)
   pub ends : endings_in one_server (both_made ++ Begin 0 (Transaction owner 0 (puts a 0 ∷ [])) ∷ read_between) ≡
       (0, Answered (answer.Made 1 ∷ answer.Made 2 ∷ [])) ∷ (1, Answered (answer.Read [] ∷ [])) ∷ (64, Answered (answer.Wrote ∷ [])) ∷ []
+  pub so : (job : EndedJob) → EndsThen one_server both_made read_between 0 64 owner 0 (puts a 0 ∷ []) job → EndsByOpenVotes one_server both_made 64 owner 0 (puts a 0 ∷ []) actor.agent.cache everywhere job
 
 -- ---- a sweep leaves a doubt, which blocks the file
 
@@ -87,10 +106,19 @@ pub record DoubtsAreLeft : Type 0 where
   pub all_were_up : all_up (run two_agents stopped) ≡ true
   pub is_up_still : is_up (run two_agents in_the_dark) 0 ≡ true
   pub cannot_either : can_have two_agents (in_the_dark ++ sweeps 1 sweep_up) 129 (wants_a at_the_first) ≡ false
+  -- the laws say what the sweep leaves, which votes are open by the servers that block, and that some server does; of the second it is the crashed one, which was
+  -- the home of a transaction that stood prepared
+  pub leaves : (job : EndedJob) → Contains (outcomes (dones (fixed_of two_agents) (step (fixed_of two_agents) (run two_agents in_the_dark) (Begin 1 (Sweep 0))).world (so_many 2 1))) job → job.agent ≡ 1
+      → LeavesDoubts two_agents in_the_dark (so_many 2 1) 1 0 job
+  pub blocked : (want : Want) → can_have two_agents (in_the_dark ++ sweeps 1 sweep_up) 129 want
+      ≡ nat_le (needed_of want.mode want.votes + votes_in want.votes.reps (blocks (fixed_of two_agents) (run two_agents in_the_dark) 129 want.suite want.mode)) (total_votes want.votes.reps)
+  pub blocker : IsBlocker two_agents (run two_agents in_the_dark) 129 (wants_a two_agents.c0)
+  pub was_its_home : WasItsHome two_agents (run two_agents stopped) 129 (wants_a at_the_first) 1
 
 -- ---- all of them
 
 pub record SomeRunsShowTheLaws : Type 0 where
+  pub alone : IsAlone
   pub unmet : IsMetByNobody
   pub among : IsAmongLocks
   pub told : IsToldAsAtItsBegin

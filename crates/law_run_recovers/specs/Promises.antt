@@ -14,6 +14,7 @@ use Rattle.law_run_recovers.specs.Laws.{EndsAreByVotesAt, EndsInTimeAt, MetDeman
 use Rattle.law_run_recovers.specs.InTime.{RunsEndByTheBoundsAt}
 use Rattle.law_run_recovers.specs.Local.{UnmetEndByVotesAt, UnmetEndInTimeAt, UnmetHadVotesUpAt, UnmetAreDecidedWhereVotesAreAt}
 use Rattle.law_run_recovers.specs.Meets.{OneThatMeetsIsDecidedAt}
+use Rattle.law_run_recovers.specs.MeetsBeside.{OneThatMeetsBesideIsDecidedAt, WriterOrReaderBesideIsDecidedAt}
 use Rattle.law_run_recovers.specs.MeetsByRows.{OneThatMeetsByRowsIsDecidedAt}
 use Rattle.law_run_recovers.specs.Among.{AmongLocksEndByVotesAt, AmongLocksEndInTimeAt, AmongLocksHadVotesOpenAt, AmongLocksAreDecidedWhereVotesAreAt, AmongLocksAreAnsweredAsBegunAt, AmongLocksGatherTheirAsksAt, AmongLocksLeaveNoLockAt}
 use Rattle.law_run_recovers.specs.Told.{ToldEndByVotesAt, ToldEndInTimeAt, ToldHadVotesOpenAt, ToldAreDecidedWhereVotesAreAt, ToldAreAnsweredAsBegunAt, ToldGatherTheirAsksAt}
@@ -70,6 +71,10 @@ pub record IsAvailable (given : Opening) (events : List Event) : Type 0 where
   pub one_that_meets : OneThatMeetsIsDecidedAt given events
   -- so it is where votes were set before, by the votes that are in effect as they begin
   pub meets_by_rows : OneThatMeetsByRowsIsDecidedAt given events
+  -- and where others are beside, who may be at work already and begin again and again, as long as no lock of theirs is in the way of what the two ask for
+  pub meets_beside : OneThatMeetsBesideIsDecidedAt given events
+  -- likewise of one that writes and one that reads, where others may read the one suite
+  pub reader_beside : WriterOrReaderBesideIsDecidedAt given events
   -- where a server served the Finish of one transaction before a request of another that is none, the first was decided before the second; so a change whose
   -- Finish says that it was answered is met
   pub finished : FinishedBeforeAtServerAt given events

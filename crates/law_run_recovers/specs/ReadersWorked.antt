@@ -12,6 +12,7 @@ use Rattle.law_headline.specs.Worked.{with_caches}
 use Rattle.law_runs.specs.Worked.{close_a, read_a}
 use Rattle.law_run_recovers.specs.Beside.{Begun, its_asks}
 use Rattle.law_run_recovers.specs.BesideWorked.{two_made}
+use Rattle.law_run_recovers.specs.MeetsWorked.{OneIsDecidedOf}
 use Rattle.law_run_recovers.specs.Readers.{only_reads, ReadersMeet}
 use Rattle.law_run_recovers.specs.Worked.{endings_in}
 
@@ -35,3 +36,4 @@ pub record SomeRunsMeetReaders : Type 0 where
   pub ends : endings_in three_agents (two_made ++ closed_while_read) ≡
       (0, Answered (answer.Made 1 ∷ answer.Made 2 ∷ []))
       ∷ (1, Undecided (Busy 0 2)) ∷ (64, Answered (answer.Read [] ∷ [])) ∷ (2, Answered (answer.Read [] ∷ [])) ∷ []
+  pub so : OneIsDecidedOf three_agents two_made closed_while_read writer reader

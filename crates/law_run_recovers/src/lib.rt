@@ -26,7 +26,9 @@
 //!   nobody meets them (`side_by_side_are_unmet`, `side_by_side_end_by_votes`, `side_by_side_end_while_down`).
 //! - Of two that alone meet, at one suite first and by votes that leave enough to one of them, one is decided
 //!   (`one_that_meets_is_decided`; a run is in `some_runs_meet`), also where votes were set before
-//!   (`one_that_meets_by_rows_is_decided`, `some_runs_meet_by_rows`).
+//!   (`one_that_meets_by_rows_is_decided`, `some_runs_meet_by_rows`), and where others are beside, who may do what they
+//!   will as long as no lock of theirs is in the way of the two (`one_that_meets_beside_is_decided`,
+//!   `some_runs_meet_beside`), of which those are cases.
 //! - Homes go round. So where the votes are up, of as many tries as there are servers one is decided
 //!   (`homes_go_round`, `one_of_them_is_decided`).
 //! - Sweeps leave only locks in doubt, change no copy in effect, and with all servers up leave none
@@ -40,7 +42,8 @@
 //! - `promise` lends all this of a world, and `what_can_be_is_available` of any events that there can be. In
 //!   `some_runs_recover` and `some_runs_go_side_by_side` it says something.
 //! - Where one writes and any number only read what it writes, it is decided or each of them is
-//!   (`writer_or_readers_are_decided`).
+//!   (`writer_or_readers_are_decided`), also with others beside (`writer_or_reader_beside_is_decided`,
+//!   `some_runs_meet_readers_beside`).
 //! - Not promised: that of other transactions that meet one is decided (`some_runs_starve`).
 //!
 //! **The caller owes** to `promise` a world that some events made of accepted settings (`IsOfRun`).
@@ -48,11 +51,12 @@
 //! **Files**: `lib`, `meeting`, `promises`, `told`. **Definitions** (`specs/`): `Standing`, `Alone`, `Demands`,
 //! `InTime`, `Laws`, `Sweeping`, `Promises`, `Worked`, `Near`, `Unmet`, `OpenDemands`, `Local`, `Among`, `Told`,
 //! `Beside`, `BesideDown`, `BesideWorked`, `Meets`, `MeetsByRows`, `MeetsWorked`, `Readers`, `ReadersWorked`,
-//! `Histories`, `Blocking`, `Contending`, `LawsWorked`.
+//! `MeetsBeside`, `MeetsBesideWorked`, `Histories`, `Blocking`, `Contending`, `LawsWorked`.
 //! The proofs follow a transaction over its agent's steps (`proofs/Stands.antt`, `Asking.antt`; at each moment
 //! `AmongCourse.antt`, `AmongStep.antt`, `AmongEnds.antt`, of which what goes alone is a case, `AloneLaws.antt`,
-//! `Tries.antt`; where two meet `MeetCourse.antt`, `MeetReach.antt`, `MeetLaw.antt`; where readers do
-//! `MeetReaders.antt`) and a sweep by its list (`Sweeps.antt`, `Swept.antt`, `Rounds.antt`).
+//! `Tries.antt`; where two meet `MeetClear.antt`, `MeetCourse.antt`, `MeetReach.antt`, `MeetLaw.antt`, and one of them
+//! only reads, `MeetReaders.antt`; where nobody is beside `MeetAlone.antt`, `ReadersAlone.antt`) and a sweep by its list
+//! (`Sweeps.antt`, `Swept.antt`, `Rounds.antt`).
 #![tactic(auto)]
 
 mod meeting;
@@ -74,8 +78,10 @@ ghost use Rattle.law_run_recovers.specs.Contending.{SomeRunsStarve};
 ghost use Rattle.law_run_recovers.specs.LawsWorked.{SomeRunsShowTheLaws};
 
 pub use meeting::{
-    one_that_meets_by_rows_is_decided, one_that_meets_is_decided, some_runs_meet,
-    some_runs_meet_by_rows, some_runs_meet_readers, writer_or_readers_are_decided,
+    one_that_meets_beside_is_decided, one_that_meets_by_rows_is_decided, one_that_meets_is_decided,
+    some_runs_meet, some_runs_meet_beside, some_runs_meet_by_rows, some_runs_meet_readers,
+    some_runs_meet_readers_beside, writer_or_reader_beside_is_decided,
+    writer_or_readers_are_decided,
 };
 pub use promises::{promise, what_can_be_is_available};
 pub use told::{

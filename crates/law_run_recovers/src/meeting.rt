@@ -2,6 +2,8 @@
 
 ghost use Rattle.law_run_recovers.specs.Meets.{OneThatMeetsIsDecided};
 ghost use Rattle.law_run_recovers.specs.MeetsByRows.{OneThatMeetsByRowsIsDecided};
+ghost use Rattle.law_run_recovers.specs.MeetsBeside.{OneThatMeetsBesideIsDecided, WriterOrReaderBesideIsDecided};
+ghost use Rattle.law_run_recovers.specs.MeetsBesideWorked.{SomeRunsMeetBeside, SomeRunsMeetReadersBeside};
 ghost use Rattle.law_run_recovers.specs.MeetsWorked.{SomeRunsMeet, SomeRunsMeetByRows};
 ghost use Rattle.law_run_recovers.specs.Readers.{WriterOrReadersAreDecided};
 ghost use Rattle.law_run_recovers.specs.ReadersWorked.{SomeRunsMeetReaders};
@@ -19,6 +21,13 @@ pub fn one_that_meets_is_decided()
 /// neither sets other votes of what the other asks for. It does nothing.
 pub fn one_that_meets_by_rows_is_decided()
     ensures { OneThatMeetsByRowsIsDecided }
+{}
+
+/// A law: so it is where others are beside, who may be at work already and begin again and again, whatever they do and however
+/// they end, as long as no lock of theirs is ever in the way of what the two ask for; every server is up and stays so, nobody
+/// sweeps, and each step of the two is served. It does nothing.
+pub fn one_that_meets_beside_is_decided()
+    ensures { OneThatMeetsBesideIsDecided }
 {}
 
 /// A law: a run in which two users meet, who write one file at once, step by step in turn; one is answered. It does
@@ -41,8 +50,26 @@ pub fn writer_or_readers_are_decided()
     ensures { WriterOrReadersAreDecided }
 {}
 
+/// A law: so it is of one that writes and one that reads, where others are beside, who may also read the one suite. It does
+/// nothing.
+pub fn writer_or_reader_beside_is_decided()
+    ensures { WriterOrReaderBesideIsDecided }
+{}
+
 /// A law: a run in which one sets the list of a file while two read it, step by step in turn; it is refused, and each of
 /// them is answered. It does nothing.
 pub fn some_runs_meet_readers()
     ensures { SomeRunsMeetReaders }
+{}
+
+/// A law: a run in which two write one file while a third is in the midst of a write of another, and begins one more, for which
+/// memory runs out; one of the two is answered, as the law says. It does nothing.
+pub fn some_runs_meet_beside()
+    ensures { SomeRunsMeetBeside }
+{}
+
+/// A law: a run in which one sets the list of a file while two read it, and a fourth writes another file twice; the law says of
+/// it and of one reader that one of both is decided, and that reader is answered. It does nothing.
+pub fn some_runs_meet_readers_beside()
+    ensures { SomeRunsMeetReadersBeside }
 {}

@@ -1,4 +1,4 @@
-use Rattle.law_run_recovers.proofs.MeetLaw.{one_that_meets_by_rows_is_decided}
+use Rattle.law_run_recovers.proofs.MeetAlone.{one_that_meets_by_rows_is_decided}
 use Rattle.law_run_recovers.proofs.meeting.one_that_meets_by_rows_is_decided.Goals as goal
 
 pub returns : goal.returns

@@ -1,0 +1,5 @@
+use Rattle.law_run_recovers.proofs.MeetLaw.{one_that_meets_beside_is_decided}
+use Rattle.law_run_recovers.proofs.meeting.one_that_meets_beside_is_decided.Goals as goal
+
+pub returns : goal.returns
+returns c = one_that_meets_beside_is_decided
