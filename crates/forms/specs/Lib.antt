@@ -1,3 +1,4 @@
+pub mod Answers
 pub mod Finding
 pub mod Reasons
 pub mod Mends
