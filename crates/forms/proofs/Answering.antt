@@ -14,9 +14,10 @@ use Rattle.suite_script.specs.declared.fault.LineFault.TheVariants as line
 use Rattle.suite_script.specs.declared.form.Form.{Form}
 use Rattle.suite_script.specs.declared.form.Forms.{Forms}
 use Rattle.suite_script.specs.declared.scope.Scope.{Scope}
-use Rattle.forms.specs.Answers.{Again, Ends, IsAnswer, IsOfCommand, IsOfEach, IsOfItem, IsOfLine, Misplaced, TellsLine, TellsMisfit, TellsNothing, TellsWhole, TellsWords, TooLarge, Unknown}
+use Rattle.forms.specs.Answers.{Again, IsAnswer, IsOfCommand, IsOfEach, IsOfItem, IsOfLine, Misplaced, TellsLine, TellsMisfit, TellsNothing, TellsWhole, TellsWords, TooLarge, Unknown}
 use Rattle.forms.specs.Finding.{BeginsWith, head_at, head_of, place_text, tab}
 use Rattle.forms.specs.Mends.{all_of, form_in, numbered}
+use Rattle.forms.specs.Runs.{Ends}
 use Rattle.forms.specs.declared.Question.{Question}
 use Rattle.forms.specs.declared.reading.Reading.{Reading}
 

@@ -1,10 +1,8 @@
 -- What is told of the line, or of the item of a list, that was asked.
-use Rattle.std.specs.Prelude.{◌≡◌, ℕ, ◌⊎◌, true, false, is_some, List, [], ◌∷◌, ◌++◌, codes, decimal, Contains, Option, Some, None}
+use Rattle.std.specs.Prelude.{◌≡◌, ℕ, ◌⊎◌, true, false, is_some, List, [], ◌∷◌, ◌++◌, codes, decimal, Contains, Some, None}
 use Rattle.std.specs.Str.{bytes_eq}
 use Rattle.std.specs.Str.Lines.{lines}
 use Rattle.acl_text.specs.Places.{item_place}
-use Rattle.byte_streams.specs.Endings.{Finishes, Lacks, done}
-use Rattle.byte_streams.specs.Programs.{RunsOn, Streams}
 use Rattle.script_text.specs.Words.{words}
 use Rattle.suite_prefix.specs.declared.settings.SettingsFault.TheVariants.{OldTooLarge}
 use Rattle.suite_script.specs.Misfits.{line_misfit}
@@ -79,18 +77,3 @@ abbrev pub IsAnswer : Question → List ℕ → List ℕ → Type 0
 IsAnswer (asked.Line forms number) given text = IsOfLine forms given number text
 IsAnswer (asked.Script number) given text = IsOfEach given number text
 IsAnswer (asked.List are_named number) given text = IsOfItem given number text
-
--- the answer was written, or a write failed
-pub record WritesAnswer (question : Question) (given : List ℕ) (before after : Option (List ℕ)) (failures failures_after status : ℕ) : Type 0 where
-  pub text : List ℕ
-  pub is : IsAnswer question given text
-  pub written : Finishes text done status before after failures failures_after
-
-abbrev pub Ends : Question → List ℕ → Option (List ℕ) → Option (List ℕ) → ℕ → ℕ → ℕ → Type 0
-Ends question given before after failures failures_after status =
-    WritesAnswer question given before after failures failures_after status ⊎ Lacks status before after failures failures_after
-
--- what the program has done when it ends, of a question about what it reads
-abbrev pub Runs : Question → Streams → ℕ → Type 0
-Runs question streams status =
-    RunsOn (λ given. Ends question given streams.written streams.written_after streams.failed_writes streams.failed_writes_after status) streams status streams.input

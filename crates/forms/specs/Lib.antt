@@ -3,3 +3,4 @@ pub mod Finding
 pub mod Reasons
 pub mod Mends
 pub mod code
+pub mod Runs
