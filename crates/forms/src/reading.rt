@@ -57,7 +57,6 @@ pub(crate) fn form_of(forms: &[Form], word: &[u8]) -> Option<Form>
 }
 
 /// The form of a line of a script that begins with a word.
-#[tactic(auto, using(crate::proofs::Standing::form_known))]
 pub(crate) fn known(forms: Forms, word: &[u8]) -> Option<Form>
     ensures { result ≡ form_in forms word.now }
 {
