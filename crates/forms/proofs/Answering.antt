@@ -10,7 +10,7 @@ use Rattle.suite_script.specs.Misfits.{line_misfit}
 use Rattle.suite_script.specs.Scripts.{is_skipped}
 use Rattle.suite_script.specs.Words.{Word}
 use Rattle.suite_script.specs.declared.fault.LineFault.{LineFault}
-use Rattle.suite_script.specs.declared.fault.LineFault.TheVariants as line
+use Rattle.suite_script.specs.declared.fault.LineFault.TheVariants as code
 use Rattle.suite_script.specs.declared.form.Form.{Form}
 use Rattle.suite_script.specs.declared.form.Forms.{Forms}
 use Rattle.suite_script.specs.declared.scope.Scope.{Scope}
@@ -59,25 +59,25 @@ told_whole scope forms first rest number fault (Ok text) tells begins = inr (tel
 told_whole scope forms first rest number fault (Err error) tells begins = tt
 
 pub misplaced_told : {E : Type 0} (scope : Scope) (forms : Forms) (first : Word) (rest : List Word) (number : ℕ) (fault : Option LineFault) (result : Result (Vec ℕ Global) E)
-    → is_some (form_in forms first) ≡ true → number ≡ 1 → fault ≡ Some line.Order → Begins number fault result → Tells scope forms first rest result
+    → is_some (form_in forms first) ≡ true → number ≡ 1 → fault ≡ Some code.Order → Begins number fault result → Tells scope forms first rest result
 misplaced_told scope forms first rest number fault result known is_number is_fault begins =
-    told_whole scope forms first rest 1 line.Order result (λ text is. Misplaced known is) (same_begins number 1 fault (Some line.Order) result is_number is_fault begins)
+    told_whole scope forms first rest 1 code.Order result (λ text is. Misplaced known is) (same_begins number 1 fault (Some code.Order) result is_number is_fault begins)
 
 pub unknown_told : {E : Type 0} (scope : Scope) (forms : Forms) (first : Word) (rest : List Word) (number : ℕ) (fault : Option LineFault) (result : Result (Vec ℕ Global) E)
-    → form_in forms first ≡ None → number ≡ 1 → fault ≡ Some line.Form → Begins number fault result → Tells scope forms first rest result
+    → form_in forms first ≡ None → number ≡ 1 → fault ≡ Some code.Form → Begins number fault result → Tells scope forms first rest result
 unknown_told scope forms first rest number fault result unknown is_number is_fault begins =
-    told_whole scope forms first rest 1 line.Form result (λ text is. Unknown unknown is) (same_begins number 1 fault (Some line.Form) result is_number is_fault begins)
+    told_whole scope forms first rest 1 code.Form result (λ text is. Unknown unknown is) (same_begins number 1 fault (Some code.Form) result is_number is_fault begins)
 
 pub again_told : {E : Type 0} (scope : Scope) (forms : Forms) (first : Word) (rest : List Word) (number : ℕ) (fault : Option LineFault) (result : Result (Vec ℕ Global) E)
-    → bytes_eq first (codes "together") ≡ true → number ≡ 1 → fault ≡ Some line.Form → Begins number fault result → Tells scope forms first rest result
+    → bytes_eq first (codes "together") ≡ true → number ≡ 1 → fault ≡ Some code.Form → Begins number fault result → Tells scope forms first rest result
 again_told scope forms first rest number fault result again is_number is_fault begins =
-    told_whole scope forms first rest 1 line.Form result (λ text is. Again again is) (same_begins number 1 fault (Some line.Form) result is_number is_fault begins)
+    told_whole scope forms first rest 1 code.Form result (λ text is. Again again is) (same_begins number 1 fault (Some code.Form) result is_number is_fault begins)
 
 pub large_told : {E : Type 0} (scope : Scope) (forms : Forms) (first : Word) (rest : List Word) (number : ℕ) (fault : Option LineFault) (result : Result (Vec ℕ Global) E)
-    → bytes_eq first (codes "old") ≡ true → number ≡ 2 → fault ≡ Some (line.Settings OldTooLarge) → Begins number fault result → Tells scope forms first rest result
+    → bytes_eq first (codes "old") ≡ true → number ≡ 2 → fault ≡ Some (code.Settings OldTooLarge) → Begins number fault result → Tells scope forms first rest result
 large_told scope forms first rest number fault result old is_number is_fault begins =
-    told_whole scope forms first rest 2 (line.Settings OldTooLarge) result (λ text is. TooLarge old is)
-    (same_begins number 2 fault (Some (line.Settings OldTooLarge)) result is_number is_fault begins)
+    told_whole scope forms first rest 2 (code.Settings OldTooLarge) result (λ text is. TooLarge old is)
+    (same_begins number 2 fault (Some (code.Settings OldTooLarge)) result is_number is_fault begins)
 
 pub misfit_told : (scope : Scope) (forms : Forms) (form : Form) (rest : List Word) (text : List ℕ) → Contains (all_of forms) form
     → BeginsWith (head_of (line_misfit scope form.places.now form.ending rest)) text → TellsMisfit scope forms form.word.now rest text ⊎ TellsWhole forms form.word.now text
@@ -94,21 +94,21 @@ pub line_told : {E : Type 0} (scope : Scope) (forms : Forms) (line : List ℕ) (
 line_told scope forms line first rest result is tells = subst (λ (one : List Word). IfOk result (λ text. TellsWords scope forms one text.items)) (sym is) tells
 
 pub blank_told : {E : Type 0} (scope : Scope) (forms : Forms) (line : List ℕ) (number : ℕ) (fault : Option LineFault) (result : Result (Vec ℕ Global) E) → words line ≡ []
-    → number ≡ 1 → fault ≡ Some line.Form → Begins number fault result → IfOk result (λ text. TellsWords scope forms (words line) text.items)
+    → number ≡ 1 → fault ≡ Some code.Form → Begins number fault result → IfOk result (λ text. TellsWords scope forms (words line) text.items)
 blank_told scope forms line number fault result is is_number is_fault begins =
     subst (λ (one : List Word). IfOk result (λ text. TellsWords scope forms one text.items)) (sym is)
-    (same_begins number 1 fault (Some line.Form) result is_number is_fault begins)
+    (same_begins number 1 fault (Some code.Form) result is_number is_fault begins)
 
 -- ---- a line that says nothing
 
-pub due_told : {E : Type 0} (number : ℕ) (fault : Option LineFault) (result : Result (Vec ℕ Global) E) → number ≡ 1 → fault ≡ Some line.Order → Begins number fault result
+pub due_told : {E : Type 0} (number : ℕ) (fault : Option LineFault) (result : Result (Vec ℕ Global) E) → number ≡ 1 → fault ≡ Some code.Order → Begins number fault result
     → IfOk result (λ text. TellsNothing text.items)
-due_told number fault (Ok text) is_number is_fault begins = inr (same_begins number 1 fault (Some line.Order) (Ok text) is_number is_fault begins)
+due_told {E} number fault (Ok text) is_number is_fault begins = inr (same_begins {E = E} number 1 fault (Some code.Order) (Ok text) is_number is_fault begins)
 due_told number fault (Err error) is_number is_fault begins = tt
 
 pub none_told : {E : Type 0} (number : ℕ) (fault : Option LineFault) (result : Result (Vec ℕ Global) E) → fault ≡ None → Begins number fault result
     → IfOk result (λ text. TellsNothing text.items)
-none_told number fault (Ok text) is_fault begins = inl (same_begins number number fault None (Ok text) refl is_fault begins)
+none_told {E} number fault (Ok text) is_fault begins = inl (same_begins {E = E} number number fault None (Ok text) refl is_fault begins)
 none_told number fault (Err error) is_fault begins = tt
 
 -- ---- the line that was asked

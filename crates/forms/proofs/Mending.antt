@@ -1,8 +1,8 @@
 -- Words that are told to mend a line, one after another.
-use Rattle.std.proofs.Common.{◌≡◌, ◌<◌, ◌≤◌, ◌+◌, ◌-◌, ◌%◌, ◌^◌, ℕ, Bool, arith, bytes_eq, length, true, false, IsTrue, List, [], ◌∷◌, ◌++◌, refl, ◌∙◌, ap, sym, append_assoc, append-nil, subst}
+use Rattle.std.proofs.Common.{◌≡◌, ◌<◌, ◌≤◌, ◌+◌, ◌-◌, ◌%◌, ◌^◌, ℕ, Bool, arith, bytes_eq, cond, length, true, false, IsTrue, List, [], ◌∷◌, ◌++◌, refl, ◌∙◌, ap, sym, append_assoc, append-nil, subst}
 use Rattle.std.specs.Prelude.{Contains, is_some, None, Some, Option, decimal, codes, nat_lt}
 use Rattle.std.specs.List.{AllByRecursion, filter, flat_map}
-use Rattle.std.proofs.lemmas.Bool.{ne_eqb}
+use Rattle.std.proofs.lemmas.Bool.{lt-ltb, ne_eqb}
 use Rattle.std.proofs.lemmas.Fmt.{decimal_by_steps}
 use Rattle.std.proofs.lemmas.Slice.Eq.{bytes_eq-Decides}
 use Rattle.std.proofs.lemmas.List.Elements.{All-from_recursion}
@@ -92,6 +92,7 @@ unblank_word : (text : List ℕ) → HasDigits text → IsWord text
 unblank_word [] has = absurd (omega (arith, has.some))
 unblank_word (byte ∷ text) has =
     ap (filter (λ word. nat_lt 0 (length word))) (slice_split_none is_blank (byte ∷ text) (All-from_recursion (λ one. is_blank one ≡ false) (byte ∷ text) has.unblank))
+    ∙ ap (λ (is_some : Bool). cond is_some ((byte ∷ text) ∷ []) []) (lt-ltb 0 (length (byte ∷ text)) has.some)
 
 pub decimal_word : (n : ℕ) → n < 2 ^ 64 → IsWord (decimal n)
 decimal_word n small = unblank_word (decimal n) (decimal_by_steps (λ n text. HasDigits text) one_digit digit_more n small)
