@@ -1,5 +1,5 @@
 -- What is told of the line, or of the item of a list, that was asked.
-use Rattle.std.specs.Prelude.{◌≡◌, ℕ, ◌⊎◌, true, false, is_some, List, [], ◌∷◌, ◌++◌, codes, decimal, Contains, Some, None}
+use Rattle.std.specs.Prelude.{◌≡◌, ℕ, ◌⊎◌, true, false, is_some, List, [], ◌∷◌, ◌++◌, codes, decimal, Contains, None}
 use Rattle.std.specs.Str.{bytes_eq}
 use Rattle.std.specs.Str.Lines.{lines}
 use Rattle.acl_text.specs.Places.{item_place}
