@@ -1,5 +1,5 @@
 -- A script that is read again once it was looked through.
-use Rattle.std.proofs.Common.{◌≡◌, ℕ, true, List, [], ◌++◌, Option, Some, None, Result, Ok, Err, refl, ◌∙◌, ap, sym, subst}
+use Rattle.std.proofs.Common.{◌≡◌, ℕ, true, List, [], ◌++◌, Option, None, Result, Ok, Err, refl, ◌∙◌, ap, sym, subst}
 use Rattle.std.proofs.lemmas.Bool.{false≢true}
 use Rattle.std.specs.Prelude.{IsErr, IsErrAnd}
 use Rattle.byte_streams.specs.Streams.{Adds, one_more}
@@ -13,16 +13,16 @@ use Rattle.suite_play.specs.declared.places.Places.{Places}
 use Rattle.suite_prefix.specs.SettingsRules.{Opening}
 use Rattle.suite_script.proofs.Gathering.{adds_both, failed, wrote_nothing}
 use Rattle.suite_script.specs.Gathering.{WroteSoFar}
-use Rattle.suite_script.specs.Outputs.{Output, Done, Faulty, Finds, StopsWith, is_done, script_output}
+use Rattle.suite_script.specs.Outputs.{Output, Done, Faulty, Finds, is_done, script_output}
 use Rattle.suite_script.specs.Progress.{GivesOwn, Heads, fault_of}
 use Rattle.suite_script.specs.Readings.{play_error_of}
-use Rattle.suite_script.specs.Scripts.{Headed, Pending, owns, script_of, scripted, whole, with_own}
+use Rattle.suite_script.specs.Scripts.{Pending, owns, script_of, scripted, whole, with_own}
 use Rattle.suite_script.specs.declared.fault.ScriptError.{ScriptError}
 use Rattle.suite_script.specs.declared.fault.ScriptError.TheVariants as script
 use Rattle.suite_script.specs.declared.fault.ScriptFault.{ScriptFault}
 use Rattle.suite_script.specs.declared.play_error.PlayError.{PlayError}
 use Rattle.suite_script.specs.declared.play_error.PlayError.TheVariants as play
-use Rattle.trace.specs.Traced.{Ends, MayTell, TellsEnd, TellsOf, Traces}
+use Rattle.trace.specs.Traced.{Ends, TellsEnd, TellsOf, Traces}
 use Rattle.trace.specs.code.Reading.{AddsSome, Opens, Reads, left_in}
 use Rattle.trace.specs.declared.tracer.Script.{Script}
 
