@@ -1,5 +1,5 @@
 -- A script that is read again once it was looked through.
-use Rattle.std.proofs.Common.{◌≡◌, ℕ, true, List, [], ◌++◌, Option, None, Result, Ok, Err, refl, ◌∙◌, ap, sym, subst}
+use Rattle.std.proofs.Common.{◌≡◌, ℕ, true, List, [], ◌++◌, Option, Some, None, Result, Ok, Err, append-nil, refl, ◌∙◌, ap, sym, subst}
 use Rattle.std.proofs.lemmas.Bool.{false≢true}
 use Rattle.std.specs.Prelude.{IsErr, IsErrAnd}
 use Rattle.byte_streams.specs.Streams.{Adds, one_more}
@@ -11,7 +11,7 @@ use Rattle.suite_play.specs.code.Kept.{commands}
 use Rattle.suite_play.specs.declared.command.Command.{Command}
 use Rattle.suite_play.specs.declared.places.Places.{Places}
 use Rattle.suite_prefix.specs.SettingsRules.{Opening}
-use Rattle.suite_script.proofs.Gathering.{adds_both, failed, wrote_nothing}
+use Rattle.suite_script.proofs.Gathering.{adds_both, failed}
 use Rattle.suite_script.specs.Gathering.{WroteSoFar}
 use Rattle.suite_script.specs.Outputs.{Output, Done, Faulty, Finds, is_done, script_output}
 use Rattle.suite_script.specs.Progress.{GivesOwn, Heads, fault_of}
@@ -31,8 +31,12 @@ use Rattle.trace.specs.declared.tracer.Script.{Script}
 pub some_of : (told after : Option (List ℕ)) (text left : List ℕ) → WroteSoFar told text left after → AddsSome told after
 some_of told after text left so = record { text = so.front; added = so.added }
 
+adds_nothing : (told : Option (List ℕ)) → Adds told [] told
+adds_nothing None = tt
+adds_nothing (Some text) = ap Some (sym (append-nil text))
+
 pub some_none : (told : Option (List ℕ)) → AddsSome told told
-some_none told = some_of told told [] [] (wrote_nothing told [])
+some_none told = record { text = []; added = adds_nothing told }
 
 pub some_more : (told now after : Option (List ℕ)) → AddsSome told now → AddsSome now after → AddsSome told after
 some_more told now after first later =
@@ -65,10 +69,17 @@ read_on : (own : Command) (before after : Result (List Command) ScriptFault) →
 read_on own before (Ok later) is = sym (ap fault_of is)
 read_on own before (Err fault) is = sym (ap fault_of is)
 
-pub read_more : (own : Command) (settings now : Opening) (before after : Pending) (fault : Option ScriptFault) → left_in settings before ≡ with_own own (left_in settings after)
+read_more : (own : Command) (settings now : Opening) (before after : Pending) (fault : Option ScriptFault) → left_in settings before ≡ with_own own (left_in settings after)
     → now ≡ settings → fault_of (left_in settings before) ≡ fault → fault_of (left_in now after) ≡ fault
 read_more own settings now before after fault is same first =
     ap (λ one. fault_of (left_in one after)) same ∙ read_on own (left_in settings before) (left_in settings after) is ∙ first
+
+pub read_given : (next : Option Command) (own : Command) (settings now : Opening) (before after : Pending) (fault : Option ScriptFault) → next ≡ Some own
+    → GivesOwn {A = Command} (Ok next) (left_in settings before) (left_in settings after) → now ≡ settings → fault_of (left_in settings before) ≡ fault
+    → fault_of (left_in now after) ≡ fault
+read_given next own settings now before after fault is gives same first =
+    let given = subst (λ (one : Option Command). GivesOwn {A = Command} (Ok one) (left_in settings before) (left_in settings after)) is gives in
+    read_more own settings now before after fault given same first
 
 -- a line could not be read
 read_stops : (error : ScriptError) (before after : Result (List Command) ScriptFault) (fault : Option ScriptFault) (told now : Option (List ℕ)) (failures failures_now : ℕ)
@@ -133,8 +144,8 @@ told_of_faultless (Err play.Memory) fault output told after failures failures_af
 -- ---- a script that is looked through
 
 nothing_of : (output : Output) (told : Option (List ℕ)) → TellsOf output told told
-nothing_of (Done text) told = record { told = []; may = tt; added = (some_none told).added }
-nothing_of (Faulty line) told = record { told = []; may = refl; added = (some_none told).added }
+nothing_of (Done text) told = record { told = []; may = tt; added = adds_nothing told }
+nothing_of (Faulty line) told = record { told = []; may = refl; added = adds_nothing told }
 
 -- what that found, where it is an error
 pub looked_through : (error : ScriptError) (output : Output) (told : Option (List ℕ)) (failures : ℕ) → Finds (Err error) output → Traces (Err (play_error_of error)) output told told failures failures
@@ -150,5 +161,5 @@ unopened script.Memory text is = tt
 
 pub ended : (text : List ℕ) (came : Result (Unit {0}) PlayError) (before now after : Option (List ℕ)) (failures failures_now failures_after status : ℕ)
     → Traces came (play_output text) before now failures failures_now → TellsEnd came status now after failures_now failures_after → Ends text before after failures failures_after status
-ended text came before now after failures failures_now failures_after status traced ended =
-    record { came = came; now = now; failures_now = failures_now; traced = traced; ended = ended }
+ended text came before now after failures failures_now failures_after status traced told_end =
+    record { came = came; now = now; failures_now = failures_now; traced = traced; ended = told_end }
