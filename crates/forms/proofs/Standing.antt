@@ -1,6 +1,7 @@
 -- Forms that a search finds, by the first word of a line.
-use Rattle.std.proofs.Common.{◌≡◌, Bool, true, cond, List, [], ◌∷◌, ◌++◌, Some, None, refl, ◌∙◌, ap, sym, subst, inl, inr, arith}
+use Rattle.std.proofs.Common.{◌≡◌, Bool, true, cond, List, [], ◌∷◌, ◌++◌, Option, Some, None, refl, ◌∙◌, ap, sym, subst, inl, inr, arith}
 use Rattle.std.specs.Prelude.{Contains}
+use Rattle.std.specs.Option.{option_or}
 use Rattle.std.specs.List.{find}
 use Rattle.std.specs.Str.{bytes_eq}
 use Rattle.std.proofs.lemmas.Slice.Eq.{bytes_eq-Decides}
@@ -9,7 +10,8 @@ use Rattle.std.proofs.lemmas.List.Elements.{Contains-append_left, Contains-appen
 use Rattle.suite_script.specs.Words.{Word}
 use Rattle.suite_script.specs.declared.form.Form.{Form}
 use Rattle.suite_script.specs.declared.form.Forms.{Forms}
-use Rattle.forms.specs.Mends.{all_of}
+use Rattle.std.proofs.lemmas.List.Folds.{find-append}
+use Rattle.forms.specs.Mends.{all_of, form_in}
 
 -- the first of a list is in it
 first_in : {X : Type 0} (x : X) (xs : List X) → Contains (x ∷ xs) x
@@ -67,3 +69,17 @@ names_stand forms word form found = let both = form_found forms.names.now word f
 pub own_stands : (forms : Forms) (word : Word) (form : Form) → find (λ form. bytes_eq word form.word.now) forms.own.now ≡ Some form
     → Contains (all_of forms) form × (form.word.now ≡ word)
 own_stands forms word form found = let both = form_found forms.own.now word form found in (of_own forms form both.0, both.1)
+
+-- the first form of all that begins with a word is that of the first part that has one
+pub form_known : (forms : Forms) (word : Word) (header optional names own one two three : Option Form) → header ≡ find (λ form. bytes_eq word form.word.now) forms.header.now
+    → optional ≡ find (λ form. bytes_eq word form.word.now) forms.optional.now → names ≡ find (λ form. bytes_eq word form.word.now) forms.names.now
+    → own ≡ find (λ form. bytes_eq word form.word.now) forms.own.now → one ≡ option_or header optional → two ≡ option_or one names → three ≡ option_or two own
+    → three ≡ form_in forms word
+form_known forms word header optional names own one two three header_is optional_is names_is own_is one_is two_is three_is =
+    let is = λ (form : Form). bytes_eq word form.word.now in
+    three_is
+    ∙ (λ i. option_or ((two_is ∙ (λ j. option_or ((one_is ∙ (λ k. option_or (header_is k) (optional_is k))) j) (names_is j))) i) (own_is i))
+    ∙ sym (find-append is (forms.header.now ++ forms.optional.now ++ forms.names.now) forms.own.now
+    ∙ ap (λ found. option_or found (find is forms.own.now))
+    (find-append is (forms.header.now ++ forms.optional.now) forms.names.now
+    ∙ ap (λ found. option_or found (find is forms.names.now)) (find-append is forms.header.now forms.optional.now)))

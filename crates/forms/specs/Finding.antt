@@ -16,10 +16,15 @@ tab = 9 ∷ []
 abbrev pub told_at : ℕ → LineFault → List ℕ
 told_at number fault = decimal number ++ tab ++ code_of fault ++ tab
 
--- the same of a word that does not fit; hyphens, where each word fits
+-- the same of a word that may have one; hyphens, where it has none
+abbrev pub head_at : ℕ → Option LineFault → List ℕ
+head_at number None = codes "-" ++ tab ++ codes "-" ++ tab
+head_at number (Some fault) = told_at number fault
+
+-- the same of a word that does not fit, if there is one
 abbrev pub head_of : Option Misfit → List ℕ
-head_of None = codes "-" ++ tab ++ codes "-" ++ tab
-head_of (Some misfit) = told_at misfit.number misfit.fault
+head_of None = head_at 0 None
+head_of (Some misfit) = head_at misfit.number (Some misfit.fault)
 
 -- a text that begins so
 pub record BeginsWith (head text : List ℕ) : Type 0 where

@@ -1,17 +1,26 @@
 -- What mends a line: a change at one of its words, with which all its words fit.
-use Rattle.std.specs.Prelude.{◌≡◌, ℕ, ◌-◌, ◌==◌, Bool, true, false, if◌then◌else◌, List, [], ◌∷◌, ◌++◌, codes, decimal, Contains, None}
-use Rattle.std.specs.List.{AllByRecursion, flat_map}
+use Rattle.std.specs.Prelude.{◌≡◌, ℕ, ◌-◌, ◌==◌, Bool, true, false, if◌then◌else◌, List, [], ◌∷◌, ◌++◌, codes, decimal, Contains, Option, Some, None}
+use Rattle.std.specs.List.{AllByRecursion, find, flat_map, list_any}
+use Rattle.std.specs.Str.{bytes_eq}
 use Rattle.script_text.specs.Words.{words}
 use Rattle.suite_script.specs.Misfits.{line_misfit}
+use Rattle.suite_script.specs.Operations.{spelling, verbs}
 use Rattle.suite_script.specs.Words.{Word}
+use Rattle.suite_script.specs.declared.form.Ending.TheVariants.{Operations}
 use Rattle.suite_script.specs.declared.form.Form.{Form}
 use Rattle.suite_script.specs.declared.form.Forms.{Forms}
+use Rattle.suite_script.specs.declared.misfit.Expected.TheVariants.{End}
+use Rattle.suite_script.specs.declared.misfit.Misfit.{Misfit}
 use Rattle.suite_script.specs.declared.scope.Scope.{Scope}
 use Rattle.forms.specs.Finding.{tab}
 
 -- the forms of all lines of a command's scripts
 abbrev pub all_of : Forms → List Form
 all_of forms = forms.header.now ++ forms.optional.now ++ forms.names.now ++ forms.own.now
+
+-- the form of a line that begins with a word
+abbrev pub form_in : Forms → Word → Option Form
+form_in forms word = find (λ form. bytes_eq word form.word.now) (all_of forms)
 
 -- one of these forms begins with this word, and the words behind it fit in that form
 pub record FitsIn (scope : Scope) (forms : List Form) (first : Word) (rest : List Word) : Type 0 where
@@ -59,9 +68,14 @@ abbrev pub placed : Bool → Word → Edit
 placed false other = Instead other
 placed true other = Before other
 
+-- a text that is one word: it has no blank
+abbrev pub IsWord : Word → Type 0
+IsWord text = words text ≡ text ∷ []
+
 -- words with a space behind each, and each of them has P
 pub record AreTold (P : Word → Type 0) (text : List ℕ) : Type 0 where
   pub told : List Word
+  pub are_words : AllByRecursion IsWord told
   pub all : AllByRecursion P told
   pub is : text ≡ flat_map spaced told
 
@@ -77,9 +91,30 @@ pub record IsMissing (scope : Scope) (forms : Forms) (line : List ℕ) : Type 0 
   pub word : Word
   pub mends : Mends scope forms line at (Before word)
 
+-- the text of this number, from 1; nothing, where there is none
+abbrev pub numbered : ℕ → List (List ℕ) → List ℕ
+numbered number [] = []
+numbered number (text ∷ more) = if number == 1 then text else numbered (number - 1) more
+
+-- whether a word begins an operation
+abbrev pub is_verb : Word → Bool
+is_verb word = list_any (λ verb. bytes_eq word (spelling verb)) verbs
+
+-- an operation of a line has a word too many, behind a word that begins none: its path may have a space
+pub record IsCut (scope : Scope) (forms : Forms) (line : List ℕ) : Type 0 where
+  pub form : Form
+  pub rest : List Word
+  pub misfit : Misfit
+  pub is_one : Contains (all_of forms) form
+  pub is_line : words line ≡ form.word.now ∷ rest
+  pub has_operations : form.ending ≡ Operations
+  pub misfits : line_misfit scope form.places.now form.ending rest ≡ Some misfit
+  pub ends : misfit.expected ≡ End
+  pub before : is_verb (numbered (misfit.number - 1) (words line)) ≡ false
+
 -- what is told of a word too many or too few
 pub data IsShift (scope : Scope) (forms : Forms) (line : List ℕ) : List ℕ → Type 0 where
-  Path : IsShift scope forms line (codes "path")
+  Path : IsCut scope forms line → IsShift scope forms line (codes "path")
   Missing : IsMissing scope forms line → IsShift scope forms line (codes "missing")
   Many : (text : List ℕ) → AreTold (IsTooMany scope forms line) text → IsShift scope forms line text
 

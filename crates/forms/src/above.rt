@@ -1,5 +1,9 @@
 //! What stands in the lines above a line.
 
+ghost use Rattle.std.specs.Prelude.{◌≡◌};
+ghost use Rattle.std.specs.Str.Lines.{lines};
+ghost use Rattle.forms.specs.Mends.{numbered};
+
 use crate::fields::Kind;
 use script_text::{Lines, Words, read_number};
 
@@ -27,15 +31,26 @@ impl<'a> Above<'a> {
     }
 
     /// The line of this number; no bytes where there is none.
-    pub(crate) fn line(self) -> &'a [u8] {
-        let mut number = 0u64;
+    pub(crate) fn line(self) -> &'a [u8]
+        ensures { result.now ≡ numbered self.entry.number (lines self.entry.script.now) }
+    {
+        let mut left = self.number;
         for line in Lines::new(self.script) {
-            number = number.saturating_add(1);
-            if number == self.number {
+            if left == 1 {
                 return line;
             }
+            left = left.saturating_sub(1);
         }
         b""
+    }
+
+    /// Whether the line of this number would come right behind the last.
+    pub(crate) fn is_end(self) -> bool {
+        let mut last = 0u64;
+        for _line in Lines::new(self.script) {
+            last = last.saturating_add(1);
+        }
+        last.saturating_add(1) == self.number
     }
 
     /// The first line that begins with a word, by its number, and the words after it.

@@ -1,8 +1,11 @@
 //! What is printed of a line of a script.
 
-ghost use Rattle.std.specs.Prelude.{◌≡◌, ◌++◌, IfOk, OnOk};
+ghost use Rattle.std.specs.Prelude.{◌≡◌, ◌⊎◌, ◌++◌, Contains, IfOk, IfSome, OnOk, Some, None};
+ghost use Rattle.script_text.specs.Words.{words};
 ghost use Rattle.suite_script.specs.Misfits.{line_misfit};
-ghost use Rattle.forms.specs.Finding.{BeginsWith, head_of, item_in, item_of_text, place_text};
+ghost use Rattle.forms.specs.Answers.{IsOfLine, TellsMisfit, TellsNothing, TellsWhole, TellsWords};
+ghost use Rattle.forms.specs.Finding.{BeginsWith, head_at, head_of, item_in, item_of_text, place_text, tab};
+ghost use Rattle.forms.specs.Mends.{all_of};
 
 use crate::above::Above;
 use crate::first::{FirstReason, misplaced_told, unknown_told};
@@ -10,12 +13,12 @@ use crate::list::item_ends;
 use crate::mend::{Found, Trial, push_mends};
 use crate::old::unheld;
 use crate::places::name;
-use crate::reading::{Reading, Standing};
+use crate::reading::{Reading, Standing, is_skipped};
 use crate::reason::{Reason, Reasoned, push_told};
 use crate::spot::{Spot, spot_of, told_at};
 use crate::table::push_places;
 use acl_text::{TextFault, item_place};
-use script_text::{Lines, Words, push_number};
+use script_text::{Words, push_number};
 use std::alloc::{AllocError, Global};
 use suite_prefix::SettingsFault;
 use suite_script::{Expected, Form, Forms, LineFault, Misfit, push_line_code};
@@ -29,83 +32,100 @@ pub(crate) struct ItemEnds {
 }
 
 /// What is printed of the line of this number.
+#[tactic(auto, using(crate::proofs::Answering::of_line, crate::proofs::Answering::of_none))]
 pub(crate) fn found_in(
     alloc: Global,
     forms: Forms,
     script: &[u8],
     number: u64,
-) -> Result<Vec<u8>, AllocError> {
+) -> Result<Vec<u8>, AllocError>
+    ensures { IfOk result (λ text. IsOfLine forms script.now number text.items) }
+{
     let above = Above { script, number };
-    let mut reading = Reading::new(alloc, forms);
-    let mut place = 0u64;
-    for line in Lines::new(script) {
-        place = place.saturating_add(1);
-        if matches!(line, [] | [b'#', ..]) {
-            continue;
-        }
-        let mut words = Words::new(line);
-        let first = words.next();
-        if place == number {
-            return of_line(alloc, &reading, above, first, words);
-        }
-        if let Some(first) = first {
-            reading.take(place, first, words)?;
-        }
+    let reading = Reading::of_above(alloc, forms, above)?;
+    let line = above.line();
+    if is_skipped(line) {
+        return of_nothing(alloc, &reading, above);
     }
+    of_line(alloc, &reading, above, line)
+}
+
+/// What is printed of a line that says nothing, or that there is not: a line of the header may be due behind the last.
+#[tactic(auto, using(crate::proofs::Answering::due_told, crate::proofs::Answering::none_told))]
+fn of_nothing(alloc: Global, reading: &Reading, above: Above<'_>) -> Result<Vec<u8>, AllocError>
+    ensures { IfOk result (λ text. TellsNothing text.items) }
+{
     match reading.due() {
-        Some(due) if place.saturating_add(1) == number => {
+        Some(due) if above.is_end() => {
             let told = Reasoned::of(Reason::LineEnds, b"");
             let found = of_whole(1, LineFault::Order, Some(due), told);
-            of_first(alloc, &reading, above, found)
+            of_first(alloc, reading, above, found)
         }
-        _ => nothing(alloc, &reading, above),
+        _ => of_first(alloc, reading, above, of_none(None)),
     }
 }
 
-/// What is printed of a line, by its first word and those after it.
+/// What is printed of a line that says something.
+#[tactic(auto, using(crate::proofs::Answering::line_told, crate::proofs::Answering::blank_told))]
 fn of_line(
     alloc: Global,
     reading: &Reading,
     above: Above<'_>,
-    first: Option<&[u8]>,
+    line: &[u8],
+) -> Result<Vec<u8>, AllocError>
+    ensures { IfOk result (λ text. TellsWords reading.now.scope reading.now.forms (words line.now) text.items) }
+{
+    let mut words = Words::new(line);
+    match words.next() {
+        Some(first) => of_words(alloc, reading, above, first, words),
+        None => {
+            let told = Reasoned::of(Reason::First(FirstReason::Blank), b"");
+            let found = of_whole(1, LineFault::Form, reading.due(), told);
+            of_first(alloc, reading, above, found)
+        }
+    }
+}
+
+/// What is printed of a line by its first word and those after it.
+#[tactic(auto, using(crate::proofs::Answering::misplaced_told, crate::proofs::Answering::unknown_told, crate::proofs::Answering::standing_told))]
+fn of_words(
+    alloc: Global,
+    reading: &Reading,
+    above: Above<'_>,
+    first: &[u8],
     words: Words<'_>,
-) -> Result<Vec<u8>, AllocError> {
-    let Some(first) = first else {
-        let told = Reasoned::of(Reason::First(FirstReason::Blank), b"");
-        let found = of_whole(1, LineFault::Form, reading.due(), told);
-        return of_first(alloc, reading, above, found);
-    };
+) -> Result<Vec<u8>, AllocError>
+    ensures { IfOk result (λ text. TellsMisfit reading.now.scope reading.now.forms first.now words.entry text.items
+        ⊎ TellsWhole reading.now.forms first.now text.items) }
+{
     match reading.standing(first) {
         Standing::Misplaced(due) => {
             let told = misplaced_told(above, reading.forms, reading.begun, due, first);
-            of_first(
-                alloc,
-                reading,
-                above,
-                of_whole(1, LineFault::Order, due, told),
-            )
+            let found = of_whole(1, LineFault::Order, due, told);
+            of_first(alloc, reading, above, found)
         }
         Standing::Unknown(due) => {
             let told = unknown_told(above.number, first);
-            of_first(
-                alloc,
-                reading,
-                above,
-                of_whole(1, LineFault::Form, due, told),
-            )
+            let found = of_whole(1, LineFault::Form, due, told);
+            of_first(alloc, reading, above, found)
         }
         Standing::Here(form) => of_standing(alloc, reading, above, form, words),
     }
 }
 
 /// What is printed of a line whose first word stands in its place: it may stand there once, or ask for what cannot be.
+#[tactic(auto, using(crate::proofs::Answering::again_told, crate::proofs::Answering::large_told, crate::proofs::Answering::misfit_told))]
 fn of_standing(
     alloc: Global,
     reading: &Reading,
     above: Above<'_>,
     form: Form,
     words: Words<'_>,
-) -> Result<Vec<u8>, AllocError> {
+) -> Result<Vec<u8>, AllocError>
+    requires { Contains (all_of reading.now.forms) form }
+    ensures { IfOk result (λ text. TellsMisfit reading.now.scope reading.now.forms form.word.now words.entry text.items
+        ⊎ TellsWhole reading.now.forms form.word.now text.items) }
+{
     let line = words.rest();
     if form.word == b"together".as_slice() {
         if let Some((number, _)) = above.line_of(form.word) {
@@ -146,13 +166,22 @@ fn of_form(
 fn head(alloc: Global, misfit: Option<Misfit>) -> Result<Vec<u8>, AllocError>
     ensures { IfOk result (λ text. text.items ≡ head_of misfit) }
 {
-    let Some(misfit) = misfit else {
+    match misfit {
+        Some(misfit) => head_at(alloc, misfit.number, Some(misfit.fault)),
+        None => head_at(alloc, 0, None),
+    }
+}
+
+fn head_at(alloc: Global, number: u64, fault: Option<LineFault>) -> Result<Vec<u8>, AllocError>
+    ensures { IfOk result (λ text. text.items ≡ head_at number fault) }
+{
+    let Some(fault) = fault else {
         return Vec::from_slice(alloc, b"-\t-\t");
     };
     let mut text = Vec::new(alloc);
-    push_number(&mut text, misfit.number)?;
+    push_number(&mut text, number)?;
     text.extend_from_slice(b"\t")?;
-    push_line_code(&mut text, misfit.fault)?;
+    push_line_code(&mut text, fault)?;
     text.extend_from_slice(b"\t")?;
     Ok(text)
 }
@@ -178,7 +207,6 @@ fn rest_of_form(
         expected: Some(misfit.expected),
         form: Some(spot.form),
         begin: spot.begin,
-        before: spot.before,
         is_shifted,
         told,
     };
@@ -201,7 +229,9 @@ fn no_ends() -> ItemEnds {
 }
 
 /// The ends of an item of a list at a place.
-pub(crate) fn ends_of(list: &[u8], place: Option<usize>) -> ItemEnds {
+pub(crate) fn ends_of(list: &[u8], place: Option<usize>) -> ItemEnds
+    ensures { result.place ≡ place }
+{
     let (begin, end) = match place {
         Some(place) => item_ends(list, place),
         None => (0, 0),
@@ -239,59 +269,50 @@ fn expected_name(expected: Expected) -> &'static [u8] {
     }
 }
 
-/// What is printed of a line that has a fault as a whole.
+/// What is printed of what is found of a line as a whole, if it is a fault.
 fn of_first(
     alloc: Global,
     reading: &Reading,
     above: Above<'_>,
     found: Found<'_>,
-) -> Result<Vec<u8>, AllocError> {
-    let mut text = Vec::new(alloc);
-    push_number(&mut text, found.number)?;
-    text.push(b'\t')?;
-    if let Some(fault) = found.fault {
-        push_line_code(&mut text, fault)?;
-    }
-    text.push(b'\t')?;
+) -> Result<Vec<u8>, AllocError>
+    ensures { IfOk result (λ text. BeginsWith (head_at found.entry.number found.entry.fault) text.items) }
+{
+    let mut text = head_at(alloc, found.number, found.fault)?;
     let rest = end(alloc, reading, above, no_ends(), found)?;
     text.extend_from_slice(&rest)?;
     Ok(text)
 }
 
 /// What is found of a line as a whole.
-fn of_whole(number: u64, fault: LineFault, due: Option<Form>, told: Reasoned<'_>) -> Found<'_> {
+fn of_whole(number: u64, fault: LineFault, due: Option<Form>, told: Reasoned<'_>) -> Found<'_>
+    ensures number { result.number ≡ number }
+    ensures fault { result.fault ≡ Some fault }
+{
     Found {
         number,
         fault: Some(fault),
         expected: None,
         form: due,
         begin: 1,
-        before: b"",
         is_shifted: false,
         told,
     }
 }
 
 /// Nothing is found.
-fn of_none(form: Option<Form>) -> Found<'static> {
+fn of_none(form: Option<Form>) -> Found<'static>
+    ensures { result.fault ≡ None }
+{
     Found {
         number: 0,
         fault: None,
         expected: None,
         form,
         begin: 1,
-        before: b"",
         is_shifted: false,
         told: Reasoned::of(Reason::Due, b""),
     }
-}
-
-/// What is printed of a line that there is not.
-fn nothing(alloc: Global, reading: &Reading, above: Above<'_>) -> Result<Vec<u8>, AllocError> {
-    let mut text = head(alloc, None)?;
-    let rest = end(alloc, reading, above, no_ends(), of_none(None))?;
-    text.extend_from_slice(&rest)?;
-    Ok(text)
 }
 
 /// The last fields: what was expected, a form, an item, what would mend the line, and the reason.
@@ -337,16 +358,25 @@ fn push_written(text: &mut Vec<u8>, form: Form) -> Result<(), AllocError> {
 }
 
 /// `ITEM ENDS`, each with a tab behind it: the place of an item, and where it begins and ends without white space.
-pub(crate) fn push_item(text: &mut Vec<u8>, item: ItemEnds) -> Result<(), AllocError> {
+#[tactic(auto, using(crate::proofs::Answering::begins_so))]
+pub(crate) fn push_item(text: &mut Vec<u8>, item: ItemEnds) -> Result<(), AllocError>
+    ensures { OnOk result (BeginsWith (text.old.items ++ place_text item.place ++ tab) text.new.items) }
+{
     push_place(text, item.place)?;
     text.push(b'\t')?;
-    if item.place.is_some() {
-        push_number(text, item.begin)?;
-        text.push(b' ')?;
-        push_number(text, item.end)?;
-    } else {
-        text.push(b'-')?;
+    push_ends(text, item)
+}
+
+#[tactic(auto, using(crate::proofs::Answering::begins_one, crate::proofs::Answering::begins_four))]
+fn push_ends(text: &mut Vec<u8>, item: ItemEnds) -> Result<(), AllocError>
+    ensures { OnOk result (BeginsWith text.old.items text.new.items) }
+{
+    if item.place.is_none() {
+        return text.extend_from_slice(b"-\t");
     }
+    push_number(text, item.begin)?;
+    text.push(b' ')?;
+    push_number(text, item.end)?;
     text.push(b'\t')?;
     Ok(())
 }

@@ -55,7 +55,7 @@ impl FirstReason {
     }
 }
 
-pub(crate) const COMMANDS: [&[u8]; 3] = [b"play", b"serve", b"table"];
+const COMMANDS: [&[u8]; 3] = [b"play", b"serve", b"table"];
 
 fn is_line_of(command: &[u8], word: &[u8]) -> bool {
     match lines_of(command) {

@@ -1,8 +1,8 @@
 //! What is printed of a list, and of an item of one.
 
-ghost use Rattle.std.specs.Prelude.{◌≡◌, IfOk};
-ghost use Rattle.acl_text.specs.Places.{item_place};
-ghost use Rattle.forms.specs.Finding.{BeginsWith, place_text};
+ghost use Rattle.std.specs.Prelude.{◌++◌, IfOk};
+ghost use Rattle.forms.specs.Answers.{IsOfItem};
+ghost use Rattle.forms.specs.Finding.{BeginsWith, place_text, tab};
 
 use crate::above::Above;
 use crate::fields::{entry_in, uncommented};
@@ -14,12 +14,15 @@ use script_text::Parts;
 use std::alloc::{AllocError, Global};
 
 /// What is printed of a list, or of its item of this number. Each name is taken for one that has a number; or none is.
+#[tactic(auto, using(crate::proofs::Answering::whole_list, crate::proofs::Answering::item_told))]
 pub(crate) fn found_in_list(
     alloc: Global,
     are_named: bool,
     list: &[u8],
     number: u64,
-) -> Result<Vec<u8>, AllocError> {
+) -> Result<Vec<u8>, AllocError>
+    ensures { IfOk result (λ text. IsOfItem list.now number text.items) }
+{
     let mut names = Names::new(alloc);
     if are_named {
         name_all(&mut names, list)?;
@@ -90,14 +93,28 @@ pub(crate) fn is_noted(named: Result<(), NameError>) -> Result<(), AllocError> {
 }
 
 /// `ITEM ENDS CODE REASON DATA PART`.
+#[tactic(auto, using(crate::proofs::Answering::begins_more))]
 fn printed(
     alloc: Global,
     item: ItemEnds,
     fault: Option<TextFault>,
     told: Reasoned<'_>,
-) -> Result<Vec<u8>, AllocError> {
+) -> Result<Vec<u8>, AllocError>
+    ensures { IfOk result (λ text. BeginsWith (place_text item.place ++ tab) text.items) }
+{
     let mut text = Vec::new(alloc);
     push_item(&mut text, item)?;
+    text.extend_from_slice(&coded(alloc, fault, told)?)?;
+    Ok(text)
+}
+
+/// `CODE REASON DATA PART`.
+fn coded(
+    alloc: Global,
+    fault: Option<TextFault>,
+    told: Reasoned<'_>,
+) -> Result<Vec<u8>, AllocError> {
+    let mut text = Vec::new(alloc);
     match fault {
         Some(fault) => push_text_code(&mut text, fault)?,
         None => text.push(b'-')?,

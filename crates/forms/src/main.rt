@@ -28,21 +28,27 @@
 //! number, or of 0 of the whole list, where each name is taken for one that has a number; with `unnamed`, for one that
 //! has none. A hyphen stands for what there is not.
 //!
-//! **Promises.** Of a line that stands in its place, what is printed begins with the word and the code of the
-//! definition (`of_form`: `line_misfit` of `suite_script`), and the place is that of the item (`item_in`). A word has a
-//! reason to be no number exactly where it is none within its limits (`number_reason`), and those are the reader's
-//! (`limits`); digits are told to be odd exactly where all are digits (`bytes_reason`), and permissions have a reason
-//! exactly where they are none (`permissions_told`). A word that is told to mend a line, in the place of one or before
-//! it, does so, and so does the lack of a word that is told to be too many: the line then has one of the command's
-//! forms. Where a word is told to be missing there is one that does (`push_tried`: `AreMends`).
+//! **Promises.** What is told is of the line, or of the item of a list, that was asked (`Does`, `IsAnswer`). Of a line
+//! that stands in its place, it begins with the word and the code of the definition (`of_form`: `line_misfit` of
+//! `suite_script`), and the place is that of the item (`item_in`). A word has a reason to be no number exactly where it
+//! is none within its limits (`number_reason`), and those are the reader's (`limits`); digits are told to be odd exactly
+//! where all are digits (`bytes_reason`), and permissions have a reason exactly where they are none
+//! (`permissions_told`). A word that is told to mend a line, in the place of one or before it, does so, and so does the
+//! lack of a word that is told to be too many: the line then has one of the command's forms. Where a word is told to be
+//! missing there is one that does, and where a path is told to have a space an operation has a word too many
+//! (`push_mends`: `AreMends`).
 //!
-//! **Definitions** (`specs/`): `Finding`, `Mends`, `Reasons`.
+//! **Definitions** (`specs/`): `Answers`, `Finding`, `Mends`, `Reasons`, `Runs`.
 //!
 //! **Files**: `places` (their names and limits), `table`, `reading` and `above` (the lines of a script), `finding`
 //! (what is printed of one), `whose` (of which command a script is), `lists` (of a list), `spot` (where a word stands,
 //! and why it does not fit), `mend` (what would mend the line), `reason`; for the reasons `first`, `number`, `votes`,
 //! `word` (bytes and names), `fields`, `item` and `list`, `old` (form 1).
 #![tactic(auto)]
+
+ghost use Rattle.std.specs.Prelude.{IfOk};
+ghost use Rattle.forms.specs.Answers.{IsAnswer};
+ghost use Rattle.forms.specs.Runs.{Does, Ends, Runs};
 
 mod above;
 mod fields;
@@ -65,12 +71,12 @@ mod word;
 
 use byte_streams::{
     ByteIn, ByteOut, COMMAND_LINE, DONE, MAX_INPUT, SystemIn, SystemOut, SystemWords, Wanted,
-    finish, lack_memory, read_all, read_wanted, tell_unread,
+    finish, finish_line, lack_memory, read_all, read_wanted, tell_unread,
 };
 use finding::found_in;
 use lists::found_in_list;
 use script_text::read_number;
-use std::alloc::Global;
+use std::alloc::{AllocError, Global};
 use std::env::Env;
 use std::io;
 use std::process::ExitCode;
@@ -107,25 +113,56 @@ enum Question {
     List(bool, u64),
 }
 
+/// What words ask for: the table, help, an answer, or nothing that there is.
+#[derive(Clone, Copy)]
+enum Wish {
+    Table,
+    Help,
+    Answer(Question),
+    Nothing,
+}
+
 fn main(rt: HostRuntime) -> ExitCode {
-    let mut writer = SystemOut::new(io::writer(&rt));
-    let status = match read_wanted(&SystemWords::new(&rt)) {
-        Wanted::Work => match table(rt.alloc()) {
-            Ok(text) => finish(&mut writer, &text, DONE),
-            Err(_) => lack_memory(&mut writer),
-        },
-        Wanted::Help => finish(&mut writer, HELP, DONE),
-        Wanted::Nothing => match asked(&rt) {
-            Some(question) => answer(
-                rt.alloc(),
-                question,
-                &mut SystemIn::new(rt.reader()),
-                &mut writer,
-            ),
-            None => finish(&mut writer, b"fault command line\n", COMMAND_LINE),
-        },
-    };
+    let status = work(
+        rt.alloc(),
+        read_words(&rt),
+        &mut SystemIn::new(rt.reader()),
+        &mut SystemOut::new(io::writer(&rt)),
+    );
     ExitCode::from(status)
+}
+
+/// Does what words ask for, and says the exit status.
+fn work<I: ByteIn, O: ByteOut>(alloc: Global, wish: Wish, reader: &mut I, writer: &mut O) -> u8
+    ensures { Does wish (record {
+      input = I.rest reader.old;
+      input_after = I.rest reader.new;
+      written = O.written writer.old;
+      written_after = O.written writer.new;
+      failed_reads = I.failed_reads reader.old;
+      failed_reads_after = I.failed_reads reader.new;
+      failed_writes = O.failed_writes writer.old;
+      failed_writes_after = O.failed_writes writer.new;
+    }) result }
+{
+    match wish {
+        Wish::Table => finish_line(writer, table(alloc), DONE),
+        Wish::Help => finish(writer, HELP, DONE),
+        Wish::Answer(question) => answer(alloc, question, reader, writer),
+        Wish::Nothing => finish(writer, b"fault command line\n", COMMAND_LINE),
+    }
+}
+
+/// What the words of the command line ask for.
+fn read_words<R: Env>(rt: &R) -> Wish {
+    match read_wanted(&SystemWords::new(rt)) {
+        Wanted::Work => Wish::Table,
+        Wanted::Help => Wish::Help,
+        Wanted::Nothing => match asked(rt) {
+            Some(question) => Wish::Answer(question),
+            None => Wish::Nothing,
+        },
+    }
 }
 
 /// What the two words of the command line ask.
@@ -148,24 +185,49 @@ fn asked<R: Env>(rt: &R) -> Option<Question> {
     }
 }
 
-/// Answers a question about the script or the list that a reader gives.
+/// Answers a question about the script or the list that a reader gives, and says the exit status.
 fn answer<I: ByteIn, O: ByteOut>(
     alloc: Global,
     question: Question,
     reader: &mut I,
     writer: &mut O,
-) -> u8 {
-    let given = match read_all(alloc, reader, MAX_INPUT) {
-        Ok(given) => given,
-        Err(error) => return tell_unread(writer, error),
-    };
-    let told = match question {
-        Question::Line(forms, number) => found_in(alloc, forms, &given, number),
-        Question::Script(number) => found_of_all(alloc, &given, number),
-        Question::List(are_named, number) => found_in_list(alloc, are_named, &given, number),
-    };
-    match told {
+) -> u8
+    ensures { Runs question (record {
+      input = I.rest reader.old;
+      input_after = I.rest reader.new;
+      written = O.written writer.old;
+      written_after = O.written writer.new;
+      failed_reads = I.failed_reads reader.old;
+      failed_reads_after = I.failed_reads reader.new;
+      failed_writes = O.failed_writes writer.old;
+      failed_writes_after = O.failed_writes writer.new;
+    }) result }
+{
+    match read_all(alloc, reader, MAX_INPUT) {
+        Ok(given) => tell(alloc, question, &given, writer),
+        Err(error) => tell_unread(writer, error),
+    }
+}
+
+/// Tells the answer to a question about a script or a list.
+#[tactic(auto, using(crate::proofs::Answering::answered))]
+fn tell<O: ByteOut>(alloc: Global, question: Question, given: &[u8], writer: &mut O) -> u8
+    ensures { Ends question given.now (O.written writer.old) (O.written writer.new)
+        (O.failed_writes writer.old) (O.failed_writes writer.new) result }
+{
+    match told(alloc, question, given) {
         Ok(text) => finish(writer, &text, DONE),
         Err(_) => lack_memory(writer),
+    }
+}
+
+/// The answer to a question about a script or a list.
+fn told(alloc: Global, question: Question, given: &[u8]) -> Result<Vec<u8>, AllocError>
+    ensures { IfOk result (λ text. IsAnswer question given.now text.items) }
+{
+    match question {
+        Question::Line(forms, number) => found_in(alloc, forms, given, number),
+        Question::Script(number) => found_of_all(alloc, given, number),
+        Question::List(are_named, number) => found_in_list(alloc, are_named, given, number),
     }
 }

@@ -5,8 +5,8 @@ ghost use Rattle.std.specs.Bool.{IsTrue};
 ghost use Rattle.std.specs.List.{flat_map};
 ghost use Rattle.script_text.specs.Words.{words};
 ghost use Rattle.suite_script.specs.Misfits.{line_misfit};
-ghost use Rattle.forms.specs.Mends.{AreTold, FitsOne, all_of, changed, field, or_hyphen, placed, put, put_at, spaced};
-ghost use Rattle.forms.specs.code.Trials.{AddsFields, AddsMany, AddsMends, IsMissingIn, IsShiftIn, MendsIn, change_of};
+ghost use Rattle.forms.specs.Mends.{AreTold, FitsOne, IsWord, all_of, changed, field, is_verb, numbered, or_hyphen, placed, put, put_at, spaced};
+ghost use Rattle.forms.specs.code.Trials.{AddsAllFields, AddsFields, AddsMany, AddsMends, IsCutIn, IsMissingIn, IsShiftIn, MendsIn, change_of};
 
 use crate::above::Above;
 use crate::first::{FirstReason, mark_of};
@@ -17,7 +17,7 @@ use crate::reading::{Reading, Standing};
 use crate::reason::{Reason, Reasoned};
 use script_text::{Words, push_number};
 use std::alloc::{AllocError, Global};
-use suite_script::{Ending, Expected, Form, Forms, LineFault, Place, VERBS};
+use suite_script::{Ending, Expected, Form, Forms, LineFault, VERBS};
 
 /// A word that does not fit: its number, its fault, what was expected there (of a line as a whole nothing), the form
 /// that has this place or is due, and the number of the form's first word.
@@ -28,7 +28,6 @@ pub(crate) struct Found<'a> {
     pub(crate) expected: Option<Expected>,
     pub(crate) form: Option<Form>,
     pub(crate) begin: u64,
-    pub(crate) before: &'a [u8],
     pub(crate) is_shifted: bool,
     pub(crate) told: Reasoned<'a>,
 }
@@ -158,13 +157,15 @@ impl<'a> Trial<'a> {
     }
 
     /// The word of this number; no bytes where the line ends before it.
-    fn word(self, at: u64) -> &'a [u8] {
-        let mut number = 0u64;
+    fn word(self, at: u64) -> &'a [u8]
+        ensures { result.now ≡ numbered at (words self.entry.line.now) }
+    {
+        let mut left = at;
         for word in Words::new(self.line) {
-            number = number.saturating_add(1);
-            if number == at {
+            if left == 1 {
                 return word;
             }
+            left = left.saturating_sub(1);
         }
         b""
     }
@@ -180,7 +181,7 @@ impl<'a> Trial<'a> {
     ) -> Result<(), AllocError>
         ensures { OnOk result (AddsMends self.entry at is_before text.old.items text.new.items) }
     {
-        if !self.fits(at, Change::placed(is_before, word))? {
+        if !is_word(word) || !self.fits(at, Change::placed(is_before, word))? {
             return Ok(());
         }
         push_word(text, word)
@@ -335,6 +336,30 @@ impl<'a> Trial<'a> {
         }
     }
 
+    /// Whether an operation has a word too many, behind one that begins none: its path may have a space.
+    #[tactic(auto, using(crate::proofs::Mending::is_cut))]
+    fn is_cut(self) -> Result<bool, AllocError>
+        ensures { IfOk result (λ does. IsTrue does → IsCutIn self.entry) }
+    {
+        let mut words = Words::new(self.line);
+        let Some(first) = words.next() else {
+            return Ok(false);
+        };
+        let Standing::Here(form) = self.reading.standing(first) else {
+            return Ok(false);
+        };
+        let Some(misfit) = self.reading.scope.misfit(self.alloc, form, words)? else {
+            return Ok(false);
+        };
+        let (Ending::Operations, Expected::End) = (form.ending, misfit.expected) else {
+            return Ok(false);
+        };
+        if is_verb(self.word(misfit.number.saturating_sub(1))) {
+            return Ok(false);
+        }
+        Ok(true)
+    }
+
     /// What would explain the fault as one of a word too many or too few: `path` where a path seems to have a space,
     /// `missing` where a word is missing before, or numbers of words that may be too many.
     #[tactic(auto, using(crate::proofs::Mending::path_told, crate::proofs::Mending::missing_told, crate::proofs::Mending::none_told))]
@@ -346,7 +371,7 @@ impl<'a> Trial<'a> {
         match found.form {
             Some(form) if found.is_shifted => {
                 if found.expected == Some(Expected::End) {
-                    if is_of_path(form) && !is_verb(found.before) {
+                    if self.is_cut()? {
                         return Vec::from_slice(self.alloc, b"path");
                     }
                     return self.without(from, found.number);
@@ -364,20 +389,36 @@ impl<'a> Trial<'a> {
     }
 }
 
-fn is_of_path(form: Form) -> bool {
-    matches!(form.places.first(), Some(Place::Path))
-}
-
-fn is_verb(word: &[u8]) -> bool {
+fn is_verb(word: &[u8]) -> bool
+    ensures { result ≡ is_verb word.now }
+{
     VERBS.iter().any(|verb| word == verb.form().word)
 }
 
+/// Whether a text is one word.
+#[tactic(auto, using(crate::proofs::Mending::one_word))]
+fn is_word(text: &[u8]) -> bool
+    ensures { IsTrue result → IsWord text.now }
+{
+    let mut words = Words::new(text);
+    let Some(word) = words.next() else {
+        return false;
+    };
+    if words.next().is_some() {
+        return false;
+    }
+    word == text
+}
+
 /// Adds the fields `INSTEAD BEFORE SHIFT HIDDEN`, each with a tab behind it.
+#[tactic(auto, using(crate::proofs::Mending::all_added))]
 pub(crate) fn push_mends(
     text: &mut Vec<u8>,
     trial: Trial<'_>,
     found: Found<'_>,
-) -> Result<(), AllocError> {
+) -> Result<(), AllocError>
+    ensures { OnOk result (AddsAllFields trial.entry found.entry.number text.old.items text.new.items) }
+{
     push_tried(text, trial, found)?;
     let unseen = match found.fault {
         Some(LineFault::Form) => hidden(trial.word(found.number), trial.line),

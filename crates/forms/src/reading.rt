@@ -1,13 +1,16 @@
 //! The lines of a script above a line: what they say that matters to it.
 
-ghost use Rattle.std.specs.Prelude.{◌≡◌, Contains, IfSome};
+ghost use Rattle.std.specs.Prelude.{◌≡◌, Contains, IfOk, IfSome};
 ghost use Rattle.std.specs.List.{find};
 ghost use Rattle.std.specs.Str.{bytes_eq};
+ghost use Rattle.suite_script.specs.Scripts.{is_skipped};
+ghost use Rattle.forms.specs.Mends.{form_in};
 ghost use Rattle.forms.specs.code.Trials.{StandsIn};
 
+use crate::above::Above;
 use crate::lists::is_noted;
 use acl_text::Names;
-use script_text::{Words, read_number};
+use script_text::{Lines, Words, read_number};
 use std::alloc::{AllocError, Global};
 use suite_prefix::MAX_AGENTS;
 use suite_script::{Form, Forms, Place, Scope};
@@ -54,20 +57,57 @@ pub(crate) fn form_of(forms: &[Form], word: &[u8]) -> Option<Form>
 }
 
 /// The form of a line of a script that begins with a word.
-pub(crate) fn known(forms: Forms, word: &[u8]) -> Option<Form> {
-    let parts = [forms.header, forms.optional, forms.names, forms.own];
-    parts.iter().find_map(|part| form_of(part, word))
+pub(crate) fn known(forms: Forms, word: &[u8]) -> Option<Form>
+    ensures { result ≡ form_in forms word.now }
+{
+    form_of(forms.header, word)
+        .or(form_of(forms.optional, word))
+        .or(form_of(forms.names, word))
+        .or(form_of(forms.own, word))
 }
 
 impl Reading {
     /// Nothing was read yet.
-    pub(crate) fn new(alloc: Global, forms: Forms) -> Reading {
+    pub(crate) fn new(alloc: Global, forms: Forms) -> Reading
+        ensures { result.forms ≡ forms }
+    {
         Reading {
             forms,
             header: 0,
             is_open: true,
             begun: 0,
             scope: widest(alloc),
+        }
+    }
+
+    /// The lines above one are read.
+    pub(crate) fn of_above(
+        alloc: Global,
+        forms: Forms,
+        above: Above<'_>,
+    ) -> Result<Reading, AllocError>
+        ensures { IfOk result (λ reading. reading.forms ≡ forms) }
+    {
+        let mut reading = Reading::new(alloc, forms);
+        let mut number = 0u64;
+        for line in Lines::new(above.script) {
+            number = number.saturating_add(1);
+            if number >= above.number {
+                return Ok(reading);
+            }
+            reading.take_line(number, line)?;
+        }
+        Ok(reading)
+    }
+
+    /// Takes the line of this number, which has no fault.
+    pub(crate) fn take_line(&mut self, number: u64, line: &[u8]) -> Result<(), AllocError>
+        ensures { self.new.forms ≡ self.old.forms }
+    {
+        let mut words = Words::new(line);
+        match words.next() {
+            Some(first) if !is_skipped(line) => self.take(number, first, words),
+            _ => Ok(()),
         }
     }
 
@@ -109,20 +149,16 @@ impl Reading {
     fn misplaced(&self, word: &[u8], due: Option<Form>) -> Standing
         ensures { StandsIn self.now.forms word.now result }
     {
-        if known(self.forms, word).is_some() {
-            Standing::Misplaced(due)
-        } else {
-            Standing::Unknown(due)
+        match known(self.forms, word) {
+            Some(_form) => Standing::Misplaced(due),
+            None => Standing::Unknown(due),
         }
     }
 
-    /// Takes the line of this number, which has no fault.
-    pub(crate) fn take(
-        &mut self,
-        number: u64,
-        first: &[u8],
-        words: Words<'_>,
-    ) -> Result<(), AllocError> {
+    /// Takes a line by its number, its first word and those after it.
+    fn take(&mut self, number: u64, first: &[u8], words: Words<'_>) -> Result<(), AllocError>
+        ensures { self.new.forms ≡ self.old.forms }
+    {
         let Standing::Here(form) = self.standing(first) else {
             return Ok(());
         };
@@ -138,7 +174,9 @@ impl Reading {
     }
 
     /// Notes what a line says: how many servers or agents there are, or a name.
-    fn note(&mut self, form: Form, mut words: Words<'_>) -> Result<(), AllocError> {
+    fn note(&mut self, form: Form, mut words: Words<'_>) -> Result<(), AllocError>
+        ensures { self.new.forms ≡ self.old.forms }
+    {
         let (Some(place), Some(word)) = (form.places.first(), words.next()) else {
             return Ok(());
         };
@@ -151,6 +189,13 @@ impl Reading {
         }
         Ok(())
     }
+}
+
+/// Whether a line says nothing.
+pub(crate) fn is_skipped(line: &[u8]) -> bool
+    ensures { result ≡ is_skipped line.now }
+{
+    matches!(line, [] | [b'#', ..])
 }
 
 /// The last of so many that are numbered from 0.

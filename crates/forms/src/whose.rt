@@ -1,39 +1,54 @@
 //! Of which command a script is: how many of its lines begin as those of each, and where each would stop.
 
+ghost use Rattle.std.specs.Prelude.{IfOk};
+ghost use Rattle.forms.specs.Answers.{IsOfCommand, IsOfEach};
+
 use crate::above::Above;
 use crate::finding::found_in;
-use crate::first::COMMANDS;
 use crate::mend::fits;
 use crate::number::is_digits;
-use crate::reading::{Reading, known};
-use crate::table::lines_of;
+use crate::reading::{Reading, is_skipped, known};
 use script_text::{Lines, Words, push_number};
 use std::alloc::{AllocError, Global};
-use suite_script::{Forms, Place};
+use suite_script::{Forms, PLAY_LINES, Place, SERVE_LINES, TABLE_LINES};
 
 /// So many lines show of which command a script is.
 const MANY: u64 = 1000;
 
 /// What is printed of the line of this number, of each command in a line of its own: `COMMAND LIKENESS ABOVE`, and what
 /// is printed of it where the command is known.
-pub(crate) fn found_of_all(
+#[tactic(auto, using(crate::proofs::Answering::of_each))]
+pub(crate) fn found_of_all(alloc: Global, script: &[u8], number: u64) -> Result<Vec<u8>, AllocError>
+    ensures { IfOk result (λ text. IsOfEach script.now number text.items) }
+{
+    let above = Above { script, number };
+    let mut text = of_command(alloc, b"play", PLAY_LINES, above)?;
+    text.extend_from_slice(&of_command(alloc, b"serve", SERVE_LINES, above)?)?;
+    text.extend_from_slice(&of_command(alloc, b"table", TABLE_LINES, above)?)?;
+    Ok(text)
+}
+
+/// The same of a command.
+#[tactic(auto, using(crate::proofs::Answering::of_command))]
+fn of_command(
     alloc: Global,
-    script: &[u8],
-    number: u64,
-) -> Result<Vec<u8>, AllocError> {
-    let mut text = Vec::new(alloc);
-    for command in COMMANDS {
-        if let Some(forms) = lines_of(command) {
-            text.extend_from_slice(command)?;
-            text.push(b'\t')?;
-            push_number(&mut text, likeness(forms, script))?;
-            text.push(b'\t')?;
-            push_number(&mut text, fault_above(alloc, forms, script, number)?)?;
-            text.push(b'\t')?;
-            let found = found_in(alloc, forms, script, number)?;
-            text.extend_from_slice(&found)?;
-        }
-    }
+    command: &[u8],
+    forms: Forms,
+    above: Above<'_>,
+) -> Result<Vec<u8>, AllocError>
+    ensures { IfOk result (λ text. IsOfCommand command.now above.entry.script.now above.entry.number text.items) }
+{
+    let mut text = Vec::from_slice(alloc, command)?;
+    text.push(b'\t')?;
+    push_number(&mut text, likeness(forms, above.script))?;
+    text.push(b'\t')?;
+    push_number(
+        &mut text,
+        fault_above(alloc, forms, above.script, above.number)?,
+    )?;
+    text.push(b'\t')?;
+    let found = found_in(alloc, forms, above.script, above.number)?;
+    text.extend_from_slice(&found)?;
     Ok(text)
 }
 
@@ -96,7 +111,7 @@ fn fault_above(alloc: Global, forms: Forms, script: &[u8], number: u64) -> Resul
         if place >= number {
             return Ok(0);
         }
-        if matches!(line, [] | [b'#', ..]) {
+        if is_skipped(line) {
             continue;
         }
         let above = Above {
@@ -106,10 +121,7 @@ fn fault_above(alloc: Global, forms: Forms, script: &[u8], number: u64) -> Resul
         if !fits(alloc, &reading, above, line)? {
             return Ok(place);
         }
-        let mut words = Words::new(line);
-        if let Some(first) = words.next() {
-            reading.take(place, first, words)?;
-        }
+        reading.take_line(place, line)?;
     }
     Ok(0)
 }

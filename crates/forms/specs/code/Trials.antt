@@ -1,13 +1,13 @@
 -- What a trial of a line comes to, by the fields of the code.
-use Rattle.std.specs.Prelude.{◌≡◌, ℕ, Bool, List, ◌++◌, Contains}
+use Rattle.std.specs.Prelude.{◌≡◌, ℕ, Bool, true, is_some, List, ◌++◌, Contains, None}
 use Rattle.suite_script.specs.Words.{Word}
 use Rattle.suite_script.specs.declared.form.Forms.{Forms}
-use Rattle.forms.specs.Mends.{AreMends, AreTold, Edit, Without, Instead, Before, IsMissing, IsShift, IsTooMany, Mends, all_of, placed}
+use Rattle.forms.specs.Mends.{AreMends, AreTold, Edit, Without, Instead, Before, IsCut, IsMissing, IsShift, IsTooMany, Mends, all_of, field, form_in, placed}
 use Rattle.forms.specs.declared.mend.Change.{Change}
 use Rattle.forms.specs.declared.mend.Change.TheVariants as code
 use Rattle.forms.specs.declared.mend.Trial.{Trial}
 use Rattle.forms.specs.declared.reading.Standing.{Standing}
-use Rattle.forms.specs.declared.reading.Standing.TheVariants.{Here}
+use Rattle.forms.specs.declared.reading.Standing.TheVariants.{Here, Misplaced, Unknown}
 
 -- a change by the words that it names
 abbrev pub change_of : Change → Edit
@@ -15,16 +15,20 @@ change_of code.Without = Without
 change_of (code.Instead other) = Instead other.now
 change_of (code.Before other) = Before other.now
 
--- a line that stands in its place begins with the word of one of the forms
+-- a line that stands in its place, or out of it, begins with the word of one of the forms; another one does not
 abbrev pub StandsIn : Forms → Word → Standing → Type 0
 StandsIn forms word (Here form) = Contains (all_of forms) form × (form.word.now ≡ word)
-StandsIn forms word _ = Unit {0}
+StandsIn forms word (Misplaced due) = is_some (form_in forms word) ≡ true
+StandsIn forms word (Unknown due) = form_in forms word ≡ None
 
 abbrev pub MendsIn : Trial → ℕ → Edit → Type 0
 MendsIn trial at change = Mends trial.reading.now.scope trial.reading.now.forms trial.line.now at change
 
 abbrev pub IsMissingIn : Trial → Type 0
 IsMissingIn trial = IsMissing trial.reading.now.scope trial.reading.now.forms trial.line.now
+
+abbrev pub IsCutIn : Trial → Type 0
+IsCutIn trial = IsCut trial.reading.now.scope trial.reading.now.forms trial.line.now
 
 abbrev pub IsShiftIn : Trial → List ℕ → Type 0
 IsShiftIn trial text = IsShift trial.reading.now.scope trial.reading.now.forms trial.line.now text
@@ -48,3 +52,10 @@ pub record AddsFields (trial : Trial) (at : ℕ) (old new : List ℕ) : Type 0 w
   pub added : List ℕ
   pub mends : AreMends trial.reading.now.scope trial.reading.now.forms trial.line.now at added
   pub is : new ≡ old ++ added
+
+-- these three, and the field of what cannot be seen
+pub record AddsAllFields (trial : Trial) (at : ℕ) (old new : List ℕ) : Type 0 where
+  pub tried : List ℕ
+  pub hidden : List ℕ
+  pub fields : AddsFields trial at old tried
+  pub is : new ≡ tried ++ field hidden
