@@ -7,7 +7,7 @@ use Rattle.job_history.specs.declared.event.Event.{Event}
 use Rattle.job_history.specs.declared.event.Span.{Span}
 use Rattle.job_history.specs.Calls.{Asked}
 use Rattle.job_history.specs.Events.{AreOrdered, are_right, events_of}
-use Rattle.job_history.specs.Told.{is_decided, told_text}
+use Rattle.job_history.specs.Told.{is_judged, told_text}
 
 -- what is said of a job: that it was told how it ended, or that it was called for this
 abbrev pub said_text : Event → List ℕ → Ending → List ℕ
@@ -15,12 +15,12 @@ said_text event call ending =
     if event.is_end then codes "ret " ++ decimal event.job ++ codes " " ++ told_text ending
     else codes "call " ++ decimal event.job ++ codes " " ++ call
 
--- a comment, where no client was told a decision
+-- a comment, where a history's table cannot have told it
 abbrev pub mark_text : Bool → List ℕ
-mark_text decided = if decided then [] else codes "# "
+mark_text judged = if judged then [] else codes "# "
 
 abbrev pub event_line : Event → List ℕ → Ending → List ℕ
-event_line event call ending = mark_text (is_decided ending) ++ said_text event call ending ++ line_feed
+event_line event call ending = mark_text (is_judged ending) ++ said_text event call ending ++ line_feed
 
 abbrev pub line_at : Event → Option (List ℕ) → Option Ending → List ℕ
 line_at event (Some call) (Some ending) = event_line event call ending

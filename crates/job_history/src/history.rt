@@ -6,7 +6,7 @@ ghost use Rattle.job_history.specs.Histories.{IsHistory, event_line, line_of, li
 
 use crate::call::{CallText, Calls};
 use crate::event::{Event, Span, ordered_events};
-use crate::told::{is_decided, push_told};
+use crate::told::{is_judged, push_told};
 use script_text::push_number;
 use std::alloc::{AllocError, Global};
 use txn_core::Ending;
@@ -59,7 +59,7 @@ fn push_line(
     }
 }
 
-/// The line of an event of a job that asked for this, and ended so: a comment where no client was told a decision.
+/// The line of an event of a job that asked for this, and ended so: a comment where a history's table cannot have told it.
 fn push_event(
     alloc: Global,
     text: &mut Vec<u8>,
@@ -69,7 +69,7 @@ fn push_event(
 ) -> Result<(), AllocError>
     ensures { OnOk result (text.new.items ≡ text.old.items ++ event_line event call.now ending.now) }
 {
-    if !is_decided(ending) {
+    if !is_judged(ending) {
         text.extend_from_slice(b"# ")?;
     }
     push_said(alloc, text, call, ending, event)?;

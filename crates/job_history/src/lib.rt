@@ -4,9 +4,10 @@
 //! `history_of` makes the text (`IsHistory`): the opening, and then for each job one line where it was called and one
 //! where it was told, in the order of the numbers that were drawn for both. The number of a job's call is below that
 //! of its end, which `are_right` tells. What is written of a job is what it asks for and how it ended, as these
-//! definitions have it. A transaction that ended undecided was told that it changed nothing, and a sweep is no call of
-//! a client: their lines are comments. That one number was drawn before another is a fact of threads, which no clause
-//! can say.
+//! definitions have it. The lines of a job of which a history's table can tell nothing are comments: a transaction that
+//! ended undecided, whose caller was told that it changed nothing; a sweep, which is no call of a client; and what was
+//! refused since a server is not there. That one number was drawn before another is a fact of threads, which no
+//! clause can say.
 //!
 //! A history is of one plain table with the votes of a script's header: a `do` above all calls sets those of the root
 //! folder, and what is made without votes is written with them. A path that is none is written `?`, which is none

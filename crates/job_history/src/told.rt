@@ -1,21 +1,29 @@
 //! What callers were told.
 
 ghost use Rattle.std.specs.Prelude.{◌≡◌, ◌++◌, OnOk};
-ghost use Rattle.job_history.specs.Told.{is_decided, refused_text, told_text};
+ghost use Rattle.job_history.specs.Told.{is_judged, is_of_table, refused_text, told_text};
 
 use file_ops::{Refusal, Why};
 use std::alloc::{AllocError, Global};
 use suite_script::{push_answered, push_refused};
 use txn_core::Ending;
 
-/// Whether a job was a transaction that was decided.
-pub(crate) fn is_decided(ending: &Ending) -> bool
-    ensures { result ≡ is_decided ending.now }
+/// Whether the plain table of a history can have told this: it can but for a sweep, for what was not decided, and for a
+/// server that is not there, since it has all servers that there may be.
+pub(crate) fn is_judged(ending: &Ending) -> bool
+    ensures { result ≡ is_judged ending.now }
 {
     match ending {
-        Ending::Answered(_) | Ending::Refused(_) => true,
+        Ending::Answered(_) => true,
+        Ending::Refused(refusal) => is_of_table(refusal.why),
         Ending::Swept { .. } | Ending::Undecided(_) => false,
     }
+}
+
+fn is_of_table(why: Why) -> bool
+    ensures { result ≡ is_of_table why }
+{
+    !matches!(why, Why::UnknownServer)
 }
 
 /// What was told of a job.
