@@ -135,7 +135,7 @@ def main() -> int:
             said = found(program_with(ERRORS[error], folder), given.calls, 0.02 if error == "aborted" else 0, folder)
             print(f"{error}: {said or 'not found'}", flush=True)
             tally.holds(said, f"{error}: not found")
-    print(f"{tally.count} programs, {tally.wrong} that are judged wrongly")
+    print(f"{tally.count} programs, {tally.wrong} differ")
     return 1 if tally.wrong else 0
 
 
