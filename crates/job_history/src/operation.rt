@@ -30,12 +30,7 @@ pub(crate) fn push_ops(
     push_more(alloc, text, c0, more)
 }
 
-fn push_more(
-    alloc: Global,
-    text: &mut Vec<u8>,
-    c0: &Votes,
-    ops: &[Op],
-) -> Result<(), AllocError>
+fn push_more(alloc: Global, text: &mut Vec<u8>, c0: &Votes, ops: &[Op]) -> Result<(), AllocError>
     ensures { OnOk result (text.new.items ≡ text.old.items ++ flat_map (λ next. codes " ; " ++ op_text c0.now next) ops.now) }
 {
     for op in ops {

@@ -48,12 +48,7 @@ pub(crate) fn read_words<R: Env>(rt: &R, alloc: Global) -> Result<Wanted, AllocE
 }
 
 /// What is asked for by the values at these places: of how many agents there are, and of the file.
-fn wanted_at<R: Env>(
-    rt: &R,
-    alloc: Global,
-    agents: usize,
-    log: usize,
-) -> Result<Wanted, AllocError>
+fn wanted_at<R: Env>(rt: &R, alloc: Global, agents: usize, log: usize) -> Result<Wanted, AllocError>
     ensures { IfOk result IsServable }
 {
     let Some(agents) = agents_at(rt, agents) else {
