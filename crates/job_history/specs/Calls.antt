@@ -30,11 +30,15 @@ job_text c0 (Sweep server) = codes "sweep " ++ decimal server
 abbrev pub root_text : Opening → List ℕ
 root_text given = decimal given.root_owner ++ codes " " ++ decimal given.root_group ++ codes " "
 
+abbrev pub root_line : Opening → List ℕ
+root_line given = codes "root " ++ root_text given ++ short_text given.root_acl ++ line_feed
+
+abbrev pub votes_line : Opening → List ℕ
+votes_line given = codes "do " ++ root_text given ++ codes "setvotes / " ++ votes_text given.c0 ++ line_feed
+
 -- the root folder, and then its votes
 abbrev pub opening_text : Opening → List ℕ
-opening_text given =
-    codes "root " ++ root_text given ++ short_text given.root_acl ++ line_feed
-    ++ codes "do " ++ root_text given ++ codes "setvotes / " ++ votes_text given.c0 ++ line_feed
+opening_text given = root_line given ++ votes_line given
 
 -- the lines above all calls, and what each job asks for
 pub record Asked : Type 0 where

@@ -1,7 +1,7 @@
 //! What jobs ask for.
 
 ghost use Rattle.std.specs.Prelude.{◌≡◌, ◌++◌, IfOk, OnOk, map};
-ghost use Rattle.job_history.specs.Calls.{caller_text, calls_of, groups_text, job_text, opening_text, root_text};
+ghost use Rattle.job_history.specs.Calls.{caller_text, calls_of, groups_text, job_text, opening_text, root_line, root_text, votes_line};
 
 use crate::operation::push_ops;
 use acl_core::Caller;
@@ -145,10 +145,23 @@ fn push_groups(text: &mut Vec<u8>, groups: &[u32]) -> Result<(), AllocError>
 fn push_opening(text: &mut Vec<u8>, settings: &Settings) -> Result<(), AllocError>
     ensures { OnOk result (text.new.items ≡ text.old.items ++ opening_text settings.now) }
 {
+    push_root_line(text, settings)?;
+    push_votes_line(text, settings)
+}
+
+fn push_root_line(text: &mut Vec<u8>, settings: &Settings) -> Result<(), AllocError>
+    ensures { OnOk result (text.new.items ≡ text.old.items ++ root_line settings.now) }
+{
     text.extend_from_slice(b"root ")?;
     push_root(text, settings)?;
     append_short(text, settings.root_acl())?;
-    text.extend_from_slice(b"\ndo ")?;
+    text.extend_from_slice(b"\n")
+}
+
+fn push_votes_line(text: &mut Vec<u8>, settings: &Settings) -> Result<(), AllocError>
+    ensures { OnOk result (text.new.items ≡ text.old.items ++ votes_line settings.now) }
+{
+    text.extend_from_slice(b"do ")?;
     push_root(text, settings)?;
     text.extend_from_slice(b"setvotes / ")?;
     push_votes(text, settings.c0())?;
