@@ -1,1 +1,1 @@
-pub mod Logged
+pub mod Logs

@@ -1,7 +1,7 @@
 //! A script of jobs, served, with the history of what their callers saw.
 
 ghost use Rattle.std.specs.Prelude.{IfOk};
-ghost use Rattle.serve_log.specs.Logged.{IsLogged};
+ghost use Rattle.serve_log.specs.Logs.{IsLogged};
 
 use crate::clock::Clock;
 use job_history::{Calls, are_right, history_of};
@@ -20,7 +20,7 @@ pub(crate) struct Logged {
 
 /// Has the jobs of a script carried out, with the numbers that are drawn for them. A job for which they are out of order is a
 /// mismatch, as one that was not carried out.
-pub(crate) fn logged<R: Threads + Wait + Sync>(
+pub(crate) fn serve_logged<R: Threads + Wait + Sync>(
     rt: &R,
     alloc: Global,
     script: JobScript,

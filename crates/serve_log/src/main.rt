@@ -13,7 +13,7 @@
 //! were not so, `mismatch` would be printed, and nothing written. Nothing is known to contracts of what a file holds,
 //! and no clause says that a number is lower because it was drawn earlier.
 //!
-//! **Files**: `words`, `clock` (who draws numbers), `logged`, `refusal`. **Definitions** (`specs/`): `Logged`.
+//! **Files**: `words`, `clock` (who draws numbers), `logged`, `refusal`. **Definitions** (`specs/`): `Logs`.
 #![tactic(auto)]
 
 mod clock;
@@ -25,7 +25,7 @@ use byte_streams::{
     ByteIn, ByteOut, COMMAND_LINE, DONE, MAX_INPUT, SystemIn, SystemOut, finish, lack_memory,
     read_all, write_all,
 };
-use logged::{Logged, logged};
+use logged::{Logged, serve_logged};
 use refusal::{Refusal, tell_refusal};
 use std::alloc::{AllocError, Global};
 use std::fs::{File, OpenOptions};
@@ -77,7 +77,7 @@ fn serve<R: Threads + Wait + Sync + Files<File = File>, I: ByteIn, O: ByteOut>(
         .create(true)
         .truncate(true)
         .open(rt, wish.log.as_str())?;
-    match logged(rt, alloc, script) {
+    match serve_logged(rt, alloc, script) {
         Ok(logged) => tell(alloc, &logged, &mut SystemOut::new(file), writer),
         Err(fault) => Ok(report(alloc, Err(fault), writer)),
     }

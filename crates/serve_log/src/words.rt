@@ -1,7 +1,7 @@
 //! The command line: what is asked for.
 
 ghost use Rattle.std.specs.Prelude.{◌≤◌, IfOk, IfSome};
-ghost use Rattle.serve_log.specs.Logged.{IsServable};
+ghost use Rattle.serve_log.specs.Logs.{IsServable};
 
 use script_text::read_number;
 use std::alloc::{AllocError, Global};
