@@ -1,6 +1,6 @@
 -- What is served and written down.
 use Rattle.std.specs.Prelude.{◌≡◌, ℕ, ◌≤◌, List, length}
-use Rattle.suite_prefix.specs.declared.TheConstants.{MAX_AGENTS}
+use Rattle.suite_prefix.specs.SettingsRules.{max_agents}
 use Rattle.suite_serve.specs.Scripts.{Plan}
 use Rattle.suite_serve.specs.Served.{Came, IsServed, endings_of}
 use Rattle.job_history.specs.declared.event.Span.{Span}
@@ -11,7 +11,7 @@ use Rattle.serve_log.specs.declared.words.Wanted.TheVariants.{Serve, Help, Nothi
 
 -- where a script is to be served, there are as many agents as there may be
 abbrev pub IsServable : Wanted → Type 0
-IsServable (Serve wish) = (1 ≤ wish.agents) × (wish.agents ≤ MAX_AGENTS)
+IsServable (Serve wish) = (1 ≤ wish.agents) × (wish.agents ≤ max_agents)
 IsServable Help = Unit {0}
 IsServable Nothing = Unit {0}
 
