@@ -1,5 +1,5 @@
 -- The history of jobs, as text.
-use Rattle.std.specs.Prelude.{◌≡◌, ℕ, Bool, true, if◌then◌else◌, List, [], ◌++◌, slice_get, codes, decimal, Option, Some, None}
+use Rattle.std.specs.Prelude.{◌≡◌, ℕ, Bool, true, if◌then◌else◌, List, [], ◌++◌, slice_get, codes, decimal, Option, Some}
 use Rattle.std.specs.List.{flat_map}
 use Rattle.suite_script.specs.Faults.{line_feed}
 use Rattle.txn_core.specs.declared.ending.Ending.{Ending}
