@@ -16,7 +16,7 @@ ROOMS = {
     "show": "show",
     "votes": "votes",
     "explore": "explore",
-    "judge": "judge record",
+    "judge": "judge log record",
     "mount": "mount",
     "shell": "shell",
     "compare": "compare scenario",

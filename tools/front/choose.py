@@ -25,7 +25,7 @@ PROGRAMS = {
 }
 STOPPED = "stopped; there is no checked build yet"
 # The programs beside it that tools use.
-BESIDE = ("trace", "explore", "may", "forms", "judge", "session")
+BESIDE = ("trace", "explore", "may", "forms", "judge", "session", "serve_log")
 CHANGES = os.path.join(TOP, "CHANGELOG.md")
 
 

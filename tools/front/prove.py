@@ -108,7 +108,7 @@ def build(needs: dict[str, list[str]], teller: console.Teller) -> tuple[str, str
 
 def main() -> int:
     read = console.words(__doc__)
-    read.usage = "./suites --prove [trace|may|explore|judge|session|forms]"
+    read.usage = "./suites --prove [trace|may|explore|judge|session|serve_log|forms]"
     read.parse_args()
     kit = sources.Kit()
     kit.wanted()

@@ -100,7 +100,7 @@ def tried(crate: str) -> dict[str, typing.Any]:
 
 PROGRAM, TRACE, MAY = "the program", "the program of trace", "the program of may"
 FORMS, EXPLORE, JUDGE = "the program of forms", "the program of explore", "the program of judge"
-SESSION = "the program of session"
+SESSION, SERVE_LOG = "the program of session", "the program of serve --log"
 # What takes longest stands first, but for what tells at once that something is wrong.
 PARTS = (
     Part("what pages show", tool("shown")),
@@ -123,6 +123,7 @@ PARTS = (
     Part(EXPLORE, tool("choose"), program="explore"),
     Part(JUDGE, tool("choose"), program="judge"),
     Part(SESSION, tool("choose"), program="session"),
+    Part(SERVE_LOG, tool("choose"), program="serve_log"),
     Part("tests of commands", **tried("command_tests")),
     Part("rows", test("checked-build.py"), [PROGRAM]),
     Part("the table of forms", test("form-table.py"), [PROGRAM]),
@@ -135,6 +136,7 @@ PARTS = (
     Part("what explain says of damaged scripts", test("damaged-scripts.py", "--cases", "1000"), [PROGRAM, FORMS]),
     Part("command lines of documents", test("typed.py"), [PROGRAM, TRACE, FORMS, EXPLORE, MAY]),
     Part("verdicts on histories", test("judged.py"), [JUDGE]),
+    Part("verdicts on what callers saw", test("logged.py"), [JUDGE, SERVE_LOG]),
     Part("how programs end", test("statuses.py"), [TRACE, FORMS]),
     Part("answers of may", test("may.py"), [MAY]),
     Part(
@@ -164,6 +166,7 @@ LONG = (
     Part("crates in another repository", test("taken.py")),
     Part("slow inputs", test("growth.py"), [PROGRAM, TRACE, MAY, FORMS, EXPLORE]),
     Part("races", test("races.py", "1")),
+    Part("planted errors", test("planted.py"), [JUDGE, SERVE_LOG]),
     Part("the mount, long", test("mount-against-the-kernel.py", "--calls", "200000"), [PROGRAM, SESSION]),
     Part("programs on the mount, and servers that crash", test("mount-programs.py"), [PROGRAM, SESSION]),
     Part("faults of the mount", test("mount-faults.py"), [PROGRAM, SESSION]),

@@ -2,6 +2,7 @@
 use Rattle.std.specs.Prelude.{◌≡◌, ℕ, ◌+◌, ◌<◌, min, Contains, List, [], ◌∷◌, ◌++◌, codes, decimal, length, slice_get, Option, Some, None}
 use Rattle.std.specs.List.{flat_map}
 use Rattle.std.specs.Option.{option_map}
+use Rattle.txn_core.specs.declared.ending.Ending.{Ending}
 use Rattle.txn_core.specs.declared.job.Job.{Job}
 use Rattle.run_core.specs.declared.done.EndedJob.{EndedJob}
 use Rattle.server_lock.specs.declared.item.Item.{Item}
@@ -40,6 +41,17 @@ job_line end = told_line end.job end.told
 
 abbrev pub job_lines : List JobEnd → List ℕ
 job_lines ends = flat_map job_line ends
+
+-- ---- endings
+
+abbrev pub ending_of : Option EndedJob → List Ending
+ending_of (Some outcome) = outcome.ending ∷ []
+ending_of None = []
+
+-- how jobs ended, where that is told
+abbrev pub endings_of : List JobEnd → List Ending
+endings_of [] = []
+endings_of (end ∷ ends) = ending_of end.told ++ endings_of ends
 
 -- ---- ends in transcripts
 

@@ -11,6 +11,8 @@
 //! nothing. What is promised of a run holds of this one at each of its moments (`CertifiedIsPromised`), and its
 //! histories tell whose decision came first (`TellsOfTime`).
 //!
+//! `serve_through` does the same through a gate of the caller's, who may so see when jobs are begun and served.
+//!
 //! A fault of the pool but Memory, of closing, or of certifying prints `mismatch` and no outcome. No clause says
 //! that threads do anything at once, that a call returns, or which of two jobs below `together` comes first.
 //!
@@ -30,4 +32,4 @@ mod verb;
 
 pub use script::{JobScript, read_script};
 pub use served::Served;
-pub use serving::serve;
+pub use serving::{serve, serve_through};

@@ -1,8 +1,8 @@
 //! What the jobs of a script came to.
 
-ghost use Rattle.std.specs.Prelude.{◌≡◌, ◌++◌, ◌^◌, ◌<◌, OnOk, map, option_map, []};
+ghost use Rattle.std.specs.Prelude.{◌≡◌, ◌++◌, ◌^◌, ◌<◌, IfOk, OnOk, map, option_map, []};
 ghost use Rattle.suite_script.specs.Gathering.{Prints};
-ghost use Rattle.suite_serve.specs.Served.{end_in, items_in, job_lines, named_end, told_line};
+ghost use Rattle.suite_serve.specs.Served.{end_in, ending_of, endings_of, items_in, job_lines, named_end, told_line};
 
 use agent_pool::{JobOutcome, end_at};
 use byte_streams::ByteOut;
@@ -14,6 +14,7 @@ use std::alloc::{AllocError, Global};
 use std::marker::Model;
 use suite_play::push_ending;
 use suite_script::{PlayError, write_gathered, write_if_full};
+use txn_core::Ending;
 
 /// What the jobs of a script came to in a run that was certified: what agents did, where the jobs ended in it, in the order
 /// of their numbers, and how many requests were served.
@@ -52,6 +53,13 @@ impl Served {
         self.steps
     }
 
+    /// How the jobs ended, in the order of their numbers.
+    pub fn endings(&self, alloc: Global) -> Result<Vec<Ending>, AllocError>
+        ensures { IfOk result (λ endings. endings.items ≡ endings_of self.now.ends) }
+    {
+        endings_in(alloc, &self.transcripts, &self.outcomes)
+    }
+
     /// Writes a line for each job, in the order of their numbers.
     pub fn write_outcomes<O: ByteOut>(&self, alloc: Global, writer: &mut O) -> Result<(), PlayError>
         ensures { Prints result (job_lines self.now.ends) [] (O.written writer.old) (O.written writer.new)
@@ -59,6 +67,33 @@ impl Served {
     {
         write_lines(alloc, &self.transcripts, &self.outcomes, writer)
     }
+}
+
+/// How these jobs ended, whose ends stand in these transcripts.
+fn endings_in(
+    alloc: Global,
+    transcripts: &Transcripts,
+    outcomes: &[JobOutcome],
+) -> Result<Vec<Ending>, AllocError>
+    ensures { IfOk result (λ endings. endings.items ≡ endings_of (map (end_in transcripts.now) outcomes.now)) }
+{
+    let mut endings = Vec::with_capacity(alloc, outcomes.len())?;
+    for outcome in outcomes {
+        keep_ending(&mut endings, ended(transcripts, outcome))?;
+    }
+    Ok(endings)
+}
+
+/// Keeps how a job ended, where that is told.
+fn keep_ending(endings: &mut Vec<Ending>, told: Option<&EndedJob>) -> Result<(), AllocError>
+    ensures { OnOk result (endings.new.items ≡ endings.old.items ++ ending_of (option_map (λ told. told.now) told.entry)) }
+{
+    let Some(outcome) = told else {
+        return Ok(());
+    };
+    let ending = outcome.ending.clone()?;
+    endings.push(ending)?;
+    Ok(())
 }
 
 /// Writes a line for each of these jobs, whose ends stand in these transcripts.

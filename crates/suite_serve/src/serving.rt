@@ -16,19 +16,32 @@ use crate::served::{Served, items_in};
 use agent_pool::{JobOutcome, NamedJob, Player, Pool, PoolFault, first_players, run_pool};
 use law_certified::promise;
 use run_certify::{CertifyFault, KeptJob, Transcripts, certify};
-use server_lock::{Histories, OpenGate, Pass, Servers};
+use server_lock::{Gate, Histories, OpenGate, Pass, Servers};
 use std::alloc::{AllocError, Global};
 use std::sync::Wait;
 use std::thread::Threads;
 use suite_prefix::Settings;
 use txn_core::Job;
 
-/// Has the jobs of a script carried out, those above `together` by agent 0 and then the others by all agents, each as one is
-/// free. Then the servers are closed, and it is certified that what they served and what agents did is one run. Where it is
-/// none, or a job was not carried out, that is a mismatch, and nothing is told of the jobs.
+/// Has the jobs of a script carried out, as [`serve_through`] does, through a gate that does nothing.
 pub fn serve<R: Threads + Wait + Sync>(
     rt: &R,
     alloc: Global,
+    script: JobScript,
+) -> Result<Served, CertifyFault>
+    ensures { IfOk result (λ served. IsServed script served) }
+{
+    serve_through(rt, alloc, &OpenGate, script)
+}
+
+/// Has the jobs of a script carried out, those above `together` by agent 0 and then the others by all agents, each as one is
+/// free. Then the servers are closed, and it is certified that what they served and what agents did is one run. Where it is
+/// none, or a job was not carried out, that is a mismatch, and nothing is told of the jobs. The gate is called where an
+/// agent begins a job, under the lock of each server that it asks, and after that; what it does is its own affair.
+pub fn serve_through<R: Threads + Wait + Sync, G: Gate + Sync>(
+    rt: &R,
+    alloc: Global,
+    gate: &G,
     script: JobScript,
 ) -> Result<Served, CertifyFault>
     ensures { IfOk result (λ served. IsServed script served) }
@@ -48,6 +61,7 @@ pub fn serve<R: Threads + Wait + Sync>(
         rt,
         alloc,
         Opened {
+            gate,
             servers: &servers,
             passes,
         },
@@ -93,9 +107,10 @@ fn named(alloc: Global, jobs: Vec<Job>) -> Result<Vec<NamedJob>, AllocError>
     Ok(all)
 }
 
-/// Servers that were opened, with all their passes.
+/// Servers that were opened, with all their passes, and the gate through which they are asked.
 #[derive(Drop)]
-struct Opened<'a> {
+struct Opened<'a, G: Gate> {
+    gate: &'a G,
     servers: &'a Servers,
     passes: Vec<Pass>,
 }
@@ -110,10 +125,10 @@ pub(crate) struct Worked {
 
 /// Has the first jobs carried out by agent 0, and then the others by all agents: what agent 0 was told is known to all
 /// before they begin. The jobs are let go before more is made.
-fn work<R: Threads + Wait + Sync>(
+fn work<R: Threads + Wait + Sync, G: Gate + Sync>(
     rt: &R,
     alloc: Global,
-    opened: Opened<'_>,
+    opened: Opened<'_, G>,
     jobs: Vec<NamedJob>,
     alone: usize,
 ) -> Result<Worked, CertifyFault>
@@ -121,21 +136,25 @@ fn work<R: Threads + Wait + Sync>(
     ensures done { IfOk result (λ worked. AreDone jobs.items alone worked) }
     ensures quiet { IfOk result (λ worked. passes_by None worked.passes.items ≡ passes_by None opened.entry.passes.items) }
 {
-    let Opened { servers, passes } = opened;
+    let Opened {
+        gate,
+        servers,
+        passes,
+    } = opened;
     let (first, others) = first_and_others(alloc, servers.settings())?;
     let (above, below) = jobs.as_slice().split_at(alone.min(jobs.len()));
     let Pool {
         agents,
         passes,
         outcomes: before,
-    } = judged(run_pool(rt, alloc, &OpenGate, servers, above, first, passes))?;
+    } = judged(run_pool(rt, alloc, gate, servers, above, first, passes))?;
     let others = followers(alloc, &agents, others)?;
     let agents = joined(agents, others)?;
     let Pool {
         agents,
         passes,
         outcomes: after,
-    } = judged(run_pool(rt, alloc, &OpenGate, servers, below, agents, passes))?;
+    } = judged(run_pool(rt, alloc, gate, servers, below, agents, passes))?;
     drop(jobs);
     let outcomes = joined(before, after)?;
     Ok(Worked {

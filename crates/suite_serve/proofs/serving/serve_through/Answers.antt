@@ -9,7 +9,7 @@ use Rattle.suite_serve.specs.code.Working.{AreDone}
 use Rattle.suite_serve.proofs.Certified.{came_of, is_served}
 use Rattle.suite_serve.proofs.Counted.{few_items}
 use Rattle.suite_serve.proofs.Quiet.{none_made, operators}
-use Rattle.suite_serve.proofs.serving.serve.Goals as goal
+use Rattle.suite_serve.proofs.serving.serve_through.Goals as goal
 
 pub returns : goal.returns
 returns g c =

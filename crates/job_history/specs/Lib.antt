@@ -1,0 +1,5 @@
+pub mod Operations
+pub mod Calls
+pub mod Told
+pub mod Events
+pub mod Histories

@@ -1,0 +1,96 @@
+//! Serves a script of jobs, as `./suites serve` does, and writes into a file what each job's caller saw, as a history for
+//! `./suites judge`. `./suites serve --agents N --log FILE` stands on it.
+//!
+//! It reads a script from standard input, and prints what `serve` prints. The file is made or emptied first. Two lines
+//! of each job are written into it: one where the job was called, and one where it was told. They stand in the order of
+//! numbers that one counter gave: when an agent began the job, and each time that a server had served it.
+//!
+//! The exit status is 0, or 2 for other words, 3 for a fault of the script, 4 out of memory, 5 where what was done is no
+//! run, 6 where a stream or the file failed or the input is above 16 MiB.
+//!
+//! **Promises.** What is printed and what is written into the file are of one run (`IsLogged`): what the file has of a
+//! job is what it asked for and how it ended there, and it was called at a lower number than it was told at. Where that
+//! were not so, `mismatch` would be printed, and nothing written. Nothing is known to contracts of what a file holds,
+//! and no clause says that a number is lower because it was drawn earlier.
+//!
+//! **Files**: `words`, `clock` (who draws numbers), `logged`, `refusal`. **Definitions** (`specs/`): `Logs`.
+#![tactic(auto)]
+
+mod clock;
+mod logged;
+mod refusal;
+mod words;
+
+use byte_streams::{
+    ByteIn, ByteOut, COMMAND_LINE, DONE, MAX_INPUT, SystemIn, SystemOut, finish, lack_memory,
+    read_all, write_all,
+};
+use logged::{Logged, serve_logged};
+use refusal::{Refusal, tell_refusal};
+use std::alloc::{AllocError, Global};
+use std::fs::{File, OpenOptions};
+use std::io;
+use std::process::ExitCode;
+use std::rt::Files;
+use std::sync::Wait;
+use std::thread::Threads;
+use suite_cli::report;
+use suite_serve::read_script;
+use words::{Wanted, Wish, read_words};
+
+const HELP: &[u8] = b"Serves a script of jobs, and writes what each job's caller saw as a history.
+
+  --agents N   how many agents there are: 1 to 64
+  --log FILE   the history is written into this file
+";
+
+fn main(rt: HostRuntime) -> ExitCode {
+    let mut writer = SystemOut::new(io::writer(&rt));
+    let status = match read_words(&rt, rt.alloc()) {
+        Ok(Wanted::Serve(wish)) => {
+            let mut reader = SystemIn::new(rt.reader());
+            match serve(&rt, rt.alloc(), &wish, &mut reader, &mut writer) {
+                Ok(status) => status,
+                Err(refusal) => tell_refusal(rt.alloc(), &mut writer, refusal),
+            }
+        }
+        Ok(Wanted::Help) => finish(&mut writer, HELP, DONE),
+        Ok(Wanted::Nothing) => finish(&mut writer, b"fault command line\n", COMMAND_LINE),
+        Err(AllocError) => lack_memory(&mut writer),
+    };
+    ExitCode::from(status)
+}
+
+/// Serves the script that a reader gives, writes the history into its file, and says the exit status.
+fn serve<R: Threads + Wait + Sync + Files<File = File>, I: ByteIn, O: ByteOut>(
+    rt: &R,
+    alloc: Global,
+    wish: &Wish,
+    reader: &mut I,
+    writer: &mut O,
+) -> Result<u8, Refusal> {
+    let text = read_all(alloc, reader, MAX_INPUT)?;
+    let script = read_script(alloc, &text, usize::from(wish.agents))?;
+    drop(text);
+    let file = OpenOptions::new()
+        .write(true)
+        .create(true)
+        .truncate(true)
+        .open(rt, wish.log.as_str())?;
+    match serve_logged(rt, alloc, script) {
+        Ok(logged) => tell(alloc, &logged, &mut SystemOut::new(file), writer),
+        Err(fault) => Ok(report(alloc, Err(fault), writer)),
+    }
+}
+
+/// Writes the history, and then what `serve` prints; says the exit status.
+fn tell<L: ByteOut, O: ByteOut>(
+    alloc: Global,
+    logged: &Logged,
+    log: &mut L,
+    writer: &mut O,
+) -> Result<u8, Refusal> {
+    write_all(log, &logged.history)?;
+    logged.served.write_outcomes(alloc, writer)?;
+    Ok(report(alloc, Ok(logged.served.steps()), writer))
+}

@@ -1,0 +1,142 @@
+#!/usr/bin/env python3
+"""tests/planted.py [ERROR..] [--calls N]
+
+Whether `./suites judge` finds errors that are planted into agents and servers: each of four into a copy of the sources,
+which is built unproved (`rt`), with its checks at run time. Scripts of `serve` are carried out by it in threads, as
+many as are certified: certifying plays a run by the same wrong code, and so finds nothing. What its callers saw
+(`./suites serve --log`) is judged, in runs of 5,000 calls, until a history is no table's, or N calls (100,000) were
+made. The same is done with the sources as they are, whose histories are all one table's. Prints after how many calls
+each error was found; status 1 where one was not, or where the program as it is was told to be wrong.
+
+any-version   a cache gives the content that it has, of whatever version
+few-to-write  a write collects a vote less than w
+few-to-read   a read collects a vote less than r
+aborted       what was prepared is put in place where a transaction was aborted, too
+"""
+import argparse
+import os
+import random
+import shutil
+import subprocess
+import sys
+import tempfile
+import typing
+
+import played
+import scratch
+
+from common import built
+
+PROGRAM, AGENTS, RUN = "serve_log", 4, 5_000
+
+
+class Planted(typing.NamedTuple):
+    """An error: a text of a source, and what stands in its place."""
+
+    file: str
+    old: str
+    new: str
+
+
+ERRORS = {
+    "any-version": Planted(
+        "crates/weak_cache/src/entry.rt",
+        "pub(crate) fn is_at_version(&self, dver: u64) -> bool\n        ensures { result ≡ (self.now.dver == dver) }\n"
+        "    {\n        self.dver == dver\n",
+        "pub(crate) fn is_at_version(&self, dver: u64) -> bool\n        ensures { result ≡ (self.now.dver == dver) }\n"
+        "    {\n        self.dver == dver || self.dver > 0\n",
+    ),
+    "few-to-write": Planted("crates/suite_collect/src/due.rt", "u32::from(votes.w())", "u32::from(votes.w() - 1)"),
+    "few-to-read": Planted("crates/suite_collect/src/due.rt", "u32::from(votes.r())", "u32::from(votes.r() - 1)"),
+    "aborted": Planted(
+        "crates/rep_core/src/server_state.rt", "self.store.finish(t, answered)", "self.store.finish(t, true)"
+    ),
+}
+
+
+def program_with(planted: Planted, folder: str) -> str:
+    """The path of the program, built in a folder of sources into which an error is planted."""
+    shutil.copytree(os.path.join(played.TOP, "tools"), os.path.join(folder, "tools"))
+    own = os.path.join(played.TOP, "crates", PROGRAM, "src")
+    sources = {os.path.splitext(name)[0]: os.path.join(own, name) for name in os.listdir(own)}
+    scratch.placed(folder, PROGRAM, scratch.needs_of_crates()[PROGRAM], sources)
+    path = os.path.join(folder, planted.file)
+    with open(path, encoding="utf-8") as file:
+        text = file.read()
+    if text.count(planted.old) != 1:
+        sys.exit(f"{planted.file} has not once: {planted.old}")
+    with open(path, "w", encoding="utf-8") as file:
+        file.write(text.replace(planted.old, planted.new))
+    target = os.path.join(folder, PROGRAM)
+    environment = {**os.environ, "SUITES_PROGRAM": PROGRAM, "PYTHONPATH": os.path.join(folder, "tools")}
+    words = [sys.executable, "-c", scratch.BUILD, target]
+    if subprocess.run(words, env=environment, stdin=subprocess.DEVNULL).returncode != 0:
+        sys.exit(f"{PROGRAM} was not built")
+    return target
+
+
+def script(seed: int, sweeps: float) -> str:
+    """A script of jobs of an owner who writes and sets lists, a file or two at once, and of a reader, on four files."""
+    chosen = random.Random(seed)
+    files = [f"/f{number}" for number in range(4)]
+    lines = ["servers 3", "votes 1,1,1/2/2", "root 1000 100 755", "cache 100000 100000 100"]
+    lines += [f"do 1000 100 0 file {file} u::rw,u:2000:r,g::-,m::rwx,o::- ; write {file} 0000" for file in files]
+    lines.append("together")
+    for number in range(RUN):
+        one, other = chosen.sample(files, 2)
+        drawn, value = chosen.random(), f"{number % 65_536:04x}"
+        if chosen.random() < sweeps:
+            lines.append(f"sweep {chosen.randrange(3)}")
+        elif drawn < 0.25:
+            lines.append(f"do 1000 100 0 write {one} {value}")
+        elif drawn < 0.35:
+            lines.append(f"do 1000 100 0 setacl {one} u::rw,u:2000:{chosen.choice('r-')},g::-,m::rwx,o::-")
+        elif drawn < 0.45:
+            lines.append(f"do 1000 100 0 write {one} {value} ; write {other} {value}")
+        elif drawn < 0.6:
+            lines.append(f"do 2000 300 0 read {one} ; read {other}")
+        else:
+            lines.append(f"do 2000 300 0 read {one}")
+    return "\n".join([*lines, ""])
+
+
+def judged(program: str, seed: int, sweeps: float, folder: str) -> tuple[str, str]:
+    """What the program prints last of a script, and what the judge says of what its callers saw."""
+    log = os.path.join(folder, "history")
+    words = [program, "--agents", str(AGENTS), "--log", log]
+    done = subprocess.run(words, input=script(seed, sweeps).encode(), stdout=subprocess.PIPE, check=False)
+    with open(log, "rb") as file:
+        said = built.asked("judge", file.read())[1]
+    return (done.stdout.decode().splitlines() or [f"status {done.returncode}"])[-1], said.strip()
+
+
+def found(program: str, calls: int, sweeps: float, folder: str) -> str:
+    """After how many calls the judge says no, and of what; nothing, where it does not."""
+    for run in range(calls // RUN):
+        last, said = judged(program, run, sweeps, folder)
+        if not last.startswith("certified"):
+            return f"within {(run + 1) * RUN:,} calls: {last}"
+        if not said.startswith("one table: "):
+            return f"within {(run + 1) * RUN:,} calls, all of them certified: {said}"
+    return ""
+
+
+def main() -> int:
+    read = argparse.ArgumentParser(description=__doc__, formatter_class=argparse.RawDescriptionHelpFormatter)
+    read.add_argument("errors", nargs="*", metavar="ERROR", help=" ".join(ERRORS))
+    read.add_argument("--calls", type=int, default=100_000)
+    given = read.parse_args()
+    tally = played.Tally()
+    with tempfile.TemporaryDirectory(prefix="suites-") as folder:
+        said = found(built.program(PROGRAM), given.calls, 0.02, folder)
+        tally.holds(not said, f"as it is: {said}")
+    for error in given.errors or ERRORS:
+        with tempfile.TemporaryDirectory(prefix="suites-") as folder:
+            said = found(program_with(ERRORS[error], folder), given.calls, 0.02 if error == "aborted" else 0, folder)
+            print(f"{error}: {said or 'not found'}", flush=True)
+            tally.holds(said, f"{error}: not found")
+    print(f"{tally.count} programs, {tally.wrong} differ")
+    return 1 if tally.wrong else 0
+
+
+sys.exit(main())
