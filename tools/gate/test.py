@@ -164,7 +164,7 @@ LONG = (
     Part("programs of tests and measurements", test("compiled.py")),
     Part("instructions", test("instructions.py")),
     Part("crates in another repository", test("taken.py")),
-    Part("slow inputs", test("growth.py"), [PROGRAM, TRACE, MAY, FORMS, EXPLORE]),
+    Part("slow inputs", test("growth.py"), [PROGRAM, TRACE, MAY, FORMS, EXPLORE, JUDGE]),
     Part("races", test("races.py", "1")),
     Part("planted errors", test("planted.py"), [JUDGE, SERVE_LOG]),
     Part("the mount, long", test("mount-against-the-kernel.py", "--calls", "200000"), [PROGRAM, SESSION]),
