@@ -16,6 +16,8 @@
 //! **Files**: `words`, `clock` (who draws numbers), `logged`, `refusal`. **Definitions** (`specs/`): `Logs`.
 #![tactic(auto)]
 
+ghost use Rattle.std.specs.Prelude.{◌≤◌};
+
 mod clock;
 mod logged;
 mod refusal;
@@ -35,6 +37,7 @@ use std::rt::Files;
 use std::sync::Wait;
 use std::thread::Threads;
 use suite_cli::report;
+use suite_prefix::MAX_AGENTS;
 use suite_serve::read_script;
 use words::{Wanted, Wish, read_words};
 
@@ -68,7 +71,9 @@ fn serve<R: Threads + Wait + Sync + Files<File = File>, I: ByteIn, O: ByteOut>(
     wish: &Wish,
     reader: &mut I,
     writer: &mut O,
-) -> Result<u8, Refusal> {
+) -> Result<u8, Refusal>
+    requires agents { (1 ≤ wish.now.agents) × (wish.now.agents ≤ MAX_AGENTS) }
+{
     let text = read_all(alloc, reader, MAX_INPUT)?;
     let script = read_script(alloc, &text, usize::from(wish.agents))?;
     drop(text);
