@@ -11,6 +11,8 @@ WAY = re.compile(r"way (\d+)(?: in \d+ of \d+ ends|: \d+ (?:worlds at the end|ru
 DECIDED = re.compile(r"decided((?: \d+\.\d+)*)$")
 ENDED = re.compile(r"(\d+)\.(\d+) (.*)")
 BEGINS = ("begin", "sweep")
+AFTER = "after"
+WAITS = re.compile(rf"{AFTER} (\d+)\.(\d+)( answered)?(?: |$)(.*)")
 
 
 def is_explored(script: str) -> bool:
@@ -19,11 +21,16 @@ def is_explored(script: str) -> bool:
     return [LINE] in said and not any(words[:1] == ["do"] for words in said)
 
 
+def without_wait(words: list[str]) -> list[str]:
+    """The words of a line below, without those that say for which job it waits."""
+    return words[3 if words[2:3] == ["answered"] else 2 :] if words[:1] == [AFTER] else words
+
+
 def halves(script: str) -> tuple[str, list[tuple[int, list[str]]]]:
     """The part of a script above its line, and the jobs below it, each with its line's number."""
     lines = faults.lines_of(script)
     at = next(number for number, line in enumerate(lines) if line.split() == [LINE])
-    below = [(at + 2 + place, line.split()) for place, line in enumerate(lines[at + 1 :])]
+    below = [(at + 2 + place, without_wait(line.split())) for place, line in enumerate(lines[at + 1 :])]
     return "".join(f"{line}\n" for line in lines[:at]), [job for job in below if job[1][:1] and job[1][0] in BEGINS]
 
 
@@ -48,6 +55,35 @@ def of_together(script: str, number: int, name: str) -> typing.Iterator[str]:
             f" below it may end, and `./suites explore --way K < {name}` prints a script that leads to one, for"
             " `./suites play`, `trace`, `draw` and `show`."
         )
+
+
+def of_wait(text: str) -> tuple[str, str] | None:
+    """What the words of a line say that waits, and its other words."""
+    found = WAITS.match(text)
+    if not found:
+        return None
+    ended = "was answered; if it ends otherwise, this one is never begun" if found[3] else "has ended, in any way"
+    return f"Of `explore`: the job behind it begins only once job {found[2]} of agent {found[1]} {ended}.", found[4]
+
+
+def of_waiting(script: str, number: int, name: str) -> list[str]:
+    """What is told of a faulty line that waits; nothing, where the line does not."""
+    lines = faults.lines_of(script)
+    line = lines[number - 1] if number <= len(lines) else ""
+    if not is_explored(script) or line.split()[:1] != [AFTER]:
+        return []
+    told = [f"Line {number} of {name}, a script of `explore`:", "", f"    {line}", ""]
+    if [LINE] not in [above.split() for above in lines[:number]]:
+        return [*told, f"No line above `{LINE}` waits."]
+    try:
+        jobs = ", ".join(f"{agent}.{count}" for agent, count in sorted(jobs_of(script, name)))
+    except (IndexError, ValueError):
+        jobs = "A.C"
+    return [
+        *told,
+        f"A line waits by `after A.C` or `after A.C answered`, and behind that `begin` or `sweep`. A.C is a job below"
+        f" `{LINE}` ({jobs}), of the line's own agent an earlier one.",
+    ]
 
 
 def about(number: int, words: list[str]) -> str:
