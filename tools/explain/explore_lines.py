@@ -66,6 +66,15 @@ def of_wait(text: str) -> tuple[str, str] | None:
     return f"Of `explore`: the job behind it begins only once job {found[2]} of agent {found[1]} {ended}.", found[4]
 
 
+def of_awaited(script: str, number: int) -> str:
+    """Why a job that did not end may not have begun, where its line waits."""
+    found = WAITS.match(" ".join(faults.lines_of(script)[number - 1].split()))
+    if not found:
+        return ""
+    ended = " is answered" if found[3] else " has ended"
+    return f"; or it never began, since it waits until job {found[2]} of agent {found[1]}{ended}"
+
+
 def of_waiting(script: str, number: int, name: str) -> list[str]:
     """What is told of a faulty line that waits; nothing, where the line does not."""
     lines = faults.lines_of(script)
@@ -106,7 +115,7 @@ def of_line(text: str, script: str, name: str) -> typing.Iterator[str]:
         number, words = jobs[int(ended[1]), int(ended[2])]
         yield f"In this way so ends job {ended[2]} of agent {ended[1]}, which is begun by {about(number, words)}."
         if ended[3] == "-":
-            yield f"Agent {ended[1]} stopped before it had ended."
+            yield f"Agent {ended[1]} stopped before it had ended{of_awaited(script, number)}."
     elif ended:
         yield f"{name} has no such job below `{LINE}`. Was it changed?"
     elif DECIDED.match(text):
