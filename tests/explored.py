@@ -7,7 +7,7 @@ Compares what the program `explore` tells of the scripts of examples/explore and
 kept in tests/explored/NAME.ways: those which another program told, that shares no line with it. Plays the script of
 each N-th way by `suites play` (all by default), which has to print just the lines of the way; and compares each answer
 that was decided there with that of the plain table, in the order of the decisions, as tools/compare does. With
---progress it has to tell the same, and how many worlds it has looked at.
+--progress it has to tell the same, and how many worlds it has looked at. No way is printed twice.
 
 With --against it compares with that other program itself, a plain explorer in Rust, for N random scripts (300 by
 default) of up to three agents and five servers, with crashes, restarts, caches that are forgotten, agents that stop,
@@ -47,6 +47,19 @@ ALL_WAYS = "1000000"
 # A story with some worlds more than those after which it is told again how many these are, and what is told then.
 WIDE, WIDE_WORDS = "revocation.script", "--crashes 2 --returns 2 --worlds 70000"
 PROGRESS = b"0 worlds\n65536 worlds\n"
+# `list -` is a folder without names, and one with a file `-`: ways that differ so are printed alike, and are one.
+ALIKE = """servers 1
+agents 2
+votes 1/1/1
+root 1000 100 777
+cache 0 0 0
+begin 0 1000 100 0 folder /d 755
+run 0
+together
+begin 0 1000 100 0 file /d/- 644
+begin 1 1000 100 0 list /d
+"""
+LISTED = re.compile(r"^way \d+ in (\d+) of \d+ ends\n0\.1 (.*)\n1\.0 answered list -\n", re.M)
 
 
 class Ways(typing.NamedTuple):
@@ -60,11 +73,13 @@ class Ways(typing.NamedTuple):
     worlds: int
     steps: list[int]
 
-    def brief(self) -> "Ways":
-        """The same, where ways that differ only behind the code of what is undecided are one."""
+    def joined(self, is_brief: bool) -> "Ways":
+        """The same, where ways that are printed alike are one; in brief nothing is printed behind the code of what is
+        undecided.
+        """
         joined: dict[tuple[str, ...], int] = {}
         for way, ends in zip(self.lines, self.ends):
-            short = tuple(BEHIND.sub(r"\1", line) for line in way)
+            short = tuple(BEHIND.sub(r"\1", line) for line in way) if is_brief else way
             joined[short] = joined.get(short, 0) + ends
         return self._replace(lines=list(joined), ends=list(joined.values()), steps=[])
 
@@ -162,8 +177,8 @@ def kept() -> typing.Iterator[tuple[str, str, str]]:
                 yield name.removesuffix(".script"), found[1], text
 
 
-def with_brief(ways: Ways, words: str) -> str:
-    return (ways.brief() if "--brief" in words.split() else ways).printed()
+def printed(ways: Ways, words: str) -> str:
+    return ways.joined("--brief" in words.split()).printed()
 
 
 def compare_progress(program: str, tally: Tally) -> None:
@@ -177,6 +192,15 @@ def compare_progress(program: str, tally: Tally) -> None:
     is_same = (silent.returncode, silent.stdout) == (told.returncode, told.stdout) and silent.returncode == 7
     tally.holds(is_same, f"{WIDE}: --progress tells\n{told.stdout.decode()}\nand not\n{silent.stdout.decode()}")
     tally.holds((silent.stderr, told.stderr) == (b"", PROGRESS), f"{WIDE}: on standard error stands {told.stderr!r}")
+
+
+def compare_alike(program: str, tally: Tally) -> None:
+    """No way is printed twice: of the worlds that print a way alike each is an end of that one."""
+    told = explored(program, ALIKE, "")[1]
+    ways, ends = read(told), [int(number) for number in re.findall(r"^way \d+ in (\d+) of", told, re.M)]
+    tally.holds(len(set(ways)) == len(ways), f"a way is told twice in\n{told}")
+    tally.holds(f" of {sum(ends)} ends\n" in told, f"the ends of ways are not all in\n{told}")
+    tally.holds(any(int(found[1]) > 1 for found in LISTED.finditer(told)), f"`list -` is no way of two ends in\n{told}")
 
 
 def compare_kept(every: int) -> int:
@@ -202,6 +226,7 @@ def compare_kept(every: int) -> int:
         status, told = explored(program, text, f"{words} --worlds 10")
         tally.holds(status == 7 and "\nnot all: " in f"\n{told}", f"{name}: 10 worlds are all")
     compare_progress(program, tally)
+    compare_alike(program, tally)
     return tally.told("ways and answers compared")
 
 
@@ -266,6 +291,7 @@ def compare_random(given: argparse.Namespace) -> int:
             continue
         count += 1
         status, told = explored(program, script, words)
+        wanted = wanted.joined(False)
         is_same = status == 0 and sorted(read(told)) == sorted(wanted.lines)
         tally.holds(is_same, f"seed {seed - 1}: explore {words} ends with {status}, and tells {len(read(told))} ways,"
                              f" where there are {len(wanted.lines)}")
@@ -284,7 +310,7 @@ def write(given: argparse.Namespace) -> int:
         if not ways:
             sys.exit(f"{name}: too many worlds")
         with open(os.path.join(KEPT, f"{name}.ways"), "w", encoding="utf-8") as file:
-            file.write(with_brief(ways, words))
+            file.write(printed(ways, words))
     return 0
 
 
