@@ -161,14 +161,14 @@ def tell_wrong(tally: Tally) -> None:
 
 
 def ask(tally: Tally) -> None:
-    """What is asked is so sometimes, or was never so far; the command tells a script in which it is."""
+    """What is asked is so sometimes, or was not found; the command tells a script in which it is."""
     questions = ("0.1 answered set and 1.0 answered", "0.1 denied", "0.1 answered or not 0.1 answered")
     words = [*tool("explore"), "--sample", "200", "--seed", "9", *(w for one in questions for w in ("--ask", one))]
     with open(STORY, "rb") as file:
         done = subprocess.run(words, stdin=file, capture_output=True, cwd=played.TOP, text=True)
     lines = done.stdout.splitlines()
     kinds = [line.partition(":")[0] for line in lines if not line.startswith(" ")]
-    wanted = ["sometimes", "never so far", "sometimes", "sampled 200 orders"]
+    wanted = ["sometimes", "not found", "sometimes", "sampled 200 orders"]
     tally.holds((done.returncode, kinds) == (NOT_ALL, wanted), f"asked is told {done.stdout}{done.stderr}")
     shown = re.search(r"as in: \./suites (explore .*?) < (\S+)$", done.stdout, re.M)
     tally.holds(bool(shown), f"no command is told: {done.stdout}")

@@ -255,7 +255,7 @@ def small(given: argparse.Namespace) -> int:
                 ways = enumerate(queries.ways_in(lines_of(printed)), 1)
                 way = next((number for number, one in ways if asked[0].holds(one)), None)
             if way is None:
-                raise console.Stop(f"{'' if status == DONE else 'so far '}it was never so: {asked[0].text}")
+                raise console.Stop(f"it is so in no way{'' if status == DONE else ' that was found'}: {asked[0].text}")
         given.way = way
         status, printed = told_of(words_of(given), script)
         with printed:

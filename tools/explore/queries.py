@@ -187,7 +187,7 @@ class Answer:
         """The lines of the answer, where the ways are those of orders that were drawn."""
         asked = self.question.text
         if not self.ways:
-            return f"never so far: {asked}\n"
+            return f"not found: {asked}\n"
         return f"sometimes: {asked}\n  as in: {command(self.first)}\n"
 
 
