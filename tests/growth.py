@@ -195,6 +195,66 @@ def faulty(count: int) -> str:
     return reads(count) + "nope\n"
 
 
+# ---- session
+
+
+def asked_rows(count: int) -> str:
+    return header() + job("file /a 644 ; write /a 6869") + "row /a\ncontent /a\nroom\n" * count
+
+
+def refused_lines(count: int) -> str:
+    return header() + job("file /a 644") + ("nope\n" + job("read /a")) * count
+
+
+def listed_locks(count: int) -> str:
+    begun = "begin 0 1000 100 0 write /a 00\nstep 0 2\nlocks\ncrash 0\nreturn 0\nrun 0\ncopies /a\n"
+    return header() + job("file /a 644") + begun * count
+
+
+# ---- judge
+
+STOOD = "root 1000 100 755\ndo 1000 100 file /f 606\n"
+
+
+def called(words: str, reply: str, name: int = 1) -> str:
+    return f"call {name} 1000 100 {words}\nret {name} answered {reply}\n"
+
+
+def calls_in_turn(count: int) -> str:
+    turns = (f"{number % 256:02x}" for number in range(count))
+    return STOOD + "".join(called(f"write /f {one}", "wrote") + called("read /f", f"read {one}", 2) for one in turns)
+
+
+def calls_at_once(count: int) -> str:
+    begun = "call 1 1000 100 write /f {0}\ncall 2 2000 300 read /f\ncall 3 3000 300 read /f\n"
+    told = "ret 2 answered read {1}\nret 1 answered wrote\nret 3 answered read {0}\n"
+    turns = [f"{number % 256:02x}" for number in range(count + 1)]
+    lines = (begun.format(now) + told.format(now, before) for before, now in zip(turns, turns[1:]))
+    return STOOD + "do 1000 100 write /f 00\n" + "".join(lines)
+
+
+def names_called(count: int) -> str:
+    folders = "".join(f"do 1000 100 folder /{number:02} 777\n" for number in range(100))
+    made = (called(f"file /{number % 100:02}/{number:06} 644", "made") for number in shuffled(count))
+    return STOOD + folders + "".join(made)
+
+
+def contents_called(count: int) -> str:
+    return STOOD + called(f"write /f {'ab' * 2000}", "wrote") * count
+
+
+def denied_calls(count: int) -> str:
+    return STOOD + "call 1 7 7 file /x 600\nret 1 denied\n" * count
+
+
+def fits_no_order(count: int) -> str:
+    return calls_in_turn(count) + called("read /f", "read ffff")
+
+
+def faulty_history(count: int) -> str:
+    return calls_in_turn(count) + "nope\n"
+
+
 # ---- serve, explore, forms and may
 
 
@@ -293,6 +353,23 @@ EXPLORE: tuple[Input, ...] = tuple(
         ("below", below, 10),
     )
 )  # fmt: skip
+SESSION: tuple[Input, ...] = tuple(
+    (f"session-{name}", "session", ["--marks"], make, size)
+    for name, make, size in (
+        ("reads", reads, 100), ("writes", writes, 100), ("rows", asked_rows, 200), ("refused", refused_lines, 100),
+        ("locks", listed_locks, 50), ("blanks", repeated(" ", header(), "\n"), 100_000),
+        ("no-line-end", repeated("x"), 200_000),
+    )
+)  # fmt: skip
+JUDGE: tuple[Input, ...] = tuple(
+    (f"judge-{name}", "judge", list[str](), make, size)
+    for name, make, size in (
+        ("in-turn", calls_in_turn, 200), ("at-once", calls_at_once, 100), ("names", names_called, 400),
+        ("contents", contents_called, 50), ("denied", denied_calls, 400), ("no-order", fits_no_order, 200),
+        ("faulty", faulty_history, 200), ("remarks", repeated("#\n", STOOD), 50_000),
+        ("no-line-end", repeated("x"), 200_000),
+    )
+)  # fmt: skip
 # Two words: a command, and a line of its script.
 FORMS: tuple[Input, ...] = tuple(
     (f"forms-{name}", "forms", words, make, size)
@@ -312,7 +389,7 @@ MAY: tuple[Input, ...] = tuple(
         ("no-line-end", repeated("1"), 400_000),
     )
 )  # fmt: skip
-INPUTS: tuple[Input, ...] = (*ACL, *TABLE, *PLAY, *SERVE, *TRACE, *EXPLORE, *FORMS, *MAY)
+INPUTS: tuple[Input, ...] = (*ACL, *TABLE, *PLAY, *SERVE, *TRACE, *EXPLORE, *SESSION, *JUDGE, *FORMS, *MAY)
 
 
 def path_of(program: str, folder: str | None) -> str:
