@@ -162,7 +162,7 @@ LONG = (
     Part("programs of tests and measurements", test("compiled.py")),
     Part("instructions", test("instructions.py")),
     Part("crates in another repository", test("taken.py")),
-    Part("slow inputs", test("growth.py"), [PROGRAM, TRACE, MAY, FORMS, EXPLORE, JUDGE]),
+    Part("slow inputs", test("growth.py"), [PROGRAM, TRACE, MAY, FORMS, EXPLORE, SESSION, JUDGE]),
     Part("races", test("races.py", "1")),
     Part("the mount, long", test("mount-against-the-kernel.py", "--calls", "200000"), [PROGRAM, SESSION]),
     Part("programs on the mount, and servers that crash", test("mount-programs.py"), [PROGRAM, SESSION]),
