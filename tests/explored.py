@@ -1,6 +1,6 @@
 #!/usr/bin/env python3
 """tests/explored.py [--every N]
-tests/explored.py --against PROTOTYPE [--scripts N] [--from SEED] [--merged descent|state|history]
+tests/explored.py --against PROTOTYPE [--scripts N] [--from SEED] [--merged descent|state|history] [--waits]
 tests/explored.py --write PROTOTYPE [--merged descent|state|history]
 
 Compares what the program `explore` tells of the scripts of examples/explore and tests/explored with the ways that are
@@ -13,11 +13,14 @@ With --against it compares with that other program itself, a plain explorer in R
 default) of up to three agents and five servers, with crashes, restarts, caches that are forgotten, agents that stop,
 lists of operations and votes that are moved. It merges worlds in which agents are in the same state and have what they
 gathered of the same agent (descent); or those in which they are in the same state; or only those in which each agent
-has done and heard the same (history). `explore` does the first. With --write it writes the files NAME.ways anew. Prints
+has done and heard the same (history). `explore` does the first. With --waits some jobs wait for others; then the
+other program has to know lines that begin with `after`. With --write it writes the files NAME.ways anew. Prints
 each that differs; status 1 where one does.
 """
 import argparse
+import collections
 import os
+import random
 import re
 import subprocess
 import sys
@@ -256,6 +259,24 @@ class Explorable(scenario.Scenario):
         return "\n".join(lines) + "\n", " ".join(f"{option} {number}" for option, number in told.items() if number)
 
 
+def with_waits(script: str, ways: Ways, dice: random.Random) -> str:
+    """The script, where some jobs wait for jobs that its ways tell: of other agents, or earlier ones of their own."""
+    above, _, below = script.partition("\ntogether\n")
+    jobs = [(int(agent), int(number)) for agent, number in (line.split()[0].split(".") for line in ways.lines[0])]
+    lines = below.splitlines()
+    left = collections.Counter(int(line.split()[1]) for line in lines)
+    for place, line in enumerate(lines):
+        agent = int(line.split()[1])
+        own = [number for of, number in jobs if of == agent][-left[agent]]
+        left[agent] -= 1
+        others = [job for job in jobs if job[0] != agent or job[1] < own]
+        if others and dice.random() < 0.5:
+            awaited = dice.choice(others)
+            answered = dice.choice(["", "answered "])
+            lines[place] = f"after {awaited[0]}.{awaited[1]} {answered}{line}"
+    return "\n".join([above, "together", *lines, ""])
+
+
 def compare_random(given: argparse.Namespace) -> int:
     """Compares with the other program for random scripts."""
     program, tally, seed, count = built.program("explore"), Tally(), given.first, 0
@@ -263,6 +284,9 @@ def compare_random(given: argparse.Namespace) -> int:
         script, words = Explorable(seed).whole()
         seed += 1
         wanted = prototype_ways(given.against, script, words, given.merged)
+        if wanted and given.waits:
+            script = with_waits(script, wanted, random.Random(seed))
+            wanted = prototype_ways(given.against, script, words, given.merged) if "\nafter " in script else None
         if not wanted:
             continue
         count += 1
@@ -297,6 +321,7 @@ def main() -> int:
     asks.add_argument("--write", metavar="PROTOTYPE")
     asks.add_argument("--scripts", type=int, default=300)
     asks.add_argument("--from", type=int, default=0, dest="first")
+    asks.add_argument("--waits", action="store_true")
     asks.add_argument("--merged", choices=["descent", "state", "history"], default="descent")
     given = asks.parse_args()
     if given.write:

@@ -168,6 +168,9 @@ def about(lines: list[str], text: str) -> list[str]:
 def explained(text: str) -> str:
     """What there is to say of a text: the page's part, or what its words say; or nothing."""
     as_printed, text = text, " ".join(text.split())
+    waits = explore_lines.of_wait(text)
+    if waits:
+        return f"{filled(waits[0])}\n\n{explained(waits[1])}".rstrip()
     if text.startswith(SAYS) and not tool_lines.of_forms(text, "making"):
         return explained(text.removeprefix(SAYS)) or OF_ITSELF
     line = meanings.own_line(text) if text else None
@@ -213,7 +216,10 @@ def of_file(fault: re.Match[str], path: str, language: str | None) -> str:
     """The line of a script or the item of a list that has a fault, what is wrong with it, and what the code means."""
     name, given = read_file(path)
     text, code = given.decode("latin1"), fault[2]
-    if fault[1] and judge_lines.is_history(text):
+    waiting = explore_lines.of_waiting(text, int(fault[1]), quoted.plain(name)) if fault[1] else []
+    if waiting:
+        told, is_found = waiting, True
+    elif fault[1] and judge_lines.is_history(text):
         told, is_found = judge_lines.of_fault(text, name, int(fault[1]), code), True
     elif fault[1]:
         told, is_found = faults.of_script(name, text, int(fault[1]), code, language)

@@ -11,6 +11,8 @@ WAY = re.compile(r"way (\d+)(?: in \d+ of \d+ ends|: \d+ (?:worlds at the end|ru
 DECIDED = re.compile(r"decided((?: \d+\.\d+)*)$")
 ENDED = re.compile(r"(\d+)\.(\d+) (.*)")
 BEGINS = ("begin", "sweep")
+AFTER = "after"
+WAITS = re.compile(rf"{AFTER} (\d+)\.(\d+)( answered)?(?: |$)(.*)")
 
 
 def is_explored(script: str) -> bool:
@@ -19,11 +21,16 @@ def is_explored(script: str) -> bool:
     return [LINE] in said and not any(words[:1] == ["do"] for words in said)
 
 
+def without_wait(words: list[str]) -> list[str]:
+    """The words of a line below, without those that say for which job it waits."""
+    return words[3 if words[2:3] == ["answered"] else 2 :] if words[:1] == [AFTER] else words
+
+
 def halves(script: str) -> tuple[str, list[tuple[int, list[str]]]]:
     """The part of a script above its line, and the jobs below it, each with its line's number."""
     lines = faults.lines_of(script)
     at = next(number for number, line in enumerate(lines) if line.split() == [LINE])
-    below = [(at + 2 + place, line.split()) for place, line in enumerate(lines[at + 1 :])]
+    below = [(at + 2 + place, without_wait(line.split())) for place, line in enumerate(lines[at + 1 :])]
     return "".join(f"{line}\n" for line in lines[:at]), [job for job in below if job[1][:1] and job[1][0] in BEGINS]
 
 
@@ -50,6 +57,44 @@ def of_together(script: str, number: int, name: str) -> typing.Iterator[str]:
         )
 
 
+def of_wait(text: str) -> tuple[str, str] | None:
+    """What the words of a line say that waits, and its other words."""
+    found = WAITS.match(text)
+    if not found:
+        return None
+    ended = "was answered; if it ends otherwise, this one is never begun" if found[3] else "has ended, in any way"
+    return f"Of `explore`: the job behind it begins only once job {found[2]} of agent {found[1]} {ended}.", found[4]
+
+
+def of_awaited(script: str, number: int) -> str:
+    """Why a job that did not end may not have begun, where its line waits."""
+    found = WAITS.match(" ".join(faults.lines_of(script)[number - 1].split()))
+    if not found:
+        return ""
+    ended = " is answered" if found[3] else " has ended"
+    return f"; or it never began, since it waits until job {found[2]} of agent {found[1]}{ended}"
+
+
+def of_waiting(script: str, number: int, name: str) -> list[str]:
+    """What is told of a faulty line that waits; nothing, where the line does not."""
+    lines = faults.lines_of(script)
+    line = lines[number - 1] if number <= len(lines) else ""
+    if not is_explored(script) or line.split()[:1] != [AFTER]:
+        return []
+    told = [f"Line {number} of {name}, a script of `explore`:", "", f"    {line}", ""]
+    if [LINE] not in [above.split() for above in lines[:number]]:
+        return [*told, f"No line above `{LINE}` waits."]
+    try:
+        jobs = ", ".join(f"{agent}.{count}" for agent, count in sorted(jobs_of(script, name)))
+    except (IndexError, ValueError):
+        jobs = "A.C"
+    return [
+        *told,
+        f"A line waits by `after A.C` or `after A.C answered`, and behind that `begin` or `sweep`. A.C is a job below"
+        f" `{LINE}` ({jobs}), of the line's own agent an earlier one.",
+    ]
+
+
 def about(number: int, words: list[str]) -> str:
     if words[0] == "sweep":
         return f"line {number}, a sweep of server {words[2]}"
@@ -70,7 +115,7 @@ def of_line(text: str, script: str, name: str) -> typing.Iterator[str]:
         number, words = jobs[int(ended[1]), int(ended[2])]
         yield f"In this way so ends job {ended[2]} of agent {ended[1]}, which is begun by {about(number, words)}."
         if ended[3] == "-":
-            yield f"Agent {ended[1]} stopped before it had ended."
+            yield f"Agent {ended[1]} stopped before it had ended{of_awaited(script, number)}."
     elif ended:
         yield f"{name} has no such job below `{LINE}`. Was it changed?"
     elif DECIDED.match(text):

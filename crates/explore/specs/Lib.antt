@@ -1,6 +1,9 @@
+pub mod Awaiting
 pub mod Lines
 pub mod Halves
 pub mod Tasks
+pub mod Waits
+pub mod Asked
 pub mod Ways
 pub mod Words
 pub mod Retold

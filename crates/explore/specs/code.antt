@@ -1,3 +1,4 @@
 pub mod Reading
+pub mod Waiting
 pub mod Searches
 pub mod Printing
