@@ -171,6 +171,7 @@ LONG = (
     Part("the mount, long", test("mount-against-the-kernel.py", "--calls", "200000"), [PROGRAM, SESSION]),
     Part("programs on the mount, and servers that crash", test("mount-programs.py"), [PROGRAM, SESSION]),
     Part("faults of the mount", test("mount-faults.py"), [PROGRAM, SESSION]),
+    Part("the mount, judged", test("mount-judged.py"), [SESSION, JUDGE]),
     Part("sessions that are killed", test("session.py", "--long"), [PROGRAM, TRACE, SESSION]),
     Part("lies about runs", test("lies.py", "1000"), [TRACE]),
     Part(
