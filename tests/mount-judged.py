@@ -2,11 +2,11 @@
 """tests/mount-judged.py [--runs N] [--calls N]
 
 Has eight processes make calls at once on a folder of `./suites mount`: an owner who sets lists and writes, and seven
-readers of two users, N calls each (250), in N runs (20), each on a mount of its own. In every other run a server is down
-all the while, now this one, now that. `./suites judge` has to say of each that it is one table. Two errors are then
-planted into a copy of the mount, and of each the judge has to find that it is none: a user who was let in is let in for
-a second more without being asked for, or has the bytes once more that it was told before. Needs root and /dev/fuse, else
-it is skipped. Status 1 where a run is no table's, or an error is not found.
+readers of two users, N calls each (250), in N runs (20), each on a mount of its own. In every other run a server is
+down all the while, now this one, now that. `./suites judge` has to say of each that it is one table. Two errors are
+then planted into a copy of the mount, and of each the judge has to find that it is none: a user who was let in is let
+in for a second more without being asked for, or has the bytes once more that it was told before. Needs root and
+/dev/fuse, else it is skipped. Status 1 where a run is no table's, or an error is not found.
 """
 from __future__ import annotations
 

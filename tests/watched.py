@@ -56,11 +56,14 @@ class Shown(typing.NamedTuple):
         return "\n".join(line for line in kept if not line.startswith("suites: checked build"))
 
 
+Heard = typing.Callable[[subprocess.Popen[bytes]], None]
+
+
 def on_terminal(
-    copy: wrapper.Copy, *words: str, history: int | None = None, number: int = 0, both: bool = False
+    copy: wrapper.Copy, *words: str, history: int | None = None, heard: Heard | None = None, both: bool = False
 ) -> Shown:
-    """What comes of these words, where standard error is a terminal, and standard output too or a file. Once it says
-    how far it is, it gets the signal of this number.
+    """What comes of these words, where standard error is a terminal, and standard output too or a file. Something is
+    done once it says how far it is.
     """
     leader, end = pty.openpty()
     with contextlib.suppress(FileNotFoundError):
@@ -77,9 +80,9 @@ def on_terminal(
         with contextlib.suppress(OSError):
             while select.select([leader], [], [], 60)[0] and (part := os.read(leader, 4096)):
                 shown += part
-                if number and b" s" in shown.rpartition(b"\033[K")[2]:
-                    process.send_signal(number)
-                    number = 0
+                if heard and shown.endswith(b" s"):
+                    heard(process)
+                    heard = None
         status = process.wait(60)
         os.close(leader)
         printed.seek(0)
@@ -119,10 +122,10 @@ def how_far(copy: wrapper.Copy) -> None:
 def how_much_is_read(copy: wrapper.Copy) -> None:
     """A history that comes slowly."""
     copy.build("judge", "#!/bin/sh\ncat > /dev/null\necho 'one table: 2 calls'\n")
-    words = "for part in 1 2 3 4 5 6 7 8 9 10 11 12; do echo '# 0123456'; sleep 0.5; done"
-    with subprocess.Popen(["sh", "-c", words], stdout=subprocess.PIPE) as slow:
-        one = on_terminal(copy, history=slow.stdout.fileno())
-    copy.holds(re.search(r"suites: 1?\d0 bytes of the history are read, [2-9] s", one.text), f"reading: {one}")
+    words = "while echo '# 0123456'; do sleep 0.5; done"
+    with subprocess.Popen(["sh", "-c", words], stdout=subprocess.PIPE, start_new_session=True) as slow:
+        one = on_terminal(copy, history=slow.stdout.fileno(), heard=lambda _: slow.terminate())
+    copy.holds(re.search(r"suites: \d+0 bytes of the history are read, [2-9] s", one.text), f"reading: {one}")
     copy.holds((one.status, one.printed, one.last()) == (0, "one table: 2 calls\n", ""), f"reading: told is {one}")
 
 
@@ -133,10 +136,11 @@ def stops(copy: wrapper.Copy) -> None:
     for program, printed in ((ends.SLEEPS.format(kept), ""), (later, "\n".join([*AROUND, ""]))):
         copy.build("judge", program)
         for number in (signal.SIGINT, signal.SIGTERM):
-            one = on_terminal(copy, number=number)
+            one = on_terminal(copy, heard=lambda process: process.send_signal(number))
             copy.holds((one.status, one.printed, one.last()) == (130, printed, STOPPED), f"{number.name}: {one}")
             with open(kept, encoding="ascii") as file:
-                copy.holds(ends.until(lambda: not played.is_alive(int(file.read()))), f"{number.name}: it goes on")
+                child = int(file.read())
+            copy.holds(ends.until(lambda: not played.is_alive(child)), f"{number.name}: it goes on")
 
 
 def killed(copy: wrapper.Copy) -> None:
