@@ -110,6 +110,11 @@ SCRIPTS = {
 }
 
 
+def sides(boxes: list[etree.Element]) -> list[tuple[int, ...]]:
+    """Where boxes begin, and how wide and high they are."""
+    return [tuple(int(box.get(key)) for key in ("x", "y", "width", "height")) for box in boxes]
+
+
 class Picture:
     """A picture: its size, its names, its texts with how far they reach, its arrows, and where servers are grey."""
 
@@ -123,17 +128,9 @@ class Picture:
         self.paths = [path for path in paths if re.fullmatch(r"M\d+ \d+[HV]\d+", path)]
         ways = [path.get("d") for path in root.iter(f"{SVG}path") if path.get("class") in ("ask", "told")]
         self.arrows = [tuple(map(int, re.findall(r"\d+", way))) for way in ways]
-        self.boxes = [
-            tuple(int(box.get(key)) for key in ("x", "y", "width", "height"))
-            for box in root.iter(f"{SVG}rect")
-            if box.get("class")
-        ]
+        boxes = [box for box in root.iter(f"{SVG}rect") if box.get("class")]
+        self.boxes, self.greys = sides(boxes), sides([box for box in boxes if box.get("class") == "down"])
         self.dots = [dot for dot in root.iter(f"{SVG}circle") if dot.get("r") == "4"]
-        self.greys = [
-            tuple(int(box.get(key)) for key in ("x", "y", "width", "height"))
-            for box in root.iter(f"{SVG}rect")
-            if box.get("class") == "down"
-        ]
 
     def requests(self) -> list[tuple[str, str, str]]:
         """Each request with its agent, its server and what is asked, whole."""
@@ -197,19 +194,11 @@ def whole(tally: Tally, name: str, picture: Picture) -> None:
         )
     for path in picture.paths:
         x, y, end = map(int, re.findall(r"\d+", path))
-        tally.holds(
-            x <= picture.width and y <= picture.height and end <= (picture.width if "H" in path else picture.height),
-            name,
-            path,
-        )
+        is_on = x <= picture.width and y <= picture.height
+        tally.holds(is_on and end <= (picture.width if "H" in path else picture.height), name, path)
     for x, y, wide, high in picture.boxes:
-        tally.holds(
-            0 <= x and x + wide <= picture.width and 0 <= y and y + high <= picture.height,
-            name,
-            "a box is off the canvas",
-            x,
-            y,
-        )
+        is_on = 0 <= x and x + wide <= picture.width and 0 <= y and y + high <= picture.height
+        tally.holds(is_on, name, "a box is off the canvas", x, y)
     texts = sorted(picture.texts, key=lambda text: text.top)
     for place, one in enumerate(texts):
         for other in texts[place + 1 :]:

@@ -27,7 +27,7 @@ from front import sources
 # In place of a program: it ends by the signal of this number.
 KILLED = "#!/bin/sh\ncat > /dev/null\nkill -{0} $$\n"
 SCRIPT = b"servers 1\nagents 1\nvotes 1/1/1\nroot 1 1 777\ncache 0 0 0\nbegin 0 1 1 0 list /\nrun 0\n"
-# In place of explore: tells how much memory it may have, in KiB.
+# In place of a program: tells how much memory it may have, in KiB.
 LIMITED = "#!/bin/sh\ncat > /dev/null\necho \"limit $(ulimit -v)\"\n"
 # In place of a program that is at work.
 SLEEPS = "#!/bin/sh\necho $$ > {0}\nexec sleep 600\n"
@@ -149,20 +149,21 @@ def by_streams(copy: wrapper.Copy) -> None:
 
 
 def by_memory(copy: wrapper.Copy) -> None:
-    """No memory is told, and `explore` may have what is free."""
+    """No memory is told, and `explore` and `judge` may have what is free."""
     code = "from common import console; console.run(lambda: len(bytearray(1 << 46)), 'stopped')"
     done = subprocess.run([sys.executable, "-c", code], cwd=os.path.join(copy.top, "tools"), capture_output=True)
     copy.holds((done.returncode, done.stderr) == (4, b"suites: out of memory\n"), f"no memory: {done}")
     copy.build("session", ENDLESS)
     for words in ("shell", "dump", "show --live", *mounts(copy)):
         holds(copy, f"ulimit -v 150000; exec ./suites {words}", 4, "out of memory")
-    copy.build("explore", LIMITED)
     with open("/proc/meminfo", encoding="ascii") as file:
         most = next(int(line.split()[1]) for line in file if line.startswith("MemTotal"))
-    found = asked(copy, "./suites explore").stdout.split()
-    copy.holds(found[:1] == [b"limit"] and found[1].isdigit() and int(found[1]) <= most, f"explore may have {found}")
-    found = asked(copy, "ulimit -v 3000000; ./suites explore").stdout.split()
-    copy.holds(found == [b"limit", b"3000000"], f"explore keeps no limit that is less: {found}")
+    for name in ("explore", "judge"):
+        copy.build(name, LIMITED)
+        found = asked(copy, f"./suites {name}").stdout.split()
+        copy.holds(found[:1] == [b"limit"] and found[1].isdigit() and int(found[1]) <= most, f"{name} may have {found}")
+        found = asked(copy, f"ulimit -v 3000000; ./suites {name}").stdout.split()
+        copy.holds(found == [b"limit", b"3000000"], f"{name} keeps no limit that is less: {found}")
 
 
 def by_settings(copy: wrapper.Copy) -> None:

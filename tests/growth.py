@@ -195,6 +195,22 @@ def faulty(count: int) -> str:
     return reads(count) + "nope\n"
 
 
+# ---- session
+
+
+def asked_rows(count: int) -> str:
+    return header() + job("file /a 644 ; write /a 6869") + "row /a\ncontent /a\nroom\n" * count
+
+
+def refused_lines(count: int) -> str:
+    return header() + job("file /a 644") + ("nope\n" + job("read /a")) * count
+
+
+def listed_locks(count: int) -> str:
+    begun = "begin 0 1000 100 0 write /a 00\nstep 0 2\nlocks\ncrash 0\nreturn 0\nrun 0\ncopies /a\n"
+    return header() + job("file /a 644") + begun * count
+
+
 # ---- judge
 
 STOOD = "root 1000 100 755\ndo 1000 100 file /f 606\n"
@@ -337,6 +353,14 @@ EXPLORE: tuple[Input, ...] = tuple(
         ("below", below, 10),
     )
 )  # fmt: skip
+SESSION: tuple[Input, ...] = tuple(
+    (f"session-{name}", "session", ["--marks"], make, size)
+    for name, make, size in (
+        ("reads", reads, 100), ("writes", writes, 100), ("rows", asked_rows, 200), ("refused", refused_lines, 100),
+        ("locks", listed_locks, 50), ("blanks", repeated(" ", header(), "\n"), 100_000),
+        ("no-line-end", repeated("x"), 200_000),
+    )
+)  # fmt: skip
 JUDGE: tuple[Input, ...] = tuple(
     (f"judge-{name}", "judge", list[str](), make, size)
     for name, make, size in (
@@ -365,7 +389,7 @@ MAY: tuple[Input, ...] = tuple(
         ("no-line-end", repeated("1"), 400_000),
     )
 )  # fmt: skip
-INPUTS: tuple[Input, ...] = (*ACL, *TABLE, *PLAY, *SERVE, *TRACE, *EXPLORE, *JUDGE, *FORMS, *MAY)
+INPUTS: tuple[Input, ...] = (*ACL, *TABLE, *PLAY, *SERVE, *TRACE, *EXPLORE, *SESSION, *JUDGE, *FORMS, *MAY)
 
 
 def path_of(program: str, folder: str | None) -> str:

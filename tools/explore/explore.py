@@ -8,7 +8,6 @@ import argparse
 import contextlib
 import os
 import re
-import resource
 import shlex
 import subprocess
 import sys
@@ -17,9 +16,8 @@ import threading
 import time
 import typing
 
-from common import built, console
+from common import built, console, memory
 from explore import queries
-from gate import gate
 
 # The options that tell a number, with the least and the most that each may be.
 NUMBERS = {
@@ -37,8 +35,6 @@ AT_ONCE = ["--worlds", "1", "--stops", "255"]
 MOST_READ = (16 << 20) + 1
 # How often it is looked whether the program has ended, in seconds.
 PAUSE = 0.1
-# What is left to others of the memory that is free, in bytes.
-LEFT = 256 << 20
 # What the program says of how far it is, where it is asked to by this word.
 PROGRESS, LOOKED = "--progress", re.compile(rb"(\d+) worlds\n")
 
@@ -152,15 +148,6 @@ def watched(process: subprocess.Popen[bytes]) -> None:
         progress.end()
 
 
-def limit_memory() -> None:
-    """Lets this process take no more memory than is free: the program then says `not all`, before the system kills
-    it."""
-    most = max(gate.free() - LEFT, LEFT)
-    soft, hard = resource.getrlimit(resource.RLIMIT_AS)
-    limits = [one for one in (most, soft, hard) if one != resource.RLIM_INFINITY]
-    resource.setrlimit(resource.RLIMIT_AS, (min(limits), hard))
-
-
 def status_of(options: list[str], printed: typing.IO[bytes], script: typing.IO[bytes] | None = None) -> int:
     """Runs the program with these options on a script, or on standard input. It prints into a file. On a terminal it is
     watched.
@@ -168,7 +155,7 @@ def status_of(options: list[str], printed: typing.IO[bytes], script: typing.IO[b
     is_watched = sys.stderr.isatty()
     words = [built.program("explore"), *options, *([PROGRESS] if is_watched else [])]
     errors = subprocess.PIPE if is_watched else None
-    process = subprocess.Popen(words, stdin=script, stdout=printed, stderr=errors, preexec_fn=limit_memory)
+    process = subprocess.Popen(words, stdin=script, stdout=printed, stderr=errors, preexec_fn=memory.limit)
     try:
         if is_watched:
             watched(process)

@@ -6,52 +6,27 @@ variable SUITES_GATE_TIMES names a file that is to keep the times (gate_times.py
 RT_JOBS fixes how many checks rt runs side by side.
 """
 import os
-import re
 import resource
 import subprocess
 import time
 
-from common import console, tool
+from common import console, memory, tool
 from gate import gate_times
 
 # The most memory that nearly any check was seen to take, in bytes, and how much of what is free may be taken.
 LANE, SHARE = 2_800_000_000, 0.95
-# Where a control group sets a limit of memory and what it holds of that, and a quota of processor time.
-LIMITS = (
-    ("/sys/fs/cgroup/memory.max", "/sys/fs/cgroup/memory.stat", r"^anon (\d+)"),
-    ("/sys/fs/cgroup/memory/memory.limit_in_bytes", "/sys/fs/cgroup/memory/memory.stat", r"^total_rss (\d+)"),
-)
+# Where a control group sets a quota of processor time.
 QUOTAS = (
     ("/sys/fs/cgroup/cpu.max", "/sys/fs/cgroup/cpu.max", r" (\d+)"),
     ("/sys/fs/cgroup/cpu/cpu.cfs_quota_us", "/sys/fs/cgroup/cpu/cpu.cfs_period_us", r"^(\d+)"),
 )
 
 
-def number_in(path: str, pattern: str = r"^(\d+)") -> int | None:
-    try:
-        with open(path, encoding="utf-8") as file:
-            found = re.search(pattern, file.read(), re.M)
-    except OSError:
-        return None
-    return int(found[1]) if found else None
-
-
 def processors() -> int:
     """How many processors there are to use, under the quota of a control group too."""
-    quotas = [(number_in(quota), number_in(period, pattern)) for quota, period, pattern in QUOTAS]
+    quotas = [(memory.number_in(quota), memory.number_in(period, pattern)) for quota, period, pattern in QUOTAS]
     return min(
         [len(os.sched_getaffinity(0)), *(max(quota // period, 1) for quota, period in quotas if quota and period)]
-    )
-
-
-def free() -> int:
-    """The bytes of memory that are free, under the limit of a control group too."""
-    limits = [(number_in(limit), number_in(held, pattern)) for limit, held, pattern in LIMITS]
-    return min(
-        [
-            1024 * (number_in("/proc/meminfo", r"^MemAvailable:\s+(\d+)") or 0),
-            *(limit - held for limit, held in limits if limit and held is not None),
-        ]
     )
 
 
@@ -67,7 +42,7 @@ def lanes() -> int | None:
     """
     if os.environ.get("RT_JOBS"):
         return None
-    found = min(processors(), int(SHARE * free() / LANE))
+    found = min(processors(), int(SHARE * memory.free() / LANE))
     return found if found > 1 else None
 
 

@@ -19,7 +19,7 @@ import tempfile
 import time
 import typing
 
-from common import TOP, console, tool
+from common import TOP, console, memory, tool
 from front import sources
 from gate import gate
 
@@ -112,6 +112,7 @@ PARTS = (
     Part("forms in pages and help", tool("forms_page", "--check")),
     Part("words that need no build", test("wrapper.py")),
     Part("how tools end", test("ends.py")),
+    Part("what judge says on a terminal", test("watched.py")),
     Part("type hints", test("hints.py")),
     Part("functions that call themselves", test("self-calls.py")),
     Part("tests of runs", **tried("run_tests")),
@@ -164,12 +165,14 @@ LONG = (
     Part("programs of tests and measurements", test("compiled.py")),
     Part("instructions", test("instructions.py")),
     Part("crates in another repository", test("taken.py")),
-    Part("slow inputs", test("growth.py"), [PROGRAM, TRACE, MAY, FORMS, EXPLORE, JUDGE]),
+    Part("slow inputs", test("growth.py"), [PROGRAM, TRACE, MAY, FORMS, EXPLORE, SESSION, JUDGE]),
+    Part("slow inputs of tools", test("tools-growth.py")),
     Part("races", test("races.py", "1")),
     Part("planted errors", test("planted.py"), [JUDGE, SERVE_LOG]),
     Part("the mount, long", test("mount-against-the-kernel.py", "--calls", "200000"), [PROGRAM, SESSION]),
     Part("programs on the mount, and servers that crash", test("mount-programs.py"), [PROGRAM, SESSION]),
     Part("faults of the mount", test("mount-faults.py"), [PROGRAM, SESSION]),
+    Part("the mount, judged", test("mount-judged.py"), [SESSION, JUDGE]),
     Part("sessions that are killed", test("session.py", "--long"), [PROGRAM, TRACE, SESSION]),
     Part("lies about runs", test("lies.py", "1000"), [TRACE]),
     Part(
@@ -190,7 +193,7 @@ LONG = (
 
 def lanes() -> int:
     """How many parts run side by side."""
-    return max(1, min(gate.processors(), gate.free() // BYTES_A_PART))
+    return max(1, min(gate.processors(), memory.free() // BYTES_A_PART))
 
 
 def play_all(parts: typing.Sequence[Part], number: int, teller: console.Teller) -> None:

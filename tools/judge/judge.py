@@ -10,8 +10,10 @@ import sys
 import typing
 
 from common import built, console
+from explain import faults
+from judge.watch import DONE, FAULTY, NO_ORDER, Ended, Watch
 
-DONE, NO_ORDER, FAULTY, UNREAD = 0, 1, 3, 6
+UNREAD = 6
 # The program reads no more of a history.
 MOST = 128 << 20
 # So many calls that ran beside the one that is told are told with it.
@@ -115,9 +117,9 @@ def changes_nothing(call: Told, lines: list[str]) -> bool:
     return was_refused or verbs <= READS
 
 
-def is_refuted(lines: list[str]) -> tuple[bool, list[str]]:
+def is_refuted(watch: Watch, lines: list[str]) -> tuple[bool, list[str]]:
     """Whether a history has no order, and its lines up to the one that fits none."""
-    status, said = built.asked("judge", "\n".join([*lines, ""]))
+    status, said = watch.judged(lines)
     return status == NO_ORDER, lines[: line_of(said) + 1] if status == NO_ORDER else lines
 
 
@@ -133,18 +135,20 @@ def far_off(lines: list[str]) -> list[Told]:
         near = more
 
 
-def smaller(lines: list[str], number: int) -> list[str]:
+def smaller(watch: Watch, lines: list[str], number: int) -> list[str]:
     """The history up to that line, without calls that change nothing and without those that have to do with other
     files, as long as there is no order: first many at once. Where there is none of what is left, there is none of all.
     """
     lines = lines[: number + 1]
-    is_so, fewer = is_refuted(without(lines, far_off(lines)))
+    watch.begin(f"line {number + 1} fits no order: calls that it needs are looked for")
+    is_so, fewer = is_refuted(watch, without(lines, far_off(lines)))
     lines = fewer if is_so else lines
     size = max(1, len(calls_of(lines)) // 2)
     while size:
         place = 0
         while quiet := [call for call in calls_of(lines) if call.name and changes_nothing(call, lines)][place:]:
-            is_so, fewer = is_refuted(without(lines, quiet[:size]))
+            watch.what = f"line {number + 1} fits no order: {len(calls_of(lines)):,} calls are left of the history"
+            is_so, fewer = is_refuted(watch, without(lines, quiet[:size]))
             if is_so:
                 lines = fewer
             place += 0 if is_so else size
@@ -161,21 +165,25 @@ def root_of(lines: list[str]) -> str:
     return next(line for line in lines if line.split()[:1] == ["root"])
 
 
-def played(lines: list[str], order: list[int]) -> list[tuple[Told, str]]:
+def played(watch: Watch, lines: list[str], order: list[int]) -> list[tuple[Told, str]]:
     """The calls of an order with what `table` answers to each; to a test, which it has not, nothing."""
     calls = {call.made: call for call in calls_of(lines)}
     placed = [calls[place] for place in order]
     jobs = [f"do {call.asks}" for call in placed if not is_test(call)]
-    answers = iter(built.asked("suites", "\n".join([root_of(lines), *jobs, ""]), "table")[1].splitlines())
+    status, said = watch.asked("suites", "\n".join([root_of(lines), *jobs, ""]), "table")
+    if status != DONE:
+        raise Ended("suites", status)
+    answers = iter(said.splitlines())
     return [(call, "" if is_test(call) else next(answers)) for call in placed]
 
 
-def script(lines: list[str], order: list[int]) -> list[str]:
+def script(watch: Watch, lines: list[str], order: list[int]) -> list[str]:
     """The script of `table` that answers as the clients were told, with each line's answer below it. A test is told as
     comments: its lines in the history.
     """
     told = [root_of(lines)]
-    for call, answer in played(lines, order):
+    watch.begin("there is an order, which is played")
+    for call, answer in played(watch, lines, order):
         if is_test(call):
             told += [f"# {lines[place].strip()}" for place in sorted({call.made, call.told} - {None})]
         else:
@@ -188,22 +196,22 @@ def order_of(said: str) -> list[int]:
     return [int(one) - 1 for one in said.split("\n")[1:] if one]
 
 
-def told_so(lines: list[str], call: Told, answer: str) -> str:
+def told_so(watch: Watch, lines: list[str], call: Told, answer: str) -> str:
     """What is told of a call in an order in which its answer is this; nothing where there is none. `answered` of
     operations is told with the replies there.
     """
     name = call.name or str(1 + max([int(other.name) for other in calls_of(lines) if other.name], default=0))
     lines = [*lines[: call.made], f"call {name} {call.asks}", *lines[call.made + 1 :], f"ret {name} {answer}"]
-    status, said = built.asked("judge", "\n".join([*lines, ""]), "--order")
+    status, said = watch.judged(lines, "--order")
     if status != DONE:
         return ""
     if answer != "answered":
         return answer
-    replies = (there for one, there in played(lines, order_of(said)) if one.made == call.made)
+    replies = (there for one, there in played(watch, lines, order_of(said)) if one.made == call.made)
     return next(replies).partition(" ")[2]
 
 
-def could_be(lines: list[str], number: int) -> list[str]:
+def could_be(watch: Watch, lines: list[str], number: int) -> typing.Iterator[str]:
     """What one table could have told on the line that fits no order: with each of these the history up to there has an
     order. Of a longer history a refusal that is no denial is not looked for.
     """
@@ -213,34 +221,66 @@ def could_be(lines: list[str], number: int) -> list[str]:
     answers = ["answered granted" if is_test(call) else "answered", "denied"]
     if number <= MOST_TRIED:
         answers += [f"refused {code} op {place + 1}" for place in range(operations) for code in codes]
-    found = (told_so(lines[:number], call, answer) for answer in answers)
-    return [f"  one table could have told: {answer}" for answer in found if answer]
+    watch.begin("")
+    for tried, answer in enumerate(answers):
+        watch.what = f"what one table could have told there: {tried} of {len(answers)} answers are tried"
+        if told := told_so(watch, lines[:number], call, answer):
+            yield f"  one table could have told: {told}"
 
 
-def run(given: argparse.Namespace) -> int:
-    text = sys.stdin.buffer.read(MOST + 1)
-    status, said = built.asked("judge", text, *(["--order"] if given.order else []))
+def tell_around(watch: Watch, lines: list[str], first: str) -> None:
+    """Prints what is told where there is no order: the verdict, what stands around that line, and what one table could
+    have told there. Where a program is ended, the last is not whole, and standard error says so.
+    """
+    number = line_of(first)
+    watch.tell(first, *around(lines, number))
+    try:
+        for line in could_be(watch, lines, number):
+            watch.tell(line)
+    except Ended as end:
+        watch.begin("")
+        console.Teller().say(f"not all that one table could have told is told: {end}")
+
+
+def told_small(watch: Watch, lines: list[str], number: int) -> list[str]:
+    """A history of few calls that has no order, and below it the verdict on it."""
+    left = [line for line in smaller(watch, lines, number) if line and not line.startswith("#")]
+    return [*left, f"# {watch.judged(left)[1].strip()}"]
+
+
+def judged(given: argparse.Namespace, watch: Watch) -> int:
+    """Judges standard input. Answers the exit status of the program."""
+    text = watch.read(MOST + 1)
+    lines = faults.lines_of(text.decode("latin1"))
+    watch.begin(f"judge is at work on {len(lines):,} lines")
+    status, said = watch.asked("judge", text, *(["--order"] if given.order else []))
     first = said.partition("\n")[0]
-    lines = text.decode("latin1").splitlines()
-    told = [first] if first else []
-    if status == NO_ORDER:
-        number = line_of(first)
-        if given.small:
-            told = [line for line in smaller(lines, number) if line and not line.startswith("#")]
-            told.append(f"# {built.asked('judge', chr(10).join([*told, '']))[1].strip()}")
-        else:
-            told += [*around(lines, number), *could_be(lines, number)]
+    if status == NO_ORDER and given.small:
+        watch.tell(*told_small(watch, lines, line_of(first)))
+    elif status == NO_ORDER:
+        tell_around(watch, lines, first)
     elif status == DONE and given.order:
-        told = [f"# {first}", *script(lines, order_of(said))]
-    sys.stdout.write("\n".join([*told, ""]) if told else "")
-    sys.stdout.flush()
+        watch.tell(f"# {first}", *script(watch, lines, order_of(said)))
+    elif first:
+        watch.tell(first)
+    watch.begin("")
     if status == FAULTY and sys.stderr.isatty():
         console.Teller().say(f"./suites explain {shlex.quote(first)} tells what it means")
     if status == UNREAD:
         console.Teller().say("the history is above 128 MiB, or a read or a write failed (./suites explain 'status 6')")
     if status < 0:
-        console.Teller().say(console.ended("judge", status))
-    return console.status_of(status)
+        raise Ended("judge", status)
+    return status
+
+
+def run(given: argparse.Namespace) -> int:
+    built.program("judge")
+    try:
+        with Watch() as watch:
+            return judged(given, watch)
+    except Ended as end:
+        console.Teller().say(str(end))
+        return console.status_of(end.status)
 
 
 def main() -> int:

@@ -1,0 +1,95 @@
+#!/usr/bin/env python3
+"""tests/tools-growth.py [--only NAME]
+
+The same as tests/growth.py of two tools: `./suites shell` and `./suites explore --ask`. Each has inputs in three sizes
+of which each is twice the one before, and takes at most 2.3 times as many instructions for twice as much, as valgrind
+counts them, without those that it takes for an input of one line. What a program has to do is not counted: in place of
+the session stands tests/granting.py, and in place of `explore` one that tells as many ways as its script has lines.
+Prints what grows more; status 1 where something does. Without valgrind it prints "skipped: .." and ends with 0.
+"""
+from __future__ import annotations
+
+import os
+import re
+import shutil
+import subprocess
+import sys
+import tempfile
+import typing
+
+import growth
+import played
+import wrapper
+
+from common import console
+
+FAKE = f"{sys.executable} {os.path.join(played.TOP, 'tests', 'granting.py')} grant"
+# In place of `explore`: a way for each line of the script, in each of which two jobs end.
+EXPLORE = """#!/bin/sh
+awk '{ print "way " NR " in 1 of 9 ends\\n0.0 answered made " NR "\\n1.0 undecided U2 server 0 holder " NR }
+    END { print "all " NR " ways, 99 worlds" }'
+"""
+MADE = "as 0:0\nput /a text\n"
+
+
+def repeated(text: str, before: str = "") -> typing.Callable[[int], str]:
+    return lambda count: before + "".join(text.format(number) + "\n" for number in range(count))
+
+
+Input = tuple[str, list[str], typing.Callable[[int], str], int]
+SHELL = ["shell", "--session", FAKE, "--root", "0:0:777"]
+INPUTS: tuple[Input, ...] = (
+    ("shell-reads", SHELL, repeated("cat /a", MADE), 100),
+    ("shell-files", SHELL, repeated("put /b{0} text", MADE), 100),
+    ("ask-one", ["explore", "--ask", "0.0 answered made 7"], repeated("x"), 4000),
+    ("ask-long", ["explore", "--ask", " and ".join(["not 1.0 undecided U1"] * 30)], repeated("x"), 4000),
+)
+
+
+def counted(copy: wrapper.Copy, words: list[str], text: str) -> int:
+    """How many instructions a tool takes on an input."""
+    with tempfile.TemporaryFile() as given:
+        given.write(text.encode("latin1"))
+        given.seek(0)
+        counting = ["valgrind", "--tool=callgrind", "--callgrind-out-file=/dev/null"]
+        # what is built for the first time, or is looked up by its hash, is no work of the input
+        how: dict[str, typing.Any] = {"env": {**os.environ, "PYTHONHASHSEED": "0"}, "cwd": copy.top}
+        done = subprocess.run(
+            [*counting, sys.executable, "tools", *words], stdin=given, stdout=subprocess.DEVNULL,
+            stderr=subprocess.PIPE, **how,
+        )  # fmt: skip
+    if done.returncode != 0:
+        sys.exit(f"{words} ends with {done.returncode}: {done.stderr.decode('utf-8', 'replace')[-500:]}")
+    return int(re.search(rb"Collected : (\d+)", done.stderr)[1])
+
+
+def grows(copy: wrapper.Copy, one: Input) -> tuple[bool, str]:
+    """Whether an input grows too much, or is too small to say so, and what is told of it."""
+    name, words, make, size = one
+    begins, *counts = (counted(copy, words, make(lines)) for lines in (1, size, 2 * size, 4 * size))
+    counts = [count - begins for count in counts]
+    most = max(after / before for before, after in zip(counts, counts[1:]))
+    told = f"{name}: {', '.join(f'{count:,}' for count in counts)} above {begins:,}: {most:.2f} times"
+    return most > growth.MOST or counts[0] < growth.LEAST, told
+
+
+def main() -> int:
+    read = console.words(__doc__)
+    read.add_argument("--only", default="")
+    only = read.parse_args().only
+    if not shutil.which("valgrind"):
+        print("skipped: valgrind is not installed, so no instructions are counted")
+        return 0
+    tally = played.Tally()
+    with tempfile.TemporaryDirectory(prefix="suites-") as room:
+        copy = wrapper.Copy(room)
+        copy.build("explore", EXPLORE)
+        for one in INPUTS:
+            if one[0].startswith(only):
+                is_wrong, told = grows(copy, one)
+                tally.holds(not is_wrong, told)
+    return tally.told("inputs")
+
+
+if __name__ == "__main__":
+    sys.exit(main())
