@@ -41,8 +41,8 @@ SHELL = ["shell", "--session", FAKE, "--root", "0:0:777"]
 INPUTS: tuple[Input, ...] = (
     ("shell-reads", SHELL, repeated("cat /a", MADE), 100),
     ("shell-files", SHELL, repeated("put /b{0} text", MADE), 100),
-    ("ask-one", ["explore", "--ask", "0.0 answered made 7"], repeated("x"), 4000),
-    ("ask-long", ["explore", "--ask", " and ".join(["not 1.0 undecided U1"] * 30)], repeated("x"), 4000),
+    ("ask-one", ["explore", "--ask", "0.0 answered made 7"], repeated("x"), 1000),
+    ("ask-long", ["explore", "--ask", " and ".join(["not 1.0 undecided U1"] * 30)], repeated("x"), 1000),
 )
 
 

@@ -11,7 +11,7 @@ import typing
 from common import built, console, memory
 
 # How often a program at work is looked at, in seconds, and how many bytes of a history are read at once.
-PAUSE, PIECE, GIGABYTE = 0.1, 1 << 20, 1e9
+PAUSE, PIECE = 0.1, 1 << 20
 DONE, NO_ORDER, FAULTY = 0, 1, 3
 
 
@@ -83,7 +83,7 @@ class Watch:
             except subprocess.TimeoutExpired:
                 left = None
                 found = memory.taken(process.pid)
-                told = f", {found[0] / GIGABYTE:.1f} of {found[1] / GIGABYTE:.1f} GB of memory" if found else ""
+                told = f", {found[0] / 1e6:,.0f} MB of {found[1] / 1e9:.1f} GB of memory" if found else ""
                 self.progress.say(f"{self.what}{told}")
 
     def judged(self, lines: list[str], *words: str) -> tuple[int, str]:
