@@ -8,7 +8,7 @@ use Rattle.law_run_recovers.proofs.Vocabulary.{State, Verdict, VotesAreValid, an
 use Rattle.law_run_recovers.proofs.Vocabulary.{max_servers, finishes_in_order}
 use Rattle.txn_core.specs.Agents as agents
 use Rattle.law_run_recovers.proofs.Steady.{GoesSteadily, steady}
-use Rattle.law_run_recovers.specs.Local.{Ended}
+use Rattle.law_run_recovers.specs.Ends.{Ended}
 use Rattle.law_run_recovers.proofs.Apart.{event_apart}
 use Rattle.law_run_recovers.proofs.AmongOver.{has_after}
 use Rattle.law_run_recovers.proofs.Keeps.{run_at}

@@ -12,7 +12,7 @@ use Rattle.suite_collect.specs.Collecting.{Widening}
 use Rattle.txn_core.specs.Doing as doing
 use Rattle.txn_core.specs.Transactions as txn_run
 use Rattle.txn_core.specs.Transactions.{Step}
-use Rattle.law_run_recovers.specs.Laws as laws
+use Rattle.law_run_recovers.specs.Ends as laws
 use Rattle.law_run_recovers.proofs.Asking.{held_in, held_if}
 use Rattle.law_run_recovers.proofs.Led.{reached_told}
 use Rattle.law_run_recovers.proofs.Polled.{Sight, Answers, hears}
