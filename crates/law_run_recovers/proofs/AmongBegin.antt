@@ -1,7 +1,7 @@
 -- A transaction that goes steadily ends as the votes say that are open: its begin.
 use Rattle.law_run_recovers.proofs.Vocabulary.{◌≡◌, ℕ, Bool, true, false, cond, List, [], ◌∷◌, ◌++◌, Option, Some, None, refl, sym, ap, subst, ◌∙◌, ◌*◌, ◌+◌, ◌&&◌, nat_lt, false≢true, and_parts, none-some, same_Some, Identity, Opening}
 use Rattle.law_run_recovers.proofs.Vocabulary.{Op, State, Has, Ending, Transaction, table_of, Task, TransactionRun, Doing, Running, After, GoesOn, Ends, execute, Agent, fixed_of, is_idle, has_sense, max_jobs, left, end_of, begins}
-use Rattle.law_run_recovers.proofs.Vocabulary.{begin, started, Event, Actor, World, server_at, step, run, ended, no_lock, locks_in, locks_at, runs, running_in, world_after}
+use Rattle.law_run_recovers.proofs.Vocabulary.{begin, started, Event, Actor, server_at, step, run, ended, no_lock, locks_in, locks_at, runs, running_in, world_after}
 use Rattle.txn_core.specs.Transactions.{Step as CourseStep}
 use Rattle.law_run_recovers.proofs.Steady.{GoesSteadily}
 use Rattle.law_run_recovers.proofs.Executes.{begin_stands}
@@ -15,9 +15,6 @@ use Rattle.law_run_recovers.proofs.AmongCourse.{Course, StandsIn, Right, same_se
 module _ (given : Opening) (events later : List Event) (agent t : ℕ) (caller : Identity) (site : ℕ) (ops : List Op) (actor : Actor) (goes : GoesSteadily given events later agent t caller site ops actor) where
   abbrev its_task : Task
   its_task = its given events later agent t caller site ops actor goes
-
-  abbrev world_at : List Event → World
-  world_at so_far = world_after given events agent caller site ops so_far
 
   abbrev pub Good : CourseStep → Type 0
   Good step =

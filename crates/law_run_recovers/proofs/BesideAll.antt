@@ -1,7 +1,7 @@
 -- Transactions side by side: all along nobody meets any, each that is busy runs one, and each lock at a server that is up is of one that runs and asks for it.
 use Rattle.law_run_recovers.proofs.Vocabulary.{and_from, and_parts, length, list_all, ◌==◌}
 use Rattle.law_run_recovers.proofs.Vocabulary.{◌≡◌, ℕ, Bool, true, false, List, [], ◌∷◌, ◌++◌, append-nil, append_assoc, Option, Some, None, refl, sym, ap, subst, ◌∙◌, ◌%◌, ◌&&◌, ◌||◌, not, Contains, list_any, false≢true, none-some}
-use Rattle.law_run_recovers.proofs.Vocabulary.{same_Some, Opening, IsAccepted, LockMode, Request, State, has_from, has_any, Transaction, Task, Doing, request_in, Agent, fixed_of, is_idle, next_in, next_of, Event, Begin, Actor, World}
+use Rattle.law_run_recovers.proofs.Vocabulary.{same_Some, Opening, IsAccepted, LockMode, Request, State, has_from, has_any, Transaction, Task, Doing, request_in, Agent, fixed_of, is_idle, next_in, next_of, Event, Begin, Actor}
 use Rattle.law_run_recovers.proofs.Vocabulary.{actor_at, has_no_job, step, run, names, CanBe, clear_servers, names_mine, can_front, run_more, clashes, clash, Begun, its_asks, GoSideBySide, GoSideBySideWhileDown, runs, running_in, is_running, server_at}
 use Rattle.law_run_recovers.proofs.Vocabulary.{asks_for}
 use Rattle.rep_core.specs.declared.request.Request.TheVariants as request
@@ -103,9 +103,6 @@ module _ (given : Opening) (events later : List Event) (go : GoSideBySideWhileDo
   pub accepted : IsAccepted given
   accepted = go.can.accepted
 
-  abbrev pub world_of : List Event → World
-  world_of so_far = run given (events ++ so_far)
-
   pub can_at : (so_far rest : List Event) → later ≡ so_far ++ rest → CanBe given (events ++ so_far)
   can_at so_far rest split = can_front given (events ++ so_far) rest (subst (CanBe given) (ap (λ later. events ++ later) split ∙ sym (append_assoc events so_far rest)) go.can)
 
@@ -113,9 +110,6 @@ module _ (given : Opening) (events later : List Event) (go : GoSideBySideWhileDo
   run_next so_far event = run_after given events so_far event
 
   -- ---- transactions of a part
-
-  abbrev pub Unmet : (so_far : List Event) → Begun given events so_far → List Event → Type 0
-  Unmet so_far one after = IsUnmet given events one.before one.agent one.t one.caller one.site one.ops after
 
   abbrev pub onward : (so_far more : List Event) → Begun given events so_far → Begun given events (so_far ++ more)
   onward so_far more one = record {
