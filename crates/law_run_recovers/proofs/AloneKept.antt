@@ -14,8 +14,9 @@ use Rattle.law_run_recovers.proofs.AmongLeft.{HasNone, none_left}
 use Rattle.law_run_recovers.proofs.AloneLaws.{steadily}
 use Rattle.law_run_recovers.proofs.HadVotes.{none_decided, none_since, not_before}
 use Rattle.law_run_recovers.proofs.Keeps.{run_at, after_append}
-use Rattle.law_run_recovers.proofs.MeetCalm.{along, Spares, stored_stays}
+use Rattle.law_run_recovers.proofs.MeetCalm.{Spares, stored_stays}
 use Rattle.law_run_recovers.proofs.Open.{Here, here_at, is_calm, its_begin, alone_is_unmet, unmet_is_among_locks, begun_servers, not_true, stands_open}
+use Rattle.law_run_recovers.proofs.Picks.{along}
 
 -- ---- lists
 

@@ -1,5 +1,5 @@
 -- A transaction that goes among locks that stay has none once it has ended: each server that gave it one was told how it ended.
-use Rattle.law_run_recovers.proofs.Vocabulary.{◌≡◌, ◌⊎◌, inl, inr, ⊎_elim, ℕ, ◌+◌, ◌≤◌, ◌<◌, Bool, true, false, List, [], ◌∷◌, ◌++◌, append-nil, append_assoc, length, Option, Some, None, is_some, refl, sym, ap, subst, ◌∙◌, arith, ◌*◌}
+use Rattle.law_run_recovers.proofs.Vocabulary.{◌≡◌, ◌⊎◌, inl, inr, ⊎_elim, ℕ, ◌+◌, ◌≤◌, ◌<◌, Bool, true, false, List, [], ◌∷◌, ◌++◌, append-nil, length, Option, Some, None, is_some, refl, sym, ap, subst, ◌∙◌, arith, ◌*◌}
 use Rattle.law_run_recovers.proofs.Vocabulary.{◌==◌, ◌&&◌, ◌||◌, filter, slice_get, slice_set, list_any, false≢true, and_parts, and_from, eqb-true, eq-eqb, or_right, list_any-append, same_Some, slice_get_within, Identity, max_servers}
 use Rattle.law_run_recovers.proofs.Vocabulary.{Opening, Op, Lock, Request, Reply, Stamped, State, reply_of, served, answer_of, Has, contains_from, has_filter, filter_has, has_map, any_has, has_any, Transaction, Replied, numbers_from}
 use Rattle.law_run_recovers.proofs.Vocabulary.{is_finish, Agent, fixed_of, is_idle, next_of, begin, Exchange, exchange_of, exchanges, locks, says_held, was_held, exchanges-take, exchanges-forget, Served, Event, Begin, Step, Actor}
@@ -24,6 +24,7 @@ use Rattle.law_run_recovers.proofs.AmongEnds.{Over, over_on, over_now}
 use Rattle.law_run_recovers.proofs.AmongOver.{never_others, never_over, ended_over, course_not_over}
 use Rattle.law_run_recovers.proofs.AmongBegin.{idle_before, first_course}
 use Rattle.law_run_recovers.proofs.AmongStep.{is_then, own_on}
+use Rattle.law_run_recovers.proofs.Picks.{along}
 
 or_left : (a b : Bool) → a ≡ true → (a || b) ≡ true
 or_left true b is = refl
@@ -323,16 +324,9 @@ module _ (given : Opening) (events later : List Event) (agent t : ℕ) (caller :
           (λ ended. inr (over_now given events later agent t caller site ops actor goes so_far (Step agent) ended.0 ended.1 ended.2, none_then so_far rest split' on.0 took on.1 ended.3))
           (own_on given events later agent t caller site ops actor goes so_far rest split' on.0 (runs_it given events later agent t caller site ops actor goes so_far on.0) took))
 
-  left_along : (todo so_far rest : List Event) → later ≡ (so_far ++ todo) ++ rest → Left so_far → Left (so_far ++ todo)
-  left_along [] so_far rest split left = subst Left (sym (append-nil so_far)) left
-  left_along (event ∷ todo) so_far rest split left =
-      let more : (so_far ++ event ∷ []) ++ todo ≡ so_far ++ event ∷ todo = append_assoc so_far (event ∷ []) todo in
-      subst Left more
-      (left_along todo (so_far ++ event ∷ []) rest (split ∙ ap (λ so_far. so_far ++ rest) (sym more)) (left_on so_far (todo ++ rest) event (split ∙ append_assoc so_far (event ∷ todo) rest) left))
-
   -- at each moment
   pub left_at : (so_far rest : List Event) → later ≡ so_far ++ rest → Left so_far
-  left_at so_far rest split = left_along so_far [] rest split left_first
+  left_at = along later Left left_on left_first
 
   -- once it has ended it has none
   pub none_left : Over given events later agent t caller site ops actor goes later → HasNone later

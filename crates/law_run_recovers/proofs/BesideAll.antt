@@ -13,6 +13,7 @@ use Rattle.law_run_recovers.proofs.Sides.{its_agent, AllUp, up_next, up_same}
 use Rattle.law_run_recovers.proofs.AmongAsks.{of_its_asks}
 use Rattle.law_run_recovers.proofs.AmongCourse.{Course, runs_it}
 use Rattle.law_run_recovers.proofs.BesideUnmet.{IsUnmet, world_then, then_is, steady_of, ran}
+use Rattle.law_run_recovers.proofs.Picks.{along}
 
 -- ---- tests
 
@@ -73,16 +74,11 @@ module _ (given : Opening) (events later : List Event) (go : GoSideBySide given 
   up_first : AllUp given go.can.accepted (run given (events ++ []))
   up_first = subst (λ all. AllUp given go.can.accepted (run given all)) (sym (append-nil events)) (λ s st at. (clear_servers 0 (run given events) go.up go.free s st at).0)
 
-  up_along : (todo so_far rest : List Event) → later ≡ (so_far ++ todo) ++ rest → AllUp given go.can.accepted (run given (events ++ so_far)) → AllUp given go.can.accepted (run given (events ++ (so_far ++ todo)))
-  up_along [] so_far rest split up = subst (λ so_far. AllUp given go.can.accepted (run given (events ++ so_far))) (sym (append-nil so_far)) up
-  up_along (event ∷ todo) so_far rest split up =
-      let more : (so_far ++ event ∷ []) ++ todo ≡ so_far ++ event ∷ todo = append_assoc so_far (event ∷ []) todo in
-      let next = subst (AllUp given go.can.accepted) (sym (run_after given events so_far event))
-      (up_next given go.can.accepted (events ++ so_far) event (go.unspoiled so_far (todo ++ rest) event (split ∙ append_assoc so_far (event ∷ todo) rest)) up) in
-      subst (λ so_far. AllUp given go.can.accepted (run given (events ++ so_far))) more (up_along todo (so_far ++ event ∷ []) rest (split ∙ ap (λ so_far. so_far ++ rest) (sym more)) next)
+  up_on : (so_far rest : List Event) (event : Event) → later ≡ so_far ++ event ∷ rest → AllUp given go.can.accepted (run given (events ++ so_far)) → AllUp given go.can.accepted (run given (events ++ (so_far ++ event ∷ [])))
+  up_on so_far rest event split up = subst (AllUp given go.can.accepted) (sym (run_after given events so_far event)) (up_next given go.can.accepted (events ++ so_far) event (go.unspoiled so_far rest event split) up)
 
   pub up_at : (so_far rest : List Event) → later ≡ so_far ++ rest → AllUp given go.can.accepted (run given (events ++ so_far))
-  up_at so_far rest split = up_along so_far [] rest split up_first
+  up_at = along later (λ so_far. AllUp given go.can.accepted (run given (events ++ so_far))) up_on up_first
 
   -- so they go side by side as where some are down
   pub as_down : GoSideBySideWhileDown given events later
@@ -110,19 +106,6 @@ module _ (given : Opening) (events later : List Event) (go : GoSideBySideWhileDo
   run_next so_far event = run_after given events so_far event
 
   -- ---- transactions of a part
-
-  abbrev pub onward : (so_far more : List Event) → Begun given events so_far → Begun given events (so_far ++ more)
-  onward so_far more one = record {
-    before = one.before;
-    after = one.after ++ more;
-    agent = one.agent;
-    t = one.t;
-    caller = one.caller;
-    site = one.site;
-    ops = one.ops;
-    parts = ap (λ xs. xs ++ more) one.parts ∙ append_assoc one.before (Begin one.agent (Transaction one.caller one.site one.ops) ∷ one.after) more;
-    begins = one.begins;
-  }
 
   -- one that was begun before is run now, by an agent that has this to do
   pub record Busy (so_far : List Event) (i : ℕ) (doing : Option Doing) : Type 0 where

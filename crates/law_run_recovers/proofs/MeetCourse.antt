@@ -39,9 +39,9 @@ use Rattle.law_run_recovers.proofs.Stands.{Ground, asks_of, locks_on, AfterStand
 use Rattle.law_run_recovers.proofs.Still.{IsOpen, IsOpenPhase, open_next}
 use Rattle.law_run_recovers.proofs.StepsServed.{OwnTook, own_took}
 use Rattle.law_run_recovers.proofs.Unrobbed.{unrecorded_at, finds_then}
-use Rattle.law_run_recovers.proofs.MeetCalm.{along}
 use Rattle.law_run_recovers.proofs.MeetQuiet.{GoesQuietly, next_is, parts, heard_first, first_untold, heard_at, idle_before}
 use Rattle.law_run_recovers.proofs.MeetHeard.{AllTold, HeardNext, heard_next, told_running, told_none}
+use Rattle.law_run_recovers.proofs.Picks.{along}
 
 either : (a b : Bool) → b ≡ true → (a || b) ≡ true
 either true b is = refl

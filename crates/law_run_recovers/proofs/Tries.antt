@@ -19,7 +19,6 @@ use Rattle.law_run_recovers.proofs.Found.{all_answer}
 use Rattle.law_run_recovers.proofs.HadVotes.{count_then, last_now}
 use Rattle.law_run_recovers.proofs.Hinted.{execute_hints, reply_hints}
 use Rattle.law_run_recovers.proofs.Led.{rules_of}
-use Rattle.law_run_recovers.proofs.MeetCalm.{along}
 use Rattle.law_run_recovers.proofs.NearGround.{its, first_asked, sight, Known, ground, can_first}
 use Rattle.law_run_recovers.proofs.Open.{alone_is_unmet, begun_actor, begun_there, clear_first, near_alone, near_among, plain_way, unmet_is_among_locks}
 use Rattle.law_run_recovers.proofs.Polled.{Sight, finds_at}
@@ -28,6 +27,7 @@ use Rattle.law_run_recovers.proofs.SameDemands.{HintsLed, hints_alike, same_so_f
 use Rattle.law_run_recovers.proofs.Steady.{GoesSteadily, never_hindered}
 use Rattle.law_run_recovers.proofs.StepsServed.{OwnTook, own_took}
 use Rattle.law_run_recovers.proofs.UnmetLaws.{open_where_free, unmet_by_votes}
+use Rattle.law_run_recovers.proofs.Picks.{along}
 
 -- ---- how it ends
 
