@@ -16,6 +16,7 @@ use Rattle.run_core.specs.Worlds.{Actor, World, actor_at, server_at, step}
 use Rattle.run_core.specs.declared.done.Served.{Served}
 use Rattle.run_core.specs.declared.event.Event.{Event}
 use Rattle.run_core.specs.declared.event.Event.TheVariants.{Begin, Lack, Step}
+use Rattle.rep_core.specs.declared.request.Request.TheVariants as request
 
 -- ---- where it is
 

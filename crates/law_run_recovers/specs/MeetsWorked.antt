@@ -8,6 +8,8 @@ use Rattle.run_core.specs.declared.event.Event.{Event}
 use Rattle.run_core.specs.declared.event.Event.TheVariants.{Begin}
 use Rattle.law_runs.specs.Worked.{so_many}
 use Rattle.law_headline.specs.Worked.{with_caches}
+use Rattle.file_ops.specs.declared.answer.Answer.TheVariants as answer
+use Rattle.file_ops.specs.declared.operation.Action.TheVariants as action
 use Rattle.law_run_recovers.specs.Clashing.{Begun, OneIsDecidedOf, votes_now}
 use Rattle.law_run_recovers.specs.Meets.{TheyMeet}
 use Rattle.law_run_recovers.specs.MeetsByRows.{TheyMeetByRows}

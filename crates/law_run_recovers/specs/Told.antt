@@ -20,6 +20,7 @@ use Rattle.run_core.specs.declared.event.Event.{Event}
 use Rattle.run_core.specs.declared.event.Event.TheVariants.{Begin, Crash, Step}
 use Rattle.law_headline.specs.Premises.{CanBe}
 use Rattle.law_run_alone.specs.Alone.{begins_job}
+use Rattle.rep_core.specs.declared.request.Request.TheVariants as request
 use Rattle.law_run_recovers.specs.Standing.{is_up}
 use Rattle.law_run_recovers.specs.Ways.{is_open_at, way_at}
 use Rattle.law_run_recovers.specs.Going.{hinders_itself, is_running, is_telling, of_up, robs, world_after}
