@@ -56,14 +56,6 @@ module _ (q : World → Bool) (p : World → Event → Bool) (fixed : Fixed) whe
       subst (λ x. p (after fixed (step fixed w x).world so_far) event ≡ true) (ap (head_or one) is)
       (happens_at later so_far rest event (step fixed w one).world (later_holds w one later all).1 (ap tail_or is))
 
--- where nothing spoils events, by computation, nothing does at any moment of them
-pub none_spoils_it : (given : Opening) (events later : List Event) → holds (λ w. true) (λ w event. not (spoils given w event)) (fixed_of given) (run given events) later ≡ true
-    → (before rest : List Event) (event : Event) → later ≡ before ++ event ∷ rest → spoils given (run given (events ++ before)) event ≡ false
-none_spoils_it given events later calm before rest event split =
-    subst (λ w. spoils given w event ≡ false) (sym (after_append (fixed_of given) events before (opening given)))
-    (not_so (spoils given (after (fixed_of given) (run given events) before) event)
-    (happens_at (λ w. true) (λ w event. not (spoils given w event)) (fixed_of given) later before rest event (run given events) calm split))
-
 pub unless : (a b : Bool) → (not a || b) ≡ true → a ≡ true → b ≡ true
 unless true b is so = is
 unless false b is so = absurd (false≢true so)
@@ -71,6 +63,14 @@ unless false b is so = absurd (false≢true so)
 pub not_so : (b : Bool) → not b ≡ true → b ≡ false
 not_so true is = sym is
 not_so false is = refl
+
+-- where nothing spoils events, by computation, nothing does at any moment of them
+pub none_spoils_it : (given : Opening) (events later : List Event) → holds (λ w. true) (λ w event. not (spoils given w event)) (fixed_of given) (run given events) later ≡ true
+    → (before rest : List Event) (event : Event) → later ≡ before ++ event ∷ rest → spoils given (run given (events ++ before)) event ≡ false
+none_spoils_it given events later calm before rest event split =
+    subst (λ w. spoils given w event ≡ false) (sym (after_append (fixed_of given) events before (opening given)))
+    (not_so (spoils given (after (fixed_of given) (run given events) before) event)
+    (happens_at (λ w. true) (λ w event. not (spoils given w event)) (fixed_of given) later before rest event (run given events) calm split))
 
 -- ---- servers
 
