@@ -26,6 +26,7 @@ use Rattle.law_run_recovers.proofs.Blocking.{blocked_by_doubts, one_crash_blocks
 use Rattle.law_run_recovers.proofs.Swept.{sweeps_leave_doubts}
 use Rattle.law_run_recovers.proofs.UnmetLaws.{unmet_end_by_votes}
 use Rattle.law_run_recovers.proofs.ValidEvents.{all_by, event_sets_none, valid_event}
+use Rattle.law_run_recovers.proofs.Keeps.{after_append}
 
 -- ---- what holds at each moment of some events
 
