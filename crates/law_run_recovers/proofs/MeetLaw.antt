@@ -28,6 +28,12 @@ use Rattle.law_run_recovers.proofs.MeetWants.{upto, whole, calm_upto, ours_upto,
 clashes_some : (others : List (ℕ × LockMode)) (one way : ℕ × LockMode) → Contains others way → clashes one way ≡ true → list_any (clashes one) others ≡ true
 clashes_some others one way has is = has_any (clashes one) others way (has_from others way has) is
 
+-- of two that are not both undecided one is decided
+pub not_neither : (a b : Bool) → (a ≡ false → b ≡ false → ⊥) → (a || b) ≡ true
+not_neither true b never = refl
+not_neither false true never = refl
+not_neither false false never = absurd (never refl refl)
+
 -- ---- who is refused
 
 pub none_apart : (given : Opening) (events : List Event) (sets : List (ℕ × Configuration)) → SetsApart given events sets []
@@ -481,12 +487,7 @@ module _ (given : Opening) (events later : List Event) (one other : Begun given 
         of true same = never_by_itself given events later one calm ours not_one f (apart_from_others (eqb-true one.t other.t same))
 
   pub decided_one : (is_decided job.ending || is_decided outcome.ending) ≡ true
-  decided_one = of (is_decided job.ending) (is_decided outcome.ending) refl refl
-    where
-      of : (a b : Bool) → is_decided job.ending ≡ a → is_decided outcome.ending ≡ b → (a || b) ≡ true
-      of true b one_is other_is = refl
-      of false true one_is other_is = refl
-      of false false one_is other_is = absurd (neither one_is other_is)
+  decided_one = not_neither (is_decided job.ending) (is_decided outcome.ending) (λ one_is other_is. neither one_is other_is)
 
 pub one_that_meets_beside_is_decided : OneThatMeetsBesideIsDecided
 one_that_meets_beside_is_decided given events later one other meets job outcome ends other_ends = decided_one given events later one other meets job outcome ends other_ends
