@@ -1,5 +1,5 @@
 -- Two users meet, and one that sets a list and one that reads, while another begins again and again beside, by computation.
-use Rattle.law_run_recovers.proofs.Vocabulary.{◌≡◌, ◌⊎◌, inl, inr, ⊎_elim, ℕ, Bool, true, false, List, [], ◌∷◌, ◌++◌, refl, sym, subst, ◌+◌, arith, ◌==◌, ◌&&◌, ◌||◌, not, Contains, list_all, and_parts, eqb-true}
+use Rattle.law_run_recovers.proofs.Vocabulary.{◌≡◌, ◌⊎◌, inl, inr, ⊎_elim, ℕ, Bool, true, false, List, [], ◌∷◌, ◌++◌, refl, sym, subst, arith, ◌==◌, ◌&&◌, ◌||◌, not, Contains, list_all, and_parts, eqb-true}
 use Rattle.law_run_recovers.proofs.Vocabulary.{false≢true, all_at, at_has, LockMode, Shared, Exclusive, Lock, State, Transaction, fixed_of, owner, a, Event, Begin, Lack, World, opening, after, run}
 use Rattle.law_run_recovers.proofs.Vocabulary.{EventGivesValidVotes, CanBe, some_run_revokes, Begun, puts, b, locks_at, hinders_itself, is_running}
 use Rattle.rep_core.specs.declared.stamped.Lack.TheVariants as lack

@@ -1,6 +1,6 @@
 -- One sets a list while two read, by computation.
 use Rattle.law_run_recovers.proofs.Vocabulary.{Bool, Contains, List, [], ap, arith, inl, inr, not, refl, sym, true, ℕ, ◌++◌, ◌==◌, ◌∙◌, ◌∷◌, ◌≡◌, ◌⊎◌, and_parts, false≢true, list_all, list_any}
-use Rattle.law_run_recovers.proofs.Vocabulary.{after, some_run_revokes, CanBe, EventGivesValidVotes, any_has, has_any, has_from}
+use Rattle.law_run_recovers.proofs.Vocabulary.{some_run_revokes, CanBe, EventGivesValidVotes, any_has, has_any, has_from}
 use Rattle.law_run_recovers.proofs.Vocabulary.{Event, Begin, is_exclusive, LockMode, Exclusive, Shared, owner, Transaction, Begun, clashes, its_asks, two_made, asks_for, only_reads, ReadersMeet, with_caches, ◌≤◌}
 use Rattle.suite_prefix.specs.SettingsRules.{IsAccepted, max_agents}
 use Rattle.law_runs.specs.Worked.{close_a, read_a}
