@@ -2,8 +2,7 @@
 use Rattle.law_run_recovers.proofs.Vocabulary.{◌≡◌, inl, ℕ, suc, ◌+◌, Bool, true, false, List, [], ◌∷◌, ◌++◌, append-nil, length, Option, Some, None, refl, sym, ap, subst, ◌∙◌, ◌*◌, ◌==◌, ◌&&◌, ◌||◌, not, slice_get, Contains, list_all}
 use Rattle.law_run_recovers.proofs.Vocabulary.{false≢true, and_parts, eqb-true, same_Some, Identity, Opening, Replica, Lock, Request, Verdict, is_answered, copy_of, State, Has, has_from, Op, Transaction, home_of, fixed_of, next_of}
 use Rattle.law_run_recovers.proofs.Vocabulary.{Event, Begin, Step, Crash, Return, Forget, Lack, Actor, World, server_at, actor_at, step, run, decisions, decisions_from, table_of, table_after_all, decisions_from-append, EndedSo, names}
-use Rattle.law_run_recovers.proofs.Vocabulary.{finish_is_after, so_many, IsOwnAt, names_mine, AllAt, MayAsk, asks_servers, up_in, is_up, up_free, locks_in, shown_in, shown_at, hinders, unhindered_from, GoesAlone, begun_world}
-use Rattle.law_run_recovers.proofs.Vocabulary.{world_after}
+use Rattle.law_run_recovers.proofs.Vocabulary.{finish_is_after, so_many, IsOwnAt, names_mine, AllAt, MayAsk, asks_servers, up_in, is_up, up_free, locks_in, shown_in, shown_at, hinders, unhindered_from, GoesAlone, begun_world, world_after}
 use Rattle.rep_core.specs.declared.request.Request.TheVariants as request
 use Rattle.rep_core.specs.declared.reply.Verdict.TheVariants as verdict
 use Rattle.file_ops.specs.Rows as rows
@@ -14,8 +13,9 @@ use Rattle.law_run_recovers.proofs.AmongLeft.{HasNone, none_left}
 use Rattle.law_run_recovers.proofs.AloneLaws.{steadily}
 use Rattle.law_run_recovers.proofs.HadVotes.{none_decided, none_since, not_before}
 use Rattle.law_run_recovers.proofs.Keeps.{run_at, after_append}
-use Rattle.law_run_recovers.proofs.MeetCalm.{along, Spares, stored_stays}
+use Rattle.law_run_recovers.proofs.MeetCalm.{Spares, stored_stays}
 use Rattle.law_run_recovers.proofs.Open.{Here, here_at, is_calm, its_begin, alone_is_unmet, unmet_is_among_locks, begun_servers, not_true, stands_open}
+use Rattle.law_run_recovers.proofs.Picks.{along}
 
 -- ---- lists
 

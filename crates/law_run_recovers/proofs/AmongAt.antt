@@ -22,9 +22,6 @@ either a b is = grind (arith, nat_tests)
 -- ---- at a moment
 
 module _ (given : Opening) (events later : List Event) (agent t : ℕ) (caller : Identity) (site : ℕ) (ops : List Op) (actor : Actor) (goes : GoesSteadily given events later agent t caller site ops actor) where
-  abbrev world_at : List Event → World
-  world_at so_far = world_after given events agent caller site ops so_far
-
   abbrev asked : List (ℕ × LockMode)
   asked = asks_for given events t caller ops
 

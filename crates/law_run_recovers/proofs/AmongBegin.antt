@@ -1,7 +1,7 @@
 -- A transaction that goes steadily ends as the votes say that are open: its begin.
-use Rattle.law_run_recovers.proofs.Vocabulary.{◌≡◌, ℕ, Bool, true, false, cond, List, [], ◌∷◌, ◌++◌, Option, Some, None, refl, sym, ap, subst, ◌∙◌, ◌*◌, ◌+◌, ◌&&◌, nat_lt, false≢true, and_parts, none-some, same_Some, Identity, Opening}
+use Rattle.law_run_recovers.proofs.Vocabulary.{◌≡◌, ℕ, Bool, true, false, cond, List, [], Option, Some, None, refl, sym, ap, subst, ◌∙◌, ◌*◌, ◌+◌, ◌&&◌, nat_lt, false≢true, and_parts, none-some, same_Some, Identity, Opening}
 use Rattle.law_run_recovers.proofs.Vocabulary.{Op, State, Has, Ending, Transaction, table_of, Task, TransactionRun, Doing, Running, After, GoesOn, Ends, execute, Agent, fixed_of, is_idle, has_sense, max_jobs, left, end_of, begins}
-use Rattle.law_run_recovers.proofs.Vocabulary.{begin, started, Event, Actor, World, server_at, step, run, ended, no_lock, locks_in, locks_at, runs, running_in, world_after}
+use Rattle.law_run_recovers.proofs.Vocabulary.{begin, started, Event, Actor, server_at, step, run, ended, no_lock, locks_in, locks_at, runs, running_in, world_after}
 use Rattle.txn_core.specs.Transactions.{Step as CourseStep}
 use Rattle.law_run_recovers.proofs.Steady.{GoesSteadily}
 use Rattle.law_run_recovers.proofs.Executes.{begin_stands}
@@ -10,14 +10,11 @@ use Rattle.law_run_recovers.proofs.Open.{its_begin, begun_there, begun_servers, 
 use Rattle.law_run_recovers.proofs.Serves.{On}
 use Rattle.law_run_recovers.proofs.Stands.{AfterStands, StepStands}
 use Rattle.law_run_recovers.proofs.AmongAt.{HasWhereOpen}
-use Rattle.law_run_recovers.proofs.AmongCourse.{Course, StandsIn, Right, same_service}
+use Rattle.law_run_recovers.proofs.AmongCourse.{Course, StandsIn, Right, same_service, nil_cons}
 
 module _ (given : Opening) (events later : List Event) (agent t : ℕ) (caller : Identity) (site : ℕ) (ops : List Op) (actor : Actor) (goes : GoesSteadily given events later agent t caller site ops actor) where
   abbrev its_task : Task
   its_task = its given events later agent t caller site ops actor goes
-
-  abbrev world_at : List Event → World
-  world_at so_far = world_after given events agent caller site ops so_far
 
   abbrev pub Good : CourseStep → Type 0
   Good step =
@@ -67,6 +64,16 @@ module _ (given : Opening) (events later : List Event) (agent t : ℕ) (caller :
       (and_parts (is_idle actor.agent.doing) (has_sense (fixed_of given) (Transaction caller site ops))
       (and_parts (is_idle actor.agent.doing && has_sense (fixed_of given) (Transaction caller site ops)) (nat_lt actor.agent.count max_jobs) begun.1).0).0
 
+  -- it has no lock
+  pub none_there : (server z : ℕ) → On (locks_at (world_after given events agent caller site ops []) server) t z → ⊥
+  none_there server z on =
+      of (server_at (run given events) server) refl
+      (subst (λ found. On (locks_in found) t z) (begun_servers given events later agent t caller site ops actor goes.can goes.there goes.begins server) on)
+    where
+      of : (found : Option State) → server_at (run given events) server ≡ found → On (locks_in (server_at (run given events) server)) t z → ⊥
+      of None at on = subst (λ found. Has (locks_in found) on.lock) at on.has
+      of (Some st) at on = no_lock given goes.can.accepted events agent t (Transaction caller site ops) goes.begins server st at on.lock (subst (λ found. Has (locks_in found) on.lock) at on.has) on.of_it
+
   pub first_course : Course given events later agent t caller site ops actor goes []
   first_course = record {
     here = record actor { agent = begin (fixed_of given) actor.agent (Transaction caller site ops) };
@@ -78,7 +85,7 @@ module _ (given : Opening) (events later : List Event) (agent t : ℕ) (caller :
     count = first_count;
     locks = none_has;
     shown = λ server z on. absurd (none_there server z on);
-    spared = λ front back event is. absurd (nil_not front event back is);
+    spared = λ front back event is. absurd (nil_cons front event back is);
   }
     where
       runs_so : runs t (begin (fixed_of given) actor.agent (Transaction caller site ops)).doing ≡ true
@@ -89,19 +96,6 @@ module _ (given : Opening) (events later : List Event) (agent t : ℕ) (caller :
       busy_so : (doing : Option Doing) → runs t doing ≡ true → is_idle doing ≡ false
       busy_so None is = absurd (false≢true is)
       busy_so (Some doing) is = refl
-
-      nil_not : (front : List Event) (event : Event) (back : List Event) → [] ≡ front ++ event ∷ back → ⊥
-      nil_not [] event back is = cc
-      nil_not (one ∷ front) event back is = cc
-
-      none_there : (server z : ℕ) → On (locks_at (world_after given events agent caller site ops []) server) t z → ⊥
-      none_there server z on =
-          of (server_at (run given events) server) refl
-          (subst (λ found. On (locks_in found) t z) (begun_servers given events later agent t caller site ops actor goes.can goes.there goes.begins server) on)
-        where
-          of : (found : Option State) → server_at (run given events) server ≡ found → On (locks_in (server_at (run given events) server)) t z → ⊥
-          of None at on = subst (λ found. Has (locks_in found) on.lock) at on.has
-          of (Some st) at on = no_lock given goes.can.accepted events agent t (Transaction caller site ops) goes.begins server st at on.lock (subst (λ found. Has (locks_in found) on.lock) at on.has) on.of_it
 
       none_has : HasWhereOpen given events later agent t caller site ops actor goes (world_after given events agent caller site ops [])
       none_has server z on = absurd (none_there server z on)

@@ -1,6 +1,6 @@
 -- How a transaction stands that goes steadily, at each moment at which it runs; and what an event that is not its own leaves of that.
-use Rattle.law_run_recovers.proofs.Vocabulary.{◌≡◌, ◌⊎◌, inl, inr, ⊎_elim, ℕ, ◌<◌, Bool, true, false, List, [], ◌∷◌, ◌++◌, append_assoc, Option, Some, None, refl, sym, ap, subst, ◌∙◌, arith, ◌+◌, ◌==◌, ◌||◌, false≢true, eqb-true}
-use Rattle.law_run_recovers.proofs.Vocabulary.{eq-eqb, nat_tests, none-some, Identity, Opening, Prefix, LockMode, Op, PlainTable, State, Has, Cache, forgotten, Job, Transaction, Ending, Suites, Fixed, Task, Phase, Gathering, Fetching}
+use Rattle.law_run_recovers.proofs.Vocabulary.{◌≡◌, ◌⊎◌, inl, inr, ⊎_elim, ℕ, ◌<◌, Bool, true, false, List, [], ◌∷◌, ◌++◌, Option, Some, None, refl, sym, ap, subst, ◌∙◌, arith, ◌+◌, ◌==◌, ◌||◌, false≢true, eqb-true}
+use Rattle.law_run_recovers.proofs.Vocabulary.{eq-eqb, nat_tests, none-some, Identity, Opening, Prefix, LockMode, Op, PlainTable, State, Has, Cache, forgotten, Transaction, Ending, Suites, Fixed, Task, Phase, Gathering, Fetching}
 use Rattle.law_run_recovers.proofs.Vocabulary.{Preparing, Deciding, Finishing, TransactionRun, Doing, Running, RunningSweep, Agent, fixed_of, is_idle, begin, forget, after_all, after-append, Event, Begin, Step, Crash, Return, Forget}
 use Rattle.law_run_recovers.proofs.Vocabulary.{Lack, Actor, World, server_at, actor_at, step, run, decisions, table_of, names, may_sweep, same_place, agents_ask_for_themselves, holds_of, service_stays, agent_of, agent_at, locks_in}
 use Rattle.law_run_recovers.proofs.Vocabulary.{locks_at, runs, running_in, is_running, begun_world, world_after, robs, hinders_itself, bereaves, shows_same, Replica, all_consistent}
@@ -60,9 +60,6 @@ module _ (given : Opening) (events later : List Event) (agent t : ℕ) (caller :
 
   abbrev pub table : PlainTable
   table = table_of given events
-
-  abbrev pub job : Job
-  job = Transaction caller site ops
 
   abbrev pub task : Task
   task = its given events later agent t caller site ops actor goes
@@ -149,9 +146,6 @@ module _ (given : Opening) (events later : List Event) (agent t : ℕ) (caller :
   TellsNone so_far event = (server : ℕ) → Told (fixed_of given) (world_after given events agent caller site ops so_far) event t server → ⊥
 
   module _ (so_far rest : List Event) (event : Event) (split : later ≡ so_far ++ event ∷ rest) (c : Course so_far) where
-    pub split_on : later ≡ (so_far ++ event ∷ []) ++ rest
-    split_on = split ∙ sym (append_assoc so_far (event ∷ []) rest)
-
     pub running_now : is_running (world_after given events agent caller site ops so_far) agent t ≡ true
     running_now = course_runs so_far c
 

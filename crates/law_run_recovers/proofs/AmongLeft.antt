@@ -1,9 +1,9 @@
 -- A transaction that goes among locks that stay has none once it has ended: each server that gave it one was told how it ended.
-use Rattle.law_run_recovers.proofs.Vocabulary.{◌≡◌, ◌⊎◌, inl, inr, ⊎_elim, ℕ, ◌+◌, ◌≤◌, ◌<◌, Bool, true, false, List, [], ◌∷◌, ◌++◌, append-nil, append_assoc, length, Option, Some, None, is_some, refl, sym, ap, subst, ◌∙◌, arith, ◌*◌}
+use Rattle.law_run_recovers.proofs.Vocabulary.{◌≡◌, ◌⊎◌, inl, inr, ⊎_elim, ℕ, ◌+◌, ◌≤◌, ◌<◌, Bool, true, false, List, [], ◌∷◌, ◌++◌, append-nil, length, Option, Some, None, is_some, refl, sym, ap, subst, ◌∙◌, arith, ◌*◌}
 use Rattle.law_run_recovers.proofs.Vocabulary.{◌==◌, ◌&&◌, ◌||◌, filter, slice_get, slice_set, list_any, false≢true, and_parts, and_from, eqb-true, eq-eqb, or_right, list_any-append, same_Some, slice_get_within, Identity, max_servers}
 use Rattle.law_run_recovers.proofs.Vocabulary.{Opening, Op, Lock, Request, Reply, Stamped, State, reply_of, served, answer_of, Has, contains_from, has_filter, filter_has, has_map, any_has, has_any, Transaction, Replied, numbers_from}
 use Rattle.law_run_recovers.proofs.Vocabulary.{is_finish, Agent, fixed_of, is_idle, next_of, begin, Exchange, exchange_of, exchanges, locks, says_held, was_held, exchanges-take, exchanges-forget, Served, Event, Begin, Step, Actor}
-use Rattle.law_run_recovers.proofs.Vocabulary.{World, server_at, step, run, so_many, puts_in, stage, wants_lock, was_locked, locked, sent_to, IsInOrder, stages_rise, all_finish, no_lock, up_in, is_up, locks_in, locks_at, world_after}
+use Rattle.law_run_recovers.proofs.Vocabulary.{World, server_at, step, run, so_many, puts_in, stage, wants_lock, was_locked, locked, sent_to, IsInOrder, stages_rise, all_finish, up_in, is_up, locks_in, locks_at, world_after}
 use Rattle.law_run_recovers.proofs.Vocabulary.{GoesAmongLocks, AmongLocksLeaveNoLock}
 use Rattle.rep_core.specs.declared.request.Request.TheVariants as request
 use Rattle.txn_core.specs.Agents as agents
@@ -15,15 +15,15 @@ use Rattle.law_run_recovers.proofs.Keeps.{run_at}
 use Rattle.law_run_recovers.proofs.Locked.{freed}
 use Rattle.law_run_recovers.proofs.KnownStays.{among_numbers}
 use Rattle.law_run_recovers.proofs.NearGround.{number, first_asked, opens_up}
-use Rattle.law_run_recovers.proofs.Open.{begun_servers}
 use Rattle.law_run_recovers.proofs.Serves.{On, Told, told_on}
 use Rattle.law_run_recovers.proofs.StepsServed.{OwnTook, own_took}
 use Rattle.law_run_recovers.proofs.AmongCourse.{Course, runs_it, next_is, running_now, course_runs, apart_on}
 use Rattle.law_run_recovers.proofs.Steady.{GoesSteadily, steady, never_hindered}
 use Rattle.law_run_recovers.proofs.AmongEnds.{Over, over_on, over_now}
 use Rattle.law_run_recovers.proofs.AmongOver.{never_others, never_over, ended_over, course_not_over}
-use Rattle.law_run_recovers.proofs.AmongBegin.{idle_before, first_course}
+use Rattle.law_run_recovers.proofs.AmongBegin.{idle_before, first_course, none_there}
 use Rattle.law_run_recovers.proofs.AmongStep.{is_then, own_on}
+use Rattle.law_run_recovers.proofs.Picks.{along}
 
 or_left : (a b : Bool) → a ≡ true → (a || b) ≡ true
 or_left true b is = refl
@@ -121,15 +121,6 @@ module _ (given : Opening) (events later : List Event) (agent t : ℕ) (caller :
 
   same_run : (so_far : List Event) → world_after given events agent caller site ops so_far ≡ run given (events ++ Begin agent (Transaction caller site ops) ∷ so_far)
   same_run = run_at given events later agent t caller site ops actor goes.can goes.there goes.begins
-
-  before_none : HasNone []
-  before_none server z on =
-      of (server_at (run given events) server) refl
-      (subst (λ found. On (locks_in found) t z) (begun_servers given events later agent t caller site ops actor goes.can goes.there goes.begins server) on)
-    where
-      of : (found : Option State) → server_at (run given events) server ≡ found → On (locks_in (server_at (run given events) server)) t z → ⊥
-      of None at on = subst (λ found. Has (locks_in found) on.lock) at on.has
-      of (Some st) at on = no_lock given goes.can.accepted events agent t (Transaction caller site ops) goes.begins server st at on.lock (subst (λ found. Has (locks_in found) on.lock) at on.has) on.of_it
 
   next_on : (so_far : List Event) (event : Event) (server z : ℕ) → On (locks_at (world_after given events agent caller site ops (so_far ++ event ∷ [])) server) t z
       → On (locks_at (step (fixed_of given) (world_after given events agent caller site ops so_far) event).world server) t z
@@ -285,7 +276,7 @@ module _ (given : Opening) (events later : List Event) (agent t : ℕ) (caller :
   Left so_far = ((c : Course given events later agent t caller site ops actor goes so_far) × Held so_far c.told) ⊎ (Over given events later agent t caller site ops actor goes so_far × HasNone so_far)
 
   left_first : Left []
-  left_first = inl (first_course given events later agent t caller site ops actor goes, λ server z on. absurd (before_none server z on))
+  left_first = inl (first_course given events later agent t caller site ops actor goes, λ server z on. absurd (none_there given events later agent t caller site ops actor goes server z on))
 
   left_on : (so_far rest : List Event) (event : Event) → later ≡ so_far ++ event ∷ rest → Left so_far → Left (so_far ++ event ∷ [])
   left_on so_far rest event split (inr over) = inr (over_on given events later agent t caller site ops actor goes so_far event over.0, none_on so_far event over.0 over.1)
@@ -323,16 +314,9 @@ module _ (given : Opening) (events later : List Event) (agent t : ℕ) (caller :
           (λ ended. inr (over_now given events later agent t caller site ops actor goes so_far (Step agent) ended.0 ended.1 ended.2, none_then so_far rest split' on.0 took on.1 ended.3))
           (own_on given events later agent t caller site ops actor goes so_far rest split' on.0 (runs_it given events later agent t caller site ops actor goes so_far on.0) took))
 
-  left_along : (todo so_far rest : List Event) → later ≡ (so_far ++ todo) ++ rest → Left so_far → Left (so_far ++ todo)
-  left_along [] so_far rest split left = subst Left (sym (append-nil so_far)) left
-  left_along (event ∷ todo) so_far rest split left =
-      let more : (so_far ++ event ∷ []) ++ todo ≡ so_far ++ event ∷ todo = append_assoc so_far (event ∷ []) todo in
-      subst Left more
-      (left_along todo (so_far ++ event ∷ []) rest (split ∙ ap (λ so_far. so_far ++ rest) (sym more)) (left_on so_far (todo ++ rest) event (split ∙ append_assoc so_far (event ∷ todo) rest) left))
-
   -- at each moment
   pub left_at : (so_far rest : List Event) → later ≡ so_far ++ rest → Left so_far
-  left_at so_far rest split = left_along so_far [] rest split left_first
+  left_at = along later Left left_on left_first
 
   -- once it has ended it has none
   pub none_left : Over given events later agent t caller site ops actor goes later → HasNone later

@@ -4,7 +4,7 @@ use Rattle.law_run_recovers.proofs.Vocabulary.{Op, Has, has_from, contains_from,
 use Rattle.law_run_recovers.proofs.Vocabulary.{done_in, outcomes, run, dones-append, outcomes-append, ended, names, may_sweep, same_place, agents_ask_for_themselves, holds_of, has_append, append_has_right, agent_of, agent_at}
 use Rattle.law_run_recovers.proofs.Vocabulary.{begun_world, world_after, EndsThen}
 use Rattle.law_run_recovers.proofs.Steady.{GoesSteadily}
-use Rattle.law_run_recovers.specs.Local.{Ended}
+use Rattle.law_run_recovers.specs.Ends.{Ended}
 use Rattle.law_run_recovers.proofs.Asker.{IsAsker, asker}
 use Rattle.law_run_recovers.proofs.Keeps.{run_at}
 use Rattle.law_run_recovers.proofs.Serves.{Told}

@@ -3,12 +3,12 @@ use Rattle.law_run_recovers.proofs.Vocabulary.{◌≡◌, ◌⊎◌, inl, inr, �
 use Rattle.law_run_recovers.proofs.Vocabulary.{◌==◌, ◌&&◌, ◌||◌, cons_option, list_all, nat_tests, list_all-append, slice_get_within, none-some, slice_get_cases, Identity, Opening, Op, reply_of, Has, has_any, contains_from, any_has}
 use Rattle.law_run_recovers.proofs.Vocabulary.{has_filter, has_from, Transaction, Replied, Lacked, numbers_from, request_in, Agent, fixed_of, next_in, next_of, begin, after_all, is_idle, Exchange, exchange_of, exchanges, among}
 use Rattle.law_run_recovers.proofs.Vocabulary.{asks_only, names_of, names_only, says_held, exchanges-take, exchanges-forget, Event, Begin, Step, Crash, Return, Forget, Lack, EndedJob, Actor, World, step, server_at, dones, outcomes, run}
-use Rattle.law_run_recovers.proofs.Vocabulary.{table_of, number_of, so_many, its_step, own_steps, AmongLocksEndInTime, UnmetEndInTime, few_steps, begun_world, world_after, hinders_itself, CanBe, Ending, Finishing, Request, Response}
+use Rattle.law_run_recovers.proofs.Vocabulary.{table_of, number_of, so_many, its_step, own_steps, AmongLocksEndInTime, UnmetEndInTime, few_steps, begun_world, world_after, hinders_itself, Ending, Finishing, Request, Response}
 use Rattle.law_run_recovers.proofs.Vocabulary.{State, Verdict, VotesAreValid, and_parts, eqb-true, false≢true, append_has_right, asks_same, cache_valid, copy_valid, is_finish, jobs_end, locked, sent_to, wants_lock, was_locked}
 use Rattle.law_run_recovers.proofs.Vocabulary.{max_servers, finishes_in_order}
 use Rattle.txn_core.specs.Agents as agents
 use Rattle.law_run_recovers.proofs.Steady.{GoesSteadily, steady}
-use Rattle.law_run_recovers.specs.Local.{Ended}
+use Rattle.law_run_recovers.specs.Ends.{Ended}
 use Rattle.law_run_recovers.proofs.Apart.{event_apart}
 use Rattle.law_run_recovers.proofs.AmongOver.{has_after}
 use Rattle.law_run_recovers.proofs.Keeps.{run_at}
@@ -168,9 +168,6 @@ module _ (given : Opening) (events later : List Event) (agent t : ℕ) (caller :
 
     -- it asks something, and where its end is fixed a server that there is
     module _ (k : ℕ) (counted : Counted c.told k) where
-      can_here : CanBe given (events ++ Begin agent (Transaction caller site ops) ∷ so_far)
-      can_here = can_so_far given events later agent t caller site ops actor goes so_far rest split
-
       votes_valid : VotesAreValid (fixed_of given) actor.agent (exchanges (fixed_of given) begun c.told)
       votes_valid = record {
         servers = let some = goes.can.accepted.some_servers.0 in omega (arith, some);

@@ -49,15 +49,15 @@ asks_itself asked suite mode = ap (λ b. (b && serves mode mode) || has_asked as
 asks_more : (asked : List (ℕ × LockMode)) (one : ℕ × LockMode) (suite : ℕ) (mode : LockMode) → has_asked asked suite mode ≡ true → has_asked (one ∷ asked) suite mode ≡ true
 asks_more asked one suite mode is = ap (λ b. ((one.0 == suite) && serves one.1 mode) || b) is ∙ or_true ((one.0 == suite) && serves one.1 mode)
 
-abbrev suite_in : Need → ℕ
+abbrev pub suite_in : Need → ℕ
 suite_in (Hold suite mode) = suite
 suite_in (Know suite) = suite
 
-abbrev mode_in : Need → LockMode
+abbrev pub mode_in : Need → LockMode
 mode_in (Hold suite mode) = mode
 mode_in (Know suite) = Shared
 
-abbrev is_hold : Need → Bool
+abbrev pub is_hold : Need → Bool
 is_hold (Hold suite mode) = true
 is_hold (Know suite) = false
 

@@ -1,5 +1,5 @@
 -- A transaction that nobody robs: until its end is fixed the locks that it was told of stand, whatever others do.
-use Rattle.law_run_recovers.proofs.Vocabulary.{◌≡◌, ◌⊎◌, inl, inr, ⊎_elim, Bool, true, false, List, [], ◌∷◌, ◌++◌, append_assoc, append-nil, Option, Some, None, refl, sym, ap, subst, ◌∙◌, arith, ℕ, ◌==◌, ◌&&◌, ◌||◌, not, false≢true}
+use Rattle.law_run_recovers.proofs.Vocabulary.{◌≡◌, ◌⊎◌, inl, inr, ⊎_elim, Bool, true, false, List, [], ◌∷◌, ◌++◌, append_assoc, Option, Some, None, refl, sym, ap, subst, ◌∙◌, arith, ℕ, ◌==◌, ◌&&◌, ◌||◌, not, false≢true}
 use Rattle.law_run_recovers.proofs.Vocabulary.{eqb-true, nat_tests, none-some, same_Some, Identity, Opening, IsAccepted, Op, Request, State, Transaction, Suites, suite_of, parts_at, Fixed, Task, home_of, Phase, Gathering, Fetching}
 use Rattle.law_run_recovers.proofs.Vocabulary.{Widening, Preparing, Deciding, Finishing, Doing, Running, RunningSweep, request_in, changes_of, decision_of, fixed_of, begin, forget, next_in, next_of, asks_same, asked_as, fetched_as}
 use Rattle.law_run_recovers.proofs.Vocabulary.{Served, Event, Begin, Step, Crash, Return, Forget, Lack, Actor, World, server_at, actor_at, run, names, may_sweep, agents_ask_for_themselves, machine_of, machine_one, CanBe, holds_after}
@@ -11,6 +11,7 @@ use Rattle.law_run_alone.proofs.Holding as holding
 use Rattle.law_run_recovers.proofs.Keeps.{IsAtWork, Works, works, step_asks, operates_it, becomes_none, lacks_none, run_at, at_work_before}
 use Rattle.law_run_recovers.proofs.Still.{IsOpen, IsOpenPhase}
 use Rattle.law_run_recovers.proofs.Untaken.{TakesNothing, untaken_stands}
+use Rattle.law_run_recovers.proofs.Picks.{along}
 
 -- ---- what is asked by agents
 
@@ -171,17 +172,9 @@ module _ (given : Opening) (events later : List Event) (agent t : ℕ) (caller :
       (subst (λ w. Stands w t) (sym (machine_one given z (all_of so_far) event))
       (untaken_stands given z t (machine_of given z (all_of so_far)) (run given (all_of so_far)) (holds_after given (all_of so_far) can' z).shows stands event (takes_nothing given can.accepted (all_of so_far) agent t at' event calm)))
 
-  stands_along : (todo so_far rest : List Event) → later ≡ (so_far ++ todo) ++ rest → IsAtWork (world_at (so_far ++ todo)) agent t → (z : ℕ)
-      → Stands (machine_of given z (all_of so_far)) t → Stands (machine_of given z (all_of (so_far ++ todo))) t
-  stands_along [] so_far rest is at z stands = subst (λ so_far. Stands (machine_of given z (all_of so_far)) t) (sym (append-nil so_far)) stands
-  stands_along (event ∷ todo) so_far rest is at z stands =
-      let more : (so_far ++ event ∷ []) ++ todo ≡ so_far ++ event ∷ todo = append_assoc so_far (event ∷ []) todo in
-      let now = at_work_before given events later agent t caller site ops actor can there begins_so so_far (event ∷ todo) at in
-      let next = stands_next so_far (todo ++ rest) event (is ∙ append_assoc so_far (event ∷ todo) rest) now z stands in
-      subst (λ so_far. Stands (machine_of given z (all_of so_far)) t) more
-      (stands_along todo (so_far ++ event ∷ []) rest (is ∙ ap (λ so_far. so_far ++ rest) (sym more)) (subst (λ so_far. IsAtWork (world_at so_far) agent t) (sym more) at) z next)
-
   -- So at each moment at which it is at work its locks stand, in the machine of each suite.
   pub locks_stand : (so_far rest : List Event) → later ≡ so_far ++ rest → IsAtWork (world_at so_far) agent t → (z : ℕ) → Stands (machine_of given z (all_of so_far)) t
-  locks_stand so_far rest is at z =
-      stands_along so_far [] rest is at z (stands_first (at_work_before given events later agent t caller site ops actor can there begins_so [] so_far at) z)
+  locks_stand = along later (λ so_far. IsAtWork (world_at so_far) agent t → (z : ℕ) → Stands (machine_of given z (all_of so_far)) t)
+      (λ so_far rest event is stand at z.
+      let now = at_work_before given events later agent t caller site ops actor can there begins_so so_far (event ∷ []) at in stands_next so_far rest event is now z (stand now z))
+      stands_first

@@ -1,7 +1,7 @@
 -- Transactions side by side: all along nobody meets any, each that is busy runs one, and each lock at a server that is up is of one that runs and asks for it.
 use Rattle.law_run_recovers.proofs.Vocabulary.{and_from, and_parts, length, list_all, ◌==◌}
 use Rattle.law_run_recovers.proofs.Vocabulary.{◌≡◌, ℕ, Bool, true, false, List, [], ◌∷◌, ◌++◌, append-nil, append_assoc, Option, Some, None, refl, sym, ap, subst, ◌∙◌, ◌%◌, ◌&&◌, ◌||◌, not, Contains, list_any, false≢true, none-some}
-use Rattle.law_run_recovers.proofs.Vocabulary.{same_Some, Opening, IsAccepted, LockMode, Request, State, has_from, has_any, Transaction, Task, Doing, request_in, Agent, fixed_of, is_idle, next_in, next_of, Event, Begin, Actor, World}
+use Rattle.law_run_recovers.proofs.Vocabulary.{same_Some, Opening, IsAccepted, LockMode, Request, State, has_from, has_any, Transaction, Task, Doing, request_in, Agent, fixed_of, is_idle, next_in, next_of, Event, Begin, Actor}
 use Rattle.law_run_recovers.proofs.Vocabulary.{actor_at, has_no_job, step, run, names, CanBe, clear_servers, names_mine, can_front, run_more, clashes, clash, Begun, its_asks, GoSideBySide, GoSideBySideWhileDown, runs, running_in, is_running, server_at}
 use Rattle.law_run_recovers.proofs.Vocabulary.{asks_for}
 use Rattle.rep_core.specs.declared.request.Request.TheVariants as request
@@ -13,6 +13,7 @@ use Rattle.law_run_recovers.proofs.Sides.{its_agent, AllUp, up_next, up_same}
 use Rattle.law_run_recovers.proofs.AmongAsks.{of_its_asks}
 use Rattle.law_run_recovers.proofs.AmongCourse.{Course, runs_it}
 use Rattle.law_run_recovers.proofs.BesideUnmet.{IsUnmet, world_then, then_is, steady_of, ran}
+use Rattle.law_run_recovers.proofs.Picks.{along}
 
 -- ---- tests
 
@@ -73,16 +74,11 @@ module _ (given : Opening) (events later : List Event) (go : GoSideBySide given 
   up_first : AllUp given go.can.accepted (run given (events ++ []))
   up_first = subst (λ all. AllUp given go.can.accepted (run given all)) (sym (append-nil events)) (λ s st at. (clear_servers 0 (run given events) go.up go.free s st at).0)
 
-  up_along : (todo so_far rest : List Event) → later ≡ (so_far ++ todo) ++ rest → AllUp given go.can.accepted (run given (events ++ so_far)) → AllUp given go.can.accepted (run given (events ++ (so_far ++ todo)))
-  up_along [] so_far rest split up = subst (λ so_far. AllUp given go.can.accepted (run given (events ++ so_far))) (sym (append-nil so_far)) up
-  up_along (event ∷ todo) so_far rest split up =
-      let more : (so_far ++ event ∷ []) ++ todo ≡ so_far ++ event ∷ todo = append_assoc so_far (event ∷ []) todo in
-      let next = subst (AllUp given go.can.accepted) (sym (run_after given events so_far event))
-      (up_next given go.can.accepted (events ++ so_far) event (go.unspoiled so_far (todo ++ rest) event (split ∙ append_assoc so_far (event ∷ todo) rest)) up) in
-      subst (λ so_far. AllUp given go.can.accepted (run given (events ++ so_far))) more (up_along todo (so_far ++ event ∷ []) rest (split ∙ ap (λ so_far. so_far ++ rest) (sym more)) next)
+  up_on : (so_far rest : List Event) (event : Event) → later ≡ so_far ++ event ∷ rest → AllUp given go.can.accepted (run given (events ++ so_far)) → AllUp given go.can.accepted (run given (events ++ (so_far ++ event ∷ [])))
+  up_on so_far rest event split up = subst (AllUp given go.can.accepted) (sym (run_after given events so_far event)) (up_next given go.can.accepted (events ++ so_far) event (go.unspoiled so_far rest event split) up)
 
   pub up_at : (so_far rest : List Event) → later ≡ so_far ++ rest → AllUp given go.can.accepted (run given (events ++ so_far))
-  up_at so_far rest split = up_along so_far [] rest split up_first
+  up_at = along later (λ so_far. AllUp given go.can.accepted (run given (events ++ so_far))) up_on up_first
 
   -- so they go side by side as where some are down
   pub as_down : GoSideBySideWhileDown given events later
@@ -103,9 +99,6 @@ module _ (given : Opening) (events later : List Event) (go : GoSideBySideWhileDo
   pub accepted : IsAccepted given
   accepted = go.can.accepted
 
-  abbrev pub world_of : List Event → World
-  world_of so_far = run given (events ++ so_far)
-
   pub can_at : (so_far rest : List Event) → later ≡ so_far ++ rest → CanBe given (events ++ so_far)
   can_at so_far rest split = can_front given (events ++ so_far) rest (subst (CanBe given) (ap (λ later. events ++ later) split ∙ sym (append_assoc events so_far rest)) go.can)
 
@@ -113,22 +106,6 @@ module _ (given : Opening) (events later : List Event) (go : GoSideBySideWhileDo
   run_next so_far event = run_after given events so_far event
 
   -- ---- transactions of a part
-
-  abbrev pub Unmet : (so_far : List Event) → Begun given events so_far → List Event → Type 0
-  Unmet so_far one after = IsUnmet given events one.before one.agent one.t one.caller one.site one.ops after
-
-  abbrev pub onward : (so_far more : List Event) → Begun given events so_far → Begun given events (so_far ++ more)
-  onward so_far more one = record {
-    before = one.before;
-    after = one.after ++ more;
-    agent = one.agent;
-    t = one.t;
-    caller = one.caller;
-    site = one.site;
-    ops = one.ops;
-    parts = ap (λ xs. xs ++ more) one.parts ∙ append_assoc one.before (Begin one.agent (Transaction one.caller one.site one.ops) ∷ one.after) more;
-    begins = one.begins;
-  }
 
   -- one that was begun before is run now, by an agent that has this to do
   pub record Busy (so_far : List Event) (i : ℕ) (doing : Option Doing) : Type 0 where

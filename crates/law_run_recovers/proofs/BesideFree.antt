@@ -1,7 +1,7 @@
 -- A transaction that nobody meets where all servers are up: what it is replied is neither Busy, Down nor Lost, and so it does not end undecided.
-use Rattle.law_run_recovers.proofs.Vocabulary.{◌≡◌, ◌⊎◌, inl, inr, ⊎_elim, ℕ, true, false, cond, List, [], ◌∷◌, ◌++◌, append-nil, append_assoc, Some, None, is_some, Ok, Err, refl, sym, ap, subst, ◌∙◌, Contains, false≢true, and_from}
+use Rattle.law_run_recovers.proofs.Vocabulary.{◌≡◌, ◌⊎◌, inl, inr, ⊎_elim, ℕ, true, false, cond, List, [], ◌∷◌, ◌++◌, append_assoc, Some, None, is_some, Ok, Err, refl, sym, ap, subst, ◌∙◌, Contains, false≢true, and_from}
 use Rattle.law_run_recovers.proofs.Vocabulary.{none-some, same_Some, Identity, Opening, LockMode, Op, Request, Reply, Verdict, is_busy, is_down, is_lost, is_prepared, State, reply_of, reply_up, reply_down, verdict_of, reply_fits, Asked}
-use Rattle.law_run_recovers.proofs.Vocabulary.{mode_asked, Cache, Cause, Undecided, Transaction, Replied, Suites, Task, Phase, Gathering, Fetching, Preparing, Deciding, Finishing, home_of, asked_for, given_in, decision_of, request_in}
+use Rattle.law_run_recovers.proofs.Vocabulary.{mode_asked, Cache, Cause, Undecided, Transaction, Replied, Suites, Task, Phase, Gathering, Fetching, Preparing, Deciding, Finishing, asked_for, given_in, decision_of, request_in}
 use Rattle.law_run_recovers.proofs.Vocabulary.{Agent, fixed_of, begin, forget, take, after_all, is_decide, asks_same, after-append, EndedJob, Event, Begin, Step, Actor, server_at, actor_at, step, run, CanBe, TellsValid, IsFree, Since}
 use Rattle.law_run_recovers.proofs.Vocabulary.{since_begin, since_forget, since_take, never_undecided, can_front, valid_back, all_consistent, up_valid, HasValidVotes, copy_valid, cache_valid, asks_for, is_open_way, is_open_at, up_in}
 use Rattle.law_run_recovers.proofs.Vocabulary.{is_up, world_after, GoesUnmet, hinders_itself, GoesAmongLocks, EndsThen}
@@ -25,6 +25,7 @@ use Rattle.law_run_recovers.proofs.AmongEnds.{Over, over_on, over_now, ends_wher
 use Rattle.law_run_recovers.proofs.AmongOver.{course_not_over}
 use Rattle.law_run_recovers.proofs.AmongBegin.{idle_before, first_course, first_told}
 use Rattle.law_run_recovers.proofs.AmongStep.{request_is, right_here, own_on}
+use Rattle.law_run_recovers.proofs.Picks.{along}
 
 -- ---- what is right for one that nobody meets
 
@@ -255,20 +256,13 @@ module _ (given : Opening) (events later : List Event) (agent t : ℕ) (caller :
           (λ ended. inr (over_now given events later agent t caller site ops actor goes so_far (Step agent) ended.0 ended.1 ended.2))
           (own_on given events later agent t caller site ops actor goes so_far rest split' on.0 (runs_it given events later agent t caller site ops actor goes so_far on.0) took))
 
-  told_along : (todo so_far rest : List Event) → later ≡ (so_far ++ todo) ++ rest → Told so_far → Told (so_far ++ todo)
-  told_along [] so_far rest split told = subst Told (sym (append-nil so_far)) told
-  told_along (event ∷ todo) so_far rest split told =
-      let more : (so_far ++ event ∷ []) ++ todo ≡ so_far ++ event ∷ todo = append_assoc so_far (event ∷ []) todo in
-      subst Told more
-      (told_along todo (so_far ++ event ∷ []) rest (split ∙ ap (λ so_far. so_far ++ rest) (sym more)) (told_on so_far (todo ++ rest) event (split ∙ append_assoc so_far (event ∷ todo) rest) told))
-
   -- it was told so since its begin
   since_at : (so_far rest : List Event) → later ≡ so_far ++ rest → (c : Course given events later agent t caller site ops actor goes so_far) → Since (fixed_of given) c.here.agent
   since_at so_far rest split c =
       ⊎_elim
       (λ on. subst (λ (a : Actor). Since (fixed_of given) a.agent) (same_Some on.0.here c.here (sym on.0.there ∙ c.there)) on.1)
       (λ over. absurd (course_not_over given events later agent t caller site ops actor goes so_far c over))
-      (told_along so_far [] rest split told_first)
+      (along later Told told_on told_first so_far rest split)
 
   -- it does not end undecided
   pub not_undecided : (job : EndedJob) → EndsThen given events later agent t caller site ops job → (cause : Cause) → job.ending ≡ Undecided cause → ⊥

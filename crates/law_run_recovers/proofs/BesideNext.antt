@@ -4,15 +4,15 @@ use Rattle.law_run_recovers.proofs.Vocabulary.{Contains, false≢true, and_parts
 use Rattle.law_run_recovers.proofs.Vocabulary.{Response, Task, TransactionRun, Doing, Running, RunningSweep, After, GoesOn, Ends, is_decide, said_by, after_response, Agent, fixed_of, is_idle, left, next_in, take_in, Served, Event}
 use Rattle.law_run_recovers.proofs.Vocabulary.{Begin, Step, Crash, Return, Forget, Lack, World, server_at, actor_at, has_no_job, step, run, Decided, names, IsAt, Leaves, leaves_response, begins_job, IsMine, MayAsk, asks_servers}
 use Rattle.law_run_recovers.proofs.Vocabulary.{clashes, clash, Begun, its_asks, spoils, GoSideBySideWhileDown, up_in, is_up, asks_for, is_way_met, way_in, in_its_way, GoesAmongLocks, locks_in, locks_at, runs, is_running, is_telling, takes, up_and, of_up}
-use Rattle.law_run_recovers.proofs.Vocabulary.{robs, hinders_itself, StandsOpen}
+use Rattle.law_run_recovers.proofs.Vocabulary.{robs, hinders_itself, StandsOpen, everywhere}
 use Rattle.law_run_recovers.proofs.Keeps.{step_asks}
 use Rattle.law_run_recovers.proofs.Owned.{AllOwned, MayLock, owned_stays}
 use Rattle.law_run_recovers.proofs.Sides.{compared, names_one, takes_named}
 use Rattle.law_run_recovers.proofs.AmongCourse.{parted, course_runs}
 use Rattle.law_run_recovers.proofs.Steady.{steady}
 use Rattle.law_run_recovers.proofs.AmongLeft.{left_at}
-use Rattle.law_run_recovers.proofs.BesideUnmet.{IsUnmet, world_then, unmet_more, among_of, ran_then, everywhere}
-use Rattle.law_run_recovers.proofs.BesideAll.{own_served, others_none, not_both, no_job_of, clash_of, run_next, onward, Owned, Sides, last_is, can_of, same_agent, busy_one, one_named, may_lock}
+use Rattle.law_run_recovers.proofs.BesideUnmet.{IsUnmet, world_then, unmet_more, among_of, ran_then, onward}
+use Rattle.law_run_recovers.proofs.BesideAll.{own_served, others_none, not_both, no_job_of, clash_of, run_next, Owned, Sides, last_is, can_of, same_agent, busy_one, one_named, may_lock}
 
 -- ---- who runs a transaction and takes a response runs it still, or nothing
 
@@ -153,7 +153,7 @@ module _ (given : Opening) (events later : List Event) (go : GoSideBySideWhileDo
   -- one that runs no more has left none
   module _ (one : Begun given events so_far) (runs_not : is_running (run given (events ++ (so_far ++ event ∷ []))) one.agent one.t ≡ false) where
     last : world_then given events one.before one.agent one.t one.caller one.site one.ops (one.after ++ event ∷ []) ≡ run given (events ++ (so_far ++ event ∷ []))
-    last = last_is given events later go (so_far ++ event ∷ []) (onward given events later go so_far (event ∷ []) one)
+    last = last_is given events later go (so_far ++ event ∷ []) (onward given events so_far (event ∷ []) one)
 
     unmet_on : IsUnmet given events one.before one.agent one.t one.caller one.site one.ops (one.after ++ event ∷ [])
     unmet_on =
@@ -163,7 +163,7 @@ module _ (given : Opening) (events later : List Event) (go : GoSideBySideWhileDo
     abbrev goes : GoesAmongLocks given (events ++ one.before) (one.after ++ event ∷ []) one.agent one.t one.caller one.site one.ops unmet_on.actor
     goes =
         among_of given events one.before one.agent one.t one.caller one.site one.ops (one.after ++ event ∷ []) unmet_on
-        (can_of given events later go (so_far ++ event ∷ []) rest split_on (onward given events later go so_far (event ∷ []) one))
+        (can_of given events later go (so_far ++ event ∷ []) rest split_on (onward given events so_far (event ∷ []) one))
 
     left_none : (server : ℕ) (st : State) → server_at (run given (events ++ (so_far ++ event ∷ []))) server ≡ Some st → (lock : Lock) → Has st.locks lock → lock.t ≡ one.t → ⊥
     left_none server st at lock has of_it =
@@ -182,7 +182,7 @@ module _ (given : Opening) (events later : List Event) (go : GoSideBySideWhileDo
     where
       of : (was : Owned given events later go so_far lock.t lock.suite lock.mode) (b : Bool)
           → is_running (run given (events ++ (so_far ++ event ∷ []))) was.one.agent was.one.t ≡ b → Owned given events later go (so_far ++ event ∷ []) lock.t lock.suite lock.mode
-      of was true running = record { one = onward given events later go so_far (event ∷ []) was.one; number = was.number; running = running; asks = was.asks }
+      of was true running = record { one = onward given events so_far (event ∷ []) was.one; number = was.number; running = running; asks = was.asks }
       of was false runs_not = absurd (left_none was.one runs_not server st at lock has (sym was.number))
 
   -- ---- two that run do not clash

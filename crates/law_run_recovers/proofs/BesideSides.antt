@@ -1,22 +1,15 @@
 -- Transactions side by side: so nobody meets any, at each moment.
 use Rattle.law_run_recovers.proofs.Vocabulary.{◌≡◌, ⊎_elim, ℕ, suc, true, false, List, [], ◌∷◌, ◌++◌, append-nil, append_assoc, Option, Some, None, is_some, refl, sym, ap, subst, ◌∙◌, arith, length, ◌==◌, ◌||◌, not, false≢true, eqb-true}
-use Rattle.law_run_recovers.proofs.Vocabulary.{none-some, same_Some, Identity, Opening, Op, Lock, State, Request, Has, all_at, Job, Transaction, Sweep, Response, Doing, fixed_of, is_idle, next_of, take_in, Event, Begin, Step, Crash}
-use Rattle.law_run_recovers.proofs.Vocabulary.{Return, Forget, Lack, Actor, World, server_at, actor_at, step, run, decisions, begins_now, holds_of, same_or, agent_of, CanBe, begins_job, at_has, doing_of, doing_at, with_job, all_none}
-use Rattle.law_run_recovers.proofs.Vocabulary.{BeginsNone, none_begins, event_doing, Begun, spoils, GoSideBySideWhileDown, asks_for, running_in, is_running, StandsOpen}
+use Rattle.law_run_recovers.proofs.Vocabulary.{Identity, Opening, Op, Lock, State, Request, Has, all_at, Job, Transaction, Sweep, Response, Doing, fixed_of, is_idle, next_of, take_in, Event, Begin, Step, Crash}
+use Rattle.law_run_recovers.proofs.Vocabulary.{Return, Forget, Lack, Actor, World, server_at, actor_at, step, run, decisions, holds_of, same_or, agent_of, CanBe, begins_job, at_has, doing_of, doing_at, all_none}
+use Rattle.law_run_recovers.proofs.Vocabulary.{BeginsNone, none_begins, event_doing, Begun, spoils, GoSideBySideWhileDown, asks_for, running_in, is_running, StandsOpen, everywhere}
 use Rattle.law_run_recovers.proofs.Found.{or_rest}
 use Rattle.law_run_recovers.proofs.Open.{begun_runs}
 use Rattle.law_run_recovers.proofs.AmongCourse.{parted, nil_cons}
-use Rattle.law_run_recovers.proofs.BesideUnmet.{IsUnmet, world_then, unmet_more, nil_front, begins_there, everywhere}
-use Rattle.law_run_recovers.proofs.BesideAll.{asks_busy, accepted, run_next, can_at, onward, Busy, Sides}
+use Rattle.law_run_recovers.proofs.BesideUnmet.{IsUnmet, world_then, unmet_more, nil_front, begins_there, onward, job_same}
+use Rattle.law_run_recovers.proofs.BesideAll.{asks_busy, accepted, run_next, can_at, Busy, Sides}
 use Rattle.law_run_recovers.proofs.BesideNext.{mine_taken, mine_runs, its_hand, locks_now, stands_then}
-
--- the job that is begun is the event's
-job_same : (given : Opening) (w : World) (k : ℕ) (job : Job) (pair : ℕ × Job) → begins_job given w (Begin k job) ≡ Some pair → job ≡ pair.1
-job_same given w k job pair = of (begins_now (fixed_of given) k job (actor_at w k))
-  where
-    of : (found : Option ℕ) → with_job job found ≡ Some pair → job ≡ pair.1
-    of None is = absurd (none-some pair is)
-    of (Some u) is = ap (λ (pair : ℕ × Job). pair.1) (same_Some (u, job) pair is)
+use Rattle.law_run_recovers.proofs.Picks.{along}
 
 module _ (given : Opening) (events later : List Event) (go : GoSideBySideWhileDown given events later) where
   module _ (so_far rest : List Event) (event : Event) (split : later ≡ so_far ++ event ∷ rest) (sides : Sides given events later go so_far) where
@@ -61,7 +54,7 @@ module _ (given : Opening) (events later : List Event) (go : GoSideBySideWhileDo
     BusyNow i doing = is_idle doing ≡ false → Busy given events later go (so_far ++ event ∷ []) i doing
 
     on_busy : (i : ℕ) (doing : Option Doing) → Busy given events later go so_far i doing → Busy given events later go (so_far ++ event ∷ []) i doing
-    on_busy i doing busy = record { one = onward given events later go so_far (event ∷ []) busy.one; who = busy.who; runs_it = busy.runs_it }
+    on_busy i doing busy = record { one = onward given events so_far (event ∷ []) busy.one; who = busy.who; runs_it = busy.runs_it }
 
     -- who begins nothing
     goes_on : (i : ℕ) → BeginsNone given i (run given (events ++ so_far)) event → BusyNow i (doing_at (step (fixed_of given) (run given (events ++ so_far)) event).world i)
@@ -72,7 +65,7 @@ module _ (given : Opening) (events later : List Event) (go : GoSideBySideWhileDo
         takes actor asked response at next busy =
             let was = sides.busy i actor at (asks_busy given actor.agent asked next) in
             record {
-              one = onward given events later go so_far (event ∷ []) was.one;
+              one = onward given events so_far (event ∷ []) was.one;
               who = was.who;
               runs_it = mine_runs was.one.t (take_in (fixed_of given) actor.agent response actor.agent.doing (Some asked)).agent.doing
                   (mine_taken given (decisions given (events ++ so_far)) i was.one.t actor.agent response asked actor.agent.doing next
@@ -147,12 +140,5 @@ module _ (given : Opening) (events later : List Event) (go : GoSideBySideWhileDo
       none [] is lock has = has
       none (one ∷ locks) is lock has = let some : suc (length locks) ≡ 0 = eqb-true (suc (length locks)) 0 is in absurd (omega (arith, some))
 
-  sides_along : (todo so_far rest : List Event) → later ≡ (so_far ++ todo) ++ rest → Sides given events later go so_far → Sides given events later go (so_far ++ todo)
-  sides_along [] so_far rest split sides = subst (Sides given events later go) (sym (append-nil so_far)) sides
-  sides_along (event ∷ todo) so_far rest split sides =
-      let more : (so_far ++ event ∷ []) ++ todo ≡ so_far ++ event ∷ todo = append_assoc so_far (event ∷ []) todo in
-      subst (Sides given events later go) more
-      (sides_along todo (so_far ++ event ∷ []) rest (split ∙ ap (λ so_far. so_far ++ rest) (sym more)) (sides_next so_far (todo ++ rest) event (split ∙ append_assoc so_far (event ∷ todo) rest) sides))
-
   pub sides_at : (so_far rest : List Event) → later ≡ so_far ++ rest → Sides given events later go so_far
-  sides_at so_far rest split = sides_along so_far [] rest split sides_first
+  sides_at = along later (Sides given events later go) sides_next sides_first

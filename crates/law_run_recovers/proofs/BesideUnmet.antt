@@ -1,7 +1,7 @@
 -- A transaction of some side by side: what it takes that nobody meets it up to a moment, and up to the next.
-use Rattle.law_run_recovers.proofs.Vocabulary.{◌≡◌, ◌⊎◌, inl, inr, ⊎_elim, ℕ, Bool, true, false, List, [], ◌∷◌, ◌++◌, append-nil, append_assoc, Option, Some, None, refl, sym, ap, subst, ◌∙◌, ◌||◌, none-some, Identity, Opening, Op, Has}
+use Rattle.law_run_recovers.proofs.Vocabulary.{◌≡◌, ◌⊎◌, inl, inr, ⊎_elim, ℕ, true, false, List, [], ◌∷◌, ◌++◌, append-nil, append_assoc, Option, Some, None, refl, sym, ap, subst, ◌∙◌, ◌||◌, none-some, Identity, Opening, Op, Has}
 use Rattle.law_run_recovers.proofs.Vocabulary.{Job, Transaction, fixed_of, Event, Begin, Actor, World, opening, actor_at, run, ended, begins_now, CanBe, begins_job, with_job, asks_for, is_running, world_after, robs, hinders_itself}
-use Rattle.law_run_recovers.proofs.Vocabulary.{StandsOpen, GoesUnmet, GoesAmongLocks}
+use Rattle.law_run_recovers.proofs.Vocabulary.{StandsOpen, GoesUnmet, GoesAmongLocks, everywhere, Begun, same_Some}
 use Rattle.law_run_recovers.proofs.Keeps.{after_append}
 use Rattle.law_run_recovers.proofs.Open.{unmet_is_among_locks}
 use Rattle.law_run_recovers.proofs.Sides.{ended_still, ended_runs_not}
@@ -13,10 +13,6 @@ pub nil_front : {X : Type 0} (xs ys : List X) → [] ≡ xs ++ ys → xs ≡ []
 nil_front [] ys is = refl
 nil_front (x ∷ xs) ys is = cc
 
--- any server is near
-abbrev pub everywhere : ℕ → Bool
-everywhere server = true
-
 -- who begins is there
 pub begins_there : (given : Opening) (w : World) (i t : ℕ) (job : Job) → begins_job given w (Begin i job) ≡ Some (t, job) → (actor : Actor) × (actor_at w i ≡ Some actor)
 begins_there given w i t job = of (actor_at w i) refl
@@ -24,6 +20,28 @@ begins_there given w i t job = of (actor_at w i) refl
     of : (found : Option Actor) → actor_at w i ≡ found → with_job job (begins_now (fixed_of given) i job found) ≡ Some (t, job) → (actor : Actor) × (actor_at w i ≡ Some actor)
     of None at is = absurd (none-some (t, job) is)
     of (Some actor) at is = (actor, at)
+
+-- the job that is begun is the event's
+pub job_same : (given : Opening) (w : World) (k : ℕ) (job : Job) (pair : ℕ × Job) → begins_job given w (Begin k job) ≡ Some pair → job ≡ pair.1
+job_same given w k job pair = of (begins_now (fixed_of given) k job (actor_at w k))
+  where
+    of : (found : Option ℕ) → with_job job found ≡ Some pair → job ≡ pair.1
+    of None is = absurd (none-some pair is)
+    of (Some u) is = ap (λ (pair : ℕ × Job). pair.1) (same_Some (u, job) pair is)
+
+-- one that began in a front began in all
+abbrev pub onward : (given : Opening) (events so_far more : List Event) → Begun given events so_far → Begun given events (so_far ++ more)
+onward given events so_far more one = record {
+  before = one.before;
+  after = one.after ++ more;
+  agent = one.agent;
+  t = one.t;
+  caller = one.caller;
+  site = one.site;
+  ops = one.ops;
+  parts = ap (λ xs. xs ++ more) one.parts ∙ append_assoc one.before (Begin one.agent (Transaction one.caller one.site one.ops) ∷ one.after) more;
+  begins = one.begins;
+}
 
 module _ (given : Opening) (events before : List Event) (agent t : ℕ) (caller : Identity) (site : ℕ) (ops : List Op) where
   abbrev pub its_begin : Event

@@ -1,37 +1,16 @@
 -- Two users go side by side, by computation.
-use Rattle.law_run_recovers.proofs.Vocabulary.{◌≡◌, ◌⊎◌, inl, inr, ⊎_elim, ℕ, Bool, true, false, List, [], ◌∷◌, ◌++◌, Some, refl, sym, ap, subst, ◌∙◌, ◌&&◌, not, list_all, false≢true, and_parts, same_Some, LockMode}
-use Rattle.law_run_recovers.proofs.Vocabulary.{Job, Transaction, fixed_of, owner, a, Event, Begin, Step, World, opening, step, after, run, EventGivesValidVotes}
-use Rattle.law_run_recovers.proofs.Vocabulary.{CanBe, with_caches, some_run_revokes, begins_job, clash, Begun, its_asks, spoils, two_made, two_write, first_down, SomeRunsGoSideBySide, b, puts, asks_for, is_running, is_up}
+use Rattle.law_run_recovers.proofs.Vocabulary.{◌≡◌, ◌⊎◌, inl, inr, ⊎_elim, ℕ, Bool, true, false, List, [], ◌∷◌, ◌++◌, Some, refl, sym, ap, ◌∙◌, ◌&&◌, list_all, false≢true, and_parts, same_Some, LockMode}
+use Rattle.law_run_recovers.proofs.Vocabulary.{Job, Transaction, fixed_of, owner, a, Event, Begin, Step, World, opening, after, run, EventGivesValidVotes}
+use Rattle.law_run_recovers.proofs.Vocabulary.{CanBe, with_caches, some_run_revokes, begins_job, clash, Begun, its_asks, two_made, two_write, first_down, SomeRunsGoSideBySide, b, puts, asks_for, is_running, is_up}
 use Rattle.law_run_recovers.proofs.AmongCourse.{head_or, tail_or}
 use Rattle.law_run_recovers.proofs.Keeps.{after_append}
-use Rattle.law_run_recovers.proofs.LawsWorked.{holds_at, same_ups, up_same}
+use Rattle.law_run_recovers.proofs.LawsWorked.{holds_at, none_spoils_it, same_ups, up_same}
 use Rattle.law_run_recovers.proofs.ValidEvents.{all_by, event_sets_none, valid_event}
 
 -- ---- they can be
 
-they_can : (events : List Event) → list_all event_sets_none events ≡ true → CanBe with_caches events
+pub they_can : (events : List Event) → list_all event_sets_none events ≡ true → CanBe with_caches events
 they_can events is = record { accepted = some_run_revokes.can_be.accepted; c0 = some_run_revokes.can_be.c0; votes = all_by EventGivesValidVotes event_sets_none valid_event events is }
-
--- ---- nothing spoils it
-
-abbrev pub none_spoils : World → List Event → Bool
-none_spoils world [] = true
-none_spoils world (event ∷ later) = not (spoils with_caches world event) && none_spoils (step (fixed_of with_caches) world event).world later
-
-not_true : (x : Bool) → not x ≡ true → x ≡ false
-not_true true is = sym is
-not_true false is = refl
-
-pub none_spoils_it : (later before : List Event) (event : Event) (rest : List Event) (world : World) → none_spoils world later ≡ true → later ≡ before ++ event ∷ rest
-    → spoils with_caches (after (fixed_of with_caches) world before) event ≡ false
-none_spoils_it [] [] event rest world calm is = cc
-none_spoils_it [] (x ∷ before) event rest world calm is = cc
-none_spoils_it (one ∷ later) [] event rest world calm is =
-    subst (λ event. spoils with_caches world event ≡ false) (ap (head_or one) is)
-    (not_true (spoils with_caches world one) (and_parts (not (spoils with_caches world one)) (none_spoils (step (fixed_of with_caches) world one).world later) calm).0)
-none_spoils_it (one ∷ later) (x ∷ before) event rest world calm is =
-    subst (λ x. spoils with_caches (after (fixed_of with_caches) (step (fixed_of with_caches) world x).world before) event ≡ false) (ap (head_or one) is)
-    (none_spoils_it later before event rest (step (fixed_of with_caches) world one).world (and_parts (not (spoils with_caches world one)) (none_spoils (step (fixed_of with_caches) world one).world later) calm).1 (ap tail_or is))
 
 -- ---- the two that begin
 
@@ -148,8 +127,7 @@ some_runs_go_side_by_side = record {
     idle = refl;
     up = refl;
     free = refl;
-    unspoiled = λ before rest event split.
-        subst (λ world. spoils with_caches world event ≡ false) (sym (after_append (fixed_of with_caches) two_made before (opening with_caches))) (none_spoils_it two_write before event rest (run with_caches two_made) refl split);
+    unspoiled = none_spoils_it with_caches two_made two_write refl;
     apart = apart_up;
   };
   ends = refl;
@@ -158,8 +136,7 @@ some_runs_go_side_by_side = record {
     idle = refl;
     free = refl;
     stays = stays_so;
-    unspoiled = λ before rest event split.
-        subst (λ world. spoils with_caches world event ≡ false) (sym (after_append (fixed_of with_caches) first_down before (opening with_caches))) (none_spoils_it two_write before event rest (run with_caches first_down) refl split);
+    unspoiled = none_spoils_it with_caches first_down two_write refl;
     apart = apart_down;
   };
   end_while_down = refl;

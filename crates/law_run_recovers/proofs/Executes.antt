@@ -16,31 +16,8 @@ use Rattle.law_run_recovers.proofs.Asking.{onto, any_onto, first_hold, first_new
 use Rattle.law_run_recovers.proofs.Led.{reached_first, reached_raise}
 use Rattle.law_run_recovers.proofs.VotesSet.{as_set, sets, votes_of, same_votes, changes_ordered, IsSet, set_by}
 use Rattle.law_run_recovers.proofs.Polled.{Sight, serves_all}
-use Rattle.law_run_recovers.proofs.Stands.{
-  Ground,
-  asks_of,
-  of_lock,
-  demand_of,
-  needed_on,
-  result_on,
-  locks_on,
-  answer_to,
-  IsRight,
-  starts,
-  may_start,
-  had_met,
-  none_short,
-  SameStart,
-  asked_with,
-  Hints,
-  IsFound,
-  found_right,
-  IsWhole,
-  IsReady,
-  IsGathering,
-  StepStands,
-  prepare_stands,
-}
+use Rattle.law_run_recovers.proofs.Stands.{Ground, asks_of, of_lock, demand_of, needed_on, result_on, locks_on, answer_to, starts, may_start, had_met, none_short, SameStart, asked_with, Hints, IsFound, found_right, IsWhole}
+use Rattle.law_run_recovers.proofs.Stands.{IsReady, IsGathering, StepStands, prepare_stands}
 use Rattle.law_run_recovers.proofs.Widens.{numbers, widen_stands}
 use Rattle.law_run_recovers.proofs.Gathered.{gather_by_stands}
 
@@ -119,9 +96,6 @@ module _ (fixed : Fixed) (world : World) (sight : Sight) (table : PlainTable) (t
 
   abbrev Hinted : Suites → Cache → Type 0
   Hinted suites now = Hints fixed world sight table task cache suites now
-
-  abbrev Right : ℕ → GatheredSuite → Type 0
-  Right z suite = IsRight fixed world sight table task cache z suite
 
   abbrev Whole : ℕ → GatheredSuite → Type 0
   Whole z suite = IsWhole fixed world sight table task cache Was ground z suite

@@ -10,33 +10,8 @@ use Rattle.law_run_recovers.proofs.Asking.{onto, held_in, held_if}
 use Rattle.law_run_recovers.proofs.Led.{EndsShort, reached_short, reached_leads, reached_current, reached_settled}
 use Rattle.law_run_recovers.proofs.Polled.{Sight, finds_at, AllBelow, greatest_below, Refusing, gathering, at_current}
 use Rattle.law_run_recovers.proofs.Downs.{holds_shared}
-use Rattle.law_run_recovers.proofs.Stands.{
-  Ground,
-  locks_on,
-  of_lock,
-  unmet,
-  EndsRight,
-  ends_short,
-  short_lock,
-  IsRight,
-  IsHad,
-  start_of,
-  starts,
-  may_start,
-  had_met,
-  SameStart,
-  had_with,
-  Hints,
-  IsFound,
-  found_start,
-  found_right,
-  HasLock,
-  IsWhole,
-  IsReady,
-  IsGathering,
-  StepStands,
-  told_stands,
-}
+use Rattle.law_run_recovers.proofs.Stands.{Ground, locks_on, of_lock, unmet, EndsRight, ends_short, short_lock, IsRight, IsHad, start_of, starts, may_start, had_met, SameStart, had_with, Hints, IsFound, found_start, found_right, HasLock}
+use Rattle.law_run_recovers.proofs.Stands.{IsWhole, IsReady, IsGathering, StepStands, told_stands}
 
 -- ---- voters
 

@@ -12,40 +12,14 @@ use Rattle.suite_collect.specs.Collecting.{Widening}
 use Rattle.txn_core.specs.Doing as doing
 use Rattle.txn_core.specs.Transactions as txn_run
 use Rattle.txn_core.specs.Transactions.{Step}
-use Rattle.law_run_recovers.specs.Laws as laws
+use Rattle.law_run_recovers.specs.Ends as laws
 use Rattle.law_run_recovers.proofs.Asking.{held_in, held_if}
 use Rattle.law_run_recovers.proofs.Led.{reached_told}
 use Rattle.law_run_recovers.proofs.Polled.{Sight, Answers, hears}
 use Rattle.law_run_recovers.proofs.Widened.{WidenedShort, start_stays, same_said, same_mode, right_more}
 use Rattle.law_run_recovers.proofs.Hinting.{hint_put}
-use Rattle.law_run_recovers.proofs.Stands.{
-  IsKept,
-  held_same,
-  Ground,
-  asks_of,
-  locks_on,
-  of_votes,
-  demand_of,
-  answer_to,
-  EndsAs,
-  EndsRight,
-  IsRight,
-  asked_with,
-  Hints,
-  HasAll,
-  answer_in,
-  Sets,
-  IsWidening,
-  IsFound,
-  found_right,
-  IsWhole,
-  IsReady,
-  IsGathering,
-  PhaseStands,
-  StepStands,
-  told_stands,
-  prepare_stands,
-}
+use Rattle.law_run_recovers.proofs.Stands.{IsKept, held_same, Ground, asks_of, locks_on, of_votes, demand_of, answer_to, EndsAs, EndsRight, IsRight, asked_with, Hints, HasAll, answer_in, Sets, IsWidening, IsFound, found_right, IsWhole}
+use Rattle.law_run_recovers.proofs.Stands.{IsReady, IsGathering, PhaseStands, StepStands, told_stands, prepare_stands}
 use Rattle.law_run_recovers.proofs.Widens.{by_short, by_current, sets_with, sets_on, set_short, widen_stands}
 use Rattle.law_run_recovers.proofs.Gathered.{gathering_short, settled_ready}
 use Rattle.law_run_recovers.proofs.Executes.{none_with, hinted_with, content_ready, execute_stands}

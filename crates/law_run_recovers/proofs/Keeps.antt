@@ -1,5 +1,5 @@
 -- While a transaction goes among locks that stay, and until its end is fixed, what near servers have stored of its suites stays where they are open to it.
-use Rattle.law_run_recovers.proofs.Vocabulary.{◌≡◌, ℕ, ◌+◌, ◌≤◌, Bool, true, false, cond, List, [], ◌∷◌, ◌++◌, append_assoc, append-nil, Option, Some, None, refl, sym, ap, subst, ◌∙◌, arith, ◌*◌, ◌==◌, ◌&&◌, ◌||◌, not, nat_lt, Contains}
+use Rattle.law_run_recovers.proofs.Vocabulary.{◌≡◌, ℕ, ◌+◌, ◌≤◌, Bool, true, false, cond, List, [], ◌∷◌, ◌++◌, Option, Some, None, refl, sym, ap, subst, ◌∙◌, arith, ◌*◌, ◌==◌, ◌&&◌, ◌||◌, not, nat_lt, Contains}
 use Rattle.law_run_recovers.proofs.Vocabulary.{list_any, false≢true, eqb-true, eq-eqb, nat_tests, none-some, same_Some, Identity, Opening, Replica, LockMode, Exclusive, Op, Lock, Verdict, Request, copy_of, State, is_full, answer_of}
 use Rattle.law_run_recovers.proofs.Vocabulary.{Job, Transaction, Response, Lacked, Fixed, Doing, Running, RunningSweep, Phase, Gathering, Fetching, Widening, Preparing, Deciding, Finishing, is_finish, Agent, fixed_of, is_idle}
 use Rattle.law_run_recovers.proofs.Vocabulary.{has_sense, max_jobs, begin, started, forget, take, take_in, next_of, Served, Event, Begin, Step, Crash, Return, Forget, Lack, Actor, World, server_at, actor_at, becomes, serve, operated}
@@ -13,6 +13,7 @@ use Rattle.law_run_recovers.proofs.Serves.{Serves}
 use Rattle.law_run_recovers.proofs.Still.{IsOpen, IsOpenPhase, open_before, open_next}
 use Rattle.law_run_recovers.proofs.Open.{begun_there, begun_servers, its_begin}
 use Rattle.law_run_recovers.proofs.Stand.{Spares, event_stands, free_where}
+use Rattle.law_run_recovers.proofs.Picks.{along}
 
 -- ---- an agent that runs a transaction ran it before, where it began none since
 
@@ -323,18 +324,13 @@ module _ (given : Opening) (events later : List Event) (agent t : ℕ) (caller :
         (λ serves target up. event_spares given agent t w event at (goes.free_hand so_far rest event is at.running) here.0 up serves (ap (server_at w) target ∙ here.1))
         ∙ same here.0 old here.1 was
 
-    same_along : (todo so_far rest : List Event) → later ≡ (so_far ++ todo) ++ rest → IsAtWork (world_then (so_far ++ todo)) agent t → Same (world_then so_far) → Same (world_then (so_far ++ todo))
-    same_along [] so_far rest is at same = subst (λ so_far. Same (world_then so_far)) (sym (append-nil so_far)) same
-    same_along (event ∷ todo) so_far rest is at same =
-        let more : (so_far ++ event ∷ []) ++ todo ≡ so_far ++ event ∷ todo = append_assoc so_far (event ∷ []) todo in
-        let next = same_next so_far (todo ++ rest) event (is ∙ append_assoc so_far (event ∷ todo) rest) (at_work_before given events later agent t caller site ops actor goes.can goes.there goes.begins so_far (event ∷ todo) at) same in
-        subst (λ so_far. Same (world_then so_far)) more
-        (same_along todo (so_far ++ event ∷ []) rest (is ∙ ap (λ so_far. so_far ++ rest) (sym more)) (subst (λ so_far. IsAtWork (world_then so_far) agent t) (sym more) at)
-        (subst Same (sym (after_append (fixed_of given) so_far (event ∷ []) (world_then []))) next))
-
     -- what an open near server had stored of a suite that it asks for it has stored still
     pub open_stands : (so_far rest : List Event) → later ≡ so_far ++ rest → IsAtWork (world_then so_far) agent t → Same (world_then so_far)
-    open_stands so_far rest is at = same_along so_far [] rest is at same_first
+    open_stands = along later (λ so_far. IsAtWork (world_then so_far) agent t → Same (world_then so_far))
+        (λ so_far rest event is same at.
+        let now = at_work_before given events later agent t caller site ops actor goes.can goes.there goes.begins so_far (event ∷ []) at in
+        subst Same (sym (after_append (fixed_of given) so_far (event ∷ []) (world_then []))) (same_next so_far rest event is now (same now)))
+        (λ at. same_first)
 
   -- So a near server tells it of such a suite what it would have told at its begin.
   pub same_way : (so_far rest : List Event) → later ≡ so_far ++ rest → IsAtWork (world_then so_far) agent t → (server : ℕ) (one : ℕ × LockMode) → goes.near server ≡ true → Contains asked one

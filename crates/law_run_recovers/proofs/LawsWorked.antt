@@ -3,7 +3,7 @@ use Rattle.law_run_recovers.proofs.Vocabulary.{◌≡◌, ⊎_elim, ℕ, zero, s
 use Rattle.law_run_recovers.proofs.Vocabulary.{false≢true, and_parts, eqb-true, nat_tests, slice_get, nat_cmp, LockMode, Identity, Op, Opening, State, all_at, at_has, has_from, Transaction, Sweep, Event, Begin}
 use Rattle.law_run_recovers.proofs.Vocabulary.{Actor, World, server_at, actor_at, step, after, run, fixed_of, Fixed, owner, a, Cache, EventGivesValidVotes, CanBe, is_up, up_in, asks_for, way_in, way_at}
 use Rattle.law_run_recovers.proofs.Vocabulary.{is_way_met, in_its_way, StandsOpen, StandsStill, AreNear, is_running, Configuration, Representative, IsValid, max_servers, hinders_itself, robs, begun_world, world_after}
-use Rattle.law_run_recovers.proofs.Vocabulary.{turns, puts, sweeps, GoesUnmet, GoesAmongLocks, SweepsAll}
+use Rattle.law_run_recovers.proofs.Vocabulary.{turns, puts, sweeps, GoesUnmet, GoesAmongLocks, SweepsAll, spoils, opening}
 use Rattle.std.proofs.Common.{lit<}
 use Rattle.std.proofs.lemmas.List.Elements.{All-from_recursion}
 use Rattle.std.specs.FinSet.{contains-empty}
@@ -20,21 +20,13 @@ use Rattle.law_run_recovers.specs.Worked.{in_the_dark, stopped}
 use Rattle.law_runs.specs.Worked.{two_agents, so_many}
 use Rattle.law_run_alone.proofs.Worked.{some_runs_go_alone}
 use Rattle.law_run_recovers.proofs.AloneLaws.{ends_are_by_votes}
+use Rattle.law_run_recovers.proofs.AmongCourse.{head_or, tail_or}
 use Rattle.law_run_recovers.proofs.AmongLaws.{among_locks_end_by_votes}
 use Rattle.law_run_recovers.proofs.Blocking.{blocked_by_doubts, one_crash_blocks, some_server_blocks}
 use Rattle.law_run_recovers.proofs.Swept.{sweeps_leave_doubts}
 use Rattle.law_run_recovers.proofs.UnmetLaws.{unmet_end_by_votes}
 use Rattle.law_run_recovers.proofs.ValidEvents.{all_by, event_sets_none, valid_event}
-
--- ---- lists
-
-abbrev pub head_or : {X : Type 0} → X → List X → X
-head_or x [] = x
-head_or x (y ∷ ys) = y
-
-abbrev pub tail_or : {X : Type 0} → List X → List X
-tail_or [] = []
-tail_or (x ∷ xs) = xs
+use Rattle.law_run_recovers.proofs.Keeps.{after_append}
 
 -- ---- what holds at each moment of some events
 
@@ -72,6 +64,14 @@ unless false b is so = absurd (false≢true so)
 pub not_so : (b : Bool) → not b ≡ true → b ≡ false
 not_so true is = sym is
 not_so false is = refl
+
+-- where nothing spoils events, by computation, nothing does at any moment of them
+pub none_spoils_it : (given : Opening) (events later : List Event) → holds (λ w. true) (λ w event. not (spoils given w event)) (fixed_of given) (run given events) later ≡ true
+    → (before rest : List Event) (event : Event) → later ≡ before ++ event ∷ rest → spoils given (run given (events ++ before)) event ≡ false
+none_spoils_it given events later calm before rest event split =
+    subst (λ w. spoils given w event ≡ false) (sym (after_append (fixed_of given) events before (opening given)))
+    (not_so (spoils given (after (fixed_of given) (run given events) before) event)
+    (happens_at (λ w. true) (λ w event. not (spoils given w event)) (fixed_of given) later before rest event (run given events) calm split))
 
 -- ---- servers
 

@@ -9,28 +9,8 @@ use Rattle.law_run_recovers.proofs.Leading as leading
 use Rattle.law_run_recovers.proofs.Leading.{one_step, one_end}
 use Rattle.law_run_recovers.proofs.Picks.{find_first, find_fails}
 use Rattle.law_run_recovers.proofs.Asked.{next_mode}
-use Rattle.law_run_recovers.proofs.Polled.{
-  Sight,
-  finds_at,
-  opens_wider,
-  serves_all,
-  serves_own,
-  gathering,
-  first_left,
-  at_current,
-  at_short,
-  IsAnswered,
-  RightSaid,
-  AllRight,
-  all_wider,
-  held_open,
-  Refusing,
-  refusing,
-  told_is,
-  newer_left,
-  none_shows,
-  held_are_open,
-}
+use Rattle.law_run_recovers.proofs.Polled.{Sight, finds_at, opens_wider, serves_all, serves_own, gathering, first_left, at_current, at_short, IsAnswered, RightSaid, AllRight, all_wider, held_open, Refusing, refusing, told_is, newer_left}
+use Rattle.law_run_recovers.proofs.Polled.{none_shows, held_are_open}
 
 -- ---- what holds all along
 

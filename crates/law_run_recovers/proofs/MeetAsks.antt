@@ -4,6 +4,7 @@ use Rattle.law_run_recovers.proofs.Vocabulary.{list_any, nat_cmp, match_ordering
 use Rattle.law_run_recovers.proofs.Vocabulary.{Row, row_of, Change, Edit, Need, Hold, Know, with_change, changes_at, Course, Give, Refuse, Look, Read, Set, Edits, Ended, is_set, unless_set, looked, content_read, needs, ending}
 use Rattle.law_run_recovers.proofs.Vocabulary.{transaction, Has, has_filter, has_map, has_asked, not_asked, locks_asked, change_in, changes_on, votes_set}
 use Rattle.law_run_recovers.proofs.Asked.{asked_exclusive}
+use Rattle.law_run_recovers.proofs.Asking.{suite_in, mode_in, is_hold}
 
 or_parts : (a b : Bool) → (a || b) ≡ true → (a ≡ true) ⊎ (b ≡ true)
 or_parts true b is = inl refl
@@ -75,18 +76,6 @@ serves_own : (m : LockMode) → serves m m ≡ true
 serves_own Shared = refl
 serves_own Exclusive = refl
 
-abbrev need_suite : Need → ℕ
-need_suite (Hold suite mode) = suite
-need_suite (Know suite) = suite
-
-abbrev need_mode : Need → LockMode
-need_mode (Hold suite mode) = mode
-need_mode (Know suite) = Shared
-
-abbrev is_hold : Need → Bool
-is_hold (Hold suite mode) = true
-is_hold (Know suite) = false
-
 pub needed_asked : (needed : List Need) (asked : List (ℕ × LockMode)) (z : ℕ) (mode : LockMode) → Has needed (Hold z mode) → (has_asked asked z mode ≡ true) ⊎ (has_asked (not_asked asked needed) z mode ≡ true)
 needed_asked [] asked z mode has = absurd has
 needed_asked (Know s ∷ needed) asked z mode has = ⊎_elim (λ same. absurd (false≢true (ap is_hold same))) (λ later. needed_asked needed asked z mode later) has
@@ -95,11 +84,11 @@ needed_asked (Hold s k ∷ needed) asked z mode has = of (has_asked asked s k) r
     of : (b : Bool) → has_asked asked s k ≡ b → ((asked : List (ℕ × LockMode)) → Has needed (Hold z mode)
         → (has_asked asked z mode ≡ true) ⊎ (has_asked (not_asked asked needed) z mode ≡ true)) → (Hold s k ≡ Hold z mode) ⊎ Has needed (Hold z mode)
         → (has_asked asked z mode ≡ true) ⊎ (has_asked (cond b (not_asked asked needed) ((s, k) ∷ not_asked ((s, k) ∷ asked) needed)) z mode ≡ true)
-    of true is go (inl same) = inl (subst (λ z. has_asked asked z mode ≡ true) (ap need_suite same) (subst (λ mode. has_asked asked s mode ≡ true) (ap need_mode same) is))
+    of true is go (inl same) = inl (subst (λ z. has_asked asked z mode ≡ true) (ap suite_in same) (subst (λ mode. has_asked asked s mode ≡ true) (ap mode_in same) is))
     of true is go (inr later) = go asked later
     of false is go (inl same) =
-        inr (ap (λ b. (b && serves k mode) || has_asked (not_asked ((s, k) ∷ asked) needed) z mode) (eq-eqb s z (ap need_suite same))
-        ∙ ap (λ b. b || has_asked (not_asked ((s, k) ∷ asked) needed) z mode) (subst (λ mode. serves k mode ≡ true) (ap need_mode same) (serves_own k)))
+        inr (ap (λ b. (b && serves k mode) || has_asked (not_asked ((s, k) ∷ asked) needed) z mode) (eq-eqb s z (ap suite_in same))
+        ∙ ap (λ b. b || has_asked (not_asked ((s, k) ∷ asked) needed) z mode) (subst (λ mode. serves k mode ≡ true) (ap mode_in same) (serves_own k)))
     of false is go (inr later) =
         ⊎_elim
         (λ had. ⊎_elim

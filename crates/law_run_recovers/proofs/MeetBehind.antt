@@ -93,9 +93,6 @@ module _ (given : Opening) (events : List Event) (can : CanBe given events) (up 
   votes_are : (z : ℕ) → (row (beginning z given) (machine_of given z events).log).prefix.votes ≡ votes_now given events z
   votes_are z = row_votes given events can z (row_at given events z) refl
 
-  pub valid_now : (z : ℕ) → IsValid (votes_now given events z)
-  valid_now z = subst IsValid (votes_are z) (valid_was z (row (beginning z given) (machine_of given z events).log).prefix (row_was z))
-
   -- so in each of the row's votes some server shows the newest
   pub reach : (z : ℕ) → Shown z → (mode : LockMode) (set : ℕ → Bool) → needed_of mode (votes_now given events z) ≤ votes_in (votes_now given events z).reps set
       → (server : ℕ) × (0 < votes_at (votes_now given events z).reps server) × (set server ≡ true) × (top z ≤ shown z server)

@@ -37,14 +37,6 @@ agent_in (Return server) = server
 agent_in (Forget i site) = i
 agent_in (Lack i why) = i
 
-abbrev job_in : Job → Event → Job
-job_in other (Begin i job) = job
-job_in other (Step i) = other
-job_in other (Crash server) = other
-job_in other (Return server) = other
-job_in other (Forget i site) = other
-job_in other (Lack i why) = other
-
 -- where a transaction begins, and its moments from there on
 abbrev pub its_event : (given : Opening) (events later : List Event) → Begun given events later → Event
 its_event given events later who = Begin who.agent (Transaction who.caller who.site who.ops)

@@ -1,7 +1,7 @@
 -- A run in which all servers are up and nothing upsets it: who is busy runs a transaction, and where every agent was idle one that began there. It is calm where rows, prefixes and stored copies of some suites stand still meanwhile.
-use Rattle.law_run_recovers.proofs.Vocabulary.{all_idle, List, None, Option, Some, [], ap, append-nil, append_assoc, false, inl, inr, zero, suc, slice_get, Bool, is_some, refl, subst, sym, true, ℕ, ⊎_elim, ◌++◌, ◌∙◌, ◌∷◌, ◌≡◌, eqb-true, false≢true, none-some, same_Some}
-use Rattle.law_run_recovers.proofs.Vocabulary.{cons_option, Identity, Op, CanBe, all_at, at_has, has_any, Running, RunningSweep, eq-eqb, is_up, names_mine, can_front, run_more, all_none, doing_at, doing_of, with_job, AllAt, BeginsNone, event_doing, none_begins}
-use Rattle.law_run_recovers.proofs.Vocabulary.{begins_job, machine_of, answers_follow_knowledge, holds_of, same_or, append_has_right, agent_of, IsAnsweredAsKnown, names, begins_now, beginning, WasPrefix, Has}
+use Rattle.law_run_recovers.proofs.Vocabulary.{all_idle, List, None, Option, Some, [], ap, append-nil, append_assoc, false, inl, Bool, is_some, refl, subst, sym, true, ℕ, ⊎_elim, ◌++◌, ◌∙◌, ◌∷◌, ◌≡◌, eqb-true, false≢true}
+use Rattle.law_run_recovers.proofs.Vocabulary.{cons_option, Identity, Op, CanBe, all_at, at_has, has_any, Running, RunningSweep, eq-eqb, is_up, names_mine, can_front, run_more, all_none, doing_at, doing_of, AllAt, BeginsNone, event_doing, none_begins}
+use Rattle.law_run_recovers.proofs.Vocabulary.{begins_job, machine_of, answers_follow_knowledge, holds_of, same_or, append_has_right, agent_of, IsAnsweredAsKnown, names, beginning, WasPrefix, Has}
 use Rattle.law_run_recovers.proofs.Vocabulary.{Ways, by_step, is_answered, State, copy_of, finished, row_of, Verdict, Request, Stamped, decisions_from-append, Decided, decided, decisions, decisions_from, run, table_of, Actor, World}
 use Rattle.law_run_recovers.proofs.Vocabulary.{actor_at, opening, server_at, step, Event, Begin, Crash, Forget, Lack, Return, Step, IsAccepted, Opening, Prefix, fixed_of, is_idle, next_of, take_in, Doing, Job, Sweep}
 use Rattle.law_run_recovers.proofs.Vocabulary.{Transaction, Response, Begun, asks_for, hinders_itself, is_running, running_in, runs}
@@ -11,36 +11,14 @@ use Rattle.law_run_recovers.specs.MeetsBeside.{GoesOn, sweeps_now, upsets}
 use Rattle.law_run_recovers.proofs.AtWork.{mine_where}
 use Rattle.law_run_recovers.proofs.BesideAll.{asks_busy}
 use Rattle.law_run_recovers.proofs.BesideNext.{mine_taken, mine_runs}
-use Rattle.law_run_recovers.proofs.BesideUnmet.{begins_there}
+use Rattle.law_run_recovers.proofs.BesideUnmet.{begins_there, job_same, onward}
 use Rattle.law_run_recovers.proofs.Found.{Answering}
 use Rattle.law_run_recovers.proofs.Open.{begun_runs}
 use Rattle.law_run_recovers.proofs.Sides.{AllUp, up_unless}
 use Rattle.law_run_recovers.proofs.Stands.{asks_of}
+use Rattle.law_run_recovers.proofs.Picks.{along}
 
 -- ---- lists
-
--- what holds at first and stays holds of each front of a list
-pub along : {X : Type 0} (later : List X) (P : List X → Type 0) → ((so_far rest : List X) (x : X) → later ≡ so_far ++ x ∷ rest → P so_far → P (so_far ++ x ∷ [])) → P [] → (so_far rest : List X) → later ≡ so_far ++ rest → P so_far
-along {X = X} later P stays first so_far rest split = go so_far [] rest split first
-  where
-    go : (todo so_far rest : List X) → later ≡ (so_far ++ todo) ++ rest → P so_far → P (so_far ++ todo)
-    go [] so_far rest split holds = subst P (sym (append-nil so_far)) holds
-    go (x ∷ todo) so_far rest split holds =
-        let more : (so_far ++ x ∷ []) ++ todo ≡ so_far ++ x ∷ todo = append_assoc so_far (x ∷ []) todo in
-        subst P more (go todo (so_far ++ x ∷ []) rest (split ∙ ap (λ so_far. so_far ++ rest) (sym more)) (stays so_far (todo ++ rest) x (split ∙ append_assoc so_far (x ∷ todo) rest) holds))
-
-actor_has : (actors : List Actor) (i : ℕ) (actor : Actor) → slice_get actors i ≡ Some actor → Has actors actor
-actor_has [] i actor is = absurd (none-some actor is)
-actor_has (x ∷ actors) zero actor is = inl (same_Some x actor is)
-actor_has (x ∷ actors) (suc i) actor is = inr (actor_has actors i actor is)
-
--- the job that is begun is the event's
-job_same : (given : Opening) (w : World) (k : ℕ) (job : Job) (pair : ℕ × Job) → begins_job given w (Begin k job) ≡ Some pair → job ≡ pair.1
-job_same given w k job pair = of (begins_now (fixed_of given) k job (actor_at w k))
-  where
-    of : (found : Option ℕ) → with_job job found ≡ Some pair → job ≡ pair.1
-    of None is = absurd (none-some pair is)
-    of (Some u) is = ap (λ (pair : ℕ × Job). pair.1) (same_Some (u, job) pair is)
 
 -- ---- a server
 
@@ -96,20 +74,6 @@ pub ours_front : (given : Opening) (events later so_far rest : List Event) (stil
 ours_front given events later so_far rest still agent t caller ops whole ours = record {
   asks = ours.asks;
   served = λ before after event split. ours.served before (after ++ rest) event (whole ∙ ap (λ xs. xs ++ rest) split ∙ append_assoc before (event ∷ after) rest);
-}
-
--- one that began in a front began in all
-abbrev pub onward : (given : Opening) (events so_far more : List Event) → Begun given events so_far → Begun given events (so_far ++ more)
-onward given events so_far more one = record {
-  before = one.before;
-  after = one.after ++ more;
-  agent = one.agent;
-  t = one.t;
-  caller = one.caller;
-  site = one.site;
-  ops = one.ops;
-  parts = ap (λ xs. xs ++ more) one.parts ∙ append_assoc one.before (Begin one.agent (Transaction one.caller one.site one.ops) ∷ one.after) more;
-  begins = one.begins;
 }
 
 -- a front of it is so too
@@ -244,7 +208,7 @@ module _ (given : Opening) (events later : List Event) (fair : Fair given events
       of false is = refl
       of true is =
           absurd (false≢true (sym fair.unswept
-          ∙ has_any (λ (actor : Actor). sweeps_now actor.agent.doing) (run given events).agents here (actor_has (run given events).agents i here (ap (λ all. actor_at (run given all) i) (sym (append-nil events)) ∙ there)) is))
+          ∙ has_any (λ (actor : Actor). sweeps_now actor.agent.doing) (run given events).agents here (at_has (run given events).agents i here (ap (λ all. actor_at (run given all) i) (sym (append-nil events)) ∙ there)) is))
 
   pub some_run : (so_far rest : List Event) → later ≡ so_far ++ rest → (i : ℕ) (here : Actor) → actor_at (run given (events ++ so_far)) i ≡ Some here → is_idle here.agent.doing ≡ false → (t : ℕ) × (runs t here.agent.doing ≡ true)
   some_run so_far rest split i here there busy =

@@ -5,7 +5,7 @@ use Rattle.law_run_recovers.proofs.Vocabulary.{finish_is_after, at_puts, append_
 use Rattle.law_run_recovers.proofs.Vocabulary.{has_from, HasPreparedLock, IsConsistent, Intention, has_lock, in_the_way, with_prepared, after_down, after_locking, after_record, after_up, audit_of, is_answered, prepares}
 use Rattle.law_run_recovers.proofs.Vocabulary.{verdict_of, served, State, record_of, copy_of, row_of, finished, intended, left_by, Lock, Verdict, Request, Stamped, decisions_from-append, Decided, decided, decisions, decisions_from, run}
 use Rattle.law_run_recovers.proofs.Vocabulary.{table_after_all, table_of, Actor, World, actor_at, opening, server_at, step, Served, Event, Begin, get, is_exclusive, Opening, Prefix, LockMode, Exclusive, Shared, fixed_of}
-use Rattle.law_run_recovers.proofs.Vocabulary.{Doing, Running, Task, TransactionRun, Transaction, Begun, its_asks, locks_asked, votes_set, its_votes, asks_for, runs, world_after}
+use Rattle.law_run_recovers.proofs.Vocabulary.{Doing, Running, Task, TransactionRun, Transaction, Begun, its_asks, locks_asked, votes_set, its_votes, asks_for, runs, world_after, Fixed}
 use Rattle.rep_core.specs.declared.request.Request.TheVariants as request
 use Rattle.rep_core.specs.declared.reply.Verdict.TheVariants as verdict
 use Rattle.rep_core.specs.Store as store
@@ -19,7 +19,7 @@ use Rattle.law_run_recovers.proofs.Keeps.{IsAtWork, at_work}
 use Rattle.law_run_recovers.proofs.Serves.{Serves, event_serves}
 use Rattle.law_run_recovers.proofs.Still.{IsOpen}
 use Rattle.law_run_recovers.proofs.MeetBoth.{cancel}
-use Rattle.law_run_recovers.proofs.MeetCalm.{Fair, Calm, Ours, along, fair_front, can_at, accepted, run_next, decided_has, IsOfOne, decided_of_one}
+use Rattle.law_run_recovers.proofs.MeetCalm.{Fair, Calm, Ours, fair_front, can_at, accepted, run_next, decided_has, IsOfOne, decided_of_one}
 use Rattle.law_run_recovers.proofs.MeetCourse.{Course, course_at}
 use Rattle.law_run_recovers.proofs.MeetEnds.{fronts}
 use Rattle.law_run_recovers.proofs.MeetAsked.{IsAskedFor, all_asked}
@@ -28,6 +28,7 @@ use Rattle.law_run_recovers.proofs.MeetReads.{OnlyReads, rows_stay, was_before}
 use Rattle.law_run_recovers.proofs.MeetRun.{its_actor, goes_of, never_decides, run_is}
 use Rattle.law_run_recovers.proofs.MeetTold.{opens_held, held_weaker, held_up, held_fits}
 use Rattle.law_run_recovers.proofs.MeetUndecided.{not_decided_at_work}
+use Rattle.law_run_recovers.proofs.Picks.{along}
 
 -- ---- of every suite
 
@@ -150,6 +151,22 @@ module _ (st : State) (asked : Stamped Request) (z : ℕ) (ends : (t : ℕ) (v :
 
   pub served_so : copy_of (served st asked).store z ≡ copy_of st.store z
   served_so = either_so st.up (after_up st asked.value) (after_down st asked.value) (up_so asked.value refl) (down_so asked.value)
+
+-- what each server has, and the one that serves an event has after it, each has after the event
+pub each_next : (fixed : Fixed) (w : World) (event : Event) (P : ℕ → State → Type 0) → AllAt P w → ((it : Serves w (step fixed w event)) → P it.target (served it.st it.asked)) → AllAt P (step fixed w event).world
+each_next fixed w event P all next = of (event_serves fixed w event)
+  where
+    by : Serves w (step fixed w event) → AllAt P (step fixed w event).world
+    by it s st there =
+        let puts = puts_in w.servers it.target it.st (served it.st it.asked) it.at in
+        elim (at_puts (slice_get w.servers) (slice_get (slice_set w.servers it.target (served it.st it.asked))) it.target it.st (served it.st it.asked) puts s st (ap (λ servers. slice_get servers s) (sym it.servers) ∙ there)) [
+          | inl here ↦ subst (λ s. P s st) (sym here.at) (subst (P it.target) (sym here.is) (next it))
+          | inr there' ↦ all s st there'.was
+        ]
+
+    of : ((step fixed w event).world.servers ≡ w.servers) ⊎ Serves w (step fixed w event) → AllAt P (step fixed w event).world
+    of (inl same) = λ s st there. all s st (ap (λ servers. slice_get servers s) (sym same) ∙ there)
+    of (inr it) = by it
 
 -- ---- a transaction of which the run has the task
 
@@ -385,22 +402,8 @@ module _ (given : Opening) (events later : List Event) (fair : Fair given events
         (λ t v asks answered. finished_none it.st t z (all_consistent given base it.target it.st it.at) (ends_none it.target it.st it.at _ it.done t v asks answered z))
         ∙ here.stored it.target it.st it.at old was z
 
-    served_stored : Serves (run given (events ++ so_far)) (step (fixed_of given) (run given (events ++ so_far)) event) → AllAt Stored (step (fixed_of given) (run given (events ++ so_far)) event).world
-    served_stored it s st there =
-        let w = run given (events ++ so_far) in
-        let puts = puts_in w.servers it.target it.st (served it.st it.asked) it.at in
-        elim (at_puts (slice_get w.servers) (slice_get (slice_set w.servers it.target (served it.st it.asked))) it.target it.st (served it.st it.asked) puts s st (ap (λ servers. slice_get servers s) (sym it.servers) ∙ there)) [
-          | inl here' ↦ subst (λ s. Stored s st) (sym here'.at) (subst (Stored it.target) (sym here'.is) (target_stored it))
-          | inr there' ↦ here.stored s st there'.was
-        ]
-
     stored_next : AllAt Stored (step (fixed_of given) (run given (events ++ so_far)) event).world
-    stored_next = of (event_serves (fixed_of given) (run given (events ++ so_far)) event)
-      where
-        of : ((step (fixed_of given) (run given (events ++ so_far)) event).world.servers ≡ (run given (events ++ so_far)).servers) ⊎ Serves (run given (events ++ so_far)) (step (fixed_of given) (run given (events ++ so_far)) event)
-            → AllAt Stored (step (fixed_of given) (run given (events ++ so_far)) event).world
-        of (inl same) = λ s st there. here.stored s st (ap (λ servers. slice_get servers s) (sym same) ∙ there)
-        of (inr it) = served_stored it
+    stored_next = each_next (fixed_of given) (run given (events ++ so_far)) event Stored here.stored target_stored
 
     -- ---- so it is still
 

@@ -1,8 +1,8 @@
 -- A run is calm at suites at which each exclusive lock that there ever is belongs to one that is never decided: who writes a suite has it locked exclusively as it is decided.
-use Rattle.law_run_recovers.proofs.Vocabulary.{home_in, ◌≡◌, ◌⊎◌, inl, inr, ℕ, ◌+◌, ◌<◌, ◌≤◌, Bool, true, false, cond, List, [], ◌∷◌, ◌++◌, append-nil, append_assoc, Option, Some, None, Ok, Err, refl, sym, ap, subst, ◌∙◌}
-use Rattle.law_run_recovers.proofs.Vocabulary.{arith, ◌==◌, unwrap_or, slice_get, slice_set, nat_cmp, and_parts, eqb-true, false≢true, leb-true, none-some, same_Some, find_some, Representative}
+use Rattle.law_run_recovers.proofs.Vocabulary.{home_in, ◌≡◌, ℕ, ◌+◌, ◌<◌, ◌≤◌, Bool, true, false, cond, List, [], ◌∷◌, ◌++◌, append-nil, append_assoc, Option, Some, None, Ok, Err, refl, sym, ap, subst, ◌∙◌}
+use Rattle.law_run_recovers.proofs.Vocabulary.{arith, ◌==◌, unwrap_or, nat_cmp, and_parts, eqb-true, false≢true, leb-true, none-some, same_Some, find_some, Representative}
 use Rattle.law_run_recovers.proofs.Vocabulary.{votes_in, IsValid, Opening, Prefix, LockMode, Exclusive, Shared, is_exclusive, get, Intention, Lock, Verdict, State, copy_of, is_own, is_answered}
-use Rattle.law_run_recovers.proofs.Vocabulary.{HasPreparedLock, served, Has, contains_from, has_from, fixed_of, Proposal, GatheredSuite, ReadPoint, suite_of, at_puts, append_has_left, puts_in}
+use Rattle.law_run_recovers.proofs.Vocabulary.{HasPreparedLock, served, Has, contains_from, has_from, fixed_of, Proposal, GatheredSuite, ReadPoint, suite_of, append_has_left}
 use Rattle.law_run_recovers.proofs.Vocabulary.{Event, Step, Served, World, server_at, step, opening, run, after, Decided, decided, decisions, decisions_from, decisions_from-append, finish_is_after, EndedSo, IsNotDecided, answers_follow_knowledge}
 use Rattle.law_run_recovers.proofs.Vocabulary.{IsAnsweredAsKnown, row, prefix_at, beginning, servers_of, machine_of, to_write, known_by, LogIs, decision_at, event_log, machine_one, all_shown, row_shown, Together}
 use Rattle.law_run_recovers.proofs.Vocabulary.{holds_after, all_keep, undecided, Replica, Shows, effect, plan_of, is_up, up_in, shown_at, shown_in, CanBe, can_front, all_consistent, AllAt}
@@ -24,9 +24,10 @@ use Rattle.law_one_table.proofs.Effects as effects
 use Rattle.law_headline.proofs.Beside.{is_ready_now}
 use Rattle.law_headline.proofs.Keeping.{agents_owe}
 use Rattle.law_headline.proofs.Unbroken.{AllAsTold, AsTold, as_told}
-use Rattle.law_run_recovers.proofs.Serves.{Serves, event_serves}
-use Rattle.law_run_recovers.proofs.MeetCalm.{Fair, Calm, along, accepted, can_at, run_next, decided_has}
-use Rattle.law_run_recovers.proofs.MeetCalmed.{finished_none, served_so}
+use Rattle.law_run_recovers.proofs.Serves.{Serves}
+use Rattle.law_run_recovers.proofs.MeetCalm.{Fair, Calm, accepted, can_at, run_next, decided_has}
+use Rattle.law_run_recovers.proofs.MeetCalmed.{finished_none, served_so, each_next}
+use Rattle.law_run_recovers.proofs.Picks.{along}
 
 -- ---- what is owed at a moment of a run
 
@@ -277,22 +278,8 @@ module _ (given : Opening) (events later : List Event) (fair : Fair given events
           (λ t v asks answered. finished_none it.st t z (all_consistent given base it.target it.st it.at) (ends_none it.target it.st it.at _ it.done t v asks answered))
           ∙ here.stored it.target it.st it.at old was
 
-      served_stored : Serves (run given (events ++ so_far)) (step (fixed_of given) (run given (events ++ so_far)) event) → AllAt Stored (step (fixed_of given) (run given (events ++ so_far)) event).world
-      served_stored it s st there =
-          let w = run given (events ++ so_far) in
-          let puts = puts_in w.servers it.target it.st (served it.st it.asked) it.at in
-          elim (at_puts (slice_get w.servers) (slice_get (slice_set w.servers it.target (served it.st it.asked))) it.target it.st (served it.st it.asked) puts s st (ap (λ servers. slice_get servers s) (sym it.servers) ∙ there)) [
-            | inl here' ↦ subst (λ s. Stored s st) (sym here'.at) (subst (Stored it.target) (sym here'.is) (target_stored it))
-            | inr there' ↦ here.stored s st there'.was
-          ]
-
       stored_next : AllAt Stored (step (fixed_of given) (run given (events ++ so_far)) event).world
-      stored_next = of (event_serves (fixed_of given) (run given (events ++ so_far)) event)
-        where
-          of : ((step (fixed_of given) (run given (events ++ so_far)) event).world.servers ≡ (run given (events ++ so_far)).servers) ⊎ Serves (run given (events ++ so_far)) (step (fixed_of given) (run given (events ++ so_far)) event)
-              → AllAt Stored (step (fixed_of given) (run given (events ++ so_far)) event).world
-          of (inl same) = λ s st there. here.stored s st (ap (λ servers. slice_get servers s) (sym same) ∙ there)
-          of (inr it) = served_stored it
+      stored_next = each_next (fixed_of given) (run given (events ++ so_far)) event Stored here.stored target_stored
 
       still_next : IsStill (so_far ++ event ∷ [])
       still_next = record {

@@ -1,7 +1,7 @@
 -- How a transaction stands in whose run nothing is decided, at each moment at which it is at work: servers are open to it that a sight says, as long as this fits what
 -- it is told; and where its end is fixed some want of it is not met by these.
 use Rattle.law_run_recovers.proofs.Vocabulary.{◌≡◌, ◌≢◌, ◌⊎◌, inl, inr, ⊎_elim, ℕ, Bool, true, false, cond, List, [], ◌∷◌, ◌++◌, append-nil, append_assoc, Option, Some, None, is_some, refl, sym, ap, subst, ◌∙◌, ◌*◌, ◌+◌, ◌||◌, nat_cmp}
-use Rattle.law_run_recovers.proofs.Vocabulary.{eq-eqb, none-some, same_Some, IsOrdered, Identity, IsValid, Opening, Prefix, LockMode, Shared, Exclusive, Op, PlainTable, row_of, IsSoAt, Lock, Request, Reply, is_prepared}
+use Rattle.law_run_recovers.proofs.Vocabulary.{eq-eqb, none-some, same_Some, IsOrdered, Identity, IsValid, Opening, Prefix, LockMode, Shared, Exclusive, Op, row_of, IsSoAt, Lock, Request, Reply, is_prepared}
 use Rattle.law_run_recovers.proofs.Vocabulary.{in_the_way, copy_of, State, record_of, reply_of, reply_up, reply_down, poll_reply, locking_reply, stands_prepared, can_prepare, recorded, verdict_of, Asked, Poll, Upgrade, request_for}
 use Rattle.law_run_recovers.proofs.Vocabulary.{mode_asked, Cache, forgotten, Ending, Undecided, Cause, Transaction, Replied, Suites, suite_of, known_of, parts_at, Task, Phase, Gathering, Fetching, Preparing, Deciding, Finishing}
 use Rattle.law_run_recovers.proofs.Vocabulary.{TransactionRun, Running, After, GoesOn, Ends, home_of, execute, given_in, changes_of, decision_of, request_in, after_reply, Agent, Taken, fixed_of, is_idle, next_in, next_of}
@@ -39,9 +39,9 @@ use Rattle.law_run_recovers.proofs.Stands.{Ground, asks_of, locks_on, AfterStand
 use Rattle.law_run_recovers.proofs.Still.{IsOpen, IsOpenPhase, open_next}
 use Rattle.law_run_recovers.proofs.StepsServed.{OwnTook, own_took}
 use Rattle.law_run_recovers.proofs.Unrobbed.{unrecorded_at, finds_then}
-use Rattle.law_run_recovers.proofs.MeetCalm.{along}
 use Rattle.law_run_recovers.proofs.MeetQuiet.{GoesQuietly, next_is, parts, heard_first, first_untold, heard_at, idle_before}
 use Rattle.law_run_recovers.proofs.MeetHeard.{AllTold, HeardNext, heard_next, told_running, told_none}
+use Rattle.law_run_recovers.proofs.Picks.{along}
 
 either : (a b : Bool) → b ≡ true → (a || b) ≡ true
 either true b is = refl
@@ -53,9 +53,6 @@ module _ (given : Opening) (base events later : List Event) (agent t : ℕ) (cal
 
   abbrev pub its : Task
   its = record { t = 64 * actor.agent.count + actor.agent.index; caller = caller; site = site; ops = ops }
-
-  abbrev pub table : PlainTable
-  table = table_of given base
 
   abbrev pub asked : List (ℕ × LockMode)
   asked = asks_for given base t caller ops

@@ -47,9 +47,6 @@ module _ (given : Opening) (base events later : List Event) (agent t : ℕ) (cal
   abbrev begun : Agent
   begun = begin (fixed_of given) actor.agent (Transaction caller site ops)
 
-  abbrev Heard' : List Event → Type 0
-  Heard' so_far = Heard given base events later agent t caller site ops actor goes so_far
-
   abbrev past : List agents.Event → List Exchange
   past told = past_of given base events later agent t caller site ops actor goes told
 

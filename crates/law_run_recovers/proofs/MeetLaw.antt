@@ -2,8 +2,7 @@
 use Rattle.law_run_recovers.proofs.Vocabulary.{Bool, Contains, List, Some, [], ap, append-nil, append_assoc, arith, false, inl, inr, refl, subst, sym, true, ℕ, ⊎_elim, ◌++◌, ◌<◌, ◌==◌, ◌||◌, ◌∙◌, ◌∷◌, ◌≡◌, ◌⊎◌}
 use Rattle.law_run_recovers.proofs.Vocabulary.{eq-eqb, eqb-true, false≢true, list_any, is_decided, machine_of, IsNotDecided, beginning, row, find_some, Has, contains_from, has_any, has_from, State, Lock, decisions}
 use Rattle.law_run_recovers.proofs.Vocabulary.{run, table_of, server_at, step, EndedJob, Served, Event, Begin, Step, mode_of, Opening, LockMode, Exclusive, fixed_of, has_vote, Transaction, Configuration, votes_at, Begun, clashes}
-use Rattle.law_run_recovers.proofs.Vocabulary.{any_has, append_has_left, append_has_right, has_append, CanBe, ◌&&◌, votes_set, EndsThen, AreTight, first_clash, locks_at, locks_in}
-use Rattle.law_run_recovers.proofs.Vocabulary.{SetsApart, votes_now, asks_for, shown_at, world_after}
+use Rattle.law_run_recovers.proofs.Vocabulary.{any_has, append_has_left, append_has_right, has_append, CanBe, ◌&&◌, votes_set, EndsThen, AreTight, first_clash, locks_at, locks_in, SetsApart, votes_now, asks_for, shown_at, world_after}
 use Rattle.law_run_recovers.proofs.Vocabulary.{IsTrue, not, ◌≤◌, World, begun_world, needed_of, shared_member, total_votes, votes_in}
 use Rattle.txn_core.specs.Doing as doing
 use Rattle.law_run_recovers.specs.MeetsBeside.{AllOthers, OneThatMeetsBesideIsDecided, TheyMeetBeside, first_asks, meets_some}
@@ -28,6 +27,12 @@ use Rattle.law_run_recovers.proofs.MeetWants.{upto, whole, calm_upto, ours_upto,
 -- what one asks for that clashes with some lock of the other's clashes with one of them
 clashes_some : (others : List (ℕ × LockMode)) (one way : ℕ × LockMode) → Contains others way → clashes one way ≡ true → list_any (clashes one) others ≡ true
 clashes_some others one way has is = has_any (clashes one) others way (has_from others way has) is
+
+-- of two that are not both undecided one is decided
+pub not_neither : (a b : Bool) → (a ≡ false → b ≡ false → ⊥) → (a || b) ≡ true
+not_neither true b never = refl
+not_neither false true never = refl
+not_neither false false never = absurd (never refl refl)
 
 -- ---- who is refused
 
@@ -482,12 +487,7 @@ module _ (given : Opening) (events later : List Event) (one other : Begun given 
         of true same = never_by_itself given events later one calm ours not_one f (apart_from_others (eqb-true one.t other.t same))
 
   pub decided_one : (is_decided job.ending || is_decided outcome.ending) ≡ true
-  decided_one = of (is_decided job.ending) (is_decided outcome.ending) refl refl
-    where
-      of : (a b : Bool) → is_decided job.ending ≡ a → is_decided outcome.ending ≡ b → (a || b) ≡ true
-      of true b one_is other_is = refl
-      of false true one_is other_is = refl
-      of false false one_is other_is = absurd (neither one_is other_is)
+  decided_one = not_neither (is_decided job.ending) (is_decided outcome.ending) (λ one_is other_is. neither one_is other_is)
 
 pub one_that_meets_beside_is_decided : OneThatMeetsBesideIsDecided
 one_that_meets_beside_is_decided given events later one other meets job outcome ends other_ends = decided_one given events later one other meets job outcome ends other_ends

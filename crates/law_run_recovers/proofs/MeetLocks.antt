@@ -15,9 +15,10 @@ use Rattle.law_run_recovers.proofs.Keeps.{IsAtWork, run_at, step_asks}
 use Rattle.law_run_recovers.proofs.Owned.{AllOwned, MayLock, owned_stays}
 use Rattle.law_run_recovers.proofs.Serves.{Serves, event_serves}
 use Rattle.law_run_recovers.proofs.StepsServed.{OwnTook, own_took}
-use Rattle.law_run_recovers.proofs.MeetCalm.{Fair, along, run_next, up_at}
+use Rattle.law_run_recovers.proofs.MeetCalm.{Fair, run_next, up_at}
 use Rattle.law_run_recovers.proofs.MeetQuiet.{GoesQuietly, next_is}
 use Rattle.law_run_recovers.proofs.MeetTold.{for_lock, says_held}
+use Rattle.law_run_recovers.proofs.Picks.{along}
 
 -- ---- a server
 

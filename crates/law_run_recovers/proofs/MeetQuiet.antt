@@ -12,12 +12,12 @@ use Rattle.law_run_recovers.proofs.AmongCourse.{parted}
 use Rattle.law_run_recovers.proofs.Apart.{Apart, event_apart}
 use Rattle.law_run_recovers.proofs.Found.{Answering}
 use Rattle.law_run_recovers.proofs.Keeps.{IsAtWork, works, after_append, at_work_before}
-use Rattle.law_run_recovers.proofs.MeetCalm.{along}
 use Rattle.law_run_recovers.proofs.Open.{its_begin, begun_there}
 use Rattle.law_run_recovers.proofs.Polled.{dver_at}
 use Rattle.law_run_recovers.proofs.Stands.{asks_of}
 use Rattle.law_run_recovers.proofs.Still.{IsOpen}
 use Rattle.law_run_recovers.proofs.StepsServed.{own_took}
+use Rattle.law_run_recovers.proofs.Picks.{along}
 
 module _ (given : Opening) (base events later : List Event) (agent t : ℕ) (caller : Identity) (site : ℕ) (ops : List Op) (actor : Actor) where
   abbrev then : List Event → World

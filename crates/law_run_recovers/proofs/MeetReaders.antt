@@ -1,5 +1,5 @@
 -- One that writes and one that only reads, whatever others do beside: a reader that ends undecided was refused by locks of the writer that are enough to write, and so the writer was not.
-use Rattle.law_run_recovers.proofs.Vocabulary.{Bool, Contains, List, Some, [], ap, append-nil, append_assoc, arith, false, inl, inr, not, refl, subst, sym, true, ℕ, ⊎_elim, ◌&&◌, ◌++◌, ◌+◌, ◌<◌, ◌==◌, ◌||◌, ◌∙◌, ◌∷◌, ◌≡◌}
+use Rattle.law_run_recovers.proofs.Vocabulary.{Contains, List, Some, [], ap, append-nil, append_assoc, arith, false, inl, inr, not, refl, subst, sym, true, ℕ, ⊎_elim, ◌&&◌, ◌++◌, ◌+◌, ◌<◌, ◌==◌, ◌||◌, ◌∙◌, ◌∷◌, ◌≡◌}
 use Rattle.law_run_recovers.proofs.Vocabulary.{◌⊎◌, eq-eqb, false≢true, CanBe, can_front, is_decided, machine_of, IsNotDecided, beginning, WasPrefix, Has, has_any, has_from, State, Lock, decisions, run, table_of}
 use Rattle.law_run_recovers.proofs.Vocabulary.{server_at, step, EndedJob, Served, Event, Begin, Step, mode_of, needed_of, is_exclusive, serves, Opening, Prefix, LockMode, Exclusive, Shared, fixed_of, Transaction}
 use Rattle.law_run_recovers.proofs.Vocabulary.{shared_member, Configuration, total_votes, votes_at, votes_in, Begun, clashes, votes_set, EndsThen, votes_now, asks_for, any_has, contains_from, has_append, list_any, locks_at, locks_in}
@@ -15,7 +15,7 @@ use Rattle.law_run_recovers.proofs.MeetCalm.{Calm, Ours}
 use Rattle.law_run_recovers.proofs.MeetClear.{calm_clear}
 use Rattle.law_run_recovers.proofs.MeetCount.{votes_split, serves_own}
 use Rattle.law_run_recovers.proofs.MeetEnds.{Fixed, undecided_not, fixed_at}
-use Rattle.law_run_recovers.proofs.MeetLaw.{any_back, any_front, exclusive_clashes, none_apart, open_not, some_more, some_shut}
+use Rattle.law_run_recovers.proofs.MeetLaw.{any_back, any_front, exclusive_clashes, none_apart, open_not, some_more, some_shut, not_neither}
 use Rattle.law_run_recovers.proofs.MeetLocks.{owned_at}
 use Rattle.law_run_recovers.proofs.Stands.{asks_of}
 use Rattle.law_run_recovers.proofs.MeetReach.{reaches_asks}
@@ -338,12 +338,7 @@ module _ (given : Opening) (events later : List Event) (writer reader : Begun gi
       never_both given events later writer reader meets none none' (fixed_at given events later quiet writer job ends) (fixed_at given events later quiet reader outcome other_ends)
 
   pub decided_one : (is_decided job.ending || is_decided outcome.ending) ≡ true
-  decided_one = of (is_decided job.ending) (is_decided outcome.ending) refl refl
-    where
-      of : (a b : Bool) → is_decided job.ending ≡ a → is_decided outcome.ending ≡ b → (a || b) ≡ true
-      of true b one_is other_is = refl
-      of false true one_is other_is = refl
-      of false false one_is other_is = absurd (neither one_is other_is)
+  decided_one = not_neither (is_decided job.ending) (is_decided outcome.ending) neither
 
 pub writer_or_reader_beside_is_decided : WriterOrReaderBesideIsDecided
 writer_or_reader_beside_is_decided given events later writer reader meets job outcome ends other_ends = decided_one given events later writer reader meets job outcome ends other_ends

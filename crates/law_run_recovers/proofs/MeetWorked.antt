@@ -1,23 +1,19 @@
 -- Two users meet, by computation.
-use Rattle.law_run_recovers.proofs.Vocabulary.{◌≡◌, ◌⊎◌, inl, inr, ℕ, false, List, [], ◌∷◌, ◌++◌, refl, sym, ap, subst, ◌∙◌, ◌+◌, Contains, list_all, LockMode, Shared, Exclusive, Configuration, total_votes, needed_of, row_of, has_from}
+use Rattle.law_run_recovers.proofs.Vocabulary.{◌≡◌, ◌⊎◌, inl, inr, ℕ, List, [], ◌∷◌, ◌++◌, refl, sym, ap, subst, ◌∙◌, ◌+◌, Contains, list_all, LockMode, Shared, Exclusive, Configuration, total_votes, needed_of, row_of, has_from}
 use Rattle.law_run_recovers.proofs.Vocabulary.{Transaction, fixed_of, owner, a, Event, Begin, opening, run, Decided, decisions, decisions_from, table_after_all, decisions_from-append, EventGivesValidVotes, CanBe, with_caches}
-use Rattle.law_run_recovers.proofs.Vocabulary.{some_run_revokes, Begun, spoils, two_made, turns, puts, HasFirstVotes, VotesNeverMovedOf, two_meet, SomeRunsMeet, votes_moved, SomeRunsMeetByRows}
-use Rattle.law_run_recovers.proofs.Vocabulary.{Bool, true, Some, None, Action, Op, Sweep, Step, Crash, Return, Forget, Lack, GivesValidVotes}
+use Rattle.law_run_recovers.proofs.Vocabulary.{some_run_revokes, Begun, two_made, turns, puts, HasFirstVotes, VotesNeverMovedOf, two_meet, SomeRunsMeet, votes_moved, SomeRunsMeetByRows}
+use Rattle.law_run_recovers.proofs.Vocabulary.{Bool, true, Some, None, Action, Op, Sweep, Step, Crash, Return, Forget, Lack, GivesValidVotes, ⊎_elim, table_of, Opening}
 use Rattle.file_ops.specs.Rows as rows
 use Rattle.file_ops.specs.declared.operation.Action.TheVariants as action
 use Rattle.law_run_recovers.proofs.AmongCourse.{head_or, tail_or}
-use Rattle.law_run_recovers.proofs.BesideWorked.{none_spoils_it, is_step, none_begins}
-use Rattle.law_run_recovers.proofs.ValidEvents.{all_by, event_sets_none, valid_event}
-use Rattle.law_run_recovers.proofs.Keeps.{after_append}
-use Rattle.law_run_recovers.proofs.LawsWorked.{votes_fit, valid_votes}
+use Rattle.law_run_recovers.proofs.BesideWorked.{is_step, none_begins, they_can}
+use Rattle.law_run_recovers.proofs.ValidEvents.{all_by}
+use Rattle.law_run_recovers.proofs.LawsWorked.{none_spoils_it, votes_fit, valid_votes}
 use Rattle.law_run_recovers.specs.Contending.{at_the_last}
 use Rattle.law_run_recovers.specs.Meets.{TheyMeet}
 use Rattle.law_run_recovers.specs.MeetsByRows.{TheyMeetByRows}
 use Rattle.law_run_recovers.proofs.MeetAlone.{one_that_meets_by_rows_is_decided, one_that_meets_is_decided}
 use Rattle.law_run_recovers.proofs.MeetCount.{Same}
-
-they_can : CanBe with_caches (two_made ++ two_meet)
-they_can = record { accepted = some_run_revokes.can_be.accepted; c0 = some_run_revokes.can_be.c0; votes = all_by EventGivesValidVotes event_sets_none valid_event (two_made ++ two_meet) refl }
 
 -- ---- the two that begin
 
@@ -44,10 +40,11 @@ alone events third = of third.before refl third.parts
 
 -- ---- votes
 
-abbrev asked : List (ℕ × LockMode)
+-- the root is read and the first file written
+abbrev pub asked : List (ℕ × LockMode)
 asked = (0, Shared) ∷ (1, Exclusive) ∷ []
 
-tight : (mine theirs : LockMode) → needed_of mine with_caches.c0 + needed_of theirs with_caches.c0 ≡ total_votes with_caches.c0.reps + 1
+pub tight : (mine theirs : LockMode) → needed_of mine with_caches.c0 + needed_of theirs with_caches.c0 ≡ total_votes with_caches.c0.reps + 1
 tight Shared Shared = refl
 tight Shared Exclusive = refl
 tight Exclusive Shared = refl
@@ -62,41 +59,37 @@ one_or_none (x ∷ y ∷ front) back d is = absurd (nil_not (ap tail_or is))
     nil_not : ◌≡◌ {A = List Decided} [] (y ∷ (front ++ back)) → ⊥
     nil_not is = cc
 
-abbrev rows_after : List Decided → ℕ → Type 0
-rows_after ds z = HasFirstVotes with_caches.c0 (row_of (table_after_all (rows.opening with_caches) ds).rows z)
-
-first_votes : (z : ℕ) (mode : LockMode) → Contains asked (z, mode) → (ds : List Decided) → (ds ≡ []) ⊎ (ds ≡ decisions with_caches two_made) → rows_after ds z
-first_votes z mode has ds so = of (has_from asked (z, mode) has) so
-  where
-    at : (y : ℕ) → (ds ≡ []) ⊎ (ds ≡ decisions with_caches two_made) → rows_after [] y → rows_after (decisions with_caches two_made) y → rows_after ds y
-    at y (inl none) before later = subst (λ ds. rows_after ds y) (sym none) before
-    at y (inr all) before later = subst (λ ds. rows_after ds y) (sym all) later
-
-    of : Same (0, Shared) (z, mode) ⊎ (Same (1, Exclusive) (z, mode) ⊎ ⊥) → (ds ≡ []) ⊎ (ds ≡ decisions with_caches two_made) → rows_after ds z
-    of (inl root) so = subst (rows_after ds) (ap (λ (one : ℕ × LockMode). one.0) root) (at 0 so refl refl)
-    of (inr (inl file)) so = subst (rows_after ds) (ap (λ (one : ℕ × LockMode). one.0) file) (at 1 so tt refl)
-    of (inr (inr none)) so = absurd none
+-- where one was decided in some events, the votes of a suite are the first ones at each moment of them, if they are before it and after
+pub first_at : (given : Opening) (events : List Event) (d : Decided) (z : ℕ) → decisions given events ≡ d ∷ []
+    → HasFirstVotes given.c0 (row_of (table_after_all (rows.opening given) []).rows z) → HasFirstVotes given.c0 (row_of (table_after_all (rows.opening given) (d ∷ [])).rows z)
+    → (before later : List Event) → events ≡ before ++ later → HasFirstVotes given.c0 (row_of (table_of given before).rows z)
+first_at given events d z is none all before later parts = ⊎_elim
+    (λ front. subst (λ ds. HasFirstVotes given.c0 (row_of (table_after_all (rows.opening given) ds).rows z)) (sym front) none)
+    (λ front. subst (λ ds. HasFirstVotes given.c0 (row_of (table_after_all (rows.opening given) ds).rows z)) (sym front) all)
+    (one_or_none (decisions given before) (decisions_from (fixed_of given) (run given before) later) d
+    (sym is ∙ ap (decisions given) parts ∙ decisions_from-append (fixed_of given) (opening given) before later))
 
 unmoved : VotesNeverMovedOf with_caches two_made asked
-unmoved before later one parts has =
-    first_votes one.0 one.1 has (decisions with_caches before)
-    (one_or_none (decisions with_caches before) (decisions_from (fixed_of with_caches) (run with_caches before) later) _
-    (ap (decisions with_caches) parts ∙ decisions_from-append (fixed_of with_caches) (opening with_caches) before later))
+unmoved before later one parts has = of (has_from asked one has)
+  where
+    of : Same (0, Shared) one ⊎ (Same (1, Exclusive) one ⊎ ⊥) → HasFirstVotes with_caches.c0 (row_of (table_of with_caches before).rows one.0)
+    of (inl root) = subst (λ (one : ℕ × LockMode). HasFirstVotes with_caches.c0 (row_of (table_of with_caches before).rows one.0)) root (first_at with_caches two_made _ 0 refl refl refl before later parts)
+    of (inr (inl file)) = subst (λ (one : ℕ × LockMode). HasFirstVotes with_caches.c0 (row_of (table_of with_caches before).rows one.0)) file (first_at with_caches two_made _ 1 refl tt refl before later parts)
+    of (inr (inr none)) = absurd none
 
 abbrev no_votes : List (ℕ × Configuration)
 no_votes = []
 
-none_set : (set : ℕ × Configuration) → Contains no_votes set → ⊥
-none_set set has = has_from no_votes set has
+pub none_set : {X : Type 0} (set : ℕ × Configuration) → Contains no_votes set → X
+none_set set has = absurd (has_from no_votes set has)
 
 they_meet : TheyMeet with_caches two_made two_meet one other
 they_meet = record {
-  can = they_can;
+  can = they_can (two_made ++ two_meet) refl;
   idle = refl;
   up = refl;
   free = refl;
-  unspoiled = λ before rest event split.
-      subst (λ world. spoils with_caches world event ≡ false) (sym (after_append (fixed_of with_caches) two_made before (opening with_caches))) (none_spoils_it two_meet before event rest (run with_caches two_made) refl split);
+  unspoiled = none_spoils_it with_caches two_made two_meet refl;
   two = refl;
   alone = alone two_made;
   suite = 1;
@@ -108,8 +101,8 @@ they_meet = record {
   tight = λ mine theirs has there clash. tight mine theirs;
   unmoved = unmoved;
   other_unmoved = unmoved;
-  moves_none = λ set has. absurd (none_set set has);
-  other_moves_none = λ set has. absurd (none_set set has);
+  moves_none = λ set has. none_set set has;
+  other_moves_none = λ set has. none_set set has;
 }
 
 pub some_runs_meet : SomeRunsMeet
@@ -169,9 +162,7 @@ they_meet_by_rows = record {
   idle = refl;
   up = refl;
   free = refl;
-  unspoiled = λ before rest event split.
-      subst (λ world. spoils with_caches world event ≡ false) (sym (after_append (fixed_of with_caches) votes_moved before (opening with_caches)))
-      (none_spoils_it two_meet before event rest (run with_caches votes_moved) refl split);
+  unspoiled = none_spoils_it with_caches votes_moved two_meet refl;
   two = refl;
   alone = alone votes_moved;
   suite = 1;
@@ -181,8 +172,8 @@ they_meet_by_rows = record {
   other_first = refl;
   not_both_raise = refl;
   tight = λ mine theirs has there clash. last_tight mine theirs;
-  sets_apart = λ set has. absurd (none_set set has);
-  other_sets_apart = λ set has. absurd (none_set set has);
+  sets_apart = λ set has. none_set set has;
+  other_sets_apart = λ set has. none_set set has;
 }
 
 pub some_runs_meet_by_rows : SomeRunsMeetByRows

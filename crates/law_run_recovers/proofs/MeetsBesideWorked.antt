@@ -1,11 +1,9 @@
 -- Two users meet, and one that sets a list and one that reads, while another begins again and again beside, by computation.
-use Rattle.law_run_recovers.proofs.Vocabulary.{◌≡◌, ◌⊎◌, inl, inr, ⊎_elim, ℕ, Bool, true, false, List, [], ◌∷◌, ◌++◌, refl, sym, ap, subst, ◌∙◌, ◌+◌, arith, ◌==◌, ◌&&◌, ◌||◌, not, Contains, list_all, list_any, and_parts, eqb-true}
-use Rattle.law_run_recovers.proofs.Vocabulary.{false≢true, all_at, at_has, has_from, LockMode, Shared, Exclusive, Configuration, total_votes, needed_of, row_of, Lock, State, Transaction, fixed_of, owner, a, Event, Begin, Lack, World, opening, after, run}
-use Rattle.law_run_recovers.proofs.Vocabulary.{Decided, decisions, decisions_from, table_of, table_after_all, decisions_from-append, EventGivesValidVotes, CanBe, some_run_revokes, Begun, clashes, puts, b, HasFirstVotes, locks_at}
-use Rattle.law_run_recovers.proofs.Vocabulary.{hinders_itself, is_running}
-use Rattle.file_ops.specs.Rows as rows
+use Rattle.law_run_recovers.proofs.Vocabulary.{◌≡◌, ◌⊎◌, inl, inr, ⊎_elim, ℕ, Bool, true, false, List, [], ◌∷◌, ◌++◌, refl, sym, subst, arith, ◌==◌, ◌&&◌, ◌||◌, not, Contains, list_all, and_parts, eqb-true}
+use Rattle.law_run_recovers.proofs.Vocabulary.{false≢true, all_at, at_has, LockMode, Shared, Exclusive, Lock, State, Transaction, fixed_of, owner, a, Event, Begin, Lack, World, opening, after, run}
+use Rattle.law_run_recovers.proofs.Vocabulary.{EventGivesValidVotes, CanBe, some_run_revokes, Begun, puts, b, locks_at, hinders_itself, is_running}
 use Rattle.rep_core.specs.declared.stamped.Lack.TheVariants as lack
-use Rattle.suite_prefix.specs.SettingsRules.{Opening, IsAccepted}
+use Rattle.suite_prefix.specs.SettingsRules.{Opening}
 use Rattle.law_runs.specs.Worked.{close_a, read_a}
 use Rattle.txn_core.specs.Runs.{other}
 use Rattle.law_run_recovers.specs.MeetsBeside.{ReaderMeetsBeside, ReadsToo, TheyMeetBeside, meets_some, upsets}
@@ -16,8 +14,8 @@ use Rattle.law_run_recovers.proofs.LawsWorked.{happens_at, holds, holds_at, not_
 use Rattle.law_run_recovers.proofs.MeetAlone.{lock_in}
 use Rattle.law_run_recovers.proofs.MeetLaw.{one_that_meets_beside_is_decided}
 use Rattle.law_run_recovers.proofs.MeetReaders.{writer_or_reader_beside_is_decided}
-use Rattle.law_run_recovers.proofs.MeetWorked.{one_or_none}
-use Rattle.law_run_recovers.proofs.ReadersWorked.{accepted}
+use Rattle.law_run_recovers.proofs.MeetWorked.{asked, first_at, none_set, tight}
+use Rattle.law_run_recovers.proofs.ReadersWorked.{accepted, at_it, three_can}
 use Rattle.law_run_recovers.proofs.ValidEvents.{all_by, event_sets_none, valid_event}
 
 -- ---- what is so at each moment
@@ -81,16 +79,7 @@ module _ (given : Opening) (events later : List Event) (i t k u : ℕ) (so : Loc
       let w = run given (events ++ before) in
       not_so (hinders_itself given k w event) (unless (is_running w k u) (not (hinders_itself given k w event)) (both_served before after' event split).1 running)
 
-abbrev no_votes : List (ℕ × Configuration)
-no_votes = []
-
-none_set : {X : Type 0} (set : ℕ × Configuration) → Contains no_votes set → X
-none_set set has = absurd (has_from no_votes set has)
-
 -- ---- two write a file
-
-they_can : CanBe three_agents (mid_write ++ writes_beside)
-they_can = record { accepted = accepted; c0 = some_run_revokes.can_be.c0; votes = all_by EventGivesValidVotes event_sets_none valid_event (mid_write ++ writes_beside) refl }
 
 abbrev rest_beside : List Event
 rest_beside = turns_of_three 6 ++ Begin 2 (Transaction owner 0 (puts b 3 ∷ [])) ∷ turns_of_three 2 ++ Lack 2 lack.Memory ∷ turns_of_three 4
@@ -121,25 +110,15 @@ two = record {
   begins = refl;
 }
 
--- the root is read and the first file written
-abbrev asked : List (ℕ × LockMode)
-asked = (0, Shared) ∷ (1, Exclusive) ∷ []
-
 abbrev is_aside : Lock → Bool
 is_aside lock = not (meets_some lock (asked ++ asked))
 
 all_hold : holds (of_kind 64 1 is_aside) (goes_so three_agents 0 64 1 1) (fixed_of three_agents) (run three_agents mid_write) writes_beside ≡ true
 all_hold = refl
 
-tight : (mine theirs : LockMode) → needed_of mine three_agents.c0 + needed_of theirs three_agents.c0 ≡ total_votes three_agents.c0.reps + 1
-tight Shared Shared = refl
-tight Shared Exclusive = refl
-tight Exclusive Shared = refl
-tight Exclusive Exclusive = refl
-
 they_meet : TheyMeetBeside three_agents mid_write writes_beside one two
 they_meet = record {
-  goes = record { can = they_can; up = refl; unswept = refl; even = even three_agents mid_write writes_beside 0 64 1 1 is_aside all_hold };
+  goes = record { can = three_can (mid_write ++ writes_beside) refl; up = refl; unswept = refl; even = even three_agents mid_write writes_beside 0 64 1 1 is_aside all_hold };
   served = first_served three_agents mid_write writes_beside 0 64 1 1 is_aside all_hold;
   other_served = second_served three_agents mid_write writes_beside 0 64 1 1 is_aside all_hold;
   beside = λ before after' server lock split has. ⊎_elim
@@ -168,20 +147,8 @@ some_runs_meet_beside = record {
 
 -- ---- one sets a list that others read
 
-four_accepted : IsAccepted four_agents
-four_accepted = record {
-  some_servers = some_run_revokes.can_be.accepted.some_servers;
-  some_agents = (omega arith, omega arith);
-  known_servers = some_run_revokes.can_be.accepted.known_servers;
-  budget_fits = some_run_revokes.can_be.accepted.budget_fits;
-  quota_fits = some_run_revokes.can_be.accepted.quota_fits;
-  slots_fit = some_run_revokes.can_be.accepted.slots_fit;
-  old_known = some_run_revokes.can_be.accepted.old_known;
-  old_fits = some_run_revokes.can_be.accepted.old_fits;
-}
-
 four_can : CanBe four_agents (fourth_writes ++ reads_beside)
-four_can = record { accepted = four_accepted; c0 = some_run_revokes.can_be.c0; votes = all_by EventGivesValidVotes event_sets_none valid_event (fourth_writes ++ reads_beside) refl }
+four_can = record { accepted = accepted 4 (omega arith, omega arith); c0 = some_run_revokes.can_be.c0; votes = all_by EventGivesValidVotes event_sets_none valid_event (fourth_writes ++ reads_beside) refl }
 
 abbrev rest_reads : List Event
 rest_reads = turns_of_four 6 ++ Begin 3 (Transaction owner 0 (puts b 3 ∷ [])) ∷ turns_of_four 10
@@ -238,24 +205,6 @@ reads_too lock so =
 all_read : holds (of_kind 1 64 reads_so) (goes_so four_agents 1 1 0 64) (fixed_of four_agents) (run four_agents fourth_writes) reads_beside ≡ true
 all_read = refl
 
-at_it : (lock : ℕ × LockMode) → Contains asked lock → list_any (clashes lock) reads ≡ true → lock.0 ≡ 1
-at_it lock has clash = of (has_from asked lock has)
-  where
-    of : ((0, Shared) ≡ lock) ⊎ (((1, Exclusive) ≡ lock) ⊎ ⊥) → lock.0 ≡ 1
-    of (inl root) = absurd (false≢true (ap (λ lock. list_any (clashes lock) reads) root ∙ clash))
-    of (inr (inl file)) = ap (λ (lock : ℕ × LockMode). lock.0) (sym file)
-    of (inr (inr none)) = absurd none
-
-abbrev first_after : List Decided → Type 0
-first_after ds = HasFirstVotes four_agents.c0 (row_of (table_after_all (rows.opening four_agents) ds).rows 1)
-
-unmoved : (before later : List Event) → fourth_writes ≡ before ++ later → HasFirstVotes four_agents.c0 (row_of (table_of four_agents before).rows 1)
-unmoved before later parts = ⊎_elim
-    (λ none. subst first_after (sym none) tt)
-    (λ all. subst first_after (sym all) refl)
-    (one_or_none (decisions four_agents before) (decisions_from (fixed_of four_agents) (run four_agents before) later) _
-    (ap (decisions four_agents) parts ∙ decisions_from-append (fixed_of four_agents) (opening four_agents) before later))
-
 reader_meets : ReaderMeetsBeside four_agents fourth_writes reads_beside writer reader
 reader_meets = record {
   goes = record { can = four_can; up = refl; unswept = refl; even = even four_agents fourth_writes reads_beside 1 1 0 64 reads_so all_read };
@@ -267,9 +216,9 @@ reader_meets = record {
       (λ more. ⊎_elim (λ same. inr (inl same)) (λ so. inr (inr (reads_too lock so))) more)
       (kind_at four_agents fourth_writes reads_beside 1 1 0 64 reads_so all_read before after' server lock split has);
   reads = refl;
-  at_it = at_it;
+  at_it = λ lock has clash. at_it reads lock refl has clash;
   tight = refl;
-  unmoved = unmoved;
+  unmoved = first_at four_agents fourth_writes _ 1 refl tt refl;
   moves_none = λ votes has. none_set (1, votes) has;
 }
 

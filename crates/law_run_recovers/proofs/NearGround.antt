@@ -7,7 +7,7 @@ use Rattle.law_one_table.proofs.Effects as effects
 use Rattle.law_run_recovers.proofs.Steady.{GoesSteadily}
 use Rattle.law_run_recovers.proofs.Found.{Answering}
 use Rattle.law_run_recovers.proofs.Led.{Rules, rules_of}
-use Rattle.law_run_recovers.proofs.NearRows.{first_in, start_near}
+use Rattle.law_run_recovers.proofs.NearRows.{start_near}
 use Rattle.law_run_recovers.proofs.Open.{number_is}
 use Rattle.law_run_recovers.proofs.OpenRows.{open_answer, open_wider, up_of, weaker_first}
 use Rattle.law_run_recovers.proofs.Polled.{Sight, finds_at}
@@ -71,10 +71,6 @@ module _ (given : Opening) (events later : List Event) (agent t : ℕ) (caller :
   asked_in z is =
       let some = any_has (λ (one : ℕ × LockMode). one.0 == z) asked (subst (λ n. asks_of (locks_asked (table_of given events) n caller ops) z ≡ true) number is) in
       (some.0.1, contains_from asked (z, some.0.1) (subst (λ z. Has asked (z, some.0.1)) (eqb-true some.0.0 z some.2) some.1))
-
-  -- and so in its first mode
-  pub first_there : (z : ℕ) (mode : LockMode) → Contains asked (z, mode) → Contains asked (z, first_asked z)
-  first_there z mode has = contains_from asked (z, first_asked z) (first_in asked (z, mode) (has_from asked (z, mode) has))
 
   pub opens_first : (z : ℕ) (mode : LockMode) → Contains asked (z, mode) → (server : ℕ) → opens z mode server ≡ true → opens z (first_asked z) server ≡ true
   opens_first z mode has server is =

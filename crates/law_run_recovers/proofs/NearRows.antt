@@ -96,9 +96,6 @@ module _ (given : Opening) (events : List Event) (t : ℕ) (caller : Identity) (
 
 module _ (given : Opening) (events : List Event) (t : ℕ) (caller : Identity) (site : ℕ) (ops : List Op) (actor : Actor) (near : ℕ → Bool) (are : AreNear given events t caller site ops actor.agent.cache near)
     (clear : (one : ℕ × LockMode) (server : ℕ) → Contains (asks_for given events t caller ops) one → near server ≡ true → in_its_way (run given events) t one.0 one.1 server ≡ false) where
-  abbrev world_now : World
-  world_now = run given events
-
   -- a near server is open where it is up
   pub open_is_up : (one : ℕ × LockMode) → Contains (asks_for given events t caller ops) one → (server : ℕ) → near server ≡ true → is_open_at (run given events) t one.0 one.1 server ≡ is_up (run given events) server
   open_is_up one has server is = ap is_open_way (plain_way t one.0 one.1 (server_at (run given events) server) (clear one server has is)) ∙ of (up_in (server_at (run given events) server))

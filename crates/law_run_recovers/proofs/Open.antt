@@ -294,9 +294,3 @@ module _ (given : Opening) (events later : List Event) (agent t : ℕ) (caller :
   pub near_back : (server : ℕ) → unmet_is_among_locks.near server ≡ true → goes.near server ≡ true
   unfolding unmet_is_among_locks
   near_back server near = near
-
--- so who goes alone is among locks that stay
-pub alone_is_among_locks : (given : Opening) (events later : List Event) (agent t : ℕ) (caller : Identity) (site : ℕ) (ops : List Op) (actor : Actor)
-    → GoesAlone given events later agent t caller site ops actor → GoesAmongLocks given events later agent t caller site ops actor
-alone_is_among_locks given events later agent t caller site ops actor goes =
-    unmet_is_among_locks given events later agent t caller site ops actor (alone_is_unmet given events later agent t caller site ops actor goes)

@@ -1,7 +1,17 @@
 -- What a test finds of a list, by what a wider or narrower test finds; and sets that have the same votes.
 use Rattle.law_run_recovers.proofs.Vocabulary.{◌≡◌, inl, inr, ⊎_elim, ℕ, ◌+◌, Bool, true, false, cond, List, [], ◌∷◌, Some, None, refl, sym, ap, subst, ◌∙◌, ◌&&◌, not, nat_lt, find, false≢true, cases_Bool, none-some, same_Some}
-use Rattle.law_run_recovers.proofs.Vocabulary.{Representative, votes_in, Has}
+use Rattle.law_run_recovers.proofs.Vocabulary.{Representative, votes_in, Has, ◌++◌, append-nil, append_assoc}
 use Rattle.law_run_recovers.proofs.Found.{none_left}
+
+-- what holds at first and stays holds of each front of a list
+pub along : {X : Type 0} (later : List X) (P : List X → Type 0) → ((so_far rest : List X) (x : X) → later ≡ so_far ++ x ∷ rest → P so_far → P (so_far ++ x ∷ [])) → P [] → (so_far rest : List X) → later ≡ so_far ++ rest → P so_far
+along {X = X} later P stays first so_far rest split = go so_far [] rest split first
+  where
+    go : (todo so_far rest : List X) → later ≡ (so_far ++ todo) ++ rest → P so_far → P (so_far ++ todo)
+    go [] so_far rest split holds = subst P (sym (append-nil so_far)) holds
+    go (x ∷ todo) so_far rest split holds =
+        let more : (so_far ++ x ∷ []) ++ todo ≡ so_far ++ x ∷ todo = append_assoc so_far (x ∷ []) todo in
+        subst P more (go todo (so_far ++ x ∷ []) rest (split ∙ ap (λ so_far. so_far ++ rest) (sym more)) (stays so_far (todo ++ rest) x (split ∙ append_assoc so_far (x ∷ todo) rest) holds))
 
 module _ {X : Type 0} (f g : X → Bool) (so : (x : X) → g x ≡ true → f x ≡ true) where
   -- the first that passes one test passes a narrower one: it is the first there too

@@ -45,10 +45,6 @@ serves_own Exclusive = refl
 abbrev pub gathering : Prefix → LockMode → List Told → Collector
 gathering start mode told = record { start = start; mode = mode; told = told; widening = None }
 
--- whoever is not widened is one
-pub is_gathering : (c : Collector) → c.widening ≡ None → c ≡ gathering c.start c.mode c.told
-is_gathering c is = ap (λ w. (record c { widening = w })) is
-
 -- ---- what it asks next, and where it ends
 
 abbrev server_of : Next → ℕ

@@ -4,8 +4,7 @@ use Rattle.law_run_recovers.proofs.Vocabulary.{Request, Reply, State, reply_of, 
 use Rattle.law_run_recovers.proofs.Vocabulary.{next_in, next_of, take, begin, Actor, opening, server_at, decisions, decisions_from, decisions_from-append, sweep_decides_none, Beginning, Aborted, effect, begun, Aim, Prepare, DecideRead}
 use Rattle.law_run_recovers.proofs.Vocabulary.{DecideRefused, DecideWrite, DecideElsewhere, Overrule, GiveUp, Finish, Lose, happens, May, Obeys, Inv, prepared_effect, finished_effect, decided_effect, part_of, moves, first_verdict}
 use Rattle.law_run_recovers.proofs.Vocabulary.{prepare_of, left_by_break, beginning, to_write, decision_by, fixed_in, aim_of, aims_once, aims, is_finishing, is_at_an_end, gives_up, tells_aborted, begun_events, own_events, home_in}
-use Rattle.law_run_recovers.proofs.Vocabulary.{begin_events, answered_events, asked_at_events, asked_events, lacks_for_events, lack_events, history_from, machine_of, history_of, run-append, AllKeepSides, copy_at, earlier, CanBe}
-use Rattle.law_run_recovers.proofs.Vocabulary.{all_keep}
+use Rattle.law_run_recovers.proofs.Vocabulary.{begin_events, answered_events, asked_at_events, asked_events, lacks_for_events, lack_events, history_from, machine_of, history_of, run-append, AllKeepSides, copy_at, earlier, CanBe, all_keep}
 use Rattle.rep_core.specs.declared.request.Request.TheVariants as request
 use Rattle.rep_core.specs.declared.reply.Reply.TheVariants as reply
 use Rattle.rep_core.specs.declared.stamped.Lack.TheVariants as lack

@@ -1,24 +1,23 @@
 -- One sets a list while two read, by computation.
-use Rattle.law_run_recovers.proofs.Vocabulary.{Bool, Contains, List, [], ap, arith, false, inl, inr, not, refl, subst, sym, true, ℕ, ⊎_elim, ◌&&◌, ◌++◌, ◌==◌, ◌∙◌, ◌∷◌, ◌≡◌, ◌⊎◌, and_parts, false≢true, list_all, list_any, row_of}
-use Rattle.law_run_recovers.proofs.Vocabulary.{after, some_run_revokes, CanBe, EventGivesValidVotes, any_has, has_any, has_from, decisions_from-append, Decided, decisions, decisions_from, run, table_after_all, table_of, World, opening}
-use Rattle.law_run_recovers.proofs.Vocabulary.{step, Event, Begin, is_exclusive, LockMode, Exclusive, Shared, fixed_of, owner, Transaction, Configuration, Begun, clashes, its_asks, spoils, two_made, HasFirstVotes}
-use Rattle.law_run_recovers.proofs.Vocabulary.{asks_for, only_reads, ReadersMeet}
-use Rattle.suite_prefix.specs.SettingsRules.{IsAccepted}
-use Rattle.file_ops.specs.Rows as rows
+use Rattle.law_run_recovers.proofs.Vocabulary.{Bool, Contains, List, [], ap, arith, inl, inr, not, refl, sym, true, ℕ, ◌++◌, ◌==◌, ◌∙◌, ◌∷◌, ◌≡◌, ◌⊎◌, and_parts, false≢true, list_all, list_any}
+use Rattle.law_run_recovers.proofs.Vocabulary.{some_run_revokes, CanBe, EventGivesValidVotes, any_has, has_any, has_from}
+use Rattle.law_run_recovers.proofs.Vocabulary.{Event, Begin, is_exclusive, LockMode, Exclusive, Shared, owner, Transaction, Begun, clashes, its_asks, two_made, asks_for, only_reads, ReadersMeet, with_caches, ◌≤◌}
+use Rattle.suite_prefix.specs.SettingsRules.{IsAccepted, max_agents}
 use Rattle.law_runs.specs.Worked.{close_a, read_a}
 use Rattle.txn_core.specs.Runs.{other}
 use Rattle.law_run_recovers.specs.ReadersWorked.{three_agents, turns_of_three, closed_while_read, SomeRunsMeetReaders}
 use Rattle.law_run_recovers.proofs.AmongCourse.{head_or, tail_or}
 use Rattle.law_run_recovers.proofs.BesideWorked.{is_step, none_begins}
-use Rattle.law_run_recovers.proofs.Keeps.{after_append}
-use Rattle.law_run_recovers.proofs.MeetWorked.{one_or_none}
+use Rattle.law_run_recovers.proofs.LawsWorked.{none_spoils_it}
+use Rattle.law_run_recovers.proofs.MeetWorked.{asked, first_at, none_set}
 use Rattle.law_run_recovers.proofs.ReadersAlone.{writer_or_readers_are_decided}
 use Rattle.law_run_recovers.proofs.ValidEvents.{all_by, event_sets_none, valid_event}
 
-pub accepted : IsAccepted three_agents
-accepted = record {
+-- settings with more agents are accepted too
+pub accepted : (n : ℕ) → (1 ≤ n) × (n ≤ max_agents) → IsAccepted (record with_caches { agents = n })
+accepted n some = record {
   some_servers = some_run_revokes.can_be.accepted.some_servers;
-  some_agents = (omega arith, omega arith);
+  some_agents = some;
   known_servers = some_run_revokes.can_be.accepted.known_servers;
   budget_fits = some_run_revokes.can_be.accepted.budget_fits;
   quota_fits = some_run_revokes.can_be.accepted.quota_fits;
@@ -27,30 +26,8 @@ accepted = record {
   old_fits = some_run_revokes.can_be.accepted.old_fits;
 }
 
-they_can : CanBe three_agents (two_made ++ closed_while_read)
-they_can = record { accepted = accepted; c0 = some_run_revokes.can_be.c0; votes = all_by EventGivesValidVotes event_sets_none valid_event (two_made ++ closed_while_read) refl }
-
--- ---- nothing spoils it
-
-abbrev none_spoils : World → List Event → Bool
-none_spoils world [] = true
-none_spoils world (event ∷ later) = not (spoils three_agents world event) && none_spoils (step (fixed_of three_agents) world event).world later
-
-not_true : (x : Bool) → not x ≡ true → x ≡ false
-not_true true is = sym is
-not_true false is = refl
-
-none_spoils_it : (later before : List Event) (event : Event) (rest : List Event) (world : World) → none_spoils world later ≡ true → later ≡ before ++ event ∷ rest
-    → spoils three_agents (after (fixed_of three_agents) world before) event ≡ false
-none_spoils_it [] [] event rest world calm is = cc
-none_spoils_it [] (x ∷ before) event rest world calm is = cc
-none_spoils_it (one ∷ later) [] event rest world calm is =
-    subst (λ event. spoils three_agents world event ≡ false) (ap (head_or one) is)
-    (not_true (spoils three_agents world one) (and_parts (not (spoils three_agents world one)) (none_spoils (step (fixed_of three_agents) world one).world later) calm).0)
-none_spoils_it (one ∷ later) (x ∷ before) event rest world calm is =
-    subst (λ x. spoils three_agents (after (fixed_of three_agents) (step (fixed_of three_agents) world x).world before) event ≡ false) (ap (head_or one) is)
-    (none_spoils_it later before event rest (step (fixed_of three_agents) world one).world
-    (and_parts (not (spoils three_agents world one)) (none_spoils (step (fixed_of three_agents) world one).world later) calm).1 (ap tail_or is))
+pub three_can : (events : List Event) → list_all event_sets_none events ≡ true → CanBe three_agents events
+three_can events is = record { accepted = accepted 3 (omega arith, omega arith); c0 = some_run_revokes.can_be.c0; votes = all_by EventGivesValidVotes event_sets_none valid_event events is }
 
 -- ---- the three that begin
 
@@ -101,50 +78,28 @@ none_clash asked y reads is =
     let some = any_has (clashes (y, Shared)) asked is in
     false≢true (sym (ap not (has_any (λ (one : ℕ × LockMode). is_exclusive one.1) asked some.0 some.1 (and_parts (y == some.0.0) (is_exclusive some.0.1) some.2).1)) ∙ reads)
 
-abbrev asked : List (ℕ × LockMode)
-asked = (0, Shared) ∷ (1, Exclusive) ∷ []
-
-at_it : (one : Begun three_agents two_made closed_while_read) (lock : ℕ × LockMode) → only_reads (its_asks three_agents two_made closed_while_read one) ≡ true → Contains asked lock
-    → list_any (clashes lock) (its_asks three_agents two_made closed_while_read one) ≡ true → lock.0 ≡ 1
-at_it one lock reads has clash = of (has_from asked lock has)
+-- one that writes the first file, and who only reads, clash at it
+pub at_it : (others : List (ℕ × LockMode)) (lock : ℕ × LockMode) → only_reads others ≡ true → Contains asked lock → list_any (clashes lock) others ≡ true → lock.0 ≡ 1
+at_it others lock reads has clash = of (has_from asked lock has)
   where
     of : ((0, Shared) ≡ lock) ⊎ (((1, Exclusive) ≡ lock) ⊎ ⊥) → lock.0 ≡ 1
-    of (inl root) =
-        absurd (none_clash (its_asks three_agents two_made closed_while_read one) 0 reads
-        (ap (λ lock. list_any (clashes lock) (its_asks three_agents two_made closed_while_read one)) root ∙ clash))
+    of (inl root) = absurd (none_clash others 0 reads (ap (λ lock. list_any (clashes lock) others) root ∙ clash))
     of (inr (inl file)) = ap (λ (lock : ℕ × LockMode). lock.0) (sym file)
     of (inr (inr none)) = absurd none
 
--- ---- votes
-
-abbrev first_after : List Decided → Type 0
-first_after ds = HasFirstVotes three_agents.c0 (row_of (table_after_all (rows.opening three_agents) ds).rows 1)
-
-unmoved : (before later : List Event) → two_made ≡ before ++ later → HasFirstVotes three_agents.c0 (row_of (table_of three_agents before).rows 1)
-unmoved before later parts = ⊎_elim
-    (λ none. subst first_after (sym none) tt)
-    (λ all. subst first_after (sym all) refl)
-    (one_or_none (decisions three_agents before) (decisions_from (fixed_of three_agents) (run three_agents before) later) _
-    (ap (decisions three_agents) parts ∙ decisions_from-append (fixed_of three_agents) (opening three_agents) before later))
-
-abbrev no_votes : List (ℕ × Configuration)
-no_votes = []
-
 readers_meet : ReadersMeet three_agents two_made closed_while_read writer
 readers_meet = record {
-  can = they_can;
+  can = three_can (two_made ++ closed_while_read) refl;
   idle = refl;
   up = refl;
   free = refl;
-  unspoiled = λ before rest event split.
-      subst (λ world. spoils three_agents world event ≡ false) (sym (after_append (fixed_of three_agents) two_made before (opening three_agents)))
-      (none_spoils_it closed_while_read before event rest (run three_agents two_made) refl split);
+  unspoiled = none_spoils_it three_agents two_made closed_while_read refl;
   others_read = others_read;
   suite = 1;
-  at_it = at_it;
+  at_it = λ one lock reads has clash. at_it (its_asks three_agents two_made closed_while_read one) lock reads has clash;
   tight = refl;
-  unmoved = unmoved;
-  moves_none = λ votes has. absurd (has_from no_votes (1, votes) has);
+  unmoved = first_at three_agents two_made _ 1 refl tt refl;
+  moves_none = λ votes has. none_set (1, votes) has;
 }
 
 pub some_runs_meet_readers : SomeRunsMeetReaders

@@ -83,10 +83,6 @@ module _ (service : Service) (rows : Rows) (t : ℕ) (caller : Identity) (ops : 
 
 -- ---- votes of edits
 
-the_other : (a b : Bool) → (a || b) ≡ true → a ≡ false → b ≡ true
-the_other true b is none = cc
-the_other false b is none = is
-
 module _ (W : Configuration → Type 0) where
   abbrev pub AreIn : Option Row → Type 0
   AreIn row = (r : Row) → row ≡ Some r → W r.votes

@@ -3,7 +3,6 @@ use Rattle.law_run_recovers.proofs.Vocabulary.{◌≡◌, inl, inr, ℕ, Bool, t
 use Rattle.law_run_recovers.proofs.Vocabulary.{same_Some, Configuration, votes_in, Opening, Prefix, LockMode, Shared, Exclusive, Row, row_of, find_some, contains_from, Entry, is_of, entry_of, fixed_of, Event, Actor, actor_at, run}
 use Rattle.law_run_recovers.proofs.Vocabulary.{table_of, prefix_at, WasPrefix, IsQuorum, Inv, beginning, machine_of, knowledge_was, AllKeepSides, register, row_at, CanBe, all_keep, all_consistent, is_up, up_free, Demand, demand, is_met}
 use Rattle.law_run_recovers.proofs.Vocabulary.{led_to, votes_of_row, locks_asked, votes_set, MayStart, MetDemandsAreRows}
-use Rattle.run_core.specs.Worlds as worlds
 use Rattle.law_one_table.proofs.Effects as effects
 use Rattle.law_one_table.proofs.Versions as versions
 use Rattle.law_run_recovers.proofs.Found.{all_answer, found_is_row}
@@ -27,9 +26,6 @@ row_votes given events can z None is =
     ap (λ (prefix : Prefix). prefix.votes) (sym inv.logged.own.0.1 ∙ ap (prefix_at (beginning z given) (machine_of given z events).log) none ∙ inv.logged.never.1)
 
 module _ (given : Opening) (events : List Event) (can : CanBe given events) (z : ℕ) where
-  abbrev world : worlds.World
-  world = run given events
-
   abbrev kept : AllKeepSides given events
   kept = all_keep given events can
 

@@ -56,9 +56,6 @@ module _ (st : State) (consistent : IsConsistent st) (t z : ℕ) (mode : LockMod
           by false other = refl
           by true same = absurd (false≢true (sym calm ∙ whose intention is named (eqb-true intention.t named same)))
 
-  Keeps : State → Type 0
-  Keeps new = copy_of new.store z ≡ copy_of st.store z
-
   locking_keeps : (other : Option Lock) (named suite : ℕ) (m : LockMode) → copy_of (after_locking other named suite m st).store z ≡ copy_of st.store z
   locking_keeps None named suite m = refl
   locking_keeps (Some other) named suite m = refl

@@ -4,7 +4,7 @@ use Rattle.law_run_recovers.proofs.Vocabulary.{false≢true, none-some, same_Som
 use Rattle.law_run_recovers.proofs.Vocabulary.{started, Event, Begin, Step, Actor, World, server_at, actor_at, has_no_job, step, dones, outcomes, run, table_of, machine_of, all_keep, is_decided, all_consistent, is_up, up_free, Demand}
 use Rattle.law_run_recovers.proofs.Vocabulary.{demands, first_short, is_met, all_met, led_to, led_to_by, newer_from, MayStart, VotesAreUp, GoesAlone, ending_of, answer_on, OneIsDecided, is_open_at, way_at, begun_world, world_after}
 use Rattle.law_one_table.proofs.Effects as effects
-use Rattle.law_run_recovers.specs.Laws as laws
+use Rattle.law_run_recovers.specs.Ends as laws
 use Rattle.law_run_recovers.proofs.AloneKept.{calm, up_same, many, free_then, table_same, shown_then}
 use Rattle.law_run_recovers.proofs.AloneLaws.{steadily, own_then}
 use Rattle.law_run_recovers.proofs.AmongCourse.{Course, RunsIt, runs_it, course_runs, next_is, apart_on}
@@ -19,7 +19,6 @@ use Rattle.law_run_recovers.proofs.Found.{all_answer}
 use Rattle.law_run_recovers.proofs.HadVotes.{count_then, last_now}
 use Rattle.law_run_recovers.proofs.Hinted.{execute_hints, reply_hints}
 use Rattle.law_run_recovers.proofs.Led.{rules_of}
-use Rattle.law_run_recovers.proofs.MeetCalm.{along}
 use Rattle.law_run_recovers.proofs.NearGround.{its, first_asked, sight, Known, ground, can_first}
 use Rattle.law_run_recovers.proofs.Open.{alone_is_unmet, begun_actor, begun_there, clear_first, near_alone, near_among, plain_way, unmet_is_among_locks}
 use Rattle.law_run_recovers.proofs.Polled.{Sight, finds_at}
@@ -28,6 +27,7 @@ use Rattle.law_run_recovers.proofs.SameDemands.{HintsLed, hints_alike, same_so_f
 use Rattle.law_run_recovers.proofs.Steady.{GoesSteadily, never_hindered}
 use Rattle.law_run_recovers.proofs.StepsServed.{OwnTook, own_took}
 use Rattle.law_run_recovers.proofs.UnmetLaws.{open_where_free, unmet_by_votes}
+use Rattle.law_run_recovers.proofs.Picks.{along}
 
 -- ---- how it ends
 

@@ -1,13 +1,12 @@
 -- What a transaction that nobody robs finds at each moment at which it is at work: no server has it recorded, its locks are there, and what it knows is so on the table of that moment.
-use Rattle.law_run_recovers.proofs.Vocabulary.{◌≡◌, ◌≢◌, ℕ, List, [], ◌∷◌, ◌++◌, append_assoc, append-nil, Option, Some, None, refl, sym, ap, subst, ◌∙◌, true, false, ◌||◌, nat_cmp, IsOrdered, Identity, Opening, Op, row_of, AgreesWith}
-use Rattle.law_run_recovers.proofs.Vocabulary.{Verdict, Request, State, record_of, Transaction, known_of, TransactionRun, Running, fixed_of, next_of, stands_on_locks, Event, Begin, Actor, World, server_at, actor_at, step, run, table_of}
-use Rattle.law_run_recovers.proofs.Vocabulary.{Answered, machine_of, CanBe, begins_job, PhaseStands, doing_any, no_record, can_front, Finds, HasSome, finds, stands_where, Stands, Carried, carried_by, world_after, robs, hinders_itself}
-use Rattle.law_run_recovers.proofs.Vocabulary.{bereaves}
+use Rattle.law_run_recovers.proofs.Vocabulary.{◌≡◌, ℕ, List, [], ◌∷◌, ◌++◌, append_assoc, Option, Some, None, refl, sym, ap, subst, ◌∙◌, true, false, ◌||◌, Identity, Opening, Op}
+use Rattle.law_run_recovers.proofs.Vocabulary.{Verdict, Request, State, record_of, Transaction, TransactionRun, Running, fixed_of, next_of, stands_on_locks, Event, Begin, Actor, World, server_at, actor_at, step, run}
+use Rattle.law_run_recovers.proofs.Vocabulary.{machine_of, CanBe, begins_job, PhaseStands, doing_any, no_record, Finds, HasSome, finds, stands_where, Stands, Carried, carried_by, world_after, robs, hinders_itself, bereaves}
 use Rattle.law_run_recovers.proofs.AtWork.{locks_stand}
 use Rattle.law_run_recovers.proofs.Keeps.{IsAtWork, after_append, run_at, at_work_before}
-use Rattle.law_run_recovers.proofs.KnownIsTheTables.{unanswered, knows_table}
 use Rattle.law_run_recovers.proofs.Open.{begun_servers}
 use Rattle.law_run_recovers.proofs.Unfixed.{unrecorded_next}
+use Rattle.law_run_recovers.proofs.Picks.{along}
 
 module _ (given : Opening) (events later : List Event) (agent t : ℕ) (caller : Identity) (site : ℕ) (ops : List Op) (actor : Actor)
     (can : CanBe given (events ++ Begin agent (Transaction caller site ops) ∷ later)) (there : actor_at (run given events) agent ≡ Some actor)
@@ -45,28 +44,10 @@ module _ (given : Opening) (events later : List Event) (agent t : ℕ) (caller :
       subst Unrecorded (sym next)
       (unrecorded_next given can.accepted (so_all so_far) agent t now (subst Unrecorded (is_run so_far) none) event calm (subst (λ w. IsAtWork w agent t) next at))
 
-  unrecorded_along : (todo so_far rest : List Event) → later ≡ (so_far ++ todo) ++ rest → IsAtWork (world_at (so_far ++ todo)) agent t → Unrecorded (world_at so_far) → Unrecorded (world_at (so_far ++ todo))
-  unrecorded_along [] so_far rest is at none = subst (λ so_far. Unrecorded (world_at so_far)) (sym (append-nil so_far)) none
-  unrecorded_along (event ∷ todo) so_far rest is at none =
-      let more : (so_far ++ event ∷ []) ++ todo ≡ so_far ++ event ∷ todo = append_assoc so_far (event ∷ []) todo in
-      let at' = subst (λ so_far. IsAtWork (world_at so_far) agent t) (sym more) at in
-      let next = unrecorded_then so_far (todo ++ rest) event (is ∙ append_assoc so_far (event ∷ todo) rest) (work_before (so_far ++ event ∷ []) todo at') none in
-      subst (λ so_far. Unrecorded (world_at so_far)) more (unrecorded_along todo (so_far ++ event ∷ []) rest (is ∙ ap (λ so_far. so_far ++ rest) (sym more)) at' next)
-
   -- no server has it recorded
   pub unrecorded_at : (so_far rest : List Event) → later ≡ so_far ++ rest → IsAtWork (world_at so_far) agent t → Unrecorded (world_at so_far)
-  unrecorded_at so_far rest is at = unrecorded_along so_far [] rest is at unrecorded_first
-
-  -- what it knows is so on the table of that moment, whatever others have decided since it began
-  pub knows_then : (so_far rest : List Event) → later ≡ so_far ++ rest → IsAtWork (world_at so_far) agent t → (here : Actor) (txn_run : TransactionRun)
-      → actor_at (world_at so_far) agent ≡ Some here → here.agent.doing ≡ Some (Running txn_run)
-      → IsOrdered nat_cmp txn_run.suites → txn_run.task.t ≡ t → AgreesWith (known_of txn_run.suites) (row_of (table_of given (so_all so_far)).rows)
-  knows_then so_far rest is at here txn_run there' running ordered number =
-      let can' : CanBe given (so_all so_far) =
-      can_front given (so_all so_far) rest (subst (CanBe given) (ap (λ later. events ++ Begin agent (Transaction caller site ops) ∷ later) is ∙ sym (append_assoc events (Begin agent (Transaction caller site ops) ∷ so_far) rest)) can) in
-      knows_table given (so_all so_far) can' agent here txn_run (ap (λ w. actor_at w agent) (sym (is_run so_far)) ∙ there') running ordered
-      (λ z. subst (Stands (machine_of given z (so_all so_far))) (sym number) (locks_stand given events later agent t caller site ops actor can there begins_so spares so_far rest is at z))
-      (λ z. subst (λ t. (machine_of given z (so_all so_far)).verdict t ≢ Some Answered) (sym number) (unanswered given (so_all so_far) can' t (subst Unrecorded (is_run so_far) (unrecorded_at so_far rest is at)) z))
+  unrecorded_at = along later (λ so_far. IsAtWork (world_at so_far) agent t → Unrecorded (world_at so_far))
+      (λ so_far rest event is none at. unrecorded_then so_far rest event is at (none (work_before so_far (event ∷ []) at))) (λ at. unrecorded_first)
 
   -- and what its requests stand on is there
   module _ (so_far rest : List Event) (is : later ≡ so_far ++ rest) (at : IsAtWork (world_at so_far) agent t) (here : Actor) (txn_run : TransactionRun)

@@ -218,30 +218,33 @@ pub use Rattle.weak_cache.proofs.Origins.{forgotten_has, search_keeps_all}
 pub use Rattle.weak_cache.specs.Cache.{Limits, has_room, hint, put, searched, within_budget, within_quota}
 pub use Rattle.weak_cache.specs.Entries.{Cache, Entry, entry_of, forgotten, is_at, is_of, size_of, without}
 pub use Rattle.law_run_recovers.specs.Alone.{hinders, its_step, own_steps, unhindered_from}
-pub use Rattle.law_run_recovers.specs.Among.{AmongLocksAreAnsweredAsBegun, AmongLocksAreDecidedWhereVotesAre, AmongLocksEndByVotes, AmongLocksEndInTime, AmongLocksGatherTheirAsks, AmongLocksHadVotesOpen, AmongLocksLeaveNoLock}
-pub use Rattle.law_run_recovers.specs.Among.{EndsByOpenVotes, EndsOpenly, GathersItsAsks, GoesAmongLocks, StandsStill, UnmetAreAmongLocks, first_wanting, has_votes_open, is_gathered}
-pub use Rattle.law_run_recovers.specs.Beside.{Begun, GoSideBySide, SideBySideAreDecided, SideBySideAreToldFreely, SideBySideEndInTime, clash, clashes, its_asks, spoils}
+pub use Rattle.law_run_recovers.specs.Among.{AmongLocksAreAnsweredAsBegun, AmongLocksAreDecidedWhereVotesAre, AmongLocksAreToldAsBegun, AmongLocksEndByVotes, AmongLocksEndInTime, AmongLocksGatherTheirAsks, AmongLocksHadVotesOpen}
+pub use Rattle.law_run_recovers.specs.Among.{AmongLocksLeaveNoLock, GoesAmongLocks, StandsStill, UnmetAreAmongLocks}
+pub use Rattle.law_run_recovers.specs.Beside.{GoSideBySide, SideBySideAreDecided, SideBySideAreToldFreely, SideBySideEndInTime, clash, its_asks, spoils}
 pub use Rattle.law_run_recovers.specs.BesideDown.{GoSideBySideWhileDown, SideBySideAreUnmet, SideBySideEndByVotes, SideBySideEndWhileDown}
-pub use Rattle.law_run_recovers.specs.BesideWorked.{SomeRunsGoSideBySide, turns, two_made, two_write, first_down}
+pub use Rattle.law_run_recovers.specs.BesideWorked.{SomeRunsGoSideBySide, first_down, turns, two_made, two_write}
 pub use Rattle.law_run_recovers.specs.Blocking.{BlockedByDoubts, DoubtedAt, IsBlocker, OneCrashBlocks, SomeServerBlocks, SweepsAll, WasItsHome, blocks, can_have}
+pub use Rattle.law_run_recovers.specs.Clashing.{AreTight, Begun, HasFirstVotes, SetsApart, clashes, first_clash, only_reads, votes_now}
 pub use Rattle.law_run_recovers.specs.Contending.{NoneOfThree, NoneOfTwoCrossed, NoneOfTwoOfWhichOneRaises, NoneOfTwoThatRaise, NoneOfTwoThatSetVotes, NoneOfTwoThatWriteAll, SomeRunsStarve, b, puts}
-pub use Rattle.law_run_recovers.specs.Demands.{Demand, MayStart, MayStartAll, VotesAreUp, all_met, change_in, changes_on, demand, demand_by, demands, demands_of_rows, first_short, has_asked, is_met, led_on, led_so_far_by, led_to, led_to_by}
-pub use Rattle.law_run_recovers.specs.Demands.{locks_asked, newer_by, newer_from, not_asked, shows_newer_by, votes_of_row, votes_set}
+pub use Rattle.law_run_recovers.specs.Demands.{Demand, MayStart, MayStartAll, all_met, change_in, changes_on, demand_by, has_asked, is_met, led_on, led_so_far_by, led_to_by, locks_asked, newer_by, not_asked, shows_newer_by, votes_of_row}
+pub use Rattle.law_run_recovers.specs.Demands.{votes_set}
+pub use Rattle.law_run_recovers.specs.Ends.{EndsByOpenVotes, EndsOpenly, EndsThen, WasDecidedThen, answer_on, ending_by, ending_of, few_steps, first_wanting, has_votes_open}
+pub use Rattle.law_run_recovers.specs.Further.{GathersItsAsks, ToldAreDecidedWhereVotesAre, ToldGatherTheirAsks, VotesNeverMovedOf, is_gathered}
+pub use Rattle.law_run_recovers.specs.Going.{begun_world, hinders_itself, is_running, is_telling, is_told, of_up, robs, running_in, runs, takes, telling_in, tells, up_and, world_after}
 pub use Rattle.law_run_recovers.specs.Histories.{ChangesAreMetAtServer, FinishedBeforeAtServer, if_at, served_at}
 pub use Rattle.law_run_recovers.specs.InTime.{RunsEndByTheBounds}
-pub use Rattle.law_run_recovers.specs.Laws.{DecidedHadVotesUp, DecidedWhereVotesAre, EndsAreByVotes, EndsByVotes, EndsInTime, GoesAlone, HadVotesUp, HasFirstVotes, HomesGoRound, MetDemandsAreRows, OneIsDecided, OneOfThemIsDecided, again}
-pub use Rattle.law_run_recovers.specs.Laws.{answer_on, ending_by, ending_of, goes_again}
-pub use Rattle.law_run_recovers.specs.Local.{EndsThen, NearVotesAreRows, OpenVotesAreRows, UnmetAreDecidedWhereVotesAre, UnmetEndByVotes, UnmetEndInTime, UnmetHadVotesUp, VotesNeverMovedOf, WasDecidedThen, few_steps}
-pub use Rattle.law_run_recovers.specs.Meets.{AreTight, OneThatMeetsIsDecided, TheyMeet, first_clash, its_votes}
-pub use Rattle.law_run_recovers.specs.MeetsByRows.{OneThatMeetsByRowsIsDecided, SetsApart, TheyMeetByRows, votes_now}
+pub use Rattle.law_run_recovers.specs.Laws.{DecidedHadVotesUp, DecidedWhereVotesAre, EndsAreByVotes, EndsByVotes, EndsInTime, GoesAlone, HadVotesUp, HomesGoRound, MetDemandsAreRows, OneIsDecided, OneOfThemIsDecided, again, goes_again}
+pub use Rattle.law_run_recovers.specs.Local.{NearVotesAreRows, OpenVotesAreRows, UnmetAreDecidedWhereVotesAre, UnmetEndByVotes, UnmetEndInTime, UnmetHadVotesUp}
+pub use Rattle.law_run_recovers.specs.Meets.{OneThatMeetsIsDecided, TheyMeet, its_votes}
+pub use Rattle.law_run_recovers.specs.MeetsByRows.{OneThatMeetsByRowsIsDecided, TheyMeetByRows}
 pub use Rattle.law_run_recovers.specs.MeetsWorked.{SomeRunsMeet, SomeRunsMeetByRows, two_meet, votes_moved}
-pub use Rattle.law_run_recovers.specs.Near.{AreNear, asks_for, in_its_way, is_open_at, is_open_way, is_way_met, way_at, way_in}
 pub use Rattle.law_run_recovers.specs.OpenDemands.{Want, first_mode, mode_or, open_demand, open_demands, wants, wants_of_rows}
 pub use Rattle.law_run_recovers.specs.Promises.{IsAvailable, Lends}
-pub use Rattle.law_run_recovers.specs.Readers.{ReadersMeet, WriterOrReadersAreDecided, only_reads}
-pub use Rattle.law_run_recovers.specs.Standing.{all_free, holders, in_doubt, is_in_doubt, is_up, locks_at, locks_in, one_if, shown_at, shown_in, up_free, up_in}
+pub use Rattle.law_run_recovers.specs.Readers.{ReadersMeet, WriterOrReadersAreDecided}
+pub use Rattle.law_run_recovers.specs.Standing.{all_free, holders, in_doubt, is_in_doubt, is_up, locks_at, locks_in, one_if, shown_at, shown_in, up_in}
 pub use Rattle.law_run_recovers.specs.Sweeping.{AllIsStored, NoLockIsLeft, OnlyDoubtsAreLeft, SweepsKeepEffects, SweepsLeaveDoubts, TakenAwayAreNeverDecided, goes_round, stands, sweeps}
-pub use Rattle.law_run_recovers.specs.Told.{AmongLocksAreToldAsBegun, AsAtItsBegin, SameWay, ToldAreAnsweredAsBegun, ToldAreDecidedWhereVotesAre, ToldAsAtItsBegin, ToldEndByVotes, ToldEndInTime, ToldGatherTheirAsks, ToldHadVotesOpen}
-pub use Rattle.law_run_recovers.specs.Told.{bereaves, drops, everywhere, shows_same, told_as_first}
-pub use Rattle.law_run_recovers.specs.Unmet.{GoesUnmet, StandsOpen, begun_world, hinders_itself, is_running, is_telling, is_told, of_up, robs, running_in, runs, takes, telling_in, tells, up_and, world_after}
+pub use Rattle.law_run_recovers.specs.Told.{AsAtItsBegin, SameWay, ToldAreAnsweredAsBegun, ToldAsAtItsBegin, ToldEndByVotes, ToldEndInTime, ToldHadVotesOpen, bereaves, drops, everywhere, shows_same, told_as_first}
+pub use Rattle.law_run_recovers.specs.Unmet.{AreNear, GoesUnmet, StandsOpen}
+pub use Rattle.law_run_recovers.specs.Up.{VotesAreUp, demand, demands, demands_of_rows, first_short, led_to, newer_from, up_free}
+pub use Rattle.law_run_recovers.specs.Ways.{asks_for, in_its_way, is_open_at, is_open_way, is_way_met, way_at, way_in}
 pub use Rattle.law_run_recovers.specs.Worked.{AreFoundTwiceOn, AreMissing, AreNotFound, FewerToWrite, IsInDoubt, IsInNoWay, IsSweptAway, SomeRunsRecover}

@@ -11,29 +11,8 @@ use Rattle.law_run_recovers.proofs.Widened.{WidenedShort, widened_short, widened
 use Rattle.law_run_recovers.proofs.VotesSet.{IsSet}
 use Rattle.law_run_recovers.proofs.Asked.{onto_left}
 use Rattle.law_run_recovers.proofs.Asking.{held_in}
-use Rattle.law_run_recovers.proofs.Stands.{
-  IsKept,
-  held_same,
-  Ground,
-  locks_on,
-  of_votes,
-  demand_of,
-  EndsRight,
-  ends_short,
-  short_votes,
-  none_short,
-  IsRight,
-  had_met,
-  starts,
-  may_start,
-  SameStart,
-  had_with,
-  HasAll,
-  Sets,
-  StepStands,
-  told_stands,
-  prepare_stands,
-}
+use Rattle.law_run_recovers.proofs.Stands.{IsKept, held_same, Ground, locks_on, of_votes, demand_of, EndsRight, ends_short, short_votes, none_short, IsRight, had_met, starts, may_start, SameStart, had_with, HasAll, Sets, StepStands}
+use Rattle.law_run_recovers.proofs.Stands.{told_stands, prepare_stands}
 
 -- ---- a collector that is widened
 

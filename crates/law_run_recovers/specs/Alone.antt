@@ -1,10 +1,10 @@
 -- Events in which one agent alone reaches servers. Others may sit in the middle of their jobs.
-use Rattle.std.specs.Prelude.{ℕ, ◌+◌, ◌==◌, Bool, true, false, ◌&&◌, not, if◌then◌else◌, is_some, List, [], ◌∷◌}
+use Rattle.std.specs.Prelude.{◌&&◌, ◌+◌, ◌==◌, ◌∷◌, Bool, List, [], false, if◌then◌else◌, is_some, not, true, ℕ}
 use Rattle.suite_prefix.specs.SettingsRules.{Opening}
 use Rattle.txn_core.specs.Agents.{fixed_of}
-use Rattle.run_core.specs.declared.event.Event.{Event}
-use Rattle.run_core.specs.declared.event.Event.TheVariants.{Begin, Step, Crash, Return, Forget, Lack}
 use Rattle.run_core.specs.Worlds.{World, actor_at, has_no_job, step}
+use Rattle.run_core.specs.declared.event.Event.{Event}
+use Rattle.run_core.specs.declared.event.Event.TheVariants.{Begin, Crash, Forget, Lack, Return, Step}
 use Rattle.law_run_alone.specs.Alone.{begins_job}
 
 -- What hinders an agent: it begins another job, or forgets; as it has a job, a step of it is not served, or it is told that it is not served; another agent
@@ -27,11 +27,7 @@ unhindered_from given agent world (event ∷ events) = not (hinders given agent 
 -- how many steps of the agent are among these events
 abbrev pub its_step : ℕ → Event → Bool
 its_step agent (Step other) = other == agent
-its_step agent (Begin other job) = false
-its_step agent (Crash server) = false
-its_step agent (Return server) = false
-its_step agent (Forget other site) = false
-its_step agent (Lack other why) = false
+its_step agent other = false
 
 abbrev pub own_steps : ℕ → List Event → ℕ
 own_steps agent [] = 0

@@ -1,50 +1,31 @@
 -- Transactions side by side: each begins only where what it asks for clashes with what none asks for that runs. So no two are in each other's way.
-use Rattle.std.specs.Prelude.{◌≡◌, ℕ, ◌<◌, ◌==◌, Bool, true, false, ◌&&◌, ◌||◌, is_some, List, ◌∷◌, ◌++◌, Some}
 use Rattle.std.specs.List.{list_any}
-use Rattle.acl_core.specs.Identity.{Identity}
+use Rattle.std.specs.Prelude.{◌++◌, ◌<◌, ◌∷◌, ◌≡◌, Bool, List, Some, false, is_some, true, ℕ}
 use Rattle.suite_prefix.specs.SettingsRules.{Opening}
 use Rattle.suite_prefix.specs.declared.lock_mode.LockMode.{LockMode}
-use Rattle.suite_prefix.specs.LockModes.{is_exclusive}
-use Rattle.file_ops.specs.declared.operation.Op.{Op}
 use Rattle.rep_core.specs.Fits.{is_busy, is_down, is_lost}
-use Rattle.txn_core.specs.declared.job.Job.TheVariants.{Transaction, Sweep}
 use Rattle.txn_core.specs.Agents.{fixed_of}
-use Rattle.run_core.specs.declared.event.Event.{Event}
-use Rattle.run_core.specs.declared.event.Event.TheVariants.{Begin, Step}
-use Rattle.run_core.specs.declared.done.EndedJob.{EndedJob}
-use Rattle.run_core.specs.declared.done.Served.{Served}
-use Rattle.run_core.specs.Worlds.{World, step}
+use Rattle.txn_core.specs.declared.job.Job.TheVariants.{Sweep}
 use Rattle.run_core.specs.Runs.{run}
 use Rattle.run_core.specs.TableOfRun.{table_of}
+use Rattle.run_core.specs.Worlds.{World, step}
+use Rattle.run_core.specs.declared.done.EndedJob.{EndedJob}
+use Rattle.run_core.specs.declared.done.Served.{Served}
+use Rattle.run_core.specs.declared.event.Event.{Event}
+use Rattle.run_core.specs.declared.event.Event.TheVariants.{Begin, Step}
 use Rattle.law_headline.specs.Premises.{CanBe}
 use Rattle.law_run_alone.specs.Alone.{all_idle, begins_job}
-use Rattle.law_run_alone.specs.Undisturbed.{all_up, no_locks, disturbs}
+use Rattle.law_run_alone.specs.Undisturbed.{all_up, disturbs, no_locks}
+use Rattle.law_run_recovers.specs.Ways.{asks_for}
 use Rattle.law_run_recovers.specs.Alone.{own_steps}
-use Rattle.law_run_recovers.specs.Laws.{ending_of, answer_on}
-use Rattle.law_run_recovers.specs.Local.{EndsThen, Ended, few_steps}
-use Rattle.law_run_recovers.specs.Near.{asks_for}
-use Rattle.law_run_recovers.specs.Unmet.{is_running}
+use Rattle.law_run_recovers.specs.Going.{is_running}
+use Rattle.law_run_recovers.specs.Ends.{Ended, EndsThen, answer_on, ending_of, few_steps}
+use Rattle.law_run_recovers.specs.Clashing.{Begun, clashes}
 
 -- ---- who is in whose way
 
--- Two lists of locks clash where both have a suite, and one of them has it exclusive.
-abbrev pub clashes : ℕ × LockMode → ℕ × LockMode → Bool
-clashes one other = (one.0 == other.0) && (is_exclusive one.1 || is_exclusive other.1)
-
 abbrev pub clash : List (ℕ × LockMode) → List (ℕ × LockMode) → Bool
 clash asked others = list_any (λ one. list_any (clashes one) others) asked
-
--- a transaction that an agent begins in these events, which come after others, and what follows its begin
-pub record Begun (given : Opening) (events later : List Event) : Type 0 where
-  pub before : List Event
-  pub after : List Event
-  pub agent : ℕ
-  pub t : ℕ
-  pub caller : Identity
-  pub site : ℕ
-  pub ops : List Op
-  pub parts : later ≡ before ++ Begin agent (Transaction caller site ops) ∷ after
-  pub begins : begins_job given (run given (events ++ before)) (Begin agent (Transaction caller site ops)) ≡ Some (t, Transaction caller site ops)
 
 -- what it asks for, on the table as it begins
 abbrev pub its_asks : (given : Opening) (events later : List Event) → Begun given events later → List (ℕ × LockMode)

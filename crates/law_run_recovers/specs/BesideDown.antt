@@ -7,12 +7,15 @@ use Rattle.run_core.specs.Worlds.{Actor, actor_at}
 use Rattle.run_core.specs.Runs.{run}
 use Rattle.law_headline.specs.Premises.{CanBe}
 use Rattle.law_run_alone.specs.Alone.{all_idle}
-use Rattle.law_run_recovers.specs.Standing.{is_up, up_free}
+use Rattle.law_run_recovers.specs.Standing.{is_up}
+use Rattle.law_run_recovers.specs.Up.{up_free}
 use Rattle.law_run_recovers.specs.Alone.{own_steps}
 use Rattle.law_run_recovers.specs.Laws.{EndsByVotes}
-use Rattle.law_run_recovers.specs.Unmet.{is_running, GoesUnmet}
-use Rattle.law_run_recovers.specs.Local.{EndsThen, Ended, few_steps}
-use Rattle.law_run_recovers.specs.Beside.{clash, Begun, its_asks, spoils}
+use Rattle.law_run_recovers.specs.Going.{is_running}
+use Rattle.law_run_recovers.specs.Unmet.{GoesUnmet}
+use Rattle.law_run_recovers.specs.Ends.{EndsThen, Ended, few_steps}
+use Rattle.law_run_recovers.specs.Beside.{clash, its_asks, spoils}
+use Rattle.law_run_recovers.specs.Clashing.{Begun}
 
 -- ---- the premise
 

@@ -1,31 +1,34 @@
--- Of which suites a transaction needs votes, how many, and how many of them are up, where one agent alone reaches servers. Each such need is a demand;
--- it is met where the servers that are up have as many votes as are needed.
-use Rattle.std.specs.Prelude.{◌≡◌, ◌⊎◌, ℕ, ◌==◌, nat_lt, nat_le, Bool, true, ◌&&◌, not, if◌then◌else◌, List, [], ◌∷◌, ◌++◌, map, filter, find, length, option_map, zero, suc, Option, Some, None, Result, Ok, Err}
-use Rattle.std.specs.List.{list_any, list_all}
+-- Of which suites a transaction needs votes, how many, and how many of them servers have that answer it. Each such need is a demand; it is met where
+-- these servers have as many votes as are needed.
+use Rattle.std.specs.List.{list_all, list_any}
+use Rattle.std.specs.Prelude.{◌&&◌, ◌==◌, ◌∷◌, ◌≡◌, ◌⊎◌, Bool, Err, List, None, Ok, Option, Result, Some, [], filter, find, if◌then◌else◌, length, map, nat_le, nat_lt, option_map, suc, zero, ℕ}
 use Rattle.acl_core.specs.Identity.{Identity}
-use Rattle.vote_core.specs.Quorums.{Representative, Configuration, votes_in}
+use Rattle.vote_core.specs.Quorums.{Configuration, Representative, votes_in}
 use Rattle.suite_prefix.specs.Absent.{absent_prefix}
+use Rattle.suite_prefix.specs.LockModes.{serves}
 use Rattle.suite_prefix.specs.declared.copies.Prefix.{Prefix}
 use Rattle.suite_prefix.specs.declared.lock_mode.LockMode.{LockMode}
-use Rattle.suite_prefix.specs.LockModes.{serves}
-use Rattle.file_ops.specs.declared.operation.Op.{Op}
-use Rattle.file_ops.specs.declared.answer.Answer.{Answer}
-use Rattle.file_ops.specs.declared.refusal.Refusal.{Refusal}
 use Rattle.file_ops.specs.Rows.{PlainTable, Row, Rows, row_of}
+use Rattle.file_ops.specs.declared.answer.Answer.{Answer}
+use Rattle.file_ops.specs.declared.operation.Op.{Op}
+use Rattle.file_ops.specs.declared.refusal.Refusal.{Refusal}
+use Rattle.file_exec.specs.Changes.{changes_at, makes, sets_acl, sets_votes, some}
+use Rattle.file_exec.specs.Following.{Edits, Ended, ending, is_set, needs, seen}
+use Rattle.file_exec.specs.Operations.{transaction}
 use Rattle.file_exec.specs.declared.changes.Change.{Change}
 use Rattle.file_exec.specs.declared.need.Need.{Need}
 use Rattle.file_exec.specs.declared.need.Need.TheVariants.{Hold, Know}
-use Rattle.file_exec.specs.Changes.{some, makes, sets_acl, sets_votes, changes_at}
-use Rattle.file_exec.specs.Following.{Edits, Ended, seen, is_set, needs, ending}
-use Rattle.file_exec.specs.Operations.{transaction}
 use Rattle.suite_collect.specs.Collecting.{needed_of}
-use Rattle.weak_cache.specs.Entries.{Cache}
 use Rattle.weak_cache.specs.Cache.{hint}
-use Rattle.txn_core.specs.Doing.{Fixed, Changes}
+use Rattle.weak_cache.specs.Entries.{Cache}
+use Rattle.txn_core.specs.Doing.{Changes, Fixed}
 use Rattle.run_core.specs.Worlds.{World}
-use Rattle.law_run_recovers.specs.Standing.{is_up, shown_at}
+use Rattle.law_run_recovers.specs.Standing.{shown_at}
 
 -- ---- where a suite's votes are found
+
+-- Who looks for a suite has some prefix of it, which may be old, and asks the servers that have a vote by it. One that shows a newer prefix tells of newer
+-- votes, and then the servers are asked that have a vote by those.
 
 -- Who looks for a suite has some prefix of it, which may be old, and asks the servers that have a vote by it. One that shows a newer prefix tells of newer
 -- votes, and then the servers are asked that have a vote by those.
@@ -49,13 +52,6 @@ led_so_far_by (suc more) fixed world answers suite prefix = led_on prefix (newer
 
 abbrev pub led_to_by : Fixed → World → (ℕ → Bool) → ℕ → Prefix → Prefix
 led_to_by fixed world answers suite start = led_so_far_by (length world.servers) fixed world answers suite start
-
--- where all servers answer that are up
-abbrev pub newer_from : Fixed → World → ℕ → Prefix → Option Prefix
-newer_from fixed world suite prefix = newer_by fixed world (is_up world) suite prefix
-
-abbrev pub led_to : Fixed → World → ℕ → Prefix → Prefix
-led_to fixed world suite start = led_to_by fixed world (is_up world) suite start
 
 -- ---- what is locked
 
@@ -104,32 +100,13 @@ pub record Demand : Type 0 where
 abbrev pub demand_by : (ℕ → Bool) → ℕ → LockMode → Configuration → Demand
 demand_by answers suite mode votes = record { suite = suite; got = votes_in votes.reps answers; needed = needed_of mode votes }
 
-abbrev pub demand : World → ℕ → LockMode → Configuration → Demand
-demand world suite mode votes = demand_by (is_up world) suite mode votes
-
 abbrev pub is_met : Demand → Bool
 is_met demand = nat_le demand.needed demand.got
-
--- All that a transaction needs on a table, in its order, where each suite is looked for from some prefix on: first votes of each suite that it locks, by
--- the prefix at which it is found; then votes to write of each suite of which it sets votes, by those that it sets.
-abbrev pub demands : Fixed → World → PlainTable → ℕ → Identity → List Op → (ℕ → Prefix) → List Demand
-demands fixed world table t caller ops start =
-    map (λ (one : ℕ × LockMode). demand world one.0 one.1 (led_to fixed world one.0 (start one.0)).votes) (locks_asked table t caller ops)
-    ++ map (λ (one : ℕ × Configuration). record { suite = one.0; got = votes_in one.1.reps (is_up world); needed = one.1.w }) (votes_set table t caller ops)
-
--- the first of them that is not met
-abbrev pub first_short : List Demand → Option Demand
-first_short all = find (λ (one : Demand). not (is_met one)) all
 
 -- The same by the votes of the table's own rows, not as they are found. What has no row has the votes with which the service opened.
 abbrev pub votes_of_row : Fixed → Option Row → Configuration
 votes_of_row fixed (Some row) = row.votes
 votes_of_row fixed None = fixed.service.c0
-
-abbrev pub demands_of_rows : Fixed → World → PlainTable → ℕ → Identity → List Op → List Demand
-demands_of_rows fixed world table t caller ops =
-    map (λ (one : ℕ × LockMode). demand world one.0 one.1 (votes_of_row fixed (row_of table.rows one.0))) (locks_asked table t caller ops)
-    ++ map (λ (one : ℕ × Configuration). record { suite = one.0; got = votes_in one.1.reps (is_up world); needed = one.1.w }) (votes_set table t caller ops)
 
 abbrev pub all_met : List Demand → Bool
 all_met all = list_all is_met all
@@ -143,7 +120,3 @@ MayStart fixed cache site suite start = (start ≡ absent_prefix fixed.service.c
 
 abbrev pub MayStartAll : Fixed → Cache → ℕ → (ℕ → Prefix) → Type 0
 MayStartAll fixed cache site start = (suite : ℕ) → MayStart fixed cache site suite (start suite)
-
--- all demands are met, from wherever the suites may be looked for
-abbrev pub VotesAreUp : Fixed → World → PlainTable → Cache → ℕ → ℕ → Identity → List Op → Type 0
-VotesAreUp fixed world table cache t site caller ops = (start : ℕ → Prefix) → MayStartAll fixed cache site start → all_met (demands fixed world table t caller ops start) ≡ true

@@ -1,39 +1,36 @@
--- What is promised while servers are down: what is decided, and what ends undecided, and why.
-use Rattle.std.specs.Prelude.{◌≡◌, ◌⊎◌, ℕ, ◌+◌, ◌*◌, ◌<◌, ◌==◌, Bool, true, false, ◌&&◌, is_some, List, [], ◌∷◌, ◌++◌, length, Contains, Option, Some, None, Result, Ok, Err}
+-- What is promised to a transaction that goes alone while servers are down: what is decided, and what ends undecided, and why.
 use Rattle.std.specs.List.{list_any}
+use Rattle.std.specs.Prelude.{◌&&◌, ◌*◌, ◌++◌, ◌+◌, ◌<◌, ◌==◌, ◌∷◌, ◌≡◌, ◌⊎◌, Bool, Contains, List, Some, [], is_some, length, true, ℕ}
 use Rattle.acl_core.specs.Identity.{Identity}
-use Rattle.vote_core.specs.Quorums.{Configuration, is_write_quorum}
+use Rattle.vote_core.specs.Quorums.{is_write_quorum}
 use Rattle.suite_prefix.specs.SettingsRules.{Opening, max_agents}
 use Rattle.suite_prefix.specs.declared.copies.Prefix.{Prefix}
+use Rattle.file_ops.specs.Rows.{row_of}
 use Rattle.file_ops.specs.declared.operation.Op.{Op}
-use Rattle.file_ops.specs.declared.answer.Answer.{Answer}
-use Rattle.file_ops.specs.declared.refusal.Refusal.{Refusal}
-use Rattle.file_ops.specs.Rows.{PlainTable, Row, row_of}
-use Rattle.file_ops.specs.Transactions.{replies}
-use Rattle.txn_core.specs.declared.ending.Ending.{Ending}
-use Rattle.txn_core.specs.declared.ending.Ending.TheVariants.{Answered, Refused, Undecided}
-use Rattle.txn_core.specs.declared.ending.Cause.TheVariants.{Unavailable, HomeDown}
+use Rattle.weak_cache.specs.Entries.{Cache}
+use Rattle.txn_core.specs.Agents.{fixed_of}
+use Rattle.txn_core.specs.Doing.{Deciding, Proposal, Running, TransactionRun, home_of}
+use Rattle.txn_core.specs.Suites.{GatheredSuite, suite_of}
+use Rattle.txn_core.specs.Transactions.{changes_of, votes_after}
+use Rattle.txn_core.specs.Writing.{is_changed}
 use Rattle.txn_core.specs.declared.job.Job.{Job}
 use Rattle.txn_core.specs.declared.job.Job.TheVariants.{Transaction}
-use Rattle.txn_core.specs.Suites.{GatheredSuite, suite_of}
-use Rattle.txn_core.specs.Writing.{is_changed}
-use Rattle.txn_core.specs.Transactions.{changes_of, votes_after}
-use Rattle.txn_core.specs.Doing.{home_of, Proposal, Deciding, TransactionRun, Running}
-use Rattle.txn_core.specs.Agents.{fixed_of}
-use Rattle.weak_cache.specs.Entries.{Cache}
+use Rattle.run_core.specs.Decisions.{Decided, decided, decisions}
+use Rattle.run_core.specs.Runs.{after, dones, outcomes, run}
+use Rattle.run_core.specs.TableOfRun.{table_of}
+use Rattle.run_core.specs.Worlds.{Actor, World, actor_at, has_no_job, step}
+use Rattle.run_core.specs.declared.done.EndedJob.{EndedJob}
 use Rattle.run_core.specs.declared.event.Event.{Event}
 use Rattle.run_core.specs.declared.event.Event.TheVariants.{Begin, Step}
-use Rattle.run_core.specs.declared.done.EndedJob.{EndedJob}
-use Rattle.run_core.specs.Worlds.{Actor, World, actor_at, has_no_job, step}
-use Rattle.run_core.specs.Runs.{after, dones, outcomes, run}
-use Rattle.run_core.specs.Decisions.{Decided, decided, decisions}
-use Rattle.run_core.specs.TableOfRun.{played_on, table_of}
 use Rattle.law_headline.specs.Premises.{CanBe}
 use Rattle.law_run_alone.specs.Alone.{begins_job}
 use Rattle.law_run_alone.specs.Undisturbed.{is_decided}
-use Rattle.law_run_recovers.specs.Standing.{is_up, some_up, up_free}
-use Rattle.law_run_recovers.specs.Alone.{unhindered_from, own_steps}
-use Rattle.law_run_recovers.specs.Demands.{Demand, demands, demands_of_rows, first_short, all_met, demand, is_met, votes_of_row, locks_asked, MayStartAll, VotesAreUp}
+use Rattle.law_run_recovers.specs.Standing.{is_up}
+use Rattle.law_run_recovers.specs.Demands.{MayStartAll, all_met, is_met, locks_asked, votes_of_row}
+use Rattle.law_run_recovers.specs.Alone.{own_steps, unhindered_from}
+use Rattle.law_run_recovers.specs.Ends.{answer_on, ending_by}
+use Rattle.law_run_recovers.specs.Clashing.{HasFirstVotes}
+use Rattle.law_run_recovers.specs.Up.{VotesAreUp, demand, demands, demands_of_rows, first_short, some_up, up_free}
 
 -- ---- a transaction that goes alone
 
@@ -44,24 +41,6 @@ pub record GoesAlone (given : Opening) (events later : List Event) (agent t : �
   pub begins : begins_job given (run given events) (Begin agent (Transaction caller site ops)) ≡ Some (t, Transaction caller site ops)
   pub free : up_free (run given events) ≡ true
   pub alone : unhindered_from given agent (step (fixed_of given) (run given events) (Begin agent (Transaction caller site ops))).world later ≡ true
-
--- how it ends that is decided
-abbrev pub ending_of : Result (List Answer) Refusal → Ending
-ending_of (Ok answers) = Answered answers
-ending_of (Err refusal) = Refused refusal
-
--- Where a demand is not met, the first such; else, where the home is down, that; else as the table answers it.
-abbrev pub ending_by : Option Demand → Bool → Result (List Answer) Refusal → Ending
-ending_by (Some short) up answer = Undecided (Unavailable short.suite short.got short.needed)
-ending_by None true answer = ending_of answer
-ending_by None false answer = Undecided HomeDown
-
-abbrev pub asked_so : ℕ → Identity → List Op → Result (List Answer) Refusal → Decided
-asked_so t caller ops answer = record { t = t; caller = caller; ops = ops; answer = answer }
-
--- what the table of a run answers a transaction
-abbrev pub answer_on : PlainTable → ℕ → Identity → List Op → Result (List Answer) Refusal
-answer_on table t caller ops = replies (played_on table (asked_so t caller ops (Ok [])))
 
 -- It ends so: from some prefixes on, each that of what was never made or the hint that its site's cache had when it began.
 pub record EndsByVotes (given : Opening) (events : List Event) (t : ℕ) (caller : Identity) (site : ℕ) (ops : List Op) (cache : Cache) (job : EndedJob) : Type 0 where
@@ -113,11 +92,6 @@ MetDemandsAreRowsAt given events =
 
 abbrev pub MetDemandsAreRows : Type 0
 MetDemandsAreRows = (given : Opening) (events : List Event) → CanBe given events → MetDemandsAreRowsAt given events
-
--- the votes of no row differ from the first ones, nor do those that a transaction sets
-abbrev pub HasFirstVotes : Configuration → Option Row → Type 0
-HasFirstVotes c0 (Some row) = row.votes ≡ c0
-HasFirstVotes c0 None = Unit {0}
 
 -- Votes were never other than the first ones, at any moment of the run.
 abbrev pub VotesNeverMoved : Opening → List Event → Type 0

@@ -19,11 +19,12 @@ use Rattle.law_runs.specs.Worked.{two_agents, so_many}
 use Rattle.law_run_alone.specs.Undisturbed.{all_up}
 use Rattle.law_run_recovers.specs.Standing.{is_up}
 use Rattle.law_run_recovers.specs.Laws.{GoesAlone, EndsByVotes}
-use Rattle.law_run_recovers.specs.Local.{EndsThen}
+use Rattle.law_run_recovers.specs.Ends.{EndsThen, EndsByOpenVotes}
 use Rattle.law_run_recovers.specs.Sweeping.{sweeps, LeavesDoubts, SweepsAlone}
-use Rattle.law_run_recovers.specs.Near.{way_at}
-use Rattle.law_run_recovers.specs.Unmet.{begun_world, world_after, GoesUnmet}
-use Rattle.law_run_recovers.specs.Among.{EndsByOpenVotes, GoesAmongLocks}
+use Rattle.law_run_recovers.specs.Ways.{way_at}
+use Rattle.law_run_recovers.specs.Going.{begun_world, world_after}
+use Rattle.law_run_recovers.specs.Unmet.{GoesUnmet}
+use Rattle.law_run_recovers.specs.Among.{GoesAmongLocks}
 use Rattle.law_run_recovers.specs.Told.{everywhere, ToldAsAtItsBegin}
 use Rattle.law_run_recovers.specs.OpenDemands.{Want}
 use Rattle.law_run_recovers.specs.Blocking.{IsBlocker, SweepsAll, WasItsHome, blocks, can_have}

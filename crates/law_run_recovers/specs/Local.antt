@@ -1,51 +1,31 @@
 -- What is promised to a transaction that is left alone only where it asks: laws of Laws, by a weaker premise.
-use Rattle.std.specs.Prelude.{◌≡◌, ◌⊎◌, ℕ, ◌+◌, ◌*◌, ◌<◌, ◌==◌, Bool, true, false, ◌&&◌, List, ◌∷◌, ◌++◌, length, Contains, Some}
-use Rattle.std.specs.List.{list_any}
+use Rattle.std.specs.Prelude.{◌&&◌, ◌≡◌, Bool, Contains, List, Some, false, true, ℕ}
 use Rattle.acl_core.specs.Identity.{Identity}
 use Rattle.suite_prefix.specs.SettingsRules.{Opening}
 use Rattle.suite_prefix.specs.declared.copies.Prefix.{Prefix}
 use Rattle.suite_prefix.specs.declared.lock_mode.LockMode.{LockMode}
 use Rattle.file_ops.specs.declared.operation.Op.{Op}
-use Rattle.file_ops.specs.Rows.{row_of}
-use Rattle.txn_core.specs.declared.job.Job.TheVariants.{Transaction}
-use Rattle.txn_core.specs.Doing.{home_of}
 use Rattle.txn_core.specs.Agents.{fixed_of}
+use Rattle.txn_core.specs.Doing.{home_of}
+use Rattle.txn_core.specs.declared.job.Job.TheVariants.{Transaction}
+use Rattle.run_core.specs.Runs.{run}
+use Rattle.run_core.specs.TableOfRun.{table_of}
+use Rattle.run_core.specs.Worlds.{Actor, actor_at}
+use Rattle.run_core.specs.declared.done.EndedJob.{EndedJob}
 use Rattle.run_core.specs.declared.event.Event.{Event}
 use Rattle.run_core.specs.declared.event.Event.TheVariants.{Begin}
-use Rattle.run_core.specs.declared.done.EndedJob.{EndedJob}
-use Rattle.run_core.specs.Worlds.{Actor, actor_at}
-use Rattle.run_core.specs.Runs.{dones, outcomes, run}
-use Rattle.run_core.specs.Decisions.{Decided, decisions}
-use Rattle.run_core.specs.TableOfRun.{table_of}
-use Rattle.law_runs.specs.Numbers.{number_of}
 use Rattle.law_headline.specs.Premises.{CanBe}
 use Rattle.law_run_alone.specs.Alone.{begins_job}
 use Rattle.law_run_alone.specs.Undisturbed.{is_decided}
 use Rattle.law_run_recovers.specs.Standing.{is_up}
-use Rattle.law_run_recovers.specs.Alone.{own_steps}
-use Rattle.law_run_recovers.specs.Demands.{demands, demands_of_rows, all_met, locks_asked, MayStartAll}
-use Rattle.law_run_recovers.specs.Laws.{GoesAlone, EndsByVotes, HasFirstVotes}
-use Rattle.law_run_recovers.specs.Near.{AreNear, asks_for, in_its_way}
+use Rattle.law_run_recovers.specs.Demands.{MayStartAll, all_met}
+use Rattle.law_run_recovers.specs.Ways.{asks_for, in_its_way}
 use Rattle.law_run_recovers.specs.OpenDemands.{open_demands, wants, wants_of_rows}
-use Rattle.law_run_recovers.specs.Unmet.{begun_world, GoesUnmet}
-
--- ---- what may come of it
-
--- the job of this number is among those that end in these events after its begin
-pub record EndsThen (given : Opening) (events later : List Event) (agent t : ℕ) (caller : Identity) (site : ℕ) (ops : List Op) (job : EndedJob) : Type 0 where
-  pub there : Contains (outcomes (dones (fixed_of given) (begun_world given events agent caller site ops) later)) job
-  pub of_it : number_of job ≡ t
-
-pub record Ended (given : Opening) (events later : List Event) (agent t : ℕ) (caller : Identity) (site : ℕ) (ops : List Op) : Type 0 where
-  pub job : EndedJob
-  pub ends : EndsThen given events later agent t caller site ops job
-
--- the votes of these suites were never other than the first ones
-abbrev pub VotesNeverMovedOf : Opening → List Event → List (ℕ × LockMode) → Type 0
-VotesNeverMovedOf given events asked = (before later : List Event) (one : ℕ × LockMode) → events ≡ before ++ later → Contains asked one → HasFirstVotes given.c0 (row_of (table_of given before).rows one.0)
-
-abbrev pub few_steps : Opening → List Event → ℕ → Identity → List Op → ℕ
-few_steps given events t caller ops = length (locks_asked (table_of given events) t caller ops) * (2 * given.servers + 1) + 2 * given.servers + 1
+use Rattle.law_run_recovers.specs.Ends.{EndInTime, EndsThen, WasDecidedThen}
+use Rattle.law_run_recovers.specs.Further.{VotesNeverMovedOf}
+use Rattle.law_run_recovers.specs.Up.{demands, demands_of_rows}
+use Rattle.law_run_recovers.specs.Laws.{EndsByVotes, GoesAlone}
+use Rattle.law_run_recovers.specs.Unmet.{AreNear, GoesUnmet}
 
 -- ---- what is promised where nobody meets it
 
@@ -65,11 +45,9 @@ UnmetEndByVotesAt given events =
 abbrev pub UnmetEndByVotes : Type 0
 UnmetEndByVotes = (given : Opening) (events : List Event) → UnmetEndByVotesAt given events
 
+-- in time
 abbrev pub UnmetEndInTimeAt : Opening → List Event → Type 0
-UnmetEndInTimeAt given events =
-    (later : List Event) (agent t : ℕ) (caller : Identity) (site : ℕ) (ops : List Op) (actor : Actor)
-    → GoesUnmet given events later agent t caller site ops actor
-    → few_steps given events t caller ops < own_steps agent later → Ended given events later agent t caller site ops
+UnmetEndInTimeAt = EndInTime GoesUnmet
 
 abbrev pub UnmetEndInTime : Type 0
 UnmetEndInTime = (given : Opening) (events : List Event) → UnmetEndInTimeAt given events
@@ -83,12 +61,6 @@ UnmetAreDecidedWhereVotesAreAt given events =
 
 abbrev pub UnmetAreDecidedWhereVotesAre : Type 0
 UnmetAreDecidedWhereVotesAre = (given : Opening) (events : List Event) → UnmetAreDecidedWhereVotesAreAt given events
-
--- It was decided: it stands among the decisions, as its home has it recorded; or its job ended answered or refused.
-abbrev pub WasDecidedThen : Opening → List Event → List Event → ℕ → ℕ → Identity → ℕ → List Op → Type 0
-WasDecidedThen given events later agent t caller site ops =
-    (list_any (λ (one : Decided). one.t == t) (decisions given (events ++ Begin agent (Transaction caller site ops) ∷ later)) ≡ true)
-    ⊎ ((job : EndedJob) × EndsThen given events later agent t caller site ops job × (is_decided job.ending ≡ true))
 
 -- And wherever votes were moved, it is decided only where its home was up as it began, and enough votes by the rows.
 abbrev pub UnmetHadVotesUpAt : Opening → List Event → Type 0

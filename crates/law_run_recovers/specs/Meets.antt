@@ -1,34 +1,18 @@
--- Transactions that meet: two of which each asks for something that clashes with what the other asks for. Where the first that clashes is of one suite for
--- both, and its votes leave enough to one of them where they are too few for the other, one of both is decided.
-use Rattle.std.specs.Prelude.{◌≡◌, ◌⊎◌, ℕ, ◌+◌, ◌==◌, true, false, ◌||◌, find, List, ◌∷◌, ◌++◌, Contains, Option, Some}
-use Rattle.std.specs.List.{list_any}
-use Rattle.vote_core.specs.Quorums.{Configuration, total_votes}
+-- Two that meet and begin alone, where votes were never moved.
+use Rattle.std.specs.Prelude.{◌++◌, ◌==◌, ◌∷◌, ◌≡◌, ◌⊎◌, Contains, List, Some, false, true, ℕ}
+use Rattle.vote_core.specs.Quorums.{Configuration}
 use Rattle.suite_prefix.specs.SettingsRules.{Opening}
 use Rattle.suite_prefix.specs.declared.lock_mode.LockMode.{LockMode}
-use Rattle.suite_collect.specs.Collecting.{needed_of}
-use Rattle.run_core.specs.declared.event.Event.{Event}
-use Rattle.run_core.specs.declared.done.EndedJob.{EndedJob}
 use Rattle.run_core.specs.Runs.{run}
 use Rattle.run_core.specs.TableOfRun.{table_of}
+use Rattle.run_core.specs.declared.event.Event.{Event}
 use Rattle.law_headline.specs.Premises.{CanBe}
 use Rattle.law_run_alone.specs.Alone.{all_idle}
-use Rattle.law_run_alone.specs.Undisturbed.{all_up, no_locks, is_decided}
-use Rattle.law_run_recovers.specs.Beside.{clashes, Begun, its_asks, spoils}
+use Rattle.law_run_alone.specs.Undisturbed.{all_up, no_locks}
 use Rattle.law_run_recovers.specs.Demands.{votes_set}
-use Rattle.law_run_recovers.specs.Local.{EndsThen, VotesNeverMovedOf}
-
--- ---- where two clash
-
--- the first lock that one asks for and that clashes with one of the other's
-abbrev pub first_clash : List (ℕ × LockMode) → List (ℕ × LockMode) → Option (ℕ × LockMode)
-first_clash asked others = find (λ one. list_any (clashes one) others) asked
-
--- By these votes two locks of a suite that clash need one vote more than there are. So of two that want one each, and of which one is short of votes, the
--- votes that the other has are enough.
-abbrev pub AreTight : Configuration → ℕ → List (ℕ × LockMode) → List (ℕ × LockMode) → Type 0
-AreTight votes suite asked others =
-    (mine theirs : LockMode) → Contains asked (suite, mine) → Contains others (suite, theirs) → clashes (suite, mine) (suite, theirs) ≡ true
-    → needed_of mine votes + needed_of theirs votes ≡ total_votes votes.reps + 1
+use Rattle.law_run_recovers.specs.Further.{VotesNeverMovedOf}
+use Rattle.law_run_recovers.specs.Clashing.{AreTight, Begun, OneIsDecidedOf, clashes, first_clash}
+use Rattle.law_run_recovers.specs.Beside.{its_asks, spoils}
 
 -- ---- the premise
 
@@ -65,9 +49,7 @@ pub record TheyMeet (given : Opening) (events later : List Event) (one other : B
 abbrev pub OneThatMeetsIsDecidedAt : Opening → List Event → Type 0
 OneThatMeetsIsDecidedAt given events =
     (later : List Event) (one other : Begun given events later) → TheyMeet given events later one other
-    → (job outcome : EndedJob) → EndsThen given (events ++ one.before) one.after one.agent one.t one.caller one.site one.ops job
-    → EndsThen given (events ++ other.before) other.after other.agent other.t other.caller other.site other.ops outcome
-    → (is_decided job.ending || is_decided outcome.ending) ≡ true
+    → OneIsDecidedOf given events later one other
 
 abbrev pub OneThatMeetsIsDecided : Type 0
 OneThatMeetsIsDecided = (given : Opening) (events : List Event) → OneThatMeetsIsDecidedAt given events

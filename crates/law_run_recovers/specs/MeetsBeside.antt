@@ -1,35 +1,29 @@
 -- Transactions that meet while others are beside, which may begin again and again, whatever they do: as long as no lock of theirs is in the way of what the two ask
 -- for. They may be in each other's way, end undecided, write other files, and read what both only read. Their locks count, not what they ask for on the table as
 -- they begin: one begins to write a name that is not there, a second one makes it, and the first locks what that made.
-use Rattle.std.specs.Prelude.{◌≡◌, ◌⊎◌, ℕ, ◌+◌, Bool, true, false, ◌||◌, is_some, List, ◌∷◌, ◌++◌, Contains, Option, Some, None}
 use Rattle.std.specs.List.{list_any}
+use Rattle.std.specs.Prelude.{◌++◌, ◌+◌, ◌∷◌, ◌≡◌, ◌⊎◌, Bool, Contains, List, Option, Some, false, is_some, true, ℕ}
 use Rattle.vote_core.specs.Quorums.{Configuration, total_votes}
 use Rattle.suite_prefix.specs.SettingsRules.{Opening}
 use Rattle.suite_prefix.specs.declared.lock_mode.LockMode.{LockMode}
 use Rattle.suite_prefix.specs.declared.lock_mode.LockMode.TheVariants.{Shared}
 use Rattle.file_ops.specs.Rows.{row_of}
 use Rattle.rep_core.specs.declared.lock.Lock.{Lock}
+use Rattle.txn_core.specs.Doing.{Doing, RunningSweep}
 use Rattle.txn_core.specs.declared.job.Job.TheVariants.{Sweep}
-use Rattle.txn_core.specs.Doing.{Doing, Running, RunningSweep}
-use Rattle.run_core.specs.declared.event.Event.{Event}
-use Rattle.run_core.specs.declared.event.Event.TheVariants.{Begin, Crash}
-use Rattle.run_core.specs.declared.done.EndedJob.{EndedJob}
-use Rattle.run_core.specs.Worlds.{Actor, World}
 use Rattle.run_core.specs.Runs.{run}
 use Rattle.run_core.specs.TableOfRun.{table_of}
+use Rattle.run_core.specs.Worlds.{Actor, World}
+use Rattle.run_core.specs.declared.event.Event.{Event}
+use Rattle.run_core.specs.declared.event.Event.TheVariants.{Begin, Crash}
 use Rattle.law_headline.specs.Premises.{CanBe}
 use Rattle.law_run_alone.specs.Alone.{begins_job}
-use Rattle.law_run_alone.specs.Undisturbed.{all_up, is_decided}
+use Rattle.law_run_alone.specs.Undisturbed.{all_up}
 use Rattle.law_run_recovers.specs.Standing.{locks_at}
-use Rattle.law_run_recovers.specs.Beside.{clashes, Begun}
 use Rattle.law_run_recovers.specs.Demands.{votes_set}
-use Rattle.law_run_recovers.specs.Laws.{HasFirstVotes}
-use Rattle.law_run_recovers.specs.Local.{EndsThen}
-use Rattle.law_run_recovers.specs.Near.{asks_for}
-use Rattle.law_run_recovers.specs.Unmet.{is_running, hinders_itself}
-use Rattle.law_run_recovers.specs.Meets.{first_clash, AreTight}
-use Rattle.law_run_recovers.specs.MeetsByRows.{votes_now, SetsApart}
-use Rattle.law_run_recovers.specs.Readers.{only_reads}
+use Rattle.law_run_recovers.specs.Ways.{asks_for}
+use Rattle.law_run_recovers.specs.Going.{hinders_itself, is_running}
+use Rattle.law_run_recovers.specs.Clashing.{AreTight, Begun, HasFirstVotes, OneIsDecidedOf, SetsApart, clashes, first_clash, only_reads, votes_now}
 
 -- ---- the events
 
@@ -42,8 +36,7 @@ upsets given world event = false
 -- an agent is at a sweep
 abbrev pub sweeps_now : Option Doing → Bool
 sweeps_now (Some (RunningSweep sweep_run)) = true
-sweeps_now (Some (Running txn_run)) = false
-sweeps_now None = false
+sweeps_now other = false
 
 -- They begin where every server is up and nobody sweeps, others being anywhere in their transactions; and nothing upsets them.
 pub record GoesOn (given : Opening) (events later : List Event) : Type 0 where
@@ -99,9 +92,7 @@ pub record TheyMeetBeside (given : Opening) (events later : List Event) (one oth
 abbrev pub OneThatMeetsBesideIsDecidedAt : Opening → List Event → Type 0
 OneThatMeetsBesideIsDecidedAt given events =
     (later : List Event) (one other : Begun given events later) → TheyMeetBeside given events later one other
-    → (job outcome : EndedJob) → EndsThen given (events ++ one.before) one.after one.agent one.t one.caller one.site one.ops job
-    → EndsThen given (events ++ other.before) other.after other.agent other.t other.caller other.site other.ops outcome
-    → (is_decided job.ending || is_decided outcome.ending) ≡ true
+    → OneIsDecidedOf given events later one other
 
 abbrev pub OneThatMeetsBesideIsDecided : Type 0
 OneThatMeetsBesideIsDecided = (given : Opening) (events : List Event) → OneThatMeetsBesideIsDecidedAt given events
@@ -130,9 +121,7 @@ pub record ReaderMeetsBeside (given : Opening) (events later : List Event) (writ
 abbrev pub WriterOrReaderBesideIsDecidedAt : Opening → List Event → Type 0
 WriterOrReaderBesideIsDecidedAt given events =
     (later : List Event) (writer reader : Begun given events later) → ReaderMeetsBeside given events later writer reader
-    → (job outcome : EndedJob) → EndsThen given (events ++ writer.before) writer.after writer.agent writer.t writer.caller writer.site writer.ops job
-    → EndsThen given (events ++ reader.before) reader.after reader.agent reader.t reader.caller reader.site reader.ops outcome
-    → (is_decided job.ending || is_decided outcome.ending) ≡ true
+    → OneIsDecidedOf given events later writer reader
 
 abbrev pub WriterOrReaderBesideIsDecided : Type 0
 WriterOrReaderBesideIsDecided = (given : Opening) (events : List Event) → WriterOrReaderBesideIsDecidedAt given events

@@ -11,11 +11,10 @@ use Rattle.run_core.specs.declared.event.Event.{Event}
 use Rattle.run_core.specs.declared.event.Event.TheVariants.{Begin, Step, Lack}
 use Rattle.law_headline.specs.Worked.{with_caches}
 use Rattle.law_runs.specs.Worked.{close_a, read_a, so_many}
-use Rattle.law_run_recovers.specs.Beside.{Begun}
+use Rattle.law_run_recovers.specs.Clashing.{Begun, OneIsDecidedOf}
 use Rattle.law_run_recovers.specs.BesideWorked.{two_made}
 use Rattle.law_run_recovers.specs.Contending.{b, puts}
 use Rattle.law_run_recovers.specs.MeetsBeside.{TheyMeetBeside, ReaderMeetsBeside}
-use Rattle.law_run_recovers.specs.MeetsWorked.{OneIsDecidedOf}
 use Rattle.law_run_recovers.specs.ReadersWorked.{three_agents, turns_of_three}
 use Rattle.law_run_recovers.specs.Worked.{endings_in}
 

@@ -11,7 +11,7 @@ use Rattle.file_ops.specs.Rows.{PlainTable, row_of}
 use Rattle.txn_core.specs.Doing.{Fixed}
 use Rattle.run_core.specs.Worlds.{World}
 use Rattle.law_run_recovers.specs.Demands.{Demand, demand_by, led_to_by, locks_asked, votes_set, votes_of_row}
-use Rattle.law_run_recovers.specs.Near.{is_open_at}
+use Rattle.law_run_recovers.specs.Ways.{is_open_at}
 
 -- ---- what it wants
 

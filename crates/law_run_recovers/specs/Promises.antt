@@ -17,7 +17,8 @@ use Rattle.law_run_recovers.specs.Meets.{OneThatMeetsIsDecidedAt}
 use Rattle.law_run_recovers.specs.MeetsBeside.{OneThatMeetsBesideIsDecidedAt, WriterOrReaderBesideIsDecidedAt}
 use Rattle.law_run_recovers.specs.MeetsByRows.{OneThatMeetsByRowsIsDecidedAt}
 use Rattle.law_run_recovers.specs.Among.{AmongLocksEndByVotesAt, AmongLocksEndInTimeAt, AmongLocksHadVotesOpenAt, AmongLocksAreDecidedWhereVotesAreAt, AmongLocksAreAnsweredAsBegunAt, AmongLocksGatherTheirAsksAt, AmongLocksLeaveNoLockAt}
-use Rattle.law_run_recovers.specs.Told.{ToldEndByVotesAt, ToldEndInTimeAt, ToldHadVotesOpenAt, ToldAreDecidedWhereVotesAreAt, ToldAreAnsweredAsBegunAt, ToldGatherTheirAsksAt}
+use Rattle.law_run_recovers.specs.Told.{ToldEndByVotesAt, ToldEndInTimeAt, ToldHadVotesOpenAt, ToldAreAnsweredAsBegunAt}
+use Rattle.law_run_recovers.specs.Further.{ToldAreDecidedWhereVotesAreAt, ToldGatherTheirAsksAt}
 use Rattle.law_run_recovers.specs.Beside.{SideBySideAreDecidedAt, SideBySideEndInTimeAt, SideBySideAreToldFreelyAt}
 use Rattle.law_run_recovers.specs.BesideDown.{SideBySideAreUnmetAt, SideBySideEndByVotesAt}
 use Rattle.law_run_recovers.specs.Histories.{FinishedBeforeAtServerAt, ChangesAreMetAtServerAt}

@@ -1,29 +1,20 @@
 -- One transaction that writes, or sets a list, and any number that only read. Where they clash at one suite alone, and the votes to read it and those to
 -- write it are one more than it has, the one is decided or each of the others is.
-use Rattle.std.specs.Prelude.{◌≡◌, ◌⊎◌, ℕ, ◌+◌, Bool, true, false, ◌||◌, not, List, ◌∷◌, ◌++◌, Contains}
 use Rattle.std.specs.List.{list_any}
+use Rattle.std.specs.Prelude.{◌++◌, ◌+◌, ◌∷◌, ◌≡◌, ◌⊎◌, Contains, List, false, true, ℕ}
 use Rattle.vote_core.specs.Quorums.{Configuration, total_votes}
 use Rattle.suite_prefix.specs.SettingsRules.{Opening}
 use Rattle.suite_prefix.specs.declared.lock_mode.LockMode.{LockMode}
-use Rattle.suite_prefix.specs.LockModes.{is_exclusive}
 use Rattle.file_ops.specs.Rows.{row_of}
-use Rattle.run_core.specs.declared.event.Event.{Event}
-use Rattle.run_core.specs.declared.done.EndedJob.{EndedJob}
 use Rattle.run_core.specs.Runs.{run}
 use Rattle.run_core.specs.TableOfRun.{table_of}
+use Rattle.run_core.specs.declared.event.Event.{Event}
 use Rattle.law_headline.specs.Premises.{CanBe}
 use Rattle.law_run_alone.specs.Alone.{all_idle}
-use Rattle.law_run_alone.specs.Undisturbed.{all_up, no_locks, is_decided}
-use Rattle.law_run_recovers.specs.Beside.{clashes, Begun, its_asks, spoils}
-use Rattle.law_run_recovers.specs.Laws.{HasFirstVotes}
-use Rattle.law_run_recovers.specs.Local.{EndsThen}
+use Rattle.law_run_alone.specs.Undisturbed.{all_up, no_locks}
+use Rattle.law_run_recovers.specs.Clashing.{Begun, HasFirstVotes, OneIsDecidedOf, clashes, only_reads}
+use Rattle.law_run_recovers.specs.Beside.{its_asks, spoils}
 use Rattle.law_run_recovers.specs.Meets.{its_votes}
-
--- ---- who only reads
-
--- Of what it asks for nothing is exclusive; so is one that is denied a read, or that reads a list.
-abbrev pub only_reads : List (ℕ × LockMode) → Bool
-only_reads asked = not (list_any (λ one. is_exclusive one.1) asked)
 
 -- ---- the premise
 
@@ -49,9 +40,7 @@ pub record ReadersMeet (given : Opening) (events later : List Event) (writer : B
 abbrev pub WriterOrReadersAreDecidedAt : Opening → List Event → Type 0
 WriterOrReadersAreDecidedAt given events =
     (later : List Event) (writer reader : Begun given events later) → ReadersMeet given events later writer → only_reads (its_asks given events later reader) ≡ true
-    → (job outcome : EndedJob) → EndsThen given (events ++ writer.before) writer.after writer.agent writer.t writer.caller writer.site writer.ops job
-    → EndsThen given (events ++ reader.before) reader.after reader.agent reader.t reader.caller reader.site reader.ops outcome
-    → (is_decided job.ending || is_decided outcome.ending) ≡ true
+    → OneIsDecidedOf given events later writer reader
 
 abbrev pub WriterOrReadersAreDecided : Type 0
 WriterOrReadersAreDecided = (given : Opening) (events : List Event) → WriterOrReadersAreDecidedAt given events

@@ -10,10 +10,10 @@ use Rattle.run_core.specs.declared.event.Event.{Event}
 use Rattle.run_core.specs.declared.event.Event.TheVariants.{Begin, Step}
 use Rattle.law_headline.specs.Worked.{with_caches}
 use Rattle.law_runs.specs.Worked.{close_a, read_a}
-use Rattle.law_run_recovers.specs.Beside.{Begun, its_asks}
+use Rattle.law_run_recovers.specs.Clashing.{Begun, OneIsDecidedOf, only_reads}
+use Rattle.law_run_recovers.specs.Beside.{its_asks}
 use Rattle.law_run_recovers.specs.BesideWorked.{two_made}
-use Rattle.law_run_recovers.specs.MeetsWorked.{OneIsDecidedOf}
-use Rattle.law_run_recovers.specs.Readers.{only_reads, ReadersMeet}
+use Rattle.law_run_recovers.specs.Readers.{ReadersMeet}
 use Rattle.law_run_recovers.specs.Worked.{endings_in}
 
 abbrev pub three_agents : Opening

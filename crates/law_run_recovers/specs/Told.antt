@@ -1,36 +1,30 @@
--- What is promised to a transaction that is told what it would have been told as it began, and whose locks stay: laws of Among, by a weaker premise. Nothing is said of
--- servers while it does not ask them, nor of what others decide.
-use Rattle.std.specs.Prelude.{◌≡◌, ℕ, ◌<◌, ◌==◌, Bool, true, false, ◌&&◌, ◌||◌, not, List, ◌∷◌, ◌++◌, Contains, Option, Some}
+-- What is promised to a transaction that is told what it would have been told as it began, and whose locks stay. Nothing is said of servers while it does not ask them, nor of what
+-- others decide.
 use Rattle.std.specs.List.{list_any}
+use Rattle.std.specs.Prelude.{◌&&◌, ◌++◌, ◌==◌, ◌||◌, ◌∷◌, ◌≡◌, Bool, List, Option, Some, false, not, true, ℕ}
 use Rattle.acl_core.specs.Identity.{Identity}
 use Rattle.suite_prefix.specs.SettingsRules.{Opening}
 use Rattle.suite_prefix.specs.declared.lock_mode.LockMode.{LockMode}
 use Rattle.suite_prefix.specs.declared.lock_mode.LockMode.TheVariants.{Exclusive}
 use Rattle.file_ops.specs.declared.operation.Op.{Op}
+use Rattle.rep_core.specs.State.{State}
+use Rattle.rep_core.specs.Store.{copy_of}
 use Rattle.rep_core.specs.declared.lock.Lock.{Lock}
 use Rattle.rep_core.specs.declared.request.Request.{Request}
-use Rattle.rep_core.specs.declared.request.Request.TheVariants as request
-use Rattle.rep_core.specs.Store.{copy_of}
-use Rattle.rep_core.specs.State.{State}
-use Rattle.txn_core.specs.declared.job.Job.TheVariants.{Transaction}
 use Rattle.txn_core.specs.Agents.{fixed_of, next_of}
+use Rattle.txn_core.specs.declared.job.Job.TheVariants.{Transaction}
+use Rattle.run_core.specs.Runs.{run}
+use Rattle.run_core.specs.Worlds.{Actor, World, actor_at, server_at, step}
 use Rattle.run_core.specs.declared.done.EndedJob.{EndedJob}
 use Rattle.run_core.specs.declared.event.Event.{Event}
-use Rattle.run_core.specs.declared.event.Event.TheVariants.{Begin, Step, Crash}
-use Rattle.run_core.specs.Worlds.{Actor, World, actor_at, server_at, step}
-use Rattle.run_core.specs.Runs.{run}
-use Rattle.run_core.specs.Decisions.{Decided, decisions}
-use Rattle.run_core.specs.TableOfRun.{table_of}
+use Rattle.run_core.specs.declared.event.Event.TheVariants.{Begin, Crash, Step}
 use Rattle.law_headline.specs.Premises.{CanBe}
 use Rattle.law_run_alone.specs.Alone.{begins_job}
-use Rattle.law_run_alone.specs.Undisturbed.{is_decided}
+use Rattle.rep_core.specs.declared.request.Request.TheVariants as request
 use Rattle.law_run_recovers.specs.Standing.{is_up}
-use Rattle.law_run_recovers.specs.Alone.{own_steps}
-use Rattle.law_run_recovers.specs.Laws.{answer_on}
-use Rattle.law_run_recovers.specs.Near.{asks_for, way_at, is_open_at}
-use Rattle.law_run_recovers.specs.Unmet.{is_telling, world_after, is_running, of_up, robs, hinders_itself}
-use Rattle.law_run_recovers.specs.Local.{EndsThen, Ended, VotesNeverMovedOf, WasDecidedThen, few_steps}
-use Rattle.law_run_recovers.specs.Among.{GoesAmongLocks, EndsByOpenVotes, GathersItsAsks, has_votes_open}
+use Rattle.law_run_recovers.specs.Ways.{is_open_at, way_at}
+use Rattle.law_run_recovers.specs.Going.{hinders_itself, is_running, is_telling, of_up, robs, world_after}
+use Rattle.law_run_recovers.specs.Ends.{AreAnsweredAsBegun, EndInTime, EndsByOpenVotes, EndsThen, HadVotesOpen}
 
 -- ---- what it is told
 
@@ -84,12 +78,6 @@ module _ (given : Opening) (events later : List Event) (agent t : ℕ) (caller :
     pub free_hand : (so_far rest : List Event) (event : Event) → later ≡ so_far ++ event ∷ rest → is_running (then so_far) agent t ≡ true → is_telling (then so_far) agent ≡ false
         → (hinders_itself given agent (then so_far) event || (robs given agent t (then so_far) event || bereaves given agent t (then so_far) event)) ≡ false
 
--- One that goes among locks that stay is told so.
-abbrev pub AmongLocksAreToldAsBegun : Type 0
-AmongLocksAreToldAsBegun =
-    (given : Opening) (events later : List Event) (agent t : ℕ) (caller : Identity) (site : ℕ) (ops : List Op) (actor : Actor)
-    → GoesAmongLocks given events later agent t caller site ops actor → ToldAsAtItsBegin given events later agent t caller site ops actor
-
 -- ---- how it ends
 
 -- no server is left out
@@ -108,51 +96,21 @@ ToldEndByVotes = (given : Opening) (events : List Event) → ToldEndByVotesAt gi
 
 -- in time
 abbrev pub ToldEndInTimeAt : Opening → List Event → Type 0
-ToldEndInTimeAt given events =
-    (later : List Event) (agent t : ℕ) (caller : Identity) (site : ℕ) (ops : List Op) (actor : Actor)
-    → ToldAsAtItsBegin given events later agent t caller site ops actor
-    → few_steps given events t caller ops < own_steps agent later → Ended given events later agent t caller site ops
+ToldEndInTimeAt = EndInTime ToldAsAtItsBegin
 
 abbrev pub ToldEndInTime : Type 0
 ToldEndInTime = (given : Opening) (events : List Event) → ToldEndInTimeAt given events
 
 -- It is decided only where its home was up and the votes of the rows were open to it.
 abbrev pub ToldHadVotesOpenAt : Opening → List Event → Type 0
-ToldHadVotesOpenAt given events =
-    (later : List Event) (agent t : ℕ) (caller : Identity) (site : ℕ) (ops : List Op) (actor : Actor)
-    → ToldAsAtItsBegin given events later agent t caller site ops actor → WasDecidedThen given events later agent t caller site ops
-    → has_votes_open given events t caller ops ≡ true
+ToldHadVotesOpenAt = HadVotesOpen ToldAsAtItsBegin
 
 abbrev pub ToldHadVotesOpen : Type 0
 ToldHadVotesOpen = (given : Opening) (events : List Event) → ToldHadVotesOpenAt given events
 
--- Where votes were never moved it is decided just where these are.
-abbrev pub ToldAreDecidedWhereVotesAreAt : Opening → List Event → Type 0
-ToldAreDecidedWhereVotesAreAt given events =
-    (later : List Event) (agent t : ℕ) (caller : Identity) (site : ℕ) (ops : List Op) (actor : Actor)
-    → ToldAsAtItsBegin given events later agent t caller site ops actor → VotesNeverMovedOf given events (asks_for given events t caller ops)
-    → (job : EndedJob) → EndsThen given events later agent t caller site ops job → is_decided job.ending ≡ has_votes_open given events t caller ops
-
-abbrev pub ToldAreDecidedWhereVotesAre : Type 0
-ToldAreDecidedWhereVotesAre = (given : Opening) (events : List Event) → ToldAreDecidedWhereVotesAreAt given events
-
 -- What is decided of it is answered as the table answers it that there was as it began.
 abbrev pub ToldAreAnsweredAsBegunAt : Opening → List Event → Type 0
-ToldAreAnsweredAsBegunAt given events =
-    (later : List Event) (agent t : ℕ) (caller : Identity) (site : ℕ) (ops : List Op) (actor : Actor)
-    → ToldAsAtItsBegin given events later agent t caller site ops actor
-    → (one : Decided) → Contains (decisions given (events ++ Begin agent (Transaction caller site ops) ∷ later)) one → one.t ≡ t
-    → one.answer ≡ answer_on (table_of given events) t caller ops
+ToldAreAnsweredAsBegunAt = AreAnsweredAsBegun ToldAsAtItsBegin
 
 abbrev pub ToldAreAnsweredAsBegun : Type 0
 ToldAreAnsweredAsBegun = (given : Opening) (events : List Event) → ToldAreAnsweredAsBegunAt given events
-
--- And then it has gathered just what it asks for on that table.
-abbrev pub ToldGatherTheirAsksAt : Opening → List Event → Type 0
-ToldGatherTheirAsksAt given events =
-    (later : List Event) (agent t : ℕ) (caller : Identity) (site : ℕ) (ops : List Op) (actor : Actor)
-    → ToldAsAtItsBegin given events later agent t caller site ops actor → WasDecidedThen given events later agent t caller site ops
-    → GathersItsAsks given events later agent t caller site ops
-
-abbrev pub ToldGatherTheirAsks : Type 0
-ToldGatherTheirAsks = (given : Opening) (events : List Event) → ToldGatherTheirAsksAt given events

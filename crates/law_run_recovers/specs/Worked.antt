@@ -23,9 +23,10 @@ use Rattle.run_core.specs.Runs.{run}
 use Rattle.run_core.specs.TableOfRun.{table_of}
 use Rattle.law_runs.specs.Claims.{ended}
 use Rattle.law_runs.specs.Worked.{two_agents, so_many, make_a, write_a, read_a, ending_in}
-use Rattle.law_run_recovers.specs.Standing.{is_up, locks_at, all_free, up_free, in_doubt, holders}
-use Rattle.law_run_recovers.specs.Demands.{demands, demands_of_rows, first_short, all_met, locks_asked}
-use Rattle.law_run_recovers.specs.Laws.{ending_by, answer_on}
+use Rattle.law_run_recovers.specs.Standing.{is_up, locks_at, all_free, in_doubt, holders}
+use Rattle.law_run_recovers.specs.Up.{up_free, demands, demands_of_rows, first_short}
+use Rattle.law_run_recovers.specs.Demands.{all_met, locks_asked}
+use Rattle.law_run_recovers.specs.Ends.{ending_by, answer_on}
 use Rattle.law_run_recovers.specs.Sweeping.{sweeps, goes_round}
 
 -- how a transaction is to end that begins after these events, where nothing is hinted

@@ -48,10 +48,11 @@
 //!
 //! **The caller owes** to `promise` a world that some events made of accepted settings (`IsOfRun`).
 //!
-//! **Files**: `lib`, `meeting`, `promises`, `told`. **Definitions** (`specs/`): `Standing`, `Alone`, `Demands`,
-//! `InTime`, `Laws`, `Sweeping`, `Promises`, `Worked`, `Near`, `Unmet`, `OpenDemands`, `Local`, `Among`, `Told`,
-//! `Beside`, `BesideDown`, `BesideWorked`, `Meets`, `MeetsByRows`, `MeetsWorked`, `Readers`, `ReadersWorked`,
-//! `MeetsBeside`, `MeetsBesideWorked`, `Histories`, `Blocking`, `Contending`, `LawsWorked`.
+//! **Files**: `lib`, `meeting`, `promises`, `told`. **Definitions** (`specs/`): of the strongest forms `Standing`,
+//! `Demands`, `Ways`, `OpenDemands`, `Alone`, `Going`, `Ends`, `Told`, `Sweeping`, `Clashing`, `MeetsBeside`; of the
+//! others `Up`, `Laws`, `Unmet`, `Local`, `Further`, `Among`, `Beside`, `BesideDown`, `Meets`, `MeetsByRows`,
+//! `Readers`, `Blocking`, `Histories`, `InTime`, `Promises`; and of runs `Worked`, `BesideWorked`, `MeetsWorked`,
+//! `ReadersWorked`, `MeetsBesideWorked`, `Contending`, `LawsWorked`.
 //! The proofs follow a transaction over its agent's steps (`proofs/Stands.antt`, `Asking.antt`; at each moment
 //! `AmongCourse.antt`, `AmongStep.antt`, `AmongEnds.antt`, of which what goes alone is a case, `AloneLaws.antt`,
 //! `Tries.antt`; where two meet `MeetClear.antt`, `MeetCourse.antt`, `MeetReach.antt`, `MeetLaw.antt`, and one of them

@@ -1,6 +1,8 @@
 //! What is promised to a transaction that is told what it would have been told as it began, whatever others do.
 
-ghost use Rattle.law_run_recovers.specs.Told.{AmongLocksAreToldAsBegun, ToldEndByVotes, ToldEndInTime, ToldHadVotesOpen, ToldAreDecidedWhereVotesAre, ToldAreAnsweredAsBegun, ToldGatherTheirAsks};
+ghost use Rattle.law_run_recovers.specs.Among.{AmongLocksAreToldAsBegun};
+ghost use Rattle.law_run_recovers.specs.Told.{ToldEndByVotes, ToldEndInTime, ToldHadVotesOpen, ToldAreAnsweredAsBegun};
+ghost use Rattle.law_run_recovers.specs.Further.{ToldAreDecidedWhereVotesAre, ToldGatherTheirAsks};
 
 /// A law: a transaction in whose way nothing comes or goes at servers that it may ask is told, until its end is fixed, what it
 /// would have been told as it began: what is promised to one that is told so is promised to it. It does nothing.
