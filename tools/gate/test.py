@@ -115,6 +115,7 @@ PARTS = (
     Part("how tools end", test("ends.py")),
     Part("type hints", test("hints.py")),
     Part("functions that call themselves", test("self-calls.py")),
+    Part("names of types", test("one-word.py")),
     Part("tests of runs", **tried("run_tests")),
     Part("tests of libraries", **tried("library_tests")),
     Part(PROGRAM, tool("choose")),
