@@ -1,4 +1,5 @@
-"""Writes the two tables of docs/PROVED.md that come from the sources, and holds the names above them against these.
+"""Writes the two tables of docs/PROVED.md that come from the sources, and holds the names above them against these; and
+the table of docs/ARCHITECTURE.md that says on which definitions the program stands (believed.py).
 
     python3 tools proved_page           writes the tables (each between its two marks)
     python3 tools proved_page --check   writes nothing; tells what differs, with status 1
@@ -16,6 +17,7 @@ import re
 import typing
 
 from common import TOP, functions, page, text_of
+from pages import believed
 
 PAGE = os.path.join("docs", "PROVED.md")
 LAWS = "<!-- laws: written by tools/pages/proved_page.py -->", "<!-- end of laws -->"
@@ -151,4 +153,8 @@ def main() -> int:
         return 1
     new, before = written(text, LAWS, table_of_laws())
     new, _ = written(new, FUNCTIONS, table_of_functions())
-    return page.written(PAGE, new, list(faults(before)), "from the sources", only_looks)
+    status = page.written(PAGE, new, list(faults(before)), "from the sources", only_looks)
+    table, count = believed.table(crates())
+    new, _ = written(text_of(believed.PAGE), believed.MARKS, table)
+    wrong = [fault] if (fault := believed.fault(count)) else []
+    return max(status, page.written(believed.PAGE, new, wrong, "from the definitions", only_looks))
