@@ -10,7 +10,6 @@ import os
 import shutil
 import tempfile
 
-import played
 from played import TOP, Tally
 
 from common import console, functions, text_of

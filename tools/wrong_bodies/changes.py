@@ -6,7 +6,6 @@ must-fail`) knows no such line, and takes a text only where it stands once in th
 without the line, and marks the line of the source that is meant, in a copy.
 """
 import os
-import re
 import typing
 
 from common import functions, text_of
