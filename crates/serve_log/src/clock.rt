@@ -40,6 +40,18 @@ impl Clock {
         ensures each { IfOk result (λ spans. vec_len spans ≡ vec_len self.now.called) }
         ensures right { IfOk result (λ spans. are_right spans.items ≡ true) }
     {
+        let spans = self.drawn(alloc)?;
+        if are_right(&spans) {
+            Ok(spans)
+        } else {
+            Err(CertifyFault::Mismatch)
+        }
+    }
+
+    /// What was drawn for each job.
+    fn drawn(&self, alloc: Global) -> Result<Vec<Span>, AllocError>
+        ensures { IfOk result (λ spans. vec_len spans ≡ vec_len self.now.called) }
+    {
         let mut spans = Vec::with_capacity(alloc, self.called.len())?;
         for job in 0..self.called.len() {
             spans.push(Span {
@@ -47,11 +59,7 @@ impl Clock {
                 told: kept(&self.told, job),
             })?;
         }
-        if are_right(&spans) {
-            Ok(spans)
-        } else {
-            Err(CertifyFault::Mismatch)
-        }
+        Ok(spans)
     }
 
     /// The next number.
