@@ -7,36 +7,20 @@ import typing
 
 import measure
 
-from common import text_of
-from front import sources
-from wrong_bodies import wrong_bodies
+from common import functions, text_of
+from wrong_bodies import changes, wrong_bodies
 
 CRATES = ("run_core", "txn_core", "suite_collect", "rep_core", "file_exec", "weak_cache")
 CLAUSE = re.compile(r"^\s*(?:ensures|requires)\b")
 
 
-class Function(typing.NamedTuple):
-    """A function in the lines of a file: its first and its last line, the first of its body, its name and indent."""
-
-    first: int
-    body: int
-    last: int
-    name: str
-    indent: str
+def function_at(lines: list[str], at: int) -> functions.Function | None:
+    """The function that this line is of."""
+    return next((one for one in functions.functions("\n".join(lines)) if one.first <= at <= one.last), None)
 
 
-def function_at(lines: list[str], at: int) -> Function | None:
-    """The function that this line is of, in a file as `rt fmt` lays it out."""
-    for first in range(at, -1, -1):
-        found = sources.FUNCTION.match(lines[first])
-        if not found:
-            continue
-        indent = found[1]
-        own = [place for place in range(first, len(lines)) if re.match(rf"{indent}\S", lines[place])]
-        body = next(place for place in own if lines[place].endswith("{"))
-        last = next(place for place in own if lines[place] == f"{indent}}}")
-        return Function(first, body, last, found[2], indent) if at <= last else None
-    return None
+def indent_of(lines: list[str], function: functions.Function) -> str:
+    return functions.FUNCTION.match(lines[function.first])["indent"]
 
 
 def parts_of(text: str) -> list[str]:
@@ -65,9 +49,9 @@ def parameters(head: str, name: str) -> list[str]:
     raise ValueError(head)
 
 
-def owner_of(lines: list[str], function: Function) -> str:
+def owner_of(lines: list[str], function: functions.Function) -> str:
     """The head of the impl that a function stands in; nothing, where it stands in none."""
-    if not function.indent:
+    if not function.of:
         return ""
     return next(line for line in reversed(lines[: function.first]) if re.match(r"(?:unsafe )?impl\b", line))
 
@@ -77,24 +61,15 @@ def lines_of(path: str) -> list[str]:
 
 
 class Edit(typing.NamedTuple):
-    """A wrong body: its crate, its name, and the texts that it puts in the place of others, by file."""
+    """A wrong body: its crate, its name, and the texts that it puts in the place of others."""
 
     crate: str
     name: str
-    pairs: list[tuple[str, str, str]]
+    changes: list[changes.Change]
 
 
 def edit_of(crate: str, path: str) -> Edit:
-    file, old, pairs = "", "", []
-    for line in text_of(path).split("\n"):
-        word, _, rest = line.partition(": ")
-        if word == "file":
-            file = rest.strip()
-        elif word == "old":
-            old = rest
-        elif line.startswith("new:"):
-            pairs.append((file, old, rest))
-    return Edit(crate, wrong_bodies.name_of(path), pairs)
+    return Edit(crate, wrong_bodies.name_of(path), changes.changes_in(text_of(path)))
 
 
 def edits() -> list[Edit]:
@@ -107,26 +82,29 @@ def edits() -> list[Edit]:
 
 
 # The functions that an edit changes, by file and first line, each with the texts that are put in the place of others.
-Changes = dict[tuple[str, int], tuple[Function, list[tuple[str, str]]]]
+Changed = dict[tuple[str, int], tuple[functions.Function, list[tuple[str, str]]]]
 
 
-def changes_of(edit: Edit) -> Changes:
+def changes_of(edit: Edit) -> Changed:
     """What an edit changes; nothing, where that is no function of its own."""
-    changes: Changes = {}
-    for file, old, new in edit.pairs:
-        lines = lines_of(os.path.join(measure.TOP, "crates", edit.crate, file))
-        at = next((place for place, line in enumerate(lines) if old in line), None)
+    found: Changed = {}
+    for one in edit.changes:
+        text = text_of("crates", edit.crate, one.file)
+        lines = text.split("\n")
+        at = next((place for place, line in enumerate(lines) if one.old in line), None)
+        if one.function and at is not None:
+            at = text.count("\n", 0, changes.place_of(text, one))
         function = None if at is None else function_at(lines, at)
-        if not function or " for " in owner_of(lines, function) or " const " in f" {lines[function.first]}":
+        if not function or function.by_trait or " const " in f" {lines[function.first]}":
             return {}
-        changes.setdefault((file, function.first), (function, []))[1].append((old, new))
-    return changes
+        found.setdefault((one.file, function.first), (function, []))[1].append((one.old, one.new))
+    return found
 
 
 def put_in(crates: str, edit: Edit, number: int) -> None:
     """Puts the functions that an edit changes into their files once more, changed."""
-    changes = changes_of(edit)
-    seconds = [second_of(edit, file, function, pairs, number) for (file, _), (function, pairs) in changes.items()]
+    changed = changes_of(edit).items()
+    seconds = [second_of(edit, file, function, pairs, number) for (file, _), (function, pairs) in changed]
     # a function that takes something else is called by those alone that the edit changes too
     others = [one.name for one in seconds if one.takes != one.took]
     for one in seconds:
@@ -152,7 +130,7 @@ class Second(typing.NamedTuple):
     text: str
 
 
-def second_of(edit: Edit, file: str, function: Function, pairs: list[tuple[str, str]], number: int) -> Second:
+def second_of(edit: Edit, file: str, function: functions.Function, pairs: list[tuple[str, str]], number: int) -> Second:
     """A function of a crate as an edit makes it."""
     lines = lines_of(os.path.join(measure.TOP, "crates", edit.crate, file))
     head = [line for line in lines[function.first : function.body] if not CLAUSE.match(line)]
@@ -177,8 +155,8 @@ def with_second(lines: list[str], second: Second, number: int) -> list[str]:
     if names[:1] == ["self"]:
         call = f"self.{name}({', '.join(names[1:])})"
     else:
-        call = f"{'Self::' if stands.indent else ''}{name}({', '.join(names)})"
-    taken = f"{stands.indent}    if crate::switch::is_taken({number}) {{ return {call}; }}"
+        call = f"{'Self::' if stands.of else ''}{name}({', '.join(names)})"
+    taken = f"{indent_of(lines, stands)}    if crate::switch::is_taken({number}) {{ return {call}; }}"
     own = lines[stands.body + 1 : stands.last + 1]
     own = [taken, *own] if second.takes == second.took else own
     return [*lines[: stands.body + 1], *own, *second.text.split("\n"), *lines[stands.last + 1 :]]

@@ -23,6 +23,7 @@ import played
 from common import console, forms, text_of
 from compare import scenario
 from explain import explain, play_lines, reasons
+from explore import queries
 from front import remarks
 
 TOP = played.TOP
@@ -399,6 +400,11 @@ def untold_words() -> typing.Iterator[str]:
     told = re.findall(
         r'b"([a-z]+)', source("trace", "src", "told.rt").split("fn push_reply")[1].split("/// The locks of a server")[0]
     )
+    for word in replies:
+        if not queries.are_replies([word]):
+            yield f"explore --ask knows no reply {word}"
+        if explain.codes_in(word) != ["answered"]:
+            yield f"explain knows no reply {word}"
     for part, words in (
         ("answered", replies),
         ("trace", [word for word in [*asked, *told, "full", "nothing"] if word not in ("t", "crash", "return")]),

@@ -13,7 +13,7 @@ import typing
 import played
 from played import Tally
 
-from common import console
+from common import console, functions
 from front import sources
 
 # The functions that may call themselves: by crate, type (where it has one) and name, with why they are not deep.
@@ -26,7 +26,6 @@ MAY = {
 FEWEST = 2500
 # Comments, texts and characters, of which nothing is a call.
 SILENT = re.compile(r'//[^\n]*|b?"(?:[^"\\]|\\.)*"|b?\'(?:\\[^\n\']+|[^\\\'\n])\'', re.S)
-BLOCK = re.compile(r"^(?:pub(?:\([^)]*\))? )?(?:impl|trait)\b(?P<head>.*)$")
 TYPE = re.compile(r"^(?:pub(?:\([^)]*\))? )?(?:struct|enum) (?P<name>\w+)")
 # What stands before a call: a path, or what it is called on; and the name that is called.
 CALL = re.compile(r"(?P<path>(?:\w+::)+)?(?P<on>[\w)\]?]\s*\.\s*)?\b(?P<name>[a-z_]\w*)(?:::<[^()]*>)?\(")
@@ -49,43 +48,12 @@ class Function(typing.NamedTuple):
         return f"{crate} {self.of}::{self.name}" if self.of else f"{crate} {self.name}"
 
 
-def type_of(head: str) -> str:
-    """The type of a block, from what stands behind `impl` or `trait`."""
-    named = re.sub(r"<[^<>]*(?:<[^<>]*>[^<>]*)*>", "", head.split(" where ")[0].rstrip("{ "))
-    return named.rpartition(" for ")[2].split(":")[0].strip().lstrip("&")
-
-
 def functions_in(text: str, file: str) -> typing.Iterator[Function]:
-    """The functions of a file that have a body, as it is laid out by `rt fmt`."""
-    lines, of, place = SILENT.sub(" ", text).split("\n"), "", 0
-    while place < len(lines):
-        block, found = BLOCK.match(lines[place]), sources.FUNCTION.match(lines[place])
-        if block:
-            of = type_of(block["head"])
-        elif lines[place] == "}":
-            of = ""
-        elif found:
-            indent, first = found["indent"], place
-            while place < len(lines) and not is_opened(lines[place], indent, place == first):
-                place += 1
-                after = lines[place] if place < len(lines) else ""
-                if sources.FUNCTION.match(after) or after.startswith(indent[4:] + "}"):
-                    break
-            if place < len(lines) and is_opened(lines[place], indent, place == first):
-                last = place
-                while last < len(lines) and lines[last] != indent + "}":
-                    last += 1
-                body = lines[place + 1 : last + 1]
-                yield Function(of if indent else "", found["name"], file, "\n".join(body))
-                place = last
-            else:
-                place -= 1
-        place += 1
-
-
-def is_opened(line: str, indent: str, is_first: bool) -> bool:
-    """Whether the body of a function begins at the end of this line."""
-    return line == indent + "{" or line.endswith("{") and (is_first or line.startswith(indent + ")"))
+    """The functions of a file that have a body."""
+    bare = SILENT.sub(" ", text)
+    lines = bare.split("\n")
+    for one in functions.functions(bare):
+        yield Function(one.of, one.name, file, "\n".join(lines[one.body + (one.last > one.body) : one.last + 1]))
 
 
 def module_of(file: str) -> str:

@@ -17,6 +17,7 @@ Which command a script is of is told by its lines, or by --of play, --of serve o
 standard input.
 """
 import argparse
+import functools
 import io
 import os
 import re
@@ -56,9 +57,8 @@ MARKED = re.compile(r"= (\d+)$")
 FRONT = re.compile(r"(?:(\d+)\.(\d+)(?: (\d+))?|(\d+) (\d+)|(\d+)) (?=answered|denied|refused|undecided|swept)")
 # The number of what was made, or of a transaction.
 NUMBERED = re.compile(r"\b(?:(made) ([1-9]\d*)|(?:holder|t) (\d+))\b")
-REPLIES = ("made", "wrote", "read", "list", "dropped", "acl", "votes", "set")
 # The part of the page about a line that begins with a word, where it is not called by that word.
-PARTS = {**dict.fromkeys(REPLIES, "answered"), "t": "audit", "denied": "F3"}
+PARTS = {"t": "audit", "denied": "F3"}
 WHOLE = ("answered", "swept", "audit", "refused", "undecided", "certified", "mismatch", "trace", "transaction")
 # What stands in front of a sentence on standard error, and what is told of one of which nothing else is told.
 SAYS = "suites: "
@@ -85,6 +85,16 @@ def page() -> typing.Iterator[tuple[str, str, str, list[str]]]:
             lines.append(line)
 
 
+@functools.cache
+def parts_by_word() -> dict[str, str]:
+    """The parts of the page about lines that begin with other words than these are called by; those that operations
+    reply stand in the part of what is answered.
+    """
+    told: list[str] = next((lines for _, _, code, lines in page() if code == "answered"), [])
+    replies = [found[1] for found in (re.match(r"- `([a-z]+)", line) for line in told) if found]
+    return {**dict.fromkeys(replies, "answered"), **PARTS}
+
+
 def kind_of(text: str) -> str:
     """The part of the page about a line of its form; nothing where no form is its."""
     return next((kind for kind, form in KINDS if re.match(form, text)), "")
@@ -99,9 +109,10 @@ def codes_in(text: str) -> list[str]:
         return [kind_of(text)]
     rest = text[front.end() :] if front else text
     first = rest.partition(" ")[0]
+    parts = parts_by_word()
     found = (
-        [PARTS.get(first, first)]
-        if first in (*PARTS, *WHOLE)
+        [parts.get(first, first)]
+        if first in (*parts, *WHOLE)
         else [words for words in FAULTS if rest.startswith(words)]
     )
     if first in ("refused", "undecided") or not found:

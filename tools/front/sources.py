@@ -31,8 +31,6 @@ RUST = re.compile(
     r"""(?<!\w)[bc]?r(#*)".*?"\1|"(?:[^"\\]|\\.)*"|'(?:\\[^'\n]+|[^\\'\n]|\\')'|(?:^|(?<=\s))//[^\n]*""", re.S | re.M
 )
 LOGIC = re.compile(r'"(?:[^"\\\n]|\\.)*"|(?:^|(?<=[ \n]))--[^\n]*', re.M)
-# The head of a function, as `rt fmt` lays it out.
-FUNCTION = re.compile(r"^(?P<indent> *)(?:pub(?:\([^)]*\))? )?(?:const )?(?:unsafe )?fn (?P<name>\w+)")
 KINDS = {".rt": (RUST, "//"), ".antt": (LOGIC, "--")}
 # Longer than the steps in which a file system counts time.
 TICK = 0.02

@@ -1,4 +1,5 @@
-"""Writes the two tables of docs/PROVED.md that come from the sources, and holds the names above them against these.
+"""Writes the two tables of docs/PROVED.md that come from the sources, and holds the names above them against these; and
+the table of docs/ARCHITECTURE.md that says on which definitions the program stands (believed.py).
 
     python3 tools proved_page           writes the tables (each between its two marks)
     python3 tools proved_page --check   writes nothing; tells what differs, with status 1
@@ -15,14 +16,13 @@ import os
 import re
 import typing
 
-from common import TOP, page, text_of
+from common import TOP, functions, page, text_of
+from pages import believed
 
 PAGE = os.path.join("docs", "PROVED.md")
 LAWS = "<!-- laws: written by tools/pages/proved_page.py -->", "<!-- end of laws -->"
 FUNCTIONS = "<!-- public functions: written by tools/pages/proved_page.py -->", "<!-- end of public functions -->"
-BLOCK = re.compile(r"(?:pub )?(?:unsafe )?(impl|trait)\b")
-FUNCTION = re.compile(r"(pub )?(?:const |unsafe )*fn (\w+)")
-CLAUSE = re.compile(r"ensures(?:\*)? (\w+) \{")
+CLAUSE = re.compile(r"\bensures\*? (?:(\w+) )?\{")
 OF_TESTS = ("library_tests", "run_tests", "command_tests")
 
 
@@ -44,44 +44,19 @@ def shown(crate: str) -> tuple[set[str], set[str]]:
     return names, set(re.findall(r"^pub mod (\w+)", text, re.M))
 
 
-def type_of(line: str) -> str:
-    """The type, or the trait, of the block that a line begins."""
-    plain = re.sub(r"<[^<>]*(?:<[^<>]*(?:<[^<>]*>[^<>]*)*>[^<>]*)*>", "", line)
-    named = re.search(
-        r"(?:\bfor|\btrait|\bimpl) &?(?:'\w+ )?(?:mut )?(?:\w+::)*(\w+)",
-        plain[plain.index(" for ") :] if " for " in plain else plain,
-    )
-    return named[1] if named else ""
+def clauses_of(lines: list[str], one: functions.Function) -> list[str]:
+    """The clauses of a function by their names, "" for one that has none."""
+    head = "\n".join(line for line in lines[one.first : one.body + 1] if not line.strip().startswith("//"))
+    return CLAUSE.findall(head)
 
 
-def functions(path: str) -> list[typing.Any]:
-    """The functions of a file: the type (or ""), whether that is by a trait, the name, whether it is public, its
-    clauses and its lines ///.
-    """
-    of, by_trait = "", False
-    found: list[typing.Any] = []
-    open_: typing.Any = None
-    said: list[str] = []
-    for line in text_of(path).split("\n"):
-        begins = FUNCTION.match(line.strip())
-        if BLOCK.match(line):
-            of, by_trait = type_of(line), " for " in line or "trait " in line.split("{")[0]
-        elif line.startswith("}"):
-            of, by_trait, open_ = "", False, None
-        elif begins and not line.strip().startswith("//"):
-            open_ = [of, by_trait, begins[2], bool(begins[1]), [], " ".join(said)]
-            found.append(open_)
-        if line.strip().startswith("///"):
-            said.append(line.strip()[3:].strip())
-        elif not line.strip().startswith("#["):
-            said = []
-        if open_ and not line.strip().startswith("//"):
-            open_[4].extend(CLAUSE.findall(line))
-            if "ensures {" in line or "ensures* {" in line:
-                open_[4].append("")
-            if line.strip() in ("{", "}"):
-                open_ = None
-    return found
+def said_of(lines: list[str], one: functions.Function) -> str:
+    """What the lines /// of a function say."""
+    first = one.first
+    while lines[first - 1].strip().startswith(("///", "#[")):
+        first -= 1
+    said = [line.strip() for line in lines[first : one.first]]
+    return " ".join(line[3:].strip() for line in said if line.startswith("///"))
 
 
 def public(crate: str) -> typing.Iterator[tuple[str, str, list[str], bool, str]]:
@@ -91,19 +66,14 @@ def public(crate: str) -> typing.Iterator[tuple[str, str, list[str], bool, str]]
     names, modules = shown(crate)
     for path in sorted(glob.glob(os.path.join(TOP, "crates", crate, "src", "**", "*.rt"), recursive=True)):
         module = os.path.relpath(path, os.path.join(TOP, "crates", crate, "src")).split(os.sep)[0].removesuffix(".rt")
-        for of, by_trait, name, is_public, clauses, said in functions(path):
-            if (
-                clauses
-                and is_public
-                and not by_trait
-                and ((of or name) in names or module in modules or module == "lib")
-            ):
-                is_law = (
-                    said.startswith("A law")
-                    or not of
-                    and (crate.startswith("law_") or os.path.basename(path) == "laws.rt")
-                )
-                yield of, name, [clause for clause in clauses if clause], is_law, said
+        lines = text_of(path).split("\n")
+        for one in functions.functions(text_of(path)):
+            clauses, said = clauses_of(lines, one), said_of(lines, one)
+            is_seen = (one.of or one.name) in names or module in modules or module == "lib"
+            if clauses and lines[one.first].lstrip().startswith("pub ") and not one.by_trait and is_seen:
+                is_alone = crate.startswith("law_") or os.path.basename(path) == "laws.rt"
+                is_law = said.startswith("A law") or not one.of and is_alone
+                yield one.of, one.name, [clause for clause in clauses if clause], is_law, said
 
 
 def told(name: str, clauses: list[str]) -> str:
@@ -183,4 +153,8 @@ def main() -> int:
         return 1
     new, before = written(text, LAWS, table_of_laws())
     new, _ = written(new, FUNCTIONS, table_of_functions())
-    return page.written(PAGE, new, list(faults(before)), "from the sources", only_looks)
+    status = page.written(PAGE, new, list(faults(before)), "from the sources", only_looks)
+    table, count = believed.table(crates())
+    new, _ = written(text_of(believed.PAGE), believed.MARKS, table)
+    wrong = [fault] if (fault := believed.fault(count)) else []
+    return max(status, page.written(believed.PAGE, new, wrong, "from the definitions", only_looks))

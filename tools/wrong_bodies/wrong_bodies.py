@@ -22,12 +22,11 @@ import tempfile
 import typing
 
 from common import TOP, text_of
+from wrong_bodies import changes
 
 CRATES = os.path.join(TOP, "crates")
 GATE, BESIDE = "must-fail", "wrong"
 NAMED = re.compile(r"[A-Za-z0-9_-][A-Za-z0-9_.-]*\.edit")
-# The lines of an edit that rt does not read: wrong_bodies_page.py makes the page of them.
-TOLD = ("why", "refused by")
 SAID = re.compile(r"(?:rt: )?must-fail (\w+)/(\S+)\.edit: (.*)")
 UNPROVED = re.compile(
     r"rt: (\w+): (the check that its must-fail edits begin with did not end well|it is not proved again)"
@@ -45,40 +44,18 @@ def edits(crate: str, place: str) -> list[str]:
     return [os.path.join(folder, name) for name in sorted(os.listdir(folder))] if os.path.isdir(folder) else []
 
 
-def name_of(edit: str) -> str:
-    return os.path.splitext(os.path.basename(edit))[0]
+def name_of(path: str) -> str:
+    return os.path.splitext(os.path.basename(path))[0]
 
 
-def why_not(edit: str, folder: str) -> str | None:
-    """Why an edit cannot be applied to the crate in a folder, or None. Reads an edit as rt does."""
-    if not NAMED.fullmatch(os.path.basename(edit)):
+def why_not(path: str, place: str, crate: str) -> str | None:
+    """Why an edit of this place cannot be applied to the crate in a folder, or None."""
+    if not NAMED.fullmatch(os.path.basename(path)):
         return "its name is not of letters, digits, _, - and . with .edit at the end"
-    path, old, texts, before = "", None, {}, {}
-    for line in text_of(edit).split("\n"):
-        word, _, rest = (
-            ("new", "", line[5:] if line[4:5] == " " else line[4:]) if line.startswith("new:") else line.partition(": ")
-        )
-        if word == "file":
-            path = rest.strip()
-            if os.path.normpath(path) != path or not path.startswith(("src/", "specs/", "proofs/")):
-                return f"{path} is no file below src/, specs/ or proofs/"
-        elif word == "old":
-            old = rest
-        elif word == "new":
-            if not path or not old:
-                return "a 'new:' line stands before any 'file:' or 'old:' line"
-            if path not in texts:
-                if not os.path.isfile(os.path.join(folder, path)):
-                    return f"there is no file {path}"
-                texts[path] = before[path] = text_of(os.path.join(folder, path))
-            if texts[path].count(old) != 1:
-                return f"its 'old:' text is in {path} {texts[path].count(old)} times, and not once: {old.strip()}"
-            texts[path], old = texts[path].replace(old, rest), None
-        elif word not in TOLD and line.strip() and not line.startswith(("#", "--", "//")):
-            return f"a line is none of 'why: ', 'refused by: ', 'file: ', 'old: ' and 'new: ': {line}"
-    if old is not None:
-        return "an 'old:' line has no 'new:' line"
-    return None if texts != before else "it changes nothing"
+    text = text_of(path)
+    if place == GATE and re.search("^in: ", text, re.M):
+        return f"it has a line 'in: ', which the gate does not read: only those of {BESIDE}/ may"
+    return changes.why_not(text, crate)
 
 
 def check(names: list[str]) -> int:
@@ -86,15 +63,15 @@ def check(names: list[str]) -> int:
     lost, number = 0, 0
     for name in names:
         seen = set()
-        for edit in edits(name, GATE) + edits(name, BESIDE):
+        for place, path in ((place, path) for place in (GATE, BESIDE) for path in edits(name, place)):
             number += 1
-            why = why_not(edit, os.path.join(CRATES, name)) or (
-                "its name stands in both places" if name_of(edit) in seen else None
+            why = why_not(path, place, os.path.join(CRATES, name)) or (
+                "its name stands in both places" if name_of(path) in seen else None
             )
-            seen.add(name_of(edit))
+            seen.add(name_of(path))
             if why:
                 lost += 1
-                print(f"{os.path.relpath(edit, TOP)}: {why}")
+                print(f"{os.path.relpath(path, TOP)}: {why}")
     print(
         f"{number} wrong bodies, {lost} of them do not apply" if lost else f"{number} wrong bodies, all of them apply"
     )
@@ -108,9 +85,15 @@ def copy(room: str, taken: dict[str, list[str]]) -> None:
             shutil.copy2(os.path.join(TOP, name), room)
     shutil.copytree(CRATES, os.path.join(room, "crates"), ignore=shutil.ignore_patterns("out", GATE, BESIDE))
     for name, files in taken.items():
-        os.mkdir(os.path.join(room, "crates", name, GATE))
-        for file in files:
-            shutil.copy2(file, os.path.join(room, "crates", name, GATE))
+        crate = os.path.join(room, "crates", name)
+        os.mkdir(os.path.join(crate, GATE))
+        for path in files:
+            text = text_of(path)
+            # of one that does not apply rt tells so
+            with contextlib.suppress(changes.Bad):
+                text = changes.for_kit(text, crate)
+            with open(os.path.join(crate, GATE, os.path.basename(path)), "w", encoding="utf-8") as target:
+                target.write(text)
 
 
 @contextlib.contextmanager
@@ -169,14 +152,14 @@ def try_edits(names: list[str], anew: bool, room: str) -> dict[tuple[str, str], 
 def tell(name: str, files: list[str], said: dict[tuple[str, str], str]) -> int:
     """Tells what came of a crate's edits, and returns how many were not refused."""
     lost = 0
-    for edit in map(name_of, files):
-        word = said.get((name, edit), "NOT TRIED: rt said nothing of it")
+    for tried in map(name_of, files):
+        word = said.get((name, tried), "NOT TRIED: rt said nothing of it")
         word = f"NOT TRIED: {said[name, None]}" if (name, None) in said else word
         if not word.startswith("refused"):
             lost += 1
-            print(f"{name}/{edit}: {word}")
+            print(f"{name}/{tried}: {word}")
         elif "(only " in word:
-            print(f"{name}/{edit}: {word}")
+            print(f"{name}/{tried}: {word}")
     print(f"{name}: {len(files) - lost} of {len(files)} refused", flush=True)
     return lost
 
@@ -184,9 +167,9 @@ def tell(name: str, files: list[str], said: dict[tuple[str, str], str]) -> int:
 def taken_of(names: list[str], given: argparse.Namespace) -> dict[str, list[str]]:
     """The files to try, by crate."""
     places = (GATE, BESIDE) if given.only else (GATE,) if given.gate else (BESIDE,)
-    found = {name: [edit for place in places for edit in edits(name, place)] for name in names}
+    found = {name: [path for place in places for path in edits(name, place)] for name in names}
     found = {
-        name: [edit for edit in files if not given.only or name_of(edit) in given.only] for name, files in found.items()
+        name: [path for path in files if not given.only or name_of(path) in given.only] for name, files in found.items()
     }
     return {name: files for name, files in found.items() if files}
 

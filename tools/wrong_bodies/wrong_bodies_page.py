@@ -10,7 +10,7 @@ import os
 import typing
 
 from common import TOP, page, text_of
-from wrong_bodies import wrong_bodies
+from wrong_bodies import changes, wrong_bodies
 
 PAGE = os.path.join("docs", "WRONG-BODIES.md")
 SHOWN = os.path.join(TOP, "docs", "wrong-bodies-shown.txt")
@@ -78,7 +78,7 @@ a row shows: of most of these no command tells what they are about.
 def words_of(text: str) -> dict[str, str]:
     """What the lines `why: ..` and `refused by: ..` of an edit say."""
     parted = (line.partition(": ") for line in text.split("\n"))
-    return {word: rest for word, _, rest in parted if word in wrong_bodies.TOLD}
+    return {word: rest for word, _, rest in parted if word in changes.TOLD}
 
 
 def crates() -> list[str]:
@@ -93,7 +93,7 @@ def rows(crate: str, faults: list[str]) -> typing.Iterator[str]:
         for edit in wrong_bodies.edits(crate, folder):
             name = f"{crate}/{wrong_bodies.name_of(edit)}"
             words = words_of(text_of(edit))
-            faults += [f"{name}: it has no line '{word}: ..'" for word in wrong_bodies.TOLD if not words.get(word)]
+            faults += [f"{name}: it has no line '{word}: ..'" for word in changes.TOLD if not words.get(word)]
             if any("|" in text for text in words.values()):
                 faults.append(f"{name}: a word has a |, which a table cannot show")
             yield (

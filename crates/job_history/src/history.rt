@@ -5,7 +5,7 @@ ghost use Rattle.job_history.specs.Events.{are_right};
 ghost use Rattle.job_history.specs.Histories.{IsHistory, event_line, line_of, lines_of, said_text};
 
 use crate::call::{CallText, Calls};
-use crate::event::{Event, Span, ordered_events};
+use crate::event::{HistoryEvent, Span, ordered_events};
 use crate::told::{is_judged, push_told};
 use script_text::push_number;
 use std::alloc::{AllocError, Global};
@@ -33,7 +33,7 @@ fn push_lines(
     text: &mut Vec<u8>,
     calls: &[CallText],
     endings: &[Ending],
-    events: &[Event],
+    events: &[HistoryEvent],
 ) -> Result<(), AllocError>
     ensures { OnOk result (text.new.items ≡ text.old.items ++ lines_of calls.now endings.now events.now) }
 {
@@ -49,7 +49,7 @@ fn push_line(
     text: &mut Vec<u8>,
     calls: &[CallText],
     endings: &[Ending],
-    event: Event,
+    event: HistoryEvent,
 ) -> Result<(), AllocError>
     ensures { OnOk result (text.new.items ≡ text.old.items ++ line_of calls.now endings.now event) }
 {
@@ -65,7 +65,7 @@ fn push_event(
     text: &mut Vec<u8>,
     call: &CallText,
     ending: &Ending,
-    event: Event,
+    event: HistoryEvent,
 ) -> Result<(), AllocError>
     ensures { OnOk result (text.new.items ≡ text.old.items ++ event_line event call.now ending.now) }
 {
@@ -82,7 +82,7 @@ fn push_said(
     text: &mut Vec<u8>,
     call: &CallText,
     ending: &Ending,
-    event: Event,
+    event: HistoryEvent,
 ) -> Result<(), AllocError>
     ensures { OnOk result (text.new.items ≡ text.old.items ++ said_text event call.now ending.now) }
 {

@@ -26,5 +26,5 @@ mod operation;
 mod told;
 
 pub use call::Calls;
-pub use event::{Event, Span, are_right};
+pub use event::{HistoryEvent, Span, are_right};
 pub use history::history_of;
