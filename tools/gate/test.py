@@ -168,7 +168,6 @@ LONG = (
     Part("instructions", test("instructions.py")),
     Part("crates in another repository", test("taken.py")),
     Part("slow inputs", test("growth.py"), [PROGRAM, TRACE, MAY, FORMS, EXPLORE, SESSION, JUDGE]),
-    Part("slow inputs of tools", test("tools-growth.py")),
     Part("races", test("races.py", "1")),
     Part("planted errors", test("planted.py"), [JUDGE, SERVE_LOG]),
     Part("the mount, long", test("mount-against-the-kernel.py", "--calls", "200000"), [PROGRAM, SESSION]),
