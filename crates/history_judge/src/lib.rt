@@ -15,9 +15,10 @@
 //! behind pending calls or not. What it keeps between two events is which pending calls are placed already, with the
 //! table behind them: calls that were told are placed in all, and need no mark. So its work is linear in the length of
 //! the history. A call that changes nothing wherever it is right is placed as soon as it fits. What changes nothing in
-//! one state alone is not: later it may change something. Two that have placed the same calls and come to the same
-//! rows are one. A table is copied for each call that is placed on it; but where one alone is kept, the call that is
-//! due is placed on its own table (`stepping`). Orders share their beginnings (`links`).
+//! one state alone is not: later it may change something. But a call that was not told is not placed where it changes
+//! nothing; and of two that come to the same rows, one is dropped that has placed the same calls as the other, or more of
+//! those that were not told. A table is copied for each call that is placed on it; but where one alone is kept, the call
+//! that is due is placed on its own table (`stepping`). Orders share their beginnings (`links`).
 //!
 //! **The caller owes** fewer than 2^60 calls, and an opening table without a file or folder of a number that a call
 //! of the history would make. A table that was just opened has none.

@@ -134,7 +134,7 @@ impl<'a> Event<'a> {
             → SomeEnds self.now.opening.now self.now.history.now self.now.settled.now found.new.list.items) }
     {
         if is_among(&placed.early, self.due.number) {
-            return found.add(placed);
+            return found.add(self.history, placed);
         }
         self.spread(links, found, placed)
     }
