@@ -1,11 +1,9 @@
 //! Numbers, drawn one above the other: when jobs are called, and when all is done of which they are told.
 
-ghost use Rattle.std.specs.Prelude.{◌≡◌, IfOk, true};
+ghost use Rattle.std.specs.Prelude.{◌≡◌, IfOk};
 ghost use Rattle.std.specs.Vec.{vec_len};
-ghost use Rattle.job_history.specs.Events.{are_right};
 
-use job_history::{Span, are_right};
-use run_certify::CertifyFault;
+use job_history::Span;
 use server_lock::Gate;
 use std::alloc::{AllocError, Global};
 use std::sync::atomic::{AtomicU64, Ordering};
@@ -34,25 +32,11 @@ impl Clock {
         })
     }
 
-    /// What was drawn for each job, called before it was told. Where one was not, it is a mismatch, as one that was not
-    /// carried out.
-    pub(crate) fn spans(&self, alloc: Global) -> Result<Vec<Span>, CertifyFault>
-        ensures each { IfOk result (λ spans. vec_len spans ≡ vec_len self.now.called) }
-        ensures right { IfOk result (λ spans. are_right spans.items ≡ true) }
-    {
-        let spans = self.drawn(alloc)?;
-        if are_right(&spans) {
-            Ok(spans)
-        } else {
-            Err(CertifyFault::Mismatch)
-        }
-    }
-
     /// What was drawn for each job.
-    fn drawn(&self, alloc: Global) -> Result<Vec<Span>, AllocError>
+    pub(crate) fn spans(&self, alloc: Global) -> Result<Vec<Span>, AllocError>
         ensures { IfOk result (λ spans. vec_len spans ≡ vec_len self.now.called) }
     {
-        let mut spans = Vec::with_capacity(alloc, self.called.len())?;
+        let mut spans = Vec::new(alloc);
         for job in 0..self.called.len() {
             spans.push(Span {
                 called: kept(&self.called, job),
@@ -88,7 +72,7 @@ impl Gate for Clock {
 fn cells(alloc: Global, count: usize) -> Result<Vec<AtomicU64>, AllocError>
     ensures { IfOk result (λ cells. vec_len cells ≡ count) }
 {
-    let mut cells = Vec::with_capacity(alloc, count)?;
+    let mut cells = Vec::new(alloc);
     for _cell in 0..count {
         cells.push(AtomicU64::new(0))?;
     }

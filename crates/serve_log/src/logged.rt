@@ -4,7 +4,7 @@ ghost use Rattle.std.specs.Prelude.{IfOk};
 ghost use Rattle.serve_log.specs.Logs.{IsLogged};
 
 use crate::clock::Clock;
-use job_history::{Calls, history_of};
+use job_history::{Calls, are_right, history_of};
 use run_certify::CertifyFault;
 use std::alloc::Global;
 use std::sync::Wait;
@@ -18,7 +18,8 @@ pub(crate) struct Logged {
     pub(crate) history: Vec<u8>,
 }
 
-/// Has the jobs of a script carried out, with the numbers that are drawn for them.
+/// Has the jobs of a script carried out, with the numbers that are drawn for them. A job for which they are out of order is a
+/// mismatch, as one that was not carried out.
 pub(crate) fn serve_logged<R: Threads + Wait + Sync>(
     rt: &R,
     alloc: Global,
@@ -31,6 +32,9 @@ pub(crate) fn serve_logged<R: Threads + Wait + Sync>(
     let served = serve_through(rt, alloc, &clock, script)?;
     let endings = served.endings(alloc)?;
     let spans = clock.spans(alloc)?;
+    if !are_right(&spans) {
+        return Err(CertifyFault::Mismatch);
+    }
     let history = history_of(alloc, &calls, &endings, &spans)?;
     Ok(Logged { served, history })
 }

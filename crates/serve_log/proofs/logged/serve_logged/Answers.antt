@@ -17,10 +17,10 @@ returns g c =
     let text = c.in_ok-history.history.items in
     let calls : c.in_ok-calls.calls ≡ calls_of plan.settings plan.jobs =
     c.in_ok-calls.ensures ∙ ap₂ (λ (given : Opening) (jobs : List Job). calls_of given jobs) c.settings.ensures c.jobs.ensures in
-    let endings : c.deref.result.now ≡ endings_of came.ends = c.deref.ensures.value ∙ c.in_ok-endings.ensures in
+    let endings : c.deref-2.result.now ≡ endings_of came.ends = c.deref-2.ensures.value ∙ c.in_ok-endings.ensures in
     let many = ap length c.jobs-2.ensures in
     let long = c.in_ok-spans.spans.ok.0 in
-    let same = c.in_ok-spans.ensures.each in
+    let same = c.in_ok-spans.ensures in
     let all = c.in_ok-clock.ensures in
     record {
       served = c.in_ok-served.ensures;
@@ -29,5 +29,5 @@ returns g c =
       is =
           subst (λ (x : Asked). IsHistory x (endings_of came.ends) spans text) calls
           (subst (λ (x : List Ending). IsHistory c.in_ok-calls.calls x spans text) endings
-          (subst (λ (x : List Span). IsHistory c.in_ok-calls.calls c.deref.result.now x text) c.deref-2.ensures.value c.in_ok-history.ensures));
+          (subst (λ (x : List Span). IsHistory c.in_ok-calls.calls c.deref-2.result.now x text) c.deref-3.ensures.value c.in_ok-history.ensures));
     }
