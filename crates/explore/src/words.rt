@@ -8,7 +8,7 @@ use byte_streams::{Words, read_wanted};
 use script_text::read_number;
 use std::env::FillError;
 
-/// How much may happen, and how many worlds are looked at.
+/// How much may happen, how many worlds are looked at, and whether it is told in which order jobs are decided.
 #[derive(Clone, Copy)]
 pub(crate) struct Bounds {
     pub(crate) crashes: u8,
@@ -16,6 +16,7 @@ pub(crate) struct Bounds {
     pub(crate) forgets: u8,
     pub(crate) stops: u8,
     pub(crate) worlds: u32,
+    pub(crate) ordered: bool,
 }
 
 /// What is printed: all ways, or the script that leads to one of them.
@@ -54,7 +55,7 @@ pub(crate) struct Reading {
 }
 
 /// The most words that say something: each option once.
-const MOST: usize = 14;
+const MOST: usize = 15;
 
 /// The most bytes of a word.
 const LONGEST: usize = 16;
@@ -100,6 +101,7 @@ fn first_reading() -> Reading
                 forgets: 0,
                 stops: 0,
                 worlds: u32::MAX,
+                ordered: false,
             },
             is_brief: false,
             way: None,
@@ -144,6 +146,8 @@ fn with_option(reading: Reading, word: &[u8]) -> Option<Reading>
         next.wish.is_brief = true;
     } else if word == b"--progress".as_slice() {
         next.tells_progress = true;
+    } else if word == b"--order".as_slice() {
+        next.wish.bounds.ordered = true;
     } else {
         next.option = Some(choice_in(word)?);
     }
