@@ -1,14 +1,15 @@
 //! The command line: what is asked for.
 
 ghost use Rattle.std.specs.Prelude.{◌≡◌, IfSome, option_map, slice_get};
-ghost use Rattle.explore.specs.Words.{asks_help, choice_in, first_reading, from_one, large, small, wanted_behind};
-ghost use Rattle.explore.specs.Words.{wanted_by, with_number, with_option, with_word, with_word_behind};
+ghost use Rattle.explore.specs.Words.{asks_help, choice_in, first_reading, from_one, is_at_odds, is_ordered, is_sampled, large, small, wanted_behind};
+ghost use Rattle.explore.specs.Words.{wanted_by, wide, with_number, with_option, with_word, with_word_behind};
 
 use byte_streams::{Words, read_wanted};
 use script_text::read_number;
 use std::env::FillError;
 
-/// How much may happen, how many worlds are looked at, and whether it is told in which order jobs are decided.
+/// How much may happen; how many worlds are looked at, or how many orders are played, and by which seed they are drawn;
+/// and whether it is told in which order jobs are decided.
 #[derive(Clone, Copy)]
 pub(crate) struct Bounds {
     pub(crate) crashes: u8,
@@ -16,6 +17,8 @@ pub(crate) struct Bounds {
     pub(crate) forgets: u8,
     pub(crate) stops: u8,
     pub(crate) worlds: u32,
+    pub(crate) orders: Option<u32>,
+    pub(crate) seed: Option<u64>,
     pub(crate) ordered: bool,
 }
 
@@ -25,6 +28,31 @@ pub(crate) struct Wish {
     pub(crate) bounds: Bounds,
     pub(crate) is_brief: bool,
     pub(crate) way: Option<u32>,
+}
+
+impl Wish {
+    /// Whether orders are played that are drawn.
+    pub(crate) fn is_sampled(&self) -> bool
+        ensures { result ≡ is_sampled self.now }
+    {
+        self.bounds.orders.is_some()
+    }
+
+    /// Whether a seed is told where nothing is drawn, or the order of decisions is asked for where something is.
+    fn is_at_odds(&self) -> bool
+        ensures { result ≡ is_at_odds self.now }
+    {
+        self.bounds.seed.is_some() && !self.is_sampled() || self.bounds.ordered && self.is_sampled()
+    }
+}
+
+impl Bounds {
+    /// Whether it is told in which order jobs are decided.
+    pub(crate) fn is_ordered(&self) -> bool
+        ensures { result ≡ is_ordered self.now }
+    {
+        self.ordered && self.orders.is_none()
+    }
 }
 
 /// What the words of the command line ask for.
@@ -43,6 +71,8 @@ pub(crate) enum Choice {
     Forgets,
     Stops,
     Worlds,
+    Sample,
+    Seed,
     Way,
 }
 
@@ -55,10 +85,10 @@ pub(crate) struct Reading {
 }
 
 /// The most words that say something: each option once.
-const MOST: usize = 15;
+const MOST: usize = 19;
 
 /// The most bytes of a word.
-const LONGEST: usize = 16;
+const LONGEST: usize = 20;
 
 /// What the words of the command line ask for.
 pub(crate) fn read_words<W: Words>(words: &W) -> Wanted
@@ -101,6 +131,8 @@ fn first_reading() -> Reading
                 forgets: 0,
                 stops: 0,
                 worlds: u32::MAX,
+                orders: None,
+                seed: None,
                 ordered: false,
             },
             is_brief: false,
@@ -168,6 +200,10 @@ fn choice_in(word: &[u8]) -> Option<Choice>
         Some(Choice::Stops)
     } else if word == b"--worlds".as_slice() {
         Some(Choice::Worlds)
+    } else if word == b"--sample".as_slice() {
+        Some(Choice::Sample)
+    } else if word == b"--seed".as_slice() {
+        Some(Choice::Seed)
     } else if word == b"--way".as_slice() {
         Some(Choice::Way)
     } else {
@@ -186,6 +222,8 @@ fn with_number(wish: Wish, choice: Choice, word: &[u8]) -> Option<Wish>
         Choice::Forgets => next.bounds.forgets = small(word)?,
         Choice::Stops => next.bounds.stops = small(word)?,
         Choice::Worlds => next.bounds.worlds = large(word)?,
+        Choice::Sample => next.bounds.orders = Some(from_one(large(word)?)?),
+        Choice::Seed => next.bounds.seed = Some(wide(word)?),
         Choice::Way => next.way = Some(from_one(large(word)?)?),
     }
     Some(next)
@@ -218,11 +256,19 @@ fn large(word: &[u8]) -> Option<u32>
     }
 }
 
+/// A number of 64 bits.
+fn wide(word: &[u8]) -> Option<u64>
+    ensures { result ≡ wide word.now }
+{
+    read_number(word, u64::MAX)
+}
+
 /// What is asked for where no more words come: no option is left without its number.
 fn wanted_of(reading: Reading) -> Wanted
     ensures { result ≡ wanted_behind reading.option reading }
 {
     match reading.option {
+        None if reading.wish.is_at_odds() => Wanted::Nothing,
         None => Wanted::Explore {
             wish: reading.wish,
             tells_progress: reading.tells_progress,
