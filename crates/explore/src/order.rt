@@ -42,11 +42,7 @@ fn push_decided(
 }
 
 /// The name of a job, behind a blank.
-fn push_job(
-    text: &mut Vec<u8>,
-    numbers: &[JobNumbers],
-    job: JobPlace,
-) -> Result<(), AllocError>
+fn push_job(text: &mut Vec<u8>, numbers: &[JobNumbers], job: JobPlace) -> Result<(), AllocError>
     ensures { OnOk result (text.new.items ≡ text.old.items ++ decided_job numbers.now job) }
 {
     text.extend_from_slice(b" ")?;
