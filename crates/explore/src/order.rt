@@ -17,12 +17,13 @@ pub(crate) fn push_order(
 ) -> Result<(), AllocError>
     ensures { OnOk result (text.new.items ≡ text.old.items ++ order_line ordered numbers.now order.now) }
 {
-    if !ordered {
-        return Ok(());
+    if ordered {
+        text.extend_from_slice(b"decided")?;
+        push_decided(text, numbers, order)?;
+        text.extend_from_slice(b"\n")
+    } else {
+        Ok(())
     }
-    text.extend_from_slice(b"decided")?;
-    push_decided(text, numbers, order)?;
-    text.extend_from_slice(b"\n")
 }
 
 /// The names of jobs, each behind a blank.
