@@ -1,11 +1,3 @@
-mod RequestLemmas
-mod Meanings
-mod WordShapes
-mod OptionWords
-mod BuiltCommands
-mod NameWalks
-mod FirstWords
-mod Levels
-mod ServeWalks
-mod WholeLines
-mod Verdicts
+mod Hyphens
+mod Lists
+mod Serving

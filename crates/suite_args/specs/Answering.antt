@@ -1,16 +1,10 @@
 -- Which answers there may be to what the words ask for.
-use Rattle.std.specs.Prelude.{◌≡◌, ⊤, ℕ, List, [], Option, Some, None, Result, Ok, Err, codes}
-use Rattle.std.specs.Prelude.{if◌then◌else◌, unwrap_or}
-use Rattle.std.specs.Str.{bytes_eq}
-use Rattle.clap.specs.Words.{Row, Text, all_of, first_of}
-use Rattle.clap.specs.declared.error.kind.ErrorKind.{ErrorKind}
-use Rattle.clap.specs.declared.error.kind.ErrorKind.TheVariants.{DisplayHelp, OutOfMemory}
+use Rattle.std.specs.Prelude.{◌≡◌, ⊤, ℕ, Option, Some, None, Result, Ok, Err}
 use Rattle.suite_args.specs.CommandLine.{Asked, acl, agents_of, help, nothing, plays, serves, topic}
 use Rattle.suite_args.specs.declared.request.ArgsError.{ArgsError}
 use Rattle.suite_args.specs.declared.request.ArgsError.TheVariants.{CommandLine, Memory}
 use Rattle.suite_args.specs.declared.request.Request.{Request}
 use Rattle.suite_args.specs.declared.request.Request.TheVariants.{Acl, Help, Plays, Serve}
-use Rattle.suite_args.specs.declared.script.Script.TheVariants.{Play, Table}
 
 -- `serve` by so many agents, where that number is told
 abbrev pub AnswersServe : Option ℕ → Result Request ArgsError → Type 0
@@ -31,22 +25,3 @@ Answers topic (Err CommandLine) = ⊤
 Answers nothing (Err CommandLine) = ⊤
 Answers asked (Err Memory) = ⊤
 Answers asked answer = ⊥
-
--- what the command that a parse found asks for
-abbrev pub asked_in : Option (Text × List Row) → Asked
-asked_in None = nothing
-asked_in (Some command) =
-    if bytes_eq command.0 (codes "acl") then acl (unwrap_or (all_of (codes "NAME") command.1) [])
-    else (if bytes_eq command.0 (codes "table") then plays Table
-    else (if bytes_eq command.0 (codes "play") then plays Play
-    else (if bytes_eq command.0 (codes "serve") then serves (unwrap_or (first_of (codes "agents") command.1) []) else nothing)))
-
--- what a parse without matches comes to
-abbrev pub AnswersTo : ErrorKind → Result Request ArgsError → Type 0
-AnswersTo DisplayHelp (Ok (Help text)) = ⊤
-AnswersTo DisplayHelp (Err Memory) = ⊤
-AnswersTo DisplayHelp answer = ⊥
-AnswersTo OutOfMemory (Err Memory) = ⊤
-AnswersTo OutOfMemory answer = ⊥
-AnswersTo kind (Err CommandLine) = ⊤
-AnswersTo kind answer = ⊥

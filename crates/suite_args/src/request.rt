@@ -1,11 +1,11 @@
 //! What a command line can ask for.
 
-ghost use Rattle.std.specs.Prelude.{◌≡◌, IfOk, Some, map};
+ghost use Rattle.std.specs.Prelude.{◌≡◌, Some, map};
 ghost use Rattle.suite_args.specs.Texts.{text_of};
 ghost use Rattle.suite_args.specs.declared.request.ArgsError.TheVariants.{Memory};
 
 use crate::script::Script;
-use std::alloc::{AllocError, AllocFailed, Global};
+use std::alloc::{AllocError, AllocFailed};
 use std::fmt;
 use std::marker::Model;
 
@@ -75,12 +75,10 @@ impl<'a> Model for Names<'a> {
 }
 
 impl<'a> Names<'a> {
-    pub(crate) fn new(alloc: Global, words: &[&'a str]) -> Result<Names<'a>, AllocError>
-        ensures { IfOk result (λ names. names ≡ map (λ w. w.now) words.now) }
+    pub(crate) fn new(words: Vec<&'a str>) -> Names<'a>
+        ensures { result ≡ map (λ w. w.now) words.entry.items }
     {
-        Ok(Names {
-            words: Vec::from_slice(alloc, words)?,
-        })
+        Names { words }
     }
 
     /// The words, in the order in which they were given.
@@ -94,19 +92,21 @@ impl<'a> Names<'a> {
 /// A text on how to use the program.
 #[derive(Debug, Drop)]
 pub struct HelpText {
-    text: String,
+    text: &'static str,
 }
 
 impl Model for HelpText {
-    ghost use Rattle.std.specs.Prelude.{List, ℕ, string_bytes};
+    ghost use Rattle.std.specs.Prelude.{List, ℕ};
 
     ghost Value = { List ℕ };
 
-    ghost view = { λ help. string_bytes help.text };
+    ghost view = { λ help. help.text.now };
 }
 
 impl HelpText {
-    pub(crate) fn new(text: String) -> HelpText {
+    pub(crate) fn new(text: &'static str) -> HelpText
+        ensures { result ≡ text.now }
+    {
         HelpText { text }
     }
 
@@ -114,6 +114,6 @@ impl HelpText {
     pub fn as_str(&self) -> &str
         ensures { result.now ≡ self.now }
     {
-        self.text.as_str()
+        self.text
     }
 }

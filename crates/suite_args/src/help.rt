@@ -1,51 +1,67 @@
-//! The commands of the program, as `clap` reads them and as help tells them.
+//! The texts that tell how to use the program, as they are printed.
 
-ghost use Rattle.std.specs.Prelude.{◌≡◌, IfOk};
-ghost use Rattle.clap.specs.Words.{app_of};
-ghost use Rattle.suite_args.specs.code.Commands.{IsCommand, acl_command, script_command, serve_command, suites};
-ghost use Rattle.suite_args.specs.declared.script.Script.TheVariants.{Play, Table};
+/// A text, and behind it what is told of the streams and the exit statuses of all commands.
+macro_rules! above_streams {
+    ($text:literal) => {
+        concat!(
+            $text,
+            "
+A command reads standard input to its end, and prints to standard output.
 
-use clap::{Arg, Command};
-use std::alloc::{AllocError, Global};
+Exit status:
+  0  done
+  2  a fault in the command line
+  3  a fault in the text or the script
+  4  out of memory
+  5  what the agents and servers did is no run (of `serve` alone)
+  6  a failed read or write, or input above 16 MiB
+"
+        )
+    };
+}
 
-const PROGRAM: &str = "suites";
+/// The commands.
+pub(crate) const ALL: &str = above_streams!(
+    "Reads access lists, and plays scripts over files that are guarded by them.
+
+Usage: suites <COMMAND>
+
+Commands:
+  acl    Reads list text, prints the list as canonical long text
+  table  Reads a script, plays it on one plain table, prints a line an outcome
+  play   Reads a script of events, plays it on servers and agents, prints a line an outcome
+  serve  Reads a script of jobs, has agents carry them out at once, prints a line a job, certifies all
+  help   Print this message or the help of the given subcommand(s)
+
+Options:
+  -h, --help  Print help
+"
+);
 
 /// The command that prints a list.
-pub(crate) const ACL: &str = "acl";
+pub(crate) const OF_ACL: &str = above_streams!(
+    "Reads list text, prints the list as canonical long text
+
+Usage: suites acl [NAME]...
+
+Arguments:
+  [NAME]...  A name that the list may use, with its number: user:lisa=1001 or group:toolies=200
+
+Options:
+  -h, --help  Print help
+"
+);
 
 /// The command that plays a script on one table.
-pub(crate) const TABLE: &str = "table";
+pub(crate) const OF_TABLE: &str =
+    "Reads a script, plays it on one plain table, prints a line an outcome
 
-/// The command that plays a script of events.
-pub(crate) const PLAY: &str = "play";
+Usage: suites table
 
-/// The command that has a script of jobs carried out.
-pub(crate) const SERVE: &str = "serve";
+Options:
+  -h, --help  Print help
 
-/// The words after `acl`.
-pub(crate) const NAME: &str = "NAME";
-
-/// The option of `serve` that tells how many agents there are.
-pub(crate) const AGENTS: &str = "agents";
-
-const ABOUT: &str = "Reads access lists, and plays scripts over files that are guarded by them.";
-
-const ACL_ABOUT: &str = "Reads list text, prints the list as canonical long text";
-
-const ACL_NAME: &str = "A name that the list may use, with its number: \
-    user:lisa=1001 or group:toolies=200";
-
-const TABLE_ABOUT: &str = "Reads a script, plays it on one plain table, prints a line an outcome";
-
-const PLAY_ABOUT: &str =
-    "Reads a script of events, plays it on servers and agents, prints a line an outcome";
-
-const SERVE_ABOUT: &str =
-    "Reads a script of jobs, has agents carry them out at once, prints a line a job, certifies all";
-
-const AGENTS_ABOUT: &str = "How many agents there are: 1 to 64";
-
-const TABLE_SCRIPT: &str = "A script is lines of words, with spaces or tabs between them.
+A script is lines of words, with spaces or tabs between them.
 An empty line, and one that begins with #, says nothing.
 
   root UID GID INIT                     the root folder's owner, group and list; first of all
@@ -81,9 +97,19 @@ prints
   1 answered read 6869
   2 denied op 1 suite 1 wants -w- by mask::
 
-The exit statuses are those that `suites --help` tells.";
+The exit statuses are those that `suites --help` tells.
+";
 
-const PLAY_SCRIPT: &str = "A script is lines of words, with spaces or tabs between them.
+/// The command that plays a script of events.
+pub(crate) const OF_PLAY: &str =
+    "Reads a script of events, plays it on servers and agents, prints a line an outcome
+
+Usage: suites play
+
+Options:
+  -h, --help  Print help
+
+A script is lines of words, with spaces or tabs between them.
 An empty line, and one that begins with #, says nothing.
 
   servers N                             1 to 32 servers, numbered from 0
@@ -143,9 +169,20 @@ prints
   0.0 10 answered made 1; wrote
   1.0 11 answered read 6869
 
-The exit statuses are those that `suites --help` tells.";
+The exit statuses are those that `suites --help` tells.
+";
 
-const SERVE_SCRIPT: &str = "A script is lines of words, with spaces or tabs between them.
+/// The command that has a script of jobs carried out.
+pub(crate) const OF_SERVE: &str =
+    "Reads a script of jobs, has agents carry them out at once, prints a line a job, certifies all
+
+Usage: suites serve --agents <N>
+
+Options:
+      --agents <N>  How many agents there are: 1 to 64
+  -h, --help        Print help
+
+A script is lines of words, with spaces or tabs between them.
 An empty line, and one that begins with #, says nothing.
 
   servers N                             1 to 32 servers, numbered from 0
@@ -190,70 +227,14 @@ A line a job: its number, how many steps it took, and how it ended. The last lin
 were those of one run of servers and agents; if they were not, `mismatch` is all that is printed. Where jobs
 are in one another's way, it is chance which of them are done: one that met another's lock is undecided.
 
-The exit statuses are those that `suites --help` tells.";
+The exit statuses are those that `suites --help` tells.
+";
 
-const STREAMS: &str = "A command reads standard input to its end, and prints to standard output.
+/// The command that tells all this.
+pub(crate) const OF_HELP: &str = "Print this message or the help of the given subcommand(s)
 
-Exit status:
-  0  done
-  2  a fault in the command line
-  3  a fault in the text or the script
-  4  out of memory
-  5  what the agents and servers did is no run (of `serve` alone)
-  6  a failed read or write, or input above 16 MiB";
+Usage: suites help [COMMAND]...
 
-fn acl_command<'a>(alloc: Global) -> Result<Command<'a>, AllocError>
-    ensures { IfOk result (IsCommand acl_command) }
-{
-    let name = Arg::new(alloc, NAME).num_args(0..).help(ACL_NAME);
-    Command::new(alloc, ACL)
-        .about(ACL_ABOUT)
-        .after_help(STREAMS)
-        .arg(name)
-}
-
-fn table_command<'a>(alloc: Global) -> Command<'a>
-    ensures { IsCommand (script_command Table) result }
-{
-    Command::new(alloc, TABLE)
-        .about(TABLE_ABOUT)
-        .after_help(TABLE_SCRIPT)
-}
-
-fn play_command<'a>(alloc: Global) -> Command<'a>
-    ensures { IsCommand (script_command Play) result }
-{
-    Command::new(alloc, PLAY)
-        .about(PLAY_ABOUT)
-        .after_help(PLAY_SCRIPT)
-}
-
-fn serve_command<'a>(alloc: Global) -> Result<Command<'a>, AllocError>
-    ensures { IfOk result (IsCommand serve_command) }
-{
-    let agents = Arg::new(alloc, AGENTS)
-        .long(AGENTS)
-        .value_name("N")
-        .required(true)
-        .help(AGENTS_ABOUT);
-    Command::new(alloc, SERVE)
-        .about(SERVE_ABOUT)
-        .after_help(SERVE_SCRIPT)
-        .arg(agents)
-}
-
-/// All commands.
-pub(crate) fn commands<'a>(alloc: Global) -> Result<Command<'a>, AllocError>
-    ensures { IfOk result (λ c. app_of c ≡ suites) }
-{
-    Command::new(alloc, PROGRAM)
-        .bin_name(PROGRAM)?
-        .about(ABOUT)
-        .after_help(STREAMS)
-        .no_binary_name(true)
-        .subcommand_required(true)
-        .subcommand(acl_command(alloc)?)?
-        .subcommand(table_command(alloc))?
-        .subcommand(play_command(alloc))?
-        .subcommand(serve_command(alloc)?)
-}
+Arguments:
+  [COMMAND]...  Print help for the subcommand(s)
+";
