@@ -63,7 +63,7 @@ module _ (opening : PlainTable) (history : List Call) where
         let set = set_of settled placed in
         let rows = placed.table.rows in
         let alike = waits_stands pending placed.early.items number waits in
-        let new : Contains set waits.other → ⊥ = λ there. ⊎_elim (λ old. is.apart waits.other waits.pending old) waits.new (Contains-append_cases settled placed.early.items waits.other there) in
+        let new : Contains set waits.other → ⊥ = λ there. ⊎_elim (λ old. is.apart waits.other waits.among old) waits.new (Contains-append_cases settled placed.early.items waits.other there) in
         let less = waits.lower in
         ⊎_elim
         (λ idle. inl (record { untold = alike.other_untold; stays = λ right. sym (alike.same rows) ∙ idle.stays (alike.right rows) }))
@@ -71,8 +71,8 @@ module _ (opening : PlainTable) (history : List Call) where
         (subst (LeadsTo calls (set ++ number ∷ []) (calls.next rows number) (set ++ waits.other ∷ [])) (sym (alike.same rows))
         (stand_for calls (precede_told opening history) waits.other number alike set rows stands new (λ same. absurd (omega (arith, less, same))) (calls.next rows number)))
         into))
-        (lower waits.other waits.lower waits.pending (record {
-          made = is.made waits.other waits.pending;
+        (lower waits.other waits.lower waits.among (record {
+          made = is.made waits.other waits.among;
           once = new;
           in_time = λ other precedes. stands.in_time other (alike.in_time other precedes);
           right = alike.right rows;

@@ -44,7 +44,7 @@ pub record AreAlike (call other : Call) : Type 0 where
 pub record Waits (history : List Call) (pending early : List ℕ) (number : ℕ) : Type 0 where
   pub other : ℕ
   pub lower : other < number
-  pub pending : Contains pending other
+  pub among : Contains pending other
   pub new : Contains early other → ⊥
   pub call : Call
   pub other_call : Call
