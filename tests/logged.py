@@ -1,13 +1,11 @@
 #!/usr/bin/env python3
-"""tests/logged.py [--runs N] [--from SEED] [--every N]
+"""tests/logged.py [--runs N] [--from SEED]
 
 Has random scripts of `serve` carried out by 2 to 64 agents in threads (200 runs, or N), and looks at what their callers
 saw (`serve --log`): the judge says `one table` of each history; it has of each job one line where it was called and,
 below that, one where it was told; what was called is what the script asks for, and what was told is what is printed;
 and a job above `together` was told before any below it was called. Looks too how `./suites serve --log` ends where its
-words, the script or the file are faulty. Of a short script it refuses each 53rd allocation (or each N-th), and all from
-there on: what is printed and written is of one run, or memory ran out, and the file is empty or whole (`cc`). Status 1
-where one differs.
+words, the script or the file are faulty. Status 1 where one differs.
 """
 import argparse
 import os
@@ -31,14 +29,14 @@ SHORT = re.compile(r"^(undecided|swept) .*")
 NOT_JUDGED = re.compile(r"^(undecided|swept|refused F11) .*")
 
 
-def script(chosen: random.Random, most: int) -> tuple[list[str], int]:
-    """The lines of a random script of so many jobs at most, and how many of them stand above `together`."""
+def script(chosen: random.Random) -> tuple[list[str], int]:
+    """The lines of a random script, and how many of its jobs stand above `together`."""
     servers, votes = chosen.choice(VOTES)
     root = chosen.choice(("777", "755", "u::rwx,u:2000:rwx,g::rwx,m::rwx,o::rx"))
     lines = [f"servers {servers}", f"votes {votes}", f"root 1000 100 {root}", "cache 4096 2048 16"]
     jobs = ["do 1000 100 0 file /f 604", "do 1000 100 0 folder /d 755 ; file /d/g 644 1,1/1/2"]
     alone = chosen.randrange(2, 9)
-    for _ in range(chosen.randrange(most // 12, most)):
+    for _ in range(chosen.randrange(50, 600)):
         if chosen.random() < 0.03:
             jobs.append(f"sweep {chosen.randrange(int(servers))}")
             continue
@@ -63,17 +61,16 @@ def plain(said: str) -> str:
 
 
 class Run:
-    """A script that was served, where some memory may be refused, what was printed, and what was written down."""
+    """A script that was served, what was printed, and what was written down."""
 
-    def __init__(self, seed: int, folder: str, most: int = 600, refused: dict[str, str] | None = None) -> None:
+    def __init__(self, seed: int, folder: str) -> None:
         chosen = random.Random(seed)
-        self.lines, self.alone = script(chosen, most)
+        self.lines, self.alone = script(chosen)
         self.agents = chosen.choice(AGENTS)
         log = os.path.join(folder, "history")
         words = [built.program("serve_log"), "--agents", str(self.agents), "--log", log]
         text = "\n".join([*self.lines, ""]).encode()
-        given = {**os.environ, **(refused or {})}
-        done = subprocess.run(words, input=text, stdout=subprocess.PIPE, env=given, check=False)
+        done = subprocess.run(words, input=text, stdout=subprocess.PIPE, check=False)
         self.status, self.printed = done.returncode, done.stdout.decode().splitlines()
         with open(log, encoding="ascii") as file:
             self.history = file.read()
@@ -112,27 +109,6 @@ class Run:
         tally.holds(bool(event["mark"]) == bool(NOT_JUDGED.match(told)), "decided", event[0], told)
 
 
-def refuse_each(tally: played.Tally, every: int, folder: str) -> None:
-    """Refuses allocations of a short script in turn, one alone and then all from there on."""
-    library, mark = played.library("refuse", folder), os.path.join(folder, "mark")
-    for reach in (0, 10**9) if library else ():
-        number = 1
-        while True:
-            bounds = {"REFUSE_FROM": str(number), "REFUSE_TO": str(number + reach)}
-            run = Run(1, folder, 24, {"LD_PRELOAD": library, "REFUSE_MARK": mark, **bounds})
-            if not os.path.exists(mark):
-                break
-            os.remove(mark)
-            about = f"allocation {number}{' and all from there on' if reach else ''}"
-            if run.status == 4:
-                tally.holds(run.printed[-1:] == ["fault memory"], about, run.printed[-1:])
-                tally.holds(len(run.events) in (0, 2 * len(run.jobs())), about, f"{len(run.events)} lines")
-            else:
-                run.look(tally)
-            number += every
-        tally.holds(number > 1, "no allocation was refused")
-
-
 def ends(tally: played.Tally, folder: str) -> None:
     """Looks how `./suites serve --log` ends."""
     log = os.path.join(folder, "log")
@@ -153,7 +129,6 @@ def main() -> int:
     read = argparse.ArgumentParser(description=__doc__, formatter_class=argparse.RawDescriptionHelpFormatter)
     read.add_argument("--runs", type=int, default=200)
     read.add_argument("--from", type=int, default=1, dest="seed")
-    read.add_argument("--every", type=int, default=53)
     given = read.parse_args()
     tally, beside, decided = played.Tally(20, 300), 0, 0
     with tempfile.TemporaryDirectory(prefix="suites-") as folder:
@@ -161,7 +136,6 @@ def main() -> int:
             run = Run(seed, folder)
             beside += run.look(tally)
             decided += sum(not event["mark"] for event in run.events) // 2
-        refuse_each(tally, given.every, folder)
         ends(tally, folder)
     # what never ran beside anything else would judge nothing
     tally.holds(beside > given.runs // 10 and decided > 10 * given.runs, f"{beside} runs in which jobs met")
