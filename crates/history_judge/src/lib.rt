@@ -31,6 +31,7 @@
 //! `Links`, `Placing`, `Events`.
 #![tactic(auto)]
 
+mod alike;
 mod effects;
 mod event;
 mod fits;

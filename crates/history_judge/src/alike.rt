@@ -1,0 +1,112 @@
+//! Calls that are alike: which of them stands first makes no difference.
+
+ghost use Rattle.std.specs.Prelude.{◌≡◌, ◌<◌, IsTrue, length};
+ghost use Rattle.std.specs.List.{Contains};
+ghost use Rattle.history_judge.specs.Alike.{AreAlike, AreSameAt, AskSame, DoSame, Waits};
+ghost use Rattle.file_ops.specs.Paths.{names_of};
+
+use crate::history::{Asked, Call, call_at};
+use crate::placed::is_among;
+use acl_core::Caller;
+use file_ops::{Action, Op, PathText};
+use suite_content::{FileBytes, Name};
+
+fn same_caller(own: &Caller, theirs: &Caller) -> bool
+    ensures { IsTrue result → own.now ≡ theirs.now }
+{
+    own == theirs
+}
+
+fn same_names(own: &[Name], theirs: &[Name]) -> bool
+    ensures { IsTrue result → own.now ≡ theirs.now }
+{
+    own == theirs
+}
+
+/// Whether two paths are known to lead through the same names.
+fn same_path(own: &PathText, theirs: &PathText) -> bool
+    ensures { IsTrue result → names_of own.now ≡ names_of theirs.now }
+{
+    match (own.names(), theirs.names()) {
+        (Some(names), Some(others)) => same_names(names, others),
+        _ => false,
+    }
+}
+
+fn same_bytes(own: &FileBytes, theirs: &FileBytes) -> bool
+    ensures { IsTrue result → own.now ≡ theirs.now }
+{
+    own == theirs
+}
+
+/// Whether two operations are known to do the same, and to make nothing.
+fn same_op(own: &Op, theirs: &Op) -> bool
+    ensures { IsTrue result → DoSame own.now theirs.now }
+{
+    match (&own.action, &theirs.action) {
+        (Action::Write(bytes), Action::Write(others)) => {
+            same_path(&own.path, &theirs.path) && same_bytes(bytes, others)
+        }
+        (Action::Drop, Action::Drop) => same_path(&own.path, &theirs.path),
+        _ => false,
+    }
+}
+
+/// Whether all operations are known to do the same, and to make nothing.
+fn same_ops(own: &[Op], theirs: &[Op]) -> bool
+    ensures { IsTrue result → AreSameAt own.now theirs.now }
+{
+    if own.len() != theirs.len() {
+        return false;
+    }
+    for i in 0..own.len() {
+        if !same_op(&own[i], &theirs[i]) {
+            return false;
+        }
+    }
+    true
+}
+
+/// Whether the same is known to be asked for.
+fn same_asked(own: &Asked, theirs: &Asked) -> bool
+    ensures { IsTrue result → AskSame own.now theirs.now }
+{
+    match (own, theirs) {
+        (Asked::Ops(ops), Asked::Ops(others)) => same_ops(ops.as_slice(), others.as_slice()),
+        _ => false,
+    }
+}
+
+/// Whether two calls that were not told are known to be alike, and the first was called no later.
+fn are_alike(own: &Call, theirs: &Call) -> bool
+    ensures { IsTrue result → AreAlike own.now theirs.now }
+{
+    own.told.is_none()
+        && theirs.told.is_none()
+        && own.called <= theirs.called
+        && same_caller(&own.caller, &theirs.caller)
+        && same_asked(&own.asked, &theirs.asked)
+}
+
+/// Whether a call waits for another of these: one that is alike has a lower number, was called no later, and is not
+/// among those that were placed.
+pub(crate) fn waits(history: &[Call], pending: &[usize], early: &[usize], number: usize) -> bool
+    requires pending { (other : _) → Contains pending.now other → other < length history.now }
+    requires number { number < length history.now }
+    ensures { IsTrue result → Waits history.now pending.now early.now number }
+{
+    let call = call_at(history, number);
+    if call.told.is_some() {
+        return false;
+    }
+    for i in 0..pending.len() {
+        let other = pending[i];
+        if other < number
+            && are_alike(call_at(history, other), call)
+            && !is_among(early, other)
+        {
+            return true;
+        }
+    }
+    false
+}
