@@ -1,6 +1,7 @@
 -- Calls that are alike come to the same, whatever their numbers are.
-use Rattle.std.proofs.Common.{◌≡◌, ℕ, zero, suc, ◌+◌, List, [], ◌∷◌, length, Result, Ok, Err, refl, ap, ◌∙◌, arith}
+use Rattle.std.proofs.Common.{◌≡◌, ⊎_elim, ℕ, zero, suc, ◌+◌, ◌<◌, List, [], ◌∷◌, length, get_or, Result, Ok, Err, Some, refl, sym, ap, subst, ◌∙◌, arith}
 use Rattle.std.specs.Prelude.{◌==◌, nat_lt, ◌||◌, if◌then◌else◌, slice_get}
+use Rattle.std.proofs.lemmas.Option.{same_Some}
 use Rattle.acl_core.specs.Identity.{Identity}
 use Rattle.file_ops.specs.declared.operation.Action.{Action}
 use Rattle.file_ops.specs.declared.operation.Action.TheVariants as action
@@ -18,6 +19,8 @@ use Rattle.history_judge.specs.declared.history.Asked.{Asked}
 use Rattle.history_judge.specs.declared.history.Asked.TheVariants.{Ops, Test}
 use Rattle.history_judge.specs.Alike.{IsNoMake, DoSame, AreSameOps, AreSameAt, AskSame}
 use Rattle.history_judge.specs.Histories.{outcome_of}
+use Rattle.history_judge.proofs.Among.{below_or}
+use Rattle.history_judge.proofs.Places.{at_get}
 
 bind_same : {A B E : Type 0} (first : Result A E) (next next' : A → Result B E) → ((a : A) → next a ≡ next' a) → ◌>>=◌ first next ≡ ◌>>=◌ first next'
 bind_same (Ok a) next next' same = same a
@@ -76,3 +79,14 @@ module _ (service : Service) (t t' : ℕ) (caller : Identity) where
   outcome_same rows (Ops ops) (Ops others) same = transaction_same rows ops others (same_ops ops others same)
   outcome_same rows (Ops ops) (Test path wanted) same = absurd same
   outcome_same rows (Test path wanted) other same = absurd same
+
+-- one place more
+pub next_same : (ops others : List Op) (i : ℕ) (one theirs : Op) → i < length ops → length ops ≡ length others → one ≡ get_or ops i one → theirs ≡ get_or others i theirs → DoSame one theirs
+    → ((place : ℕ) (op other : Op) → place < i → slice_get ops place ≡ Some op → slice_get others place ≡ Some other → DoSame op other)
+    → (place : ℕ) (op other : Op) → place < i + 1 → slice_get ops place ≡ Some op → slice_get others place ≡ Some other → DoSame op other
+next_same ops others i one theirs within long is is' same before place op other below at at' = ⊎_elim
+    (λ less. before place op other less at at')
+    (λ here.
+    subst (λ op. DoSame op other) (same_Some one op (sym (at_get ops i one within is) ∙ ap (slice_get ops) (sym here) ∙ at))
+    (subst (DoSame one) (same_Some theirs other (sym (at_get others i theirs (omega (arith, within, long)) is') ∙ ap (slice_get others) (sym here) ∙ at')) same))
+    (below_or place i below)

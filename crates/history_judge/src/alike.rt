@@ -11,10 +11,18 @@ use acl_core::Caller;
 use file_ops::{Action, Op, PathText};
 use suite_content::{FileBytes, Name};
 
-fn same_caller(own: &Caller, theirs: &Caller) -> bool
+fn same_groups(own: &[u32], theirs: &[u32]) -> bool
     ensures { IsTrue result → own.now ≡ theirs.now }
 {
     own == theirs
+}
+
+fn same_caller(own: &Caller, theirs: &Caller) -> bool
+    ensures { IsTrue result → own.now ≡ theirs.now }
+{
+    own.uid() == theirs.uid()
+        && own.gid() == theirs.gid()
+        && same_groups(own.groups(), theirs.groups())
 }
 
 fn same_names(own: &[Name], theirs: &[Name]) -> bool
@@ -96,7 +104,7 @@ pub(crate) fn waits(history: &[Call], pending: &[usize], early: &[usize], number
     ensures { IsTrue result → Waits history.now pending.now early.now number }
 {
     let call = call_at(history, number);
-    if call.told.is_some() {
+    if call.told.is_some() || is_among(early, number) {
         return false;
     }
     for i in 0..pending.len() {

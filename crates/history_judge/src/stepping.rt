@@ -62,7 +62,10 @@ impl<'a> Event<'a> {
         ensures tried { OnOk result ((number ≡ self.now.due.number)
             ⊎ IsDone self.now.opening.now self.now.history.now self.now.settled.now self.now.pending.now found.new.list.items placed.now number) }
     {
-        if number == self.due.number || self.waits(placed, number) {
+        if number == self.due.number {
+            return Ok(());
+        }
+        if self.waits(placed, number) {
             return Ok(());
         }
         match self.next(links, placed, number)? {
