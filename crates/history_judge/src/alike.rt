@@ -2,12 +2,12 @@
 
 ghost use Rattle.std.specs.Prelude.{◌≡◌, ◌<◌, IsTrue, length};
 ghost use Rattle.std.specs.List.{Contains};
-ghost use Rattle.history_judge.specs.Alike.{AreAlike, AreSameAt, AskSame, DoSame, Waits};
+ghost use Rattle.history_judge.specs.Alike.{AreAlike, AreSameAt, AskSame, DoSame, IsNoMake, Waits};
 ghost use Rattle.file_ops.specs.Paths.{names_of};
 
 use crate::history::{Asked, Call, call_at};
 use crate::placed::is_among;
-use acl_core::Caller;
+use acl_core::{Caller, Lists};
 use file_ops::{Action, Op, PathText};
 use suite_content::{FileBytes, Name};
 
@@ -47,17 +47,33 @@ fn same_bytes(own: &FileBytes, theirs: &FileBytes) -> bool
     own == theirs
 }
 
+fn same_lists(own: &Lists, theirs: &Lists) -> bool
+    ensures { IsTrue result → own.now ≡ theirs.now }
+{
+    own == theirs
+}
+
+/// Whether two operations are known to ask for the same, and to make nothing.
+fn same_action(own: &Action, theirs: &Action) -> bool
+    ensures same { IsTrue result → own.now ≡ theirs.now }
+    ensures makes_none { IsTrue result → IsNoMake own.now }
+{
+    match (own, theirs) {
+        (Action::Write(bytes), Action::Write(others)) => same_bytes(bytes, others),
+        (Action::SetAcl(lists), Action::SetAcl(others)) => same_lists(lists, others),
+        (Action::Drop, Action::Drop)
+        | (Action::Read, Action::Read)
+        | (Action::List, Action::List)
+        | (Action::GetAcl, Action::GetAcl) => true,
+        _ => false,
+    }
+}
+
 /// Whether two operations are known to do the same, and to make nothing.
 fn same_op(own: &Op, theirs: &Op) -> bool
     ensures { IsTrue result → DoSame own.now theirs.now }
 {
-    match (&own.action, &theirs.action) {
-        (Action::Write(bytes), Action::Write(others)) => {
-            same_path(&own.path, &theirs.path) && same_bytes(bytes, others)
-        }
-        (Action::Drop, Action::Drop) => same_path(&own.path, &theirs.path),
-        _ => false,
-    }
+    same_path(&own.path, &theirs.path) && same_action(&own.action, &theirs.action)
 }
 
 /// Whether all operations are known to do the same, and to make nothing.
@@ -109,10 +125,7 @@ pub(crate) fn waits(history: &[Call], pending: &[usize], early: &[usize], number
     }
     for i in 0..pending.len() {
         let other = pending[i];
-        if other < number
-            && are_alike(call_at(history, other), call)
-            && !is_among(early, other)
-        {
+        if other < number && are_alike(call_at(history, other), call) && !is_among(early, other) {
             return true;
         }
     }
