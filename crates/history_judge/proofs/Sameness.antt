@@ -1,5 +1,5 @@
 -- Calls that are alike come to the same, whatever their numbers are.
-use Rattle.std.proofs.Common.{◌≡◌, ⊎_elim, ℕ, zero, suc, ◌+◌, ◌<◌, List, [], ◌∷◌, length, get_or, Result, Ok, Err, Some, refl, sym, ap, subst, ◌∙◌, arith}
+use Rattle.std.proofs.Common.{◌≡◌, ⊎_elim, ℕ, suc, ◌+◌, ◌<◌, List, [], ◌∷◌, length, get_or, Result, Ok, Err, Some, refl, sym, ap, subst, ◌∙◌, arith}
 use Rattle.std.specs.Prelude.{◌==◌, nat_lt, ◌||◌, if◌then◌else◌, slice_get}
 use Rattle.std.proofs.lemmas.Option.{same_Some}
 use Rattle.acl_core.specs.Identity.{Identity}
@@ -7,7 +7,6 @@ use Rattle.file_ops.specs.declared.operation.Action.{Action}
 use Rattle.file_ops.specs.declared.operation.Action.TheVariants as action
 use Rattle.file_ops.specs.declared.operation.Op.{Op}
 use Rattle.file_ops.specs.declared.refusal.Refusal.{Refusal}
-use Rattle.file_ops.specs.declared.refusal.Why.{Why}
 use Rattle.file_ops.specs.declared.refusal.Why.TheVariants as why
 use Rattle.file_ops.specs.declared.service.Service.{Service}
 use Rattle.file_ops.specs.Steps.{◌>>=◌, ◌>>◌, found_or}

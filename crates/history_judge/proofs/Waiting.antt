@@ -1,5 +1,5 @@
 -- A call that waits for another one need not be placed: what comes of it comes of the other.
-use Rattle.std.proofs.Common.{◌≡◌, ◌⊎◌, inl, inr, ⊎_elim, ℕ, zero, suc, ◌≤◌, ◌<◌, List, [], ◌∷◌, ◌++◌, Option, Some, None, sym, ap, subst, ◌∙◌, arith}
+use Rattle.std.proofs.Common.{◌≡◌, inl, inr, ⊎_elim, ℕ, zero, suc, ◌≤◌, ◌<◌, List, [], ◌∷◌, ◌++◌, Option, Some, None, sym, ap, subst, ◌∙◌, arith}
 use Rattle.std.specs.Prelude.{slice_get, Contains}
 use Rattle.std.proofs.lemmas.Option.{same_Some}
 use Rattle.std.proofs.lemmas.List.Elements.{Contains-append_cases}
@@ -13,7 +13,7 @@ use Rattle.history_judge.specs.declared.window.Due.{Due}
 use Rattle.history_judge.specs.Alike.{Waits}
 use Rattle.history_judge.specs.Events.{IsPassed, IsDone, IsGone, GoesOn}
 use Rattle.history_judge.specs.Histories.{FitsTold, WasToldBefore, outcome, outcome_of, left_by, after_call, calls_of}
-use Rattle.history_judge.specs.Orders.{Calls, Stands}
+use Rattle.history_judge.specs.Orders.{Calls}
 use Rattle.history_judge.specs.Placing.{set_of}
 use Rattle.history_judge.specs.Searches.{StandsFor, LeadsTo}
 use Rattle.history_judge.specs.Windows.{IsDue}

@@ -1,7 +1,6 @@
 //! Calls that are alike: which of them stands first makes no difference.
 
 ghost use Rattle.std.specs.Prelude.{◌≡◌, ◌<◌, IsTrue, length};
-ghost use Rattle.std.specs.List.{Contains};
 ghost use Rattle.history_judge.specs.Alike.{AreAlike, AreSameAt, AskSame, DoSame, IsNoMake, Waits};
 ghost use Rattle.file_ops.specs.Paths.{names_of};
 
@@ -73,7 +72,7 @@ fn same_action(own: &Action, theirs: &Action) -> bool
 fn same_op(own: &Op, theirs: &Op) -> bool
     ensures { IsTrue result → DoSame own.now theirs.now }
 {
-    same_path(&own.path, &theirs.path) && same_action(&own.action, &theirs.action)
+    same_action(&own.action, &theirs.action) && same_path(&own.path, &theirs.path)
 }
 
 /// Whether all operations are known to do the same, and to make nothing.
@@ -108,15 +107,14 @@ fn are_alike(own: &Call, theirs: &Call) -> bool
     own.told.is_none()
         && theirs.told.is_none()
         && own.called <= theirs.called
-        && same_caller(&own.caller, &theirs.caller)
         && same_asked(&own.asked, &theirs.asked)
+        && same_caller(&own.caller, &theirs.caller)
 }
 
 /// Whether a call waits for another of these: one that is alike has a lower number, was called no later, and is not
 /// among those that were placed.
 pub(crate) fn waits(history: &[Call], pending: &[usize], early: &[usize], number: usize) -> bool
-    requires pending { (other : _) → Contains pending.now other → other < length history.now }
-    requires number { number < length history.now }
+    requires { number < length history.now }
     ensures { IsTrue result → Waits history.now pending.now early.now number }
 {
     let call = call_at(history, number);
