@@ -16,10 +16,16 @@ use Rattle.file_ops.specs.Operations.{act, operation}
 use Rattle.file_ops.specs.Transactions.{Played, after, play, transaction, max_operations}
 use Rattle.history_judge.specs.declared.history.Asked.{Asked}
 use Rattle.history_judge.specs.declared.history.Asked.TheVariants.{Ops, Test}
-use Rattle.history_judge.specs.Alike.{IsNoMake, DoSame, AreSameOps, AreSameAt, AskSame}
+use Rattle.history_judge.specs.Alike.{IsNoMake, DoSame, AreSameAt, AskSame}
 use Rattle.history_judge.specs.Histories.{outcome_of}
 use Rattle.history_judge.proofs.Among.{below_or}
 use Rattle.history_judge.proofs.Places.{at_get}
+
+-- the same, one by one
+abbrev AreSameOps : List Op → List Op → Type 0
+AreSameOps [] [] = Unit {0}
+AreSameOps (op ∷ ops) (other ∷ others) = DoSame op other × AreSameOps ops others
+AreSameOps _ _ = ⊥
 
 bind_same : {A B E : Type 0} (first : Result A E) (next next' : A → Result B E) → ((a : A) → next a ≡ next' a) → ◌>>=◌ first next ≡ ◌>>=◌ first next'
 bind_same (Ok a) next next' same = same a

@@ -15,10 +15,10 @@ use Rattle.history_judge.specs.Events.{IsPassed, IsDone, IsGone, GoesOn}
 use Rattle.history_judge.specs.Histories.{FitsTold, WasToldBefore, outcome, outcome_of, left_by, after_call, calls_of}
 use Rattle.history_judge.specs.Orders.{Calls}
 use Rattle.history_judge.specs.Placing.{set_of}
-use Rattle.history_judge.specs.Searches.{StandsFor, LeadsTo}
+use Rattle.history_judge.specs.Searches.{LeadsTo}
 use Rattle.history_judge.specs.Windows.{IsDue}
 use Rattle.history_judge.proofs.Sameness.{outcome_same}
-use Rattle.history_judge.proofs.Searching.{stand_for}
+use Rattle.history_judge.proofs.Searching.{StandsFor, stand_for}
 use Rattle.history_judge.proofs.Standing.{precede_told, untold_call}
 use Rattle.history_judge.proofs.Going.{into_then, comes_on}
 

@@ -1,5 +1,5 @@
 -- Calls that are alike.
-use Rattle.std.specs.Prelude.{◌≡◌, ℕ, ◌<◌, ◌≤◌, List, [], ◌∷◌, length, slice_get, Contains, Some, None}
+use Rattle.std.specs.Prelude.{◌≡◌, ℕ, ◌<◌, ◌≤◌, List, length, slice_get, Contains, Some, None}
 use Rattle.file_ops.specs.declared.operation.Action.{Action}
 use Rattle.file_ops.specs.declared.operation.Action.TheVariants as action
 use Rattle.file_ops.specs.declared.operation.Op.{Op}
@@ -18,12 +18,7 @@ pub record DoSame (op other : Op) : Type 0 where
   pub action : op.action ≡ other.action
   pub makes_none : IsNoMake op.action
 
-abbrev pub AreSameOps : List Op → List Op → Type 0
-AreSameOps [] [] = Unit {0}
-AreSameOps (op ∷ ops) (other ∷ others) = DoSame op other × AreSameOps ops others
-AreSameOps _ _ = ⊥
-
--- the same, by places
+-- as many, and the same by places
 pub record AreSameAt (ops others : List Op) : Type 0 where
   pub long : length ops ≡ length others
   pub same : (place : ℕ) (op other : Op) → slice_get ops place ≡ Some op → slice_get others place ≡ Some other → DoSame op other
