@@ -291,6 +291,19 @@ def below(count: int) -> str:
     return header(1, 1) + job("file /a 644") + "together\n" + jobs
 
 
+def below_many(count: int) -> str:
+    jobs = "".join(f"begin {number % 64} 1000 100 0 read /a\n" for number in range(count))
+    return header(3, 64, "1,1,1/2/2") + job("file /a 644") + "together\n" + jobs
+
+
+def waiting(count: int) -> str:
+    places = [f"{1 + number % 63}.{number // 63}" for number in range(count)]
+    jobs = (f"begin {place.split('.')[0]} 1000 100 0 read /a\n" for place in places)
+    waits = ["", *(f"after {place} " for place in places)]
+    lines = "".join(wait + begun for wait, begun in zip(waits, jobs))
+    return header(3, 64, "1,1,1/2/2") + job("file /a 644") + "together\n" + lines
+
+
 def question(list_text: str, groups: str = "7") -> str:
     return f"1000 100 1001 {groups} r {list_text}\n"
 
@@ -347,10 +360,11 @@ SERVE: tuple[Input, ...] = tuple(
     )
 )  # fmt: skip
 EXPLORE: tuple[Input, ...] = tuple(
-    (f"explore-{name}", "explore", list[str](), make, size)
-    for name, make, size in (
-        ("above", above, 20), ("content-above", content_above, 2000), ("files-above", files_above, 20),
-        ("below", below, 10),
+    (f"explore-{name}", "explore", words.split(), make, size)
+    for name, words, make, size in (
+        ("above", "", above, 20), ("content-above", "", content_above, 2000), ("files-above", "", files_above, 20),
+        ("below", "", below, 10), ("drawn", "--sample 1", below_many, 128), ("waiting", "--sample 1", waiting, 128),
+        ("read-waiting", "--worlds 1", waiting, 1000),
     )
 )  # fmt: skip
 SESSION: tuple[Input, ...] = tuple(

@@ -40,10 +40,13 @@ FAULT = re.compile(r"fault (?:line (\d+): )?([SAVNG]\d+(?: A\d+)?(?: item \d+)?)
 # a trace, and of a list.
 OF_WAYS, OF_TRACE = ("all", "way"), "trace"
 KINDS = (
-    ("all", r"(?:(?:not )?all|sampled):? \d+ ways, \d+ (?:worlds|runs)$"),
+    (
+        "all",
+        r"(?:(?:not )?all|sampled):? \d+ ways, \d+ (?:worlds|runs)$|sampled \d+ orders(?:, \d+ dropped)?: \d+ ways$",
+    ),
     (
         "way",
-        r"way \d+(?: in \d+ of \d+ ends|: \d+ (?:worlds at the end|runs), \d+ of them so)$"
+        r"way \d+(?: in \d+ of \d+ ends|: \d+ (?:worlds at the end|runs), \d+ of them so)?$"
         r"|\d+\.\d+ -$|decided(?: \d+\.\d+)*$",
     ),
     ("session", r"= (?:restored \d+ lines|\d+)$|(?:row|content|copies|locks|room) |(?:copies|room)$"),

@@ -7,7 +7,7 @@ import typing
 from explain import faults, play_lines, tool_lines
 
 LINE = "together"
-WAY = re.compile(r"way (\d+)(?: in \d+ of \d+ ends|: \d+ (?:worlds at the end|runs), \d+ of them so)$")
+WAY = re.compile(r"way (\d+)(?: in \d+ of \d+ ends|: \d+ (?:worlds at the end|runs), \d+ of them so)?$")
 DECIDED = re.compile(r"decided((?: \d+\.\d+)*)$")
 ENDED = re.compile(r"(\d+)\.(\d+) (.*)")
 BEGINS = ("begin", "sweep")

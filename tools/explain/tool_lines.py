@@ -82,6 +82,9 @@ ASKED: tuple[tuple[str, str], ...] = (
     ),
     (r"never: ", "what is asked is so in none of the ways in which the jobs may end, and all was looked at"),
     (r"always: ", "what is asked is so in each of the ways in which the jobs may end, and all was looked at"),
+    (r"sometimes: ", "what is asked is so in some way; orders were drawn, and others may be missing"),
+    (r"not found: ", "what is asked is so in none of the ways of orders that were drawn; in another way it may be so"),
+    (r" *as in: \./suites explore ", "what prints the script that leads to a way in which it is so"),
     (r"sometimes, in \d+ of \d+ ways: ", "what is asked is so in so many of all ways that were found"),
     (
         r" *the shortest: \./suites explore ",

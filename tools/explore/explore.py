@@ -17,7 +17,7 @@ import time
 import typing
 
 from common import built, console, memory
-from explore import queries
+from explore import queries, smaller
 
 # The options that tell a number, with the least and the most that each may be.
 NUMBERS = {
@@ -26,6 +26,8 @@ NUMBERS = {
     "--forgets": (0, 255),
     "--stops": (0, 255),
     "--worlds": (1, 4_294_967_295),
+    "--sample": (1, 4_294_967_295),
+    "--seed": (0, 2**64 - 1),
     "--way": (1, 4_294_967_295),
 }
 DONE, COMMAND_LINE, FAULTY, NO_MEMORY, NO_STREAM, NOT_ALL = 0, 2, 3, 4, 6, 7
@@ -49,7 +51,7 @@ def number_of(option: str) -> typing.Callable[[str], int]:
     least, most = NUMBERS[option]
 
     def read(word: str) -> int:
-        if not (word.isascii() and word.isdigit() and len(word) <= 10 and least <= int(word) <= most):
+        if not (word.isascii() and word.isdigit() and len(word) <= len(str(most)) and least <= int(word) <= most):
             raise argparse.ArgumentTypeError(f"a number of {least} to {most} is told, and not {word}")
         return int(word)
 
@@ -65,12 +67,19 @@ def read(words: list[str]) -> argparse.Namespace:
         parser.add_argument(option, type=number_of(option))
     parser.add_argument("--ask", type=queries.read, action="append")
     parser.add_argument("--page", action="store_true")
+    parser.add_argument("--small", action="store_true")
     parser.add_argument("files", nargs="*")
     given = parser.parse_args(words)
     if given.ask and (given.brief or given.way is not None):
         raise console.Bad("--ask is asked of all ways as they are, without --brief and --way (./suites explore --help)")
     if given.page and given.way is not None:
         raise console.Bad("a page has all ways: it is asked for without --way (./suites explore --help)")
+    if given.small and (given.way is not None) + len(given.ask or []) != 1:
+        raise console.Bad("a script is made --small that --way K or one question leads to (./suites explore --help)")
+    if given.seed is not None and given.sample is None:
+        raise console.Bad("a seed draws the orders of --sample N: it is told beside that (./suites explore --help)")
+    if given.sample is not None and (given.worlds is not None or given.page):
+        raise console.Bad("orders that are drawn are played without --worlds and --page (./suites explore --help)")
     if given.files and not given.help:
         name = shlex.quote(given.files[0])
         raise console.Bad(f"a script is read from standard input: ./suites explore < {name}")
@@ -92,12 +101,14 @@ def words_of(given: argparse.Namespace) -> list[str]:
 def advice(status: int, given: argparse.Namespace, last: str) -> str:
     """What an exit status means, where it says more than the line that is printed."""
     if status == COMMAND_LINE and given.way is not None:
-        is_found = "was not found" if last.startswith("not all") else "is not there"
+        is_found = "was not found" if last.startswith(("not all", "sampled")) else "is not there"
         return f"way {given.way} {is_found}: {last}"
     if status == FAULTY:
         return f"./suites explain {shlex.quote(last)} tells what it means"
     if status == NO_STREAM:
         return "the input is above 16 MiB, or a read or a write failed (./suites explain 'status 6')"
+    if status == NOT_ALL and given.sample is not None:
+        return "each way told is one of orders that were drawn, and others may be missing"
     if status == NOT_ALL:
         why = "as many worlds as --worlds tells were looked at, or " if given.worlds is not None else ""
         return f"each way told is one, and others may be missing: {why}memory ran out"
@@ -202,10 +213,46 @@ def answer(given: argparse.Namespace) -> int:
                 for one in answers:
                     one.look(count, way)
             printed.seek(0)
-            last = printed.read().rpartition(b"\nnot all: " if status == NOT_ALL else b"\nall ")
-    said = "".join(one.told(count, status == DONE, lambda way: command_of(given, way)) for one in answers)
-    head = b"not all: " if status == NOT_ALL else b"all "
+            head = b"sampled " if given.sample is not None else b"not all: " if status == NOT_ALL else b"all "
+            last = printed.read().rpartition(b"\n" + head)
+    shown: typing.Callable[[int], str] = lambda way: command_of(given, way)
+    if given.sample is not None:
+        said = "".join(one.drawn(shown) for one in answers)
+    else:
+        said = "".join(one.told(count, status == DONE, shown) for one in answers)
     return ended(given, status, said.encode("latin1") + head + last[2].removeprefix(head))
+
+
+def small(given: argparse.Namespace) -> int:
+    """Prints a smaller script that leads to a way: in which the jobs end so, or those of the question that is asked."""
+    with tempfile.TemporaryFile() as script:
+        script.write(sys.stdin.buffer.read(MOST_READ))
+        status, printed = told_of(AT_ONCE, script)
+        with printed:
+            if status not in (DONE, NOT_ALL):
+                return ended(given, status, printed.read())
+            jobs = next(queries.ways_in(lines_of(printed)))
+        asked, way = given.ask or [], given.way
+        wrong = queries.unknown(asked, jobs)
+        if wrong:
+            raise console.Bad(wrong)
+        if asked:
+            status, printed = told_of(words_of(given), script)
+            with printed:
+                ways = enumerate(queries.ways_in(lines_of(printed)), 1)
+                way = next((number for number, one in ways if asked[0].holds(one)), None)
+            if way is None:
+                raise console.Stop(f"it is so in no way{'' if status == DONE else ' that was found'}: {asked[0].text}")
+        given.way = way
+        status, printed = told_of(words_of(given), script)
+        with printed:
+            text = printed.read()
+        if status != DONE:
+            return ended(given, status, text)
+        script.seek(0)
+        above = next(place for place, line in enumerate(script) if line.partition(b"#")[0].split() == [b"together"])
+        least = smaller.Smaller(text.decode("latin1"), above, asked[0].jobs if asked else list(jobs)).least()
+    return ended(given, DONE, least.encode("latin1"))
 
 
 def page(given: argparse.Namespace) -> int:
@@ -265,4 +312,5 @@ def ended(given: argparse.Namespace, status: int, text: bytes) -> int:
 
 def main() -> int:
     given = read(sys.argv[1:])
-    return console.of_input("explore", given, page if given.page else answer if given.ask else run)
+    done = page if given.page else small if given.small else answer if given.ask else run
+    return console.of_input("explore", given, done)

@@ -183,6 +183,13 @@ class Answer:
             return f"always{so_far}: {asked}\n"
         return f"sometimes, in {self.ways} of {ways} ways: {asked}\n  the shortest: {command(self.first)}\n"
 
+    def drawn(self, command: typing.Callable[[int], str]) -> str:
+        """The lines of the answer, where the ways are those of orders that were drawn."""
+        asked = self.question.text
+        if not self.ways:
+            return f"not found: {asked}\n"
+        return f"sometimes: {asked}\n  as in: {command(self.first)}\n"
+
 
 def ways_in(lines: typing.Iterable[str]) -> typing.Iterator[Way]:
     """The ways that are told in these lines."""

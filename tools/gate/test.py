@@ -131,6 +131,7 @@ PARTS = (
     Part("rows", test("checked-build.py"), [PROGRAM]),
     Part("the table of forms", test("form-table.py"), [PROGRAM]),
     Part("everything that can happen", test("explored.py"), [PROGRAM, TRACE, EXPLORE]),
+    Part("orders that are drawn", test("sampled.py"), [PROGRAM, TRACE, EXPLORE]),
     Part("questions of everything that can happen", test("asking.py"), [EXPLORE]),
     Part("little memory", test("small-memory.py"), [EXPLORE]),
     Part("a stack of 1 MiB", test("small-stack.py"), [PROGRAM, TRACE, FORMS, EXPLORE]),

@@ -1,14 +1,14 @@
 //! The command line: what is asked for.
 
 ghost use Rattle.std.specs.Prelude.{◌≡◌, IfSome, option_map, slice_get};
-ghost use Rattle.explore.specs.Words.{asks_help, choice_in, first_reading, from_one, large, small, wanted_behind};
-ghost use Rattle.explore.specs.Words.{wanted_by, with_number, with_option, with_word, with_word_behind};
+ghost use Rattle.explore.specs.Words.{asks_help, choice_in, first_reading, from_one, is_sampled, large, small, wanted_behind};
+ghost use Rattle.explore.specs.Words.{wanted_by, wide, with_number, with_option, with_word, with_word_behind};
 
 use byte_streams::{Words, read_wanted};
 use script_text::read_number;
 use std::env::FillError;
 
-/// How much may happen, and how many worlds are looked at.
+/// How much may happen; how many worlds are looked at, or how many orders are played, and by which seed they are drawn.
 #[derive(Clone, Copy)]
 pub(crate) struct Bounds {
     pub(crate) crashes: u8,
@@ -16,6 +16,8 @@ pub(crate) struct Bounds {
     pub(crate) forgets: u8,
     pub(crate) stops: u8,
     pub(crate) worlds: u32,
+    pub(crate) orders: Option<u32>,
+    pub(crate) seed: Option<u64>,
 }
 
 /// What is printed: all ways, or the script that leads to one of them.
@@ -24,6 +26,15 @@ pub(crate) struct Wish {
     pub(crate) bounds: Bounds,
     pub(crate) is_brief: bool,
     pub(crate) way: Option<u32>,
+}
+
+impl Wish {
+    /// Whether orders are played that are drawn.
+    pub(crate) fn is_sampled(&self) -> bool
+        ensures { result ≡ is_sampled self.now }
+    {
+        self.bounds.orders.is_some()
+    }
 }
 
 /// What the words of the command line ask for.
@@ -42,6 +53,8 @@ pub(crate) enum Choice {
     Forgets,
     Stops,
     Worlds,
+    Sample,
+    Seed,
     Way,
 }
 
@@ -54,10 +67,10 @@ pub(crate) struct Reading {
 }
 
 /// The most words that say something: each option once.
-const MOST: usize = 14;
+const MOST: usize = 18;
 
 /// The most bytes of a word.
-const LONGEST: usize = 16;
+const LONGEST: usize = 20;
 
 /// What the words of the command line ask for.
 pub(crate) fn read_words<W: Words>(words: &W) -> Wanted
@@ -100,6 +113,8 @@ fn first_reading() -> Reading
                 forgets: 0,
                 stops: 0,
                 worlds: u32::MAX,
+                orders: None,
+                seed: None,
             },
             is_brief: false,
             way: None,
@@ -164,6 +179,10 @@ fn choice_in(word: &[u8]) -> Option<Choice>
         Some(Choice::Stops)
     } else if word == b"--worlds".as_slice() {
         Some(Choice::Worlds)
+    } else if word == b"--sample".as_slice() {
+        Some(Choice::Sample)
+    } else if word == b"--seed".as_slice() {
+        Some(Choice::Seed)
     } else if word == b"--way".as_slice() {
         Some(Choice::Way)
     } else {
@@ -182,6 +201,8 @@ fn with_number(wish: Wish, choice: Choice, word: &[u8]) -> Option<Wish>
         Choice::Forgets => next.bounds.forgets = small(word)?,
         Choice::Stops => next.bounds.stops = small(word)?,
         Choice::Worlds => next.bounds.worlds = large(word)?,
+        Choice::Sample => next.bounds.orders = Some(from_one(large(word)?)?),
+        Choice::Seed => next.bounds.seed = Some(wide(word)?),
         Choice::Way => next.way = Some(from_one(large(word)?)?),
     }
     Some(next)
@@ -214,11 +235,20 @@ fn large(word: &[u8]) -> Option<u32>
     }
 }
 
-/// What is asked for where no more words come: no option is left without its number.
+/// A number of 64 bits.
+fn wide(word: &[u8]) -> Option<u64>
+    ensures { result ≡ wide word.now }
+{
+    read_number(word, u64::MAX)
+}
+
+/// What is asked for where no more words come: no option is left without its number, and no seed is told where nothing
+/// is drawn.
 fn wanted_of(reading: Reading) -> Wanted
     ensures { result ≡ wanted_behind reading.option reading }
 {
     match reading.option {
+        None if reading.wish.bounds.seed.is_some() && !reading.wish.is_sampled() => Wanted::Nothing,
         None => Wanted::Explore {
             wish: reading.wish,
             tells_progress: reading.tells_progress,

@@ -1,0 +1,222 @@
+#!/usr/bin/env python3
+"""tests/sampled.py [--scripts N] [--from SEED]
+
+Plays orders that are drawn (`explore --sample`) of the scripts of examples/explore and tests/explored, and of N random
+ones (50 by default), and looks whether each way that is told is one of those in which the jobs may end: the kept ones,
+which another program told, or those of the whole search. The script of a way has to lead there, and its answers are
+those of the plain table. The same seed has to tell the same, and another one may not. So are 1,000 jobs of 64 agents
+played. Refuses allocations, closes streams, tells wrong words and asks questions: it is never said that a way is not
+there, or that all are told. Prints each that differs; status 1 where one does.
+"""
+import os
+import re
+import subprocess
+import tempfile
+import typing
+
+import explored
+import played
+from played import Tally
+
+from common import built, console, tool
+
+ORDERS, MOST_WORLDS, NOT_ALL, WORDS = 2000, "400000", 7, 2
+STORY = os.path.join(explored.STORIES, "revocation.script")
+HEAD, LAST = re.compile(r"^way \d+\n", re.M), re.compile(r"^sampled (\d+) orders: (\d+) ways\n\Z", re.M)
+# Words that ask for nothing.
+WRONG = (
+    "--seed 1",
+    "--sample",
+    "--sample 0",
+    "--sample x",
+    "--sample -1",
+    "--sample 4294967296",
+    "--sample 5 --seed",
+    "--sample 5 --seed -1",
+    "--sample 5 --seed 18446744073709551616",
+    "--sample 5 --seed 1x",
+)
+# Allocations that are refused: so many first ones, and each so manieth of the others.
+FIRST, EVERY, LATEST = 60, 97, 4000
+
+
+def sampled(program: str, script: str, words: str, **more: typing.Any) -> tuple[int, str]:
+    """The exit status of `explore` for a script, and what it printed."""
+    done = subprocess.run(
+        [program, *words.split()], input=script.encode(), stdout=subprocess.PIPE, stderr=subprocess.STDOUT, **more
+    )
+    return done.returncode, done.stdout.decode()
+
+
+def ways_in(text: str) -> list[tuple[str, ...]]:
+    """The lines of each way that was printed."""
+    return [tuple(LAST.sub("", part).splitlines()) for part in HEAD.split(text)[1:]]
+
+
+def compare(name: str, script: str, words: str, all_ways: list[tuple[str, ...]], tally: Tally) -> bool:
+    """Compares the ways of orders with all ways. Tells whether another seed tells something else."""
+    program, suites = built.program("explore"), played.program(None)
+    asked = f"{words} --sample {ORDERS}"
+    status, told = sampled(program, script, f"{asked} --seed 7")
+    last, ways = LAST.search(told), ways_in(told)
+    so_many = last and (last[1], last[2]) == (str(ORDERS), str(len(ways)))
+    tally.holds(status == NOT_ALL and bool(so_many), f"{name}: {asked} ends with {status}, last with {told[-99:]}")
+    tally.holds(0 < len(ways) == len(set(ways)), f"{name}: no way is told, or one twice")
+    tally.holds(set(ways) <= set(all_ways), f"{name}: {sorted(set(ways) - set(all_ways))} are no ways")
+    tally.holds(sampled(program, script, f"{asked} --seed 7")[1] == told, f"{name}: one seed tells two things")
+    for number, way in list(enumerate(ways, 1))[:: max(1, len(ways) // 5)]:
+        if "--brief" not in words.split():
+            status, text = sampled(program, script, f"{asked} --seed 7 --way {number}")
+            wrong = [f"it ends with {status}"] if status else explored.differs_when_played(text, way, suites)
+            tally.holds(not wrong, f"{name}: way {number}: {'; '.join(wrong)}")
+    return sampled(program, script, f"{asked} --seed 8")[1] != told
+
+
+def compare_kept(tally: Tally) -> int:
+    """Compares with the kept ways. Tells for how many scripts another seed told something else."""
+    others = 0
+    for name, words, text in explored.kept():
+        with open(os.path.join(explored.KEPT, f"{name}.ways"), encoding="utf-8") as file:
+            others += compare(name, text, words, explored.read(file.read()), tally)
+    return others
+
+
+def compare_random(scripts: int, first: int, tally: Tally) -> int:
+    """Compares with the whole search for random scripts."""
+    program, seed, count, others = built.program("explore"), first, 0, 0
+    while count < scripts:
+        script, words = explored.Explorable(seed).whole()
+        seed += 1
+        status, told = sampled(program, script, f"{words} --worlds {MOST_WORLDS}")
+        if status == 0:
+            count += 1
+            others += compare(f"seed {seed - 1}", script, words, explored.read(told), tally)
+    return others
+
+
+def many() -> str:
+    """A script of 64 agents and 1,000 jobs."""
+    head = ["servers 3", "agents 64", "votes 1,1,1/2/2", "root 0 0 777", "cache 0 0 0"]
+    above = ["begin 0 0 0 0 file /a 666 ; write /a 6869", "run 0", "together"]
+    what = ("read /a", "write /a 6f6b", "list /", "getacl /a")
+    return "\n".join([*head, *above, *(f"begin {job % 64} 0 0 0 {what[job % 4]}" for job in range(1000)), ""])
+
+
+def play_many(tally: Tally) -> None:
+    """An order of many jobs is played to its end, and its script is that of `play`."""
+    program, script = built.program("explore"), many()
+    status, told = sampled(program, script, "--sample 1 --seed 3")
+    ways = ways_in(told)
+    is_whole = len(ways) == 1 and len(ways[0]) == 1000 and not any(line.endswith(" -") for line in ways[0])
+    tally.holds(status == NOT_ALL and is_whole, f"1,000 jobs: status {status}, {len(ways)} ways")
+    status, text = sampled(program, script, "--sample 1 --seed 3 --way 1")
+    wrong = explored.differs_when_played(text, ways[0], played.program(None))
+    tally.holds(status == 0 and not wrong, f"1,000 jobs: {'; '.join(wrong)[:300]}")
+
+
+def refuse(tally: Tally) -> None:
+    """Where memory is refused it tells less, or that memory ran out."""
+    with open(STORY, encoding="utf-8") as file:
+        script = file.read()
+    words, hits = "--sample 20 --seed 1 --crashes 1", 0
+    full = sampled(built.program("explore"), script, words)
+    with tempfile.TemporaryDirectory() as folder:
+        library = played.library("refuse", folder)
+        if not library:
+            return
+        mark = os.path.join(folder, "mark")
+        for first in [*range(1, FIRST), *range(FIRST, LATEST, EVERY)]:
+            for last in (first, 10**9):
+                reach = {"REFUSE_FROM": str(first), "REFUSE_TO": str(last), "REFUSE_MARK": mark}
+                told = sampled(
+                    built.program("explore"), script, words, env={**os.environ, "LD_PRELOAD": library, **reach}
+                )
+                is_less = told[0] == NOT_ALL and set(ways_in(told[1])) <= set(ways_in(full[1]))
+                tally.holds(told == (4, "fault memory\n") or is_less, f"allocation {first} to {last}: {told}")
+                hits += os.path.exists(mark)
+                if os.path.exists(mark):
+                    os.remove(mark)
+    tally.holds(hits > FIRST, f"only {hits} allocations were refused")
+
+
+def tell_wrong(tally: Tally) -> None:
+    """Wrong words and streams that fail."""
+    program = built.program("explore")
+    with open(STORY, encoding="utf-8") as file:
+        script = file.read()
+    for words in WRONG:
+        told = sampled(program, script, words)
+        tally.holds(told == (WORDS, "fault command line\n"), f"{words}: {told}")
+        done = subprocess.run([*tool("explore"), *words.split()], input=b"", capture_output=True, cwd=played.TOP)
+        tally.holds(done.returncode == WORDS and done.stdout == b"", f"./suites explore {words}: {done}")
+    least = sampled(program, script, "--sample 1 --seed 18446744073709551615")
+    tally.holds(least[0] == NOT_ALL and least[1].endswith("sampled 1 orders: 1 ways\n"), f"the last seed: {least}")
+    missing = sampled(program, script, "--sample 1 --way 2")
+    tally.holds(missing == (WORDS, "sampled 1 orders: 1 ways\n"), f"way 2 of one: {missing}")
+    with open("/dev/full", "wb") as full, open(STORY, "rb") as file:
+        done = subprocess.run([program, "--sample", "5"], stdin=file, stdout=full, stderr=subprocess.DEVNULL)
+    tally.holds(done.returncode == 6, f"a full disk: status {done.returncode}")
+    closed = subprocess.run(["sh", "-c", '"$0" --sample 5 <&- 2>/dev/null', program], stdout=subprocess.PIPE)
+    tally.holds(closed.returncode == 6, f"no input: status {closed.returncode}")
+
+
+def ask(tally: Tally) -> None:
+    """What is asked is so sometimes, or was not found; the command tells a script in which it is."""
+    questions = ("0.1 answered set and 1.0 answered", "0.1 denied", "0.1 answered or not 0.1 answered")
+    words = [*tool("explore"), "--sample", "200", "--seed", "9", *(w for one in questions for w in ("--ask", one))]
+    with open(STORY, "rb") as file:
+        done = subprocess.run(words, stdin=file, capture_output=True, cwd=played.TOP, text=True)
+    lines = done.stdout.splitlines()
+    kinds = [line.partition(":")[0] for line in lines if not line.startswith(" ")]
+    wanted = ["sometimes", "not found", "sometimes", "sampled 200 orders"]
+    tally.holds((done.returncode, kinds) == (NOT_ALL, wanted), f"asked is told {done.stdout}{done.stderr}")
+    shown = re.search(r"as in: \./suites (explore .*?) < (\S+)$", done.stdout, re.M)
+    tally.holds(bool(shown), f"no command is told: {done.stdout}")
+    if shown:
+        name, *more = shown[1].split()
+        with open(os.path.join(played.TOP, shown[2]), "rb") as file:
+            told = subprocess.run([*tool(name), *more], stdin=file, capture_output=True, cwd=played.TOP)
+        done = subprocess.run([played.program(None), "play"], input=told.stdout, capture_output=True)
+        outcomes = explored.without_steps(done.stdout.decode().splitlines())
+        is_so = "0.1 answered set" in outcomes and any(line.startswith("1.0 answered") for line in outcomes)
+        tally.holds(is_so, f"the script tells {outcomes}")
+
+
+def make_small(tally: Tally) -> None:
+    """Of many events few are left, none of which can be dropped."""
+    words = [*tool("explore"), "--sample", "30", "--seed", "2", "--ask", "5.0 undecided U2", "--small"]
+    done = subprocess.run(words, input=many(), capture_output=True, cwd=played.TOP, text=True)
+    lines = done.stdout.splitlines()
+    first = lines.index("run 0") + 1 if "run 0" in lines else len(lines)
+    tally.holds(done.returncode == 0 and 0 < len(lines) - first < 20, f"a small script is {done.stdout}{done.stderr}")
+
+    def ending(left: list[str]) -> str:
+        text = "\n".join([*left, ""])
+        told = subprocess.run([played.program(None), "play"], input=text, capture_output=True, text=True)
+        found = [line for line in explored.without_steps(told.stdout.splitlines()) if line.startswith("5.0 ")]
+        return "".join(found)
+
+    wanted = ending(lines)
+    tally.holds(wanted.startswith("5.0 undecided U2 "), f"in a small script job 5.0 ends so: {wanted}")
+    for place in range(first, len(lines)):
+        is_other = ending([*lines[:place], *lines[place + 1 :]]) != wanted
+        tally.holds(is_other, f"line {place + 1} could be dropped of {done.stdout}")
+
+
+def main() -> int:
+    asks = console.words(__doc__)
+    asks.add_argument("--scripts", type=int, default=50)
+    asks.add_argument("--from", type=int, default=0, dest="first")
+    given, tally = asks.parse_args(), Tally()
+    others = compare_kept(tally) + compare_random(given.scripts, given.first, tally)
+    tally.holds(others > 0, "no other seed tells other ways")
+    play_many(tally)
+    refuse(tally)
+    tell_wrong(tally)
+    ask(tally)
+    make_small(tally)
+    return tally.told("answers of sampled orders compared")
+
+
+if __name__ == "__main__":
+    console.run(main, "stopped")
