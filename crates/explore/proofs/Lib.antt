@@ -8,3 +8,4 @@ pub mod Finding
 pub mod WayLines
 pub mod BegunJobs
 pub mod WordByWord
+pub mod JobsLeft
