@@ -17,20 +17,24 @@
 //! the history. A call that changes nothing wherever it is right is placed as soon as it fits. What changes nothing in
 //! one state alone is not: later it may change something. But a call that was not told is not placed where it changes
 //! nothing; and of two that come to the same rows, one is dropped that has placed the same calls as the other, or more of
-//! those that were not told. A table is copied for each call that is placed on it; but where one alone is kept, the call
-//! that is due is placed on its own table (`stepping`). Orders share their beginnings (`links`).
+//! those that were not told. Of calls that were not told and are alike, the one that was called first is placed first:
+//! they are of one caller, for the same operations on the same names, which make nothing, so that each does the same in
+//! the other's place (`alike`). A table is copied for each call that is placed on it; but where one alone is kept, the
+//! call that is due is placed on its own table (`stepping`). Orders share their beginnings (`links`).
 //!
 //! **The caller owes** fewer than 2^60 calls, and an opening table without a file or folder of a number that a call
 //! of the history would make. A table that was just opened has none.
 //!
 //! **Files**: `history`, `fits` (whether what was told fits), `trying` (a call on a table, or on a copy of it), `quiet`
-//! (calls that change nothing), `window` (which calls are pending), `links`, `placed`, `hints` and `effects` (where the
-//! same may be found), `event`, `stepping` (its first step), `search`, `front` (what was told before a time), `verdict`.
+//! (calls that change nothing), `alike`, `window` (which calls are pending), `links`, `placed`, `hints` and `effects`
+//! (where the same may be found), `event`, `stepping` (its first step), `search`, `front` (what was told before a time),
+//! `verdict`.
 //!
-//! **Definitions** (`specs/`): `Orders`, `Histories`, `Fronts`, `Verdicts`; of the search `Searches`, `Reads`, `Windows`,
-//! `Links`, `Placing`, `Events`.
+//! **Definitions** (`specs/`): `Orders`, `Histories`, `Fronts`, `Verdicts`; of the search `Searches`, `Reads`, `Alike`,
+//! `Windows`, `Links`, `Placing`, `Events`.
 #![tactic(auto)]
 
+mod alike;
 mod effects;
 mod event;
 mod fits;

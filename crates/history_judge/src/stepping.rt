@@ -2,7 +2,7 @@
 
 ghost use Rattle.std.specs.Prelude.{◌≡◌, ◌⊎◌, ◌<◌, ◌^◌, IfOk, OnOk, length};
 ghost use Rattle.std.specs.List.{Contains};
-ghost use Rattle.history_judge.specs.Events.{ComesOn, HasGrown, IsNext, IsPassed, SomeEnds, Ends};
+ghost use Rattle.history_judge.specs.Events.{ComesOn, HasGrown, IsDone, IsNext, IsPassed, SomeEnds, Ends};
 ghost use Rattle.history_judge.specs.Placing.{AllHold, Holds, Kept};
 ghost use Rattle.history_judge.specs.Windows.{IsDue};
 
@@ -60,9 +60,12 @@ impl<'a> Event<'a> {
         ensures grown { OnOk result (HasGrown self.now.opening.now self.now.history.now self.now.settled.now
             links.old.items links.new.items found.old.list.items found.new.list.items) }
         ensures tried { OnOk result ((number ≡ self.now.due.number)
-            ⊎ IsPassed self.now.opening.now self.now.history.now self.now.settled.now found.new.list.items placed.now number) }
+            ⊎ IsDone self.now.opening.now self.now.history.now self.now.settled.now self.now.pending.now found.new.list.items placed.now number) }
     {
         if number == self.due.number {
+            return Ok(());
+        }
+        if self.waits(placed, number) {
             return Ok(());
         }
         match self.next(links, placed, number)? {

@@ -20,8 +20,8 @@ pub returns-in-Some-clause-tried : goal.returns-in-Some-clause-tried
 returns-in-Some-clause-tried c =
     let next = subst (IsNext c.args.self.now.opening.now c.args.self.now.history.now c.args.self.now.settled.now c.next.new.links.items c.args.placed.now c.args.number) c.in-Some.is c.in_ok-next.ensures.next in
     on_ok c.admit.result c.admit.ensures (λ admitted.
-    inr (passed_more c.args.self.now.opening.now c.args.self.now.history.now c.args.self.now.settled.now c.args.links.now.items c.next.new.links.items c.admit.new.links.items c.args.found.now.list.items c.admit.new.found.list.items
-    c.args.number c.args.placed.now c.in-Some.next next admitted))
+    inr (inr (passed_more c.args.self.now.opening.now c.args.self.now.history.now c.args.self.now.settled.now c.args.links.now.items c.next.new.links.items c.admit.new.links.items c.args.found.now.list.items c.admit.new.found.list.items
+    c.args.number c.args.placed.now c.in-Some.next next admitted)))
 
 pub returns-in-None-clause-grown : goal.returns-in-None-clause-grown
 returns-in-None-clause-grown c = record {

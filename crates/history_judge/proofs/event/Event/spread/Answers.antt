@@ -2,11 +2,12 @@ use Rattle.std.proofs.Common.{◌⊎◌, ◌≡◌, ⊎_elim, inl, inr, sym, ap,
 use Rattle.std.specs.Prelude.{OnOk, slice_get, get_or}
 use Rattle.std.proofs.lemmas.Option.{same_Some}
 use Rattle.std.proofs.lemmas.List.Elements.{Contains-get_or}
-use Rattle.history_judge.specs.Events.{IsPassed}
+use Rattle.history_judge.specs.Events.{IsPassed, IsDone}
 use Rattle.history_judge.proofs.Among.{below_or}
 use Rattle.history_judge.proofs.Places.{at_get, get_same}
 use Rattle.history_judge.proofs.Standing.{holds_kept}
-use Rattle.history_judge.proofs.Going.{grown_none, grown_then, passed_kept, comes_on}
+use Rattle.history_judge.proofs.Going.{grown_none, grown_then, done_kept, comes_on}
+use Rattle.history_judge.proofs.Waiting.{passed_all}
 use Rattle.history_judge.proofs.event.Event.spread.Goals as goal
 
 on_both : {A E P Q R : Type 0} (result : Result A E) → OnOk result P → OnOk result Q → (P → Q → R) → OnOk result R
@@ -38,9 +39,9 @@ loop-i-preserved c =
           c.loop-i.invariant.grown c.in_ok-place_other.ensures.grown;
       tried = λ k number below at. ⊎_elim
           (λ before. ⊎_elim (λ same. inl same)
-          (λ passed. inr (passed_kept c.args.self.now.opening.now c.args.self.now.history.now c.args.self.now.settled.now found found' c.args.placed number c.in_ok-place_other.ensures.grown.found_kept passed))
+          (λ passed. inr (done_kept c.args.self.now.opening.now c.args.self.now.history.now c.args.self.now.settled.now found found' pending c.args.placed number c.in_ok-place_other.ensures.grown.found_kept passed))
           (c.loop-i.invariant.tried k number before at))
-          (λ same. subst (λ number. (number ≡ c.args.self.now.due.number) ⊎ IsPassed c.args.self.now.opening.now c.args.self.now.history.now c.args.self.now.settled.now found' c.args.placed number)
+          (λ same. subst (λ number. (number ≡ c.args.self.now.due.number) ⊎ IsDone c.args.self.now.opening.now c.args.self.now.history.now c.args.self.now.settled.now pending found' c.args.placed number)
           (same_Some (get_or pending c.loop-i.i 0) number (sym (at_get pending c.loop-i.i (get_or pending c.loop-i.i 0) c.loop-i-test.true (get_same pending c.loop-i.i c.loop-i-test.true)) ∙ ap (slice_get pending) (sym same) ∙ at))
           c.in_ok-place_other.ensures.tried)
           (below_or k c.loop-i.i below);
@@ -61,8 +62,9 @@ pub returns-clause-on : goal.returns-clause-on
 returns-clause-on c =
     let past = c.loop-i-test.false in
     on_both c.place_due.result c.place_due.ensures.grown c.place_due.ensures.tried (λ grown last.
-    comes_on c.args.self.now.opening.now c.args.self.now.history.now c.args.self.now.settled.now c.args.self.now.pending.now c.args.self.now.due c.requires.due c.place_due.new.found.list.items c.args.placed c.requires.lacks (λ number there.
+    comes_on c.args.self.now.opening.now c.args.self.now.history.now c.args.self.now.settled.now c.args.self.now.pending.now c.args.self.now.due c.requires.due c.place_due.new.found.list.items c.args.placed c.requires.lacks
+    (passed_all c.args.self.now.opening.now c.args.self.now.history.now c.args.self.now.settled.now c.args.self.now.pending.now c.args.self.now.due c.requires.due c.place_due.new.found.list.items c.args.placed (λ number there.
     let within = there.1 in
-    ⊎_elim (λ same. subst (IsPassed c.args.self.now.opening.now c.args.self.now.history.now c.args.self.now.settled.now c.place_due.new.found.list.items c.args.placed) (sym same) last)
-    (λ passed. passed_kept c.args.self.now.opening.now c.args.self.now.history.now c.args.self.now.settled.now c.loop-i.found.list.items c.place_due.new.found.list.items c.args.placed number grown.found_kept passed)
-    (c.loop-i.invariant.tried there.0 number (omega (arith, within, past)) (at_get c.args.self.now.pending.now there.0 number there.1 (sym there.2)))))
+    ⊎_elim (λ same. inr (subst (IsPassed c.args.self.now.opening.now c.args.self.now.history.now c.args.self.now.settled.now c.place_due.new.found.list.items c.args.placed) (sym same) last))
+    (λ done. done_kept c.args.self.now.opening.now c.args.self.now.history.now c.args.self.now.settled.now c.loop-i.found.list.items c.place_due.new.found.list.items c.args.self.now.pending.now c.args.placed number grown.found_kept done)
+    (c.loop-i.invariant.tried there.0 number (omega (arith, within, past)) (at_get c.args.self.now.pending.now there.0 number there.1 (sym there.2))))))

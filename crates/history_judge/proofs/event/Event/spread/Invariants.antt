@@ -1,11 +1,11 @@
 use Rattle.std.proofs.Common.{◌≡◌, ◌⊎◌, ◌<◌, ℕ, Some}
 use Rattle.std.specs.Prelude.{slice_get}
-use Rattle.history_judge.specs.Events.{HasGrown, IsPassed}
+use Rattle.history_judge.specs.Events.{HasGrown, IsDone}
 use Rattle.history_judge.proofs.event.Event.spread.Given as goal
 
 abbrev pub invariant-loop-i : goal.invariant-loop-i
 invariant-loop-i l = record {
   grown : HasGrown l.self.opening.now l.self.history.now l.self.settled.now l.fn.links.items l.links.items l.fn.found.list.items l.found.list.items;
   tried : (k number : ℕ) → k < l.i → slice_get l.self.pending.now k ≡ Some number
-      → (number ≡ l.self.due.number) ⊎ IsPassed l.self.opening.now l.self.history.now l.self.settled.now l.found.list.items l.placed number;
+      → (number ≡ l.self.due.number) ⊎ IsDone l.self.opening.now l.self.history.now l.self.settled.now l.self.pending.now l.found.list.items l.placed number;
 }

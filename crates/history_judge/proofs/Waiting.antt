@@ -1,0 +1,98 @@
+-- A call that waits for another one need not be placed: what comes of it comes of the other.
+use Rattle.std.proofs.Common.{◌≡◌, inl, inr, ⊎_elim, ℕ, zero, suc, ◌≤◌, ◌<◌, List, [], ◌∷◌, ◌++◌, Option, Some, None, sym, ap, subst, ◌∙◌, arith}
+use Rattle.std.specs.Prelude.{slice_get, Contains}
+use Rattle.std.proofs.lemmas.Option.{same_Some}
+use Rattle.std.proofs.lemmas.List.Elements.{Contains-append_cases}
+use Rattle.acl_core.specs.Identity.{Identity}
+use Rattle.file_ops.specs.Rows.{Rows, PlainTable}
+use Rattle.file_ops.specs.Transactions.{replies}
+use Rattle.history_judge.specs.declared.history.Call.{Call}
+use Rattle.history_judge.specs.declared.history.Told.{Told}
+use Rattle.history_judge.specs.declared.placed.Placed.{Placed}
+use Rattle.history_judge.specs.declared.window.Due.{Due}
+use Rattle.history_judge.specs.Alike.{Waits}
+use Rattle.history_judge.specs.Events.{IsPassed, IsDone, IsGone, GoesOn}
+use Rattle.history_judge.specs.Histories.{FitsTold, WasToldBefore, outcome, outcome_of, left_by, after_call, calls_of}
+use Rattle.history_judge.specs.Orders.{Calls}
+use Rattle.history_judge.specs.Placing.{set_of}
+use Rattle.history_judge.specs.Searches.{LeadsTo}
+use Rattle.history_judge.specs.Windows.{IsDue}
+use Rattle.history_judge.proofs.Sameness.{outcome_same}
+use Rattle.history_judge.proofs.Searching.{StandsFor, stand_for}
+use Rattle.history_judge.proofs.Standing.{precede_told, untold_call}
+use Rattle.history_judge.proofs.Going.{into_then, comes_on}
+
+told_later : (told : Option Told) (called later : ℕ) → called ≤ later → WasToldBefore told called → WasToldBefore told later
+told_later None called later less before = before
+told_later (Some told) called later less before = omega (arith, less, before)
+
+module _ (opening : PlainTable) (history : List Call) where
+  abbrev calls : Calls Rows
+  calls = calls_of opening.service history
+
+  untold_right : (number : ℕ) (call : Call) → slice_get history number ≡ Some call → call.told ≡ None → (rows : Rows) → calls.IsRight rows number
+  untold_right number call at none rows other at' =
+      subst (λ told. FitsTold told (replies (outcome opening.service rows number other)))
+      (sym (ap (λ (call : Call). call.told) (same_Some other call (sym at' ∙ at)) ∙ none)) tt
+
+  waits_stands : (pending early : List ℕ) (number : ℕ) (waits : Waits history pending early number) → StandsFor calls waits.other number
+  waits_stands pending early number waits = record {
+    untold = untold_call opening history waits.other waits.other_call waits.other_at waits.alike.untold;
+    other_untold = untold_call opening history number waits.call waits.at waits.alike.other_untold;
+    in_time = λ before precedes. (
+      precedes.0,
+      waits.call,
+      precedes.2,
+      waits.at,
+      told_later precedes.0.told precedes.1.called waits.call.called
+          (subst (λ (call : Call). call.called ≤ waits.call.called) (same_Some waits.other_call precedes.1 (sym waits.other_at ∙ precedes.3)) waits.alike.called) precedes.4,
+    );
+    right = untold_right waits.other waits.other_call waits.other_at waits.alike.untold;
+    other_right = untold_right number waits.call waits.at waits.alike.other_untold;
+    same = λ rows.
+        ap (after_call opening.service rows waits.other) waits.other_at
+        ∙ ap (left_by rows) (outcome_same opening.service waits.other number waits.other_call.caller rows waits.other_call.asked waits.call.asked waits.alike.asked
+        ∙ ap (λ (caller : Identity). outcome_of opening.service rows number caller waits.call.asked) waits.alike.caller)
+        ∙ sym (ap (after_call opening.service rows number) waits.at);
+  }
+
+  module _ (settled pending : List ℕ) (due : Due) (is : IsDue history pending settled due) (found : List Placed) (placed : Placed) where
+    passed_waits : (number : ℕ) → Waits history pending placed.early.items number → ((other : ℕ) → other < number → Contains pending other → IsPassed opening history settled found placed other)
+        → IsPassed opening history settled found placed number
+    passed_waits number waits lower stands =
+        let set = set_of settled placed in
+        let rows = placed.table.rows in
+        let alike = waits_stands pending placed.early.items number waits in
+        let new : Contains set waits.other → ⊥ = λ there. ⊎_elim (λ old. is.apart waits.other waits.among old) waits.new (Contains-append_cases settled placed.early.items waits.other there) in
+        let less = waits.lower in
+        ⊎_elim
+        (λ idle. inl (record { untold = alike.other_untold; stays = λ right. sym (alike.same rows) ∙ idle.stays (alike.right rows) }))
+        (λ into. inr (into_then opening history settled found (set ++ number ∷ []) (set ++ waits.other ∷ []) (calls.next rows number) (calls.next rows waits.other)
+        (subst (LeadsTo calls (set ++ number ∷ []) (calls.next rows number) (set ++ waits.other ∷ [])) (sym (alike.same rows))
+        (stand_for calls (precede_told opening history) waits.other number alike set rows stands new (λ same. absurd (omega (arith, less, same))) (calls.next rows number)))
+        into))
+        (lower waits.other waits.lower waits.among (record {
+          made = is.made waits.other waits.among;
+          once = new;
+          in_time = λ other precedes. stands.in_time other (alike.in_time other precedes);
+          right = alike.right rows;
+        }))
+
+    passed_below : ((number : ℕ) → Contains pending number → IsDone opening history settled pending found placed number)
+        → (most number : ℕ) → number < most → Contains pending number → IsPassed opening history settled found placed number
+    passed_below done zero number below there = absurd (omega (arith, below))
+    passed_below done (suc most) number below there = ⊎_elim
+        (λ waits. passed_waits number waits (λ other less. passed_below done most other (omega (arith, below, less))))
+        (λ passed. passed)
+        (done number there)
+
+    pub passed_all : ((number : ℕ) → Contains pending number → IsDone opening history settled pending found placed number)
+        → (number : ℕ) → Contains pending number → IsPassed opening history settled found placed number
+    passed_all done number = passed_below done (suc number) number (omega arith)
+
+  pub goes_on : (settled pending : List ℕ) (due : Due) → IsDue history pending settled due → (found : List Placed) (head : ℕ)
+      → ((placed : Placed) → slice_get found head ≡ Some placed → Contains placed.early.items due.number → ⊥)
+      → ((number : ℕ) → Contains pending number → IsGone opening history settled pending found head number) → GoesOn opening history settled found head
+  goes_on settled pending due is found head lacks gone placed at =
+      comes_on opening history settled pending due is found placed (lacks placed at)
+      (passed_all settled pending due is found placed (λ number there. gone number there placed at))

@@ -1,0 +1,8 @@
+use Rattle.std.proofs.Common.{◌≡◌, ℕ, ◌<◌, Some}
+use Rattle.std.specs.Prelude.{slice_get}
+use Rattle.file_ops.specs.declared.operation.Op.{Op}
+use Rattle.history_judge.specs.Alike.{DoSame}
+use Rattle.history_judge.proofs.alike.same_ops.Given as goal
+
+abbrev pub invariant-loop-i : goal.invariant-loop-i
+invariant-loop-i l = (place : ℕ) (op other : Op) → place < l.i → slice_get l.own place ≡ Some op → slice_get l.theirs place ≡ Some other → DoSame op other
