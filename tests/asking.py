@@ -3,9 +3,9 @@
 tests/asking.py --against PROTOTYPE [--scripts N] [--from SEED]
 
 Asks `./suites explore --ask` random questions of the scripts of examples/explore and tests/explored, and holds the
-answers against the ways that are kept in tests/explored/NAME.ways, which another program told; and questions with `before`
-against those that `--order` tells (tests/ordered.py looks at these). Where not all was looked at nothing is said to be
-never or always so. What is no question is a fault.
+answers against the ways that are kept in tests/explored/NAME.ways, which another program told; and questions with
+`before` against those that `--order` tells (tests/ordered.py looks at these). Where not all was looked at nothing is
+said to be never or always so. What is no question is a fault.
 
 With --against it asks of N random scripts (200 by default), and holds the answers against the ways that the other
 program tells of them now. Prints each that differs; status 1 where one does.
@@ -61,7 +61,11 @@ FAULTS = (
 # Endings that say that a transaction was decided, and the word before the jobs that were, in their order.
 DECIDED, ORDER = ("answered", "denied", "refused"), "decided"
 # Stories of which it is asked what was decided first, with words.
-ORDERED = (("revocation.script", []), ("two-writers.script", []), ("revocation.script", ["--crashes", "1", "--stops", "1"]))
+ORDERED: tuple[tuple[str, list[str]], ...] = (
+    ("revocation.script", []),
+    ("two-writers.script", []),
+    ("revocation.script", ["--crashes", "1", "--stops", "1"]),
+)
 
 
 class Asked(typing.NamedTuple):
@@ -149,7 +153,7 @@ def compare_kept(dice: random.Random, tally: Tally) -> None:
 
 
 def compare_ordered(dice: random.Random, tally: Tally) -> None:
-    """Asks in which order jobs were decided: of ways that are told with it, and of others, which ask for it themselves."""
+    """Asks in which order jobs were decided: of ways that are told with it, and of others, which ask for it."""
     for name, words in ORDERED:
         path, ordered = os.path.join(explored.STORIES, name), [*words, "--order"]
         with open(path, encoding="utf-8") as file:
@@ -158,7 +162,8 @@ def compare_ordered(dice: random.Random, tally: Tally) -> None:
         for _ in range(3):
             compare(path, ordered, ways, dice, tally)
         question = "0.1 before 1.0 or 1.0 before 0.1"
-        tally.holds(asked(path, words, [question]) == asked(path, ordered, [question]), f"{name}: {question} without --order")
+        is_same = asked(path, words, [question]) == asked(path, ordered, [question])
+        tally.holds(is_same, f"{name}: {question} without --order")
 
 
 def compare_some(tally: Tally) -> None:

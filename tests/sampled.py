@@ -176,8 +176,8 @@ def ask(tally: Tally) -> None:
         name, *more = shown[1].split()
         with open(os.path.join(played.TOP, shown[2]), "rb") as file:
             told = subprocess.run([*tool(name), *more], stdin=file, capture_output=True, cwd=played.TOP)
-        done = subprocess.run([played.program(None), "play"], input=told.stdout, capture_output=True)
-        outcomes = explored.without_steps(done.stdout.decode().splitlines())
+        run = subprocess.run([played.program(None), "play"], input=told.stdout, capture_output=True)
+        outcomes = explored.without_steps(run.stdout.decode().splitlines())
         is_so = "0.1 answered set" in outcomes and any(line.startswith("1.0 answered") for line in outcomes)
         tally.holds(is_so, f"the script tells {outcomes}")
 

@@ -100,8 +100,8 @@ def clicked(tally: Tally, driver: browser.Browser, name: str, told: str, answers
         driver.click(f"[data-way='{number}'] button")
         tally.holds(driver.value("Ways.here()") == number, name, number, "a way is shown")
         driver.press("End")
-        told = [ENDED.match(line) for line in driver.value(SEEN)["told"]]
-        ends = {found[1]: found[2] for found in told if found}
+        seen = [ENDED.match(line) for line in driver.value(SEEN)["told"]]
+        ends = {found[1]: found[2] for found in seen if found}
         is_so = all(ends.get(line.split()[0], "-") == line.split(" ", 1)[1] for line in lines)
         tally.holds(is_so, name, number, "the run of a way", ends, lines)
     for place in range(answers):

@@ -87,7 +87,8 @@ def read(words: list[str]) -> argparse.Namespace:
     # what was decided first is told only where it is asked for
     given.order = given.order or any(question.ordered for question in given.ask or [])
     if given.order and (given.sample is not None or given.small):
-        raise console.Bad("what is decided first is told of all ways, without --sample and --small (./suites explore --help)")
+        told = "what is decided first is told of all ways, without --sample and --small (./suites explore --help)"
+        raise console.Bad(told)
     return given
 
 

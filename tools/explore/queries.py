@@ -35,7 +35,8 @@ REPLIES: tuple[tuple[str, ...], ...] = (
     ("votes", LIST),
 )
 ENDINGS = "answered, denied, refused, undecided, swept, decided (answered, denied or refused) and stopped"
-# Behind a job: another one, which was decided later. And before the jobs that were decided, in the order in which they were.
+# Behind a job: another one, which was decided later. And before the jobs that were decided, in the order in which they
+# were.
 BEFORE, ORDER = "before", "decided"
 # Endings that say that a transaction was decided.
 DECIDED = ("answered", "denied", "refused")
@@ -44,14 +45,14 @@ JOINED = {"and", "or", "not", "(", ")"}
 # The most words of a question.
 MOST = 200
 
-# How the jobs of a way ended: the words behind each job's number. Where it is told in which order jobs were decided, these
-# stand behind ORDER.
+# How the jobs of a way ended: the words behind each job's number. Where it is told in which order jobs were decided,
+# these stand behind ORDER.
 Way = dict[str, tuple[str, ...]]
 
 
 class Question(typing.NamedTuple):
-    """A question: its text, the jobs that it names, whether it asks for the order of decisions, and whether what it asks
-    for is so in a way.
+    """A question: its text, the jobs that it names, whether it asks for the order of decisions, and whether what it
+    asks for is so in a way.
     """
 
     text: str

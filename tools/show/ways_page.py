@@ -24,8 +24,8 @@ HEAD = re.compile(r"way (\d+) ?(.*)")
 
 
 class Way(typing.NamedTuple):
-    """A way as it is told: its number, what stands behind that, a line for each job, and the jobs that were decided, in the
-    order in which they were, where that is told.
+    """A way as it is told: its number, what stands behind that, a line for each job, and the jobs that were decided, in
+    the order in which they were, where that is told.
     """
 
     number: int
