@@ -8,4 +8,3 @@ pub mod Finding
 pub mod WayLines
 pub mod BegunJobs
 pub mod WordByWord
-pub mod JobsLeft
