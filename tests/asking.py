@@ -3,8 +3,9 @@
 tests/asking.py --against PROTOTYPE [--scripts N] [--from SEED]
 
 Asks `./suites explore --ask` random questions of the scripts of examples/explore and tests/explored, and holds the
-answers against the ways that are kept in tests/explored/NAME.ways, which another program told. Where not all was looked
-at nothing is said to be never or always so. What is no question is a fault.
+answers against the ways that are kept in tests/explored/NAME.ways, which another program told; and questions with
+`before` against those that `--order` tells (tests/ordered.py looks at these). Where not all was looked at nothing is
+said to be never or always so. What is no question is a fault.
 
 With --against it asks of N random scripts (200 by default), and holds the answers against the ways that the other
 program tells of them now. Prints each that differs; status 1 where one does.
@@ -21,7 +22,7 @@ import explored
 import played
 from played import Tally
 
-from common import console, tool
+from common import built, console, tool
 
 STORY = os.path.join(explored.STORIES, "revocation.script")
 # How many questions are asked of a script at once, and of how many atoms each is at most.
@@ -42,6 +43,11 @@ FAULTS = (
     ("0.1 answered and", "and not nothing"),
     ("or 0.1 answered", "and not or"),
     ("(0.1 answered", "a bracket is not closed"),
+    ("0.1 before", "and not nothing"),
+    ("0.1 before answered", "and not answered"),
+    ("0.1 before 1.0 set", "the end stands here, and not set"),
+    ("0.1 before 1.1", "there is no job 1.1 below together, but 0.1, 1.0"),
+    ("1.1 before 0.1", "there is no job 1.1 below together, but 0.1, 1.0"),
     ("0.1 answered)", "and not )"),
     ("0.1 answered 1.0 answered", "no job ends so"),
     ("0.2 answered", "there is no job 0.2 below together, but 0.1, 1.0"),
@@ -52,8 +58,14 @@ FAULTS = (
 )
 
 
-# Endings that say that a transaction was decided.
-DECIDED = ("answered", "denied", "refused")
+# Endings that say that a transaction was decided, and the word before the jobs that were, in their order.
+DECIDED, ORDER = ("answered", "denied", "refused"), "decided"
+# Stories of which it is asked what was decided first, with words.
+ORDERED: tuple[tuple[str, list[str]], ...] = (
+    ("revocation.script", []),
+    ("two-writers.script", []),
+    ("revocation.script", ["--crashes", "1", "--stops", "1"]),
+)
 
 
 class Asked(typing.NamedTuple):
@@ -64,8 +76,13 @@ class Asked(typing.NamedTuple):
 
 
 def atom(dice: random.Random, ways: list[tuple[str, ...]]) -> Asked:
-    """A job of a way, and how it ended there, cut off after some word."""
-    line = dice.choice(dice.choice(ways))
+    """A job of a way, and how it ended there, cut off after some word; or two jobs, where their order is told."""
+    way = dice.choice(ways)
+    line = dice.choice(way)
+    if line.split()[0] == ORDER:
+        first, later = (dice.choice(way[:-1]).split()[0] for _ in "12")
+        before = re.compile(rf".* {re.escape(first)} (?:.* )?{re.escape(later)}(?: .*)?")
+        return Asked(f"{first} before {later}", lambda way: bool(before.fullmatch(way[-1])))
     job, ending = line.split(" ", 1)
     cut = " ".join(ending.split()[: dice.randint(1, 3)]).rstrip(";")
     told = "stopped" if ending == "-" else dice.choice(["decided", cut]) if cut.split()[0] in DECIDED else cut
@@ -104,6 +121,7 @@ def wanted(one: Asked, ways: list[tuple[str, ...]], words: list[str], path: str)
     if not places:
         return f"never: {one.text}\n"
     options = [f"{option} {words[words.index(option) + 1]}" for option in OPTIONS if option in words]
+    options += ["--order"] if "--order" in words else []
     command = " ".join(["./suites explore", *options, f"--way {places[0]}", "<", path])
     return f"sometimes, in {len(places)} of {len(ways)} ways: {one.text}\n  the shortest: {command}\n"
 
@@ -132,6 +150,20 @@ def compare_kept(dice: random.Random, tally: Tally) -> None:
                 if "--brief" not in words:
                     with open(ways, encoding="utf-8") as file:
                         compare(path, words, explored.read(file.read()), dice, tally)
+
+
+def compare_ordered(dice: random.Random, tally: Tally) -> None:
+    """Asks in which order jobs were decided: of ways that are told with it, and of others, which ask for it."""
+    for name, words in ORDERED:
+        path, ordered = os.path.join(explored.STORIES, name), [*words, "--order"]
+        with open(path, encoding="utf-8") as file:
+            told = explored.explored(built.program("explore"), file.read(), " ".join(ordered))[1]
+        ways = explored.read(told)
+        for _ in range(3):
+            compare(path, ordered, ways, dice, tally)
+        question = "0.1 before 1.0 or 1.0 before 0.1"
+        is_same = asked(path, words, [question]) == asked(path, ordered, [question])
+        tally.holds(is_same, f"{name}: {question} without --order")
 
 
 def compare_some(tally: Tally) -> None:
@@ -185,6 +217,7 @@ def main() -> int:
         compare_random(given, tally)
     else:
         compare_kept(random.Random(102), tally)
+        compare_ordered(random.Random(7), tally)
         compare_some(tally)
         compare_faults(tally)
     return tally.told("answers compared")

@@ -31,6 +31,7 @@ STORIES = os.path.join(played.TOP, "examples", "explore")
 # Stories with their options, and questions.
 SHOWN: tuple[tuple[str, list[str], list[str]], ...] = (
     ("revocation.script", [], ["0.1 answered set and 1.0 answered", "1.0 stopped", "0.1 answered or 1.0 answered"]),
+    ("revocation.script", ["--order"], ["0.1 before 1.0", "1.0 stopped", "0.1 answered or 1.0 answered"]),
     ("writer-stops.script", [], []),
     ("read-after-revocation.script", ["--crashes", "1", "--returns", "1"], []),
 )
@@ -91,15 +92,16 @@ def runs(tally: Tally, name: str, words: list[str], script: bytes, data: dict[st
         tally.holds(is_right, name, number, "the order of decisions", way["decided"], wanted)
 
 
-def clicked(tally: Tally, driver: browser.Browser, name: str, ways: dict[int, list[str]], answers: int) -> None:
+def clicked(tally: Tally, driver: browser.Browser, name: str, told: str, answers: int) -> None:
+    ways, known = ways_in(told), dict(enumerate(queries.ways_in(told.splitlines()), 1))
     tree = driver.value(TREE)
     tally.holds({one["number"]: [*map(texts, one["lines"])] for one in tree} == ways, name, "the tree", tree[:3])
     for number, lines in ways.items():
         driver.click(f"[data-way='{number}'] button")
         tally.holds(driver.value("Ways.here()") == number, name, number, "a way is shown")
         driver.press("End")
-        told = [ENDED.match(line) for line in driver.value(SEEN)["told"]]
-        ends = {found[1]: found[2] for found in told if found}
+        seen = [ENDED.match(line) for line in driver.value(SEEN)["told"]]
+        ends = {found[1]: found[2] for found in seen if found}
         is_so = all(ends.get(line.split()[0], "-") == line.split(" ", 1)[1] for line in lines)
         tally.holds(is_so, name, number, "the run of a way", ends, lines)
     for place in range(answers):
@@ -107,8 +109,7 @@ def clicked(tally: Tally, driver: browser.Browser, name: str, ways: dict[int, li
         text = driver.value(f"document.querySelector('#answers li:nth-child({place + 1})').innerText")
         question = queries.read(text.partition(": ")[2])
         marked = [one["number"] for one in driver.value(TREE) if one["asked"]]
-        wanted = [one for one, lines in ways.items()
-                  if question.holds(next(queries.ways_in([f"way {one} x", *lines])))]
+        wanted = [one for one in ways if question.holds(known[one])]
         tally.holds(sorted(marked) == wanted, name, text, "what is marked", marked, wanted)
 
 
@@ -132,7 +133,7 @@ def pages(tally: Tally, driver: browser.Browser | None, folder: str, shots: str 
             with open(path, "w", encoding="utf-8") as file:
                 file.write(page)
             driver.open(path)
-            clicked(tally, driver, name, ways, len(wanted))
+            clicked(tally, driver, name, told, len(wanted))
             if shots:
                 driver.shot(os.path.join(shots, f"ways-{name}.png"))
 

@@ -63,6 +63,7 @@ def read(words: list[str]) -> argparse.Namespace:
     parser = Parser(prog="./suites explore", add_help=False, allow_abbrev=False)
     parser.add_argument("-h", "--help", action="store_true")
     parser.add_argument("--brief", action="store_true")
+    parser.add_argument("--order", action="store_true")
     for option in NUMBERS:
         parser.add_argument(option, type=number_of(option))
     parser.add_argument("--ask", type=queries.read, action="append")
@@ -83,6 +84,11 @@ def read(words: list[str]) -> argparse.Namespace:
     if given.files and not given.help:
         name = shlex.quote(given.files[0])
         raise console.Bad(f"a script is read from standard input: ./suites explore < {name}")
+    # what was decided first is told only where it is asked for
+    given.order = given.order or any(question.ordered for question in given.ask or [])
+    if given.order and (given.sample is not None or given.small):
+        told = "what is decided first is told of all ways, without --sample and --small (./suites explore --help)"
+        raise console.Bad(told)
     return given
 
 
@@ -95,7 +101,7 @@ def words_of(given: argparse.Namespace) -> list[str]:
         if number is not None
         for word in (option, str(number))
     ]
-    return told + (["--brief"] if given.brief else [])
+    return told + [option for option, is_given in (("--brief", given.brief), ("--order", given.order)) if is_given]
 
 
 def advice(status: int, given: argparse.Namespace, last: str) -> str:

@@ -1,8 +1,8 @@
 """Questions of the ways that `explore` tells: how they are read, and in which ways what they ask for is so.
 
 A question joins atoms by `and`, `or`, `not` and brackets. An atom is a job and how it ended, as `0.1 answered`, with as
-many words of its line behind that as are wanted. What cannot stand in a line of that job is a fault, so that nothing is
-said never to be by a slip.
+many words of its line behind that as are wanted; or two jobs that were decided in that order, as `0.1 before 1.0`. What
+cannot stand in a line of that job is a fault, so that nothing is said never to be by a slip.
 """
 import re
 import typing
@@ -35,6 +35,9 @@ REPLIES: tuple[tuple[str, ...], ...] = (
     ("votes", LIST),
 )
 ENDINGS = "answered, denied, refused, undecided, swept, decided (answered, denied or refused) and stopped"
+# Behind a job: another one, which was decided later. And before the jobs that were decided, in the order in which they
+# were.
+BEFORE, ORDER = "before", "decided"
 # Endings that say that a transaction was decided.
 DECIDED = ("answered", "denied", "refused")
 JOB = re.compile(r"(\d{1,3})\.(\d{1,20})")
@@ -42,15 +45,19 @@ JOINED = {"and", "or", "not", "(", ")"}
 # The most words of a question.
 MOST = 200
 
-# How the jobs of a way ended: the words behind each job's number.
+# How the jobs of a way ended: the words behind each job's number. Where it is told in which order jobs were decided,
+# these stand behind ORDER.
 Way = dict[str, tuple[str, ...]]
 
 
 class Question(typing.NamedTuple):
-    """A question: its text, the jobs that it names, and whether what it asks for is so in a way."""
+    """A question: its text, the jobs that it names, whether it asks for the order of decisions, and whether what it
+    asks for is so in a way.
+    """
 
     text: str
     jobs: list[str]
+    ordered: bool
     holds: typing.Callable[[Way], bool]
 
 
@@ -89,12 +96,18 @@ def is_ended(told: typing.Sequence[str], wanted: typing.Sequence[str]) -> bool:
     return list(told[: len(wanted)]) == list(wanted)
 
 
+def is_before(order: typing.Sequence[str], first: str, later: str) -> bool:
+    """Whether both jobs were decided, in this order."""
+    return first in order and later in order and order.index(first) < order.index(later)
+
+
 class Reader:
     """Reads a question from its first word to its last."""
 
     def __init__(self, text: str) -> None:
         self.text, self.words, self.place = text, words_of(text), 0
         self.jobs: list[str] = []
+        self.ordered = False
 
     def fault(self, why: str) -> typing.NoReturn:
         raise console.Bad(f"--ask '{self.text}': {why} (./suites explore --help)")
@@ -133,22 +146,30 @@ class Reader:
         return self.atom()
 
     def atom(self) -> typing.Callable[[Way], bool]:
-        """A job and how it ended."""
-        job = self.next()
-        if job is None or not JOB.fullmatch(job):
-            self.fault(f"a job such as 0.1 stands here, and not {'nothing' if job is None else job}")
-        self.place += 1
+        """A job and how it ended, or before which other one it was decided."""
+        job = self.job()
+        if self.takes(BEFORE):
+            later, self.ordered = self.job(), True
+            return lambda way: is_before(way[ORDER], job, later)
         first = self.place
         while (word := self.next()) is not None and word not in JOINED:
             self.place += 1
         ending = self.words[first : self.place]
         if not ending:
-            self.fault(f"behind {job} is told how it ended: {ENDINGS}")
+            self.fault(f"behind {job} is told how it ended: {ENDINGS}; or before, and a job that was decided later")
         if not may_end(ending):
             self.fault(f"no job ends so: {' '.join(ending)}; it ends {ENDINGS}, with words of its line behind")
+        return lambda way: is_ended(way[job], ending)
+
+    def job(self) -> str:
+        """A job."""
+        job = self.next()
+        if job is None or not JOB.fullmatch(job):
+            self.fault(f"a job such as 0.1 stands here, and not {'nothing' if job is None else job}")
+        self.place += 1
         if job not in self.jobs:
             self.jobs.append(job)
-        return lambda way: is_ended(way[job], ending)
+        return job
 
 
 def read(text: str) -> Question:
@@ -159,7 +180,7 @@ def read(text: str) -> Question:
     holds = reader.either()
     if reader.next() is not None:
         reader.fault(f"and, or, or the end stands here, and not {reader.next()}")
-    return Question(text, reader.jobs, holds)
+    return Question(text, reader.jobs, reader.ordered, holds)
 
 
 class Answer:
@@ -200,7 +221,7 @@ def ways_in(lines: typing.Iterable[str]) -> typing.Iterator[Way]:
             if way is not None:
                 yield way
             way = {}
-        elif way is not None and JOB.fullmatch(head):
+        elif way is not None and (head == ORDER or JOB.fullmatch(head)):
             way[head] = tuple(words_of(rest))
     if way is not None:
         yield way
@@ -208,8 +229,9 @@ def ways_in(lines: typing.Iterable[str]) -> typing.Iterator[Way]:
 
 def unknown(questions: typing.Sequence[Question], jobs: typing.Collection[str]) -> str | None:
     """What is wrong with questions, where the script has these jobs; nothing, where nothing is."""
+    told = [job for job in jobs if job != ORDER]
     for question in questions:
         for job in question.jobs:
-            if job not in jobs:
-                return f"--ask '{question.text}': there is no job {job} below together, but {', '.join(jobs)}"
+            if job not in told:
+                return f"--ask '{question.text}': there is no job {job} below together, but {', '.join(told)}"
     return None

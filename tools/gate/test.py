@@ -133,6 +133,7 @@ PARTS = (
     Part("everything that can happen", test("explored.py"), [PROGRAM, TRACE, EXPLORE]),
     Part("orders that are drawn", test("sampled.py"), [PROGRAM, TRACE, EXPLORE]),
     Part("questions of everything that can happen", test("asking.py"), [EXPLORE]),
+    Part("orders of decisions", test("ordered.py"), [PROGRAM, TRACE, EXPLORE]),
     Part("little memory", test("small-memory.py"), [EXPLORE]),
     Part("a stack of 1 MiB", test("small-stack.py"), [PROGRAM, TRACE, FORMS, EXPLORE]),
     Part("examples of FAULTS", test("explained.py"), [PROGRAM, TRACE, FORMS, EXPLORE]),

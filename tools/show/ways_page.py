@@ -24,11 +24,14 @@ HEAD = re.compile(r"way (\d+) ?(.*)")
 
 
 class Way(typing.NamedTuple):
-    """A way as it is told: its number, what stands behind that, and a line for each job, and others."""
+    """A way as it is told: its number, what stands behind that, a line for each job, and the jobs that were decided, in
+    the order in which they were, where that is told.
+    """
 
     number: int
     about: str
     lines: list[str]
+    decided: list[str] | None
 
 
 class Run(typing.NamedTuple):
@@ -46,7 +49,9 @@ def ways_of(lines: Sequence[str]) -> list[Way]:
     for line in lines:
         head = HEAD.fullmatch(line)
         if head:
-            ways.append(Way(int(head[1]), head[2], []))
+            ways.append(Way(int(head[1]), head[2], [], None))
+        elif ways and line.split(" ")[0] == queries.ORDER:
+            ways[-1] = ways[-1]._replace(decided=line.split()[1:])
         elif ways and not re.match(r"(all|not all:) ", line):
             ways[-1].lines.append(line)
     return ways
@@ -100,7 +105,7 @@ def data_of(ways: Sequence[Way], runs: dict[int, Run], command: Callable[[int], 
             own = [job for job in run.decided if any(line.startswith(f"{job} ") for line in way.lines)]
             about |= {"shared": shared, "events": run.events[shared:], "script": run.script, "decided": own}
         else:
-            about["command"] = command(way.number)
+            about |= {"command": command(way.number), "decided": way.decided or []}
         told.append(about)
     return told
 

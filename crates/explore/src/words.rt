@@ -1,14 +1,15 @@
 //! The command line: what is asked for.
 
 ghost use Rattle.std.specs.Prelude.{◌≡◌, IfSome, option_map, slice_get};
-ghost use Rattle.explore.specs.Words.{asks_help, choice_in, first_reading, from_one, is_sampled, large, small, wanted_behind};
+ghost use Rattle.explore.specs.Words.{asks_help, choice_in, first_reading, from_one, is_at_odds, is_ordered, is_sampled, large, small, wanted_behind};
 ghost use Rattle.explore.specs.Words.{wanted_by, wide, with_number, with_option, with_word, with_word_behind};
 
 use byte_streams::{Words, read_wanted};
 use script_text::read_number;
 use std::env::FillError;
 
-/// How much may happen; how many worlds are looked at, or how many orders are played, and by which seed they are drawn.
+/// How much may happen; how many worlds are looked at, or how many orders are played, and by which seed they are drawn;
+/// and whether it is told in which order jobs are decided.
 #[derive(Clone, Copy)]
 pub(crate) struct Bounds {
     pub(crate) crashes: u8,
@@ -18,6 +19,7 @@ pub(crate) struct Bounds {
     pub(crate) worlds: u32,
     pub(crate) orders: Option<u32>,
     pub(crate) seed: Option<u64>,
+    pub(crate) ordered: bool,
 }
 
 /// What is printed: all ways, or the script that leads to one of them.
@@ -34,6 +36,22 @@ impl Wish {
         ensures { result ≡ is_sampled self.now }
     {
         self.bounds.orders.is_some()
+    }
+
+    /// Whether a seed is told where nothing is drawn, or the order of decisions is asked for where something is.
+    fn is_at_odds(&self) -> bool
+        ensures { result ≡ is_at_odds self.now }
+    {
+        self.bounds.seed.is_some() && !self.is_sampled() || self.bounds.ordered && self.is_sampled()
+    }
+}
+
+impl Bounds {
+    /// Whether it is told in which order jobs are decided.
+    pub(crate) fn is_ordered(&self) -> bool
+        ensures { result ≡ is_ordered self.now }
+    {
+        self.ordered && self.orders.is_none()
     }
 }
 
@@ -67,7 +85,7 @@ pub(crate) struct Reading {
 }
 
 /// The most words that say something: each option once.
-const MOST: usize = 18;
+const MOST: usize = 19;
 
 /// The most bytes of a word.
 const LONGEST: usize = 20;
@@ -115,6 +133,7 @@ fn first_reading() -> Reading
                 worlds: u32::MAX,
                 orders: None,
                 seed: None,
+                ordered: false,
             },
             is_brief: false,
             way: None,
@@ -159,6 +178,8 @@ fn with_option(reading: Reading, word: &[u8]) -> Option<Reading>
         next.wish.is_brief = true;
     } else if word == b"--progress".as_slice() {
         next.tells_progress = true;
+    } else if word == b"--order".as_slice() {
+        next.wish.bounds.ordered = true;
     } else {
         next.option = Some(choice_in(word)?);
     }
@@ -242,13 +263,12 @@ fn wide(word: &[u8]) -> Option<u64>
     read_number(word, u64::MAX)
 }
 
-/// What is asked for where no more words come: no option is left without its number, and no seed is told where nothing
-/// is drawn.
+/// What is asked for where no more words come: no option is left without its number.
 fn wanted_of(reading: Reading) -> Wanted
     ensures { result ≡ wanted_behind reading.option reading }
 {
     match reading.option {
-        None if reading.wish.bounds.seed.is_some() && !reading.wish.is_sampled() => Wanted::Nothing,
+        None if reading.wish.is_at_odds() => Wanted::Nothing,
         None => Wanted::Explore {
             wish: reading.wish,
             tells_progress: reading.tells_progress,

@@ -8,4 +8,4 @@ invariant-loop-place g l = record {
 }
 
 abbrev pub decreases-loop-place : goal.decreases-loop-place
-decreases-loop-place g l = 19 - l.place
+decreases-loop-place g l = 20 - l.place
