@@ -363,7 +363,7 @@ EXPLORE: tuple[Input, ...] = tuple(
     (f"explore-{name}", "explore", words.split(), make, size)
     for name, words, make, size in (
         ("above", "", above, 20), ("content-above", "", content_above, 2000), ("files-above", "", files_above, 20),
-        ("below", "", below, 10), ("drawn", "--sample 1", below_many, 128), ("waiting", "--sample 1", waiting, 128),
+        ("below", "", below, 10), ("drawn", "--sample 1", below_many, 128), ("waiting", "--sample 1", waiting, 256),
         ("read-waiting", "--worlds 1", waiting, 1000),
     )
 )  # fmt: skip
