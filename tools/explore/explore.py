@@ -198,18 +198,26 @@ def lines_of(printed: typing.IO[bytes]) -> typing.Iterator[str]:
         yield line.decode("latin1")
 
 
+def jobs_told(given: argparse.Namespace, script: typing.IO[bytes]) -> tuple[int, queries.Way | None]:
+    """The jobs that ways tell, of which the questions have to be; none, and the status, where a fault was told."""
+    status, printed = told_of(AT_ONCE, script)
+    with printed:
+        if status not in (DONE, NOT_ALL):
+            return ended(given, status, printed.read()), None
+        jobs = next(queries.ways_in(lines_of(printed)))
+    wrong = queries.unknown(given.ask or [], jobs)
+    if wrong:
+        raise console.Bad(wrong)
+    return status, jobs
+
+
 def answer(given: argparse.Namespace) -> int:
     """Answers questions of the ways that the program tells, and tells how many these are."""
     with tempfile.TemporaryFile() as script:
         script.write(sys.stdin.buffer.read(MOST_READ))
-        status, printed = told_of(AT_ONCE, script)
-        with printed:
-            if status not in (DONE, NOT_ALL):
-                return ended(given, status, printed.read())
-            jobs = next(queries.ways_in(lines_of(printed)))
-        wrong = queries.unknown(given.ask, jobs)
-        if wrong:
-            raise console.Bad(wrong)
+        status, jobs = jobs_told(given, script)
+        if jobs is None:
+            return status
         status, printed = told_of(words_of(given), script)
         with printed:
             if status not in (DONE, NOT_ALL):
@@ -233,15 +241,10 @@ def small(given: argparse.Namespace) -> int:
     """Prints a smaller script that leads to a way: in which the jobs end so, or those of the question that is asked."""
     with tempfile.TemporaryFile() as script:
         script.write(sys.stdin.buffer.read(MOST_READ))
-        status, printed = told_of(AT_ONCE, script)
-        with printed:
-            if status not in (DONE, NOT_ALL):
-                return ended(given, status, printed.read())
-            jobs = next(queries.ways_in(lines_of(printed)))
+        status, jobs = jobs_told(given, script)
+        if jobs is None:
+            return status
         asked, way = given.ask or [], given.way
-        wrong = queries.unknown(asked, jobs)
-        if wrong:
-            raise console.Bad(wrong)
         if asked:
             status, printed = told_of(words_of(given), script)
             with printed:
