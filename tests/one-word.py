@@ -1,10 +1,8 @@
 #!/usr/bin/env python3
 """tests/one-word.py [--told]
 
-One word, one meaning: looks whether the name of a public type is that of one crate alone. Names that two crates have
-stand in a table here, each with what it is in which crate. Status 1 where a name is found that is not in the table, or
-one of the table is no longer that of these crates. Counts the records of definitions whose name several crates have,
-which may only become fewer; --told tells them.
+One word, one meaning: a public type's name is one crate's. Status 1 where two crates have a name. Counts the records of
+definitions whose name several crates have, which may only become fewer; --told tells them.
 """
 import collections
 import glob
@@ -16,10 +14,6 @@ from played import TOP, Tally
 from common import console, text_of
 from pages import proved_page
 
-# The names that two crates have, with what a type is that is called so. A new one is given a name of its own.
-MAY = {
-    "Entry": {"acl_core": "of a list", "run_certify": "of a transcript"},
-}
 # As many names of records are those of several crates at most, and so many public types are found at least.
 MOST, FEWEST = 64, 180
 TYPE = re.compile(r"^pub (?:struct|enum|trait|type) (\w+)", re.M)
@@ -56,16 +50,13 @@ def main() -> int:
         for name in types(crate):
             owners[name].add(crate)
     for name, crates in sorted(owners.items()):
-        is_known = len(crates) == 1 or crates == set(MAY.get(name, ()))
-        tally.holds(is_known, f"{name} is a public type of {' and of '.join(sorted(crates))}")
-    for name in MAY:
-        tally.holds(len(owners[name]) > 1, f"{name} is that of one crate, and stands in the table of tests/one-word.py")
+        tally.holds(len(crates) == 1, f"{name} is a public type of {' and of '.join(sorted(crates))}")
     tally.holds(len(owners) >= FEWEST, f"only {len(owners)} public types are found")
     doubles = {name: crates for name, crates in records().items() if len(crates) > 1}
     tally.holds(len(doubles) <= MOST, f"{len(doubles)} names of records are those of several crates, and not {MOST}")
     for name, crates in sorted(doubles.items()) if is_told else ():
         print(f"{name}: {' '.join(sorted(crates))}")
-    print(f"told: {len(MAY)} names are public types of several crates, {len(doubles)} records of several")
+    print(f"told: {len(doubles)} names of records are those of several crates")
     return tally.told("names of types")
 
 

@@ -5,8 +5,8 @@ use Rattle.std.specs.List.{AllZip}
 use Rattle.std.proofs.lemmas.List.Elements.{All-head, All-tail, filter-append}
 use Rattle.server_lock.specs.Counts.{passes_by}
 use Rattle.server_lock.specs.Passes.{Held, after_item}
-use Rattle.run_certify.specs.declared.entry.Entry.{Entry}
-use Rattle.run_certify.specs.declared.entry.Entry.TheVariants.{Begun, Asked, Lacked, Forgot, Ended}
+use Rattle.run_certify.specs.declared.entry.AgentEntry.{AgentEntry}
+use Rattle.run_certify.specs.declared.entry.AgentEntry.TheVariants.{Begun, Asked, Lacked, Forgot, Ended}
 use Rattle.agent_pool.specs.declared.work.Halt.TheVariants.{Lacked as NoMemory}
 use Rattle.agent_pool.specs.declared.work.SeatedAgent.{SeatedAgent}
 use Rattle.agent_pool.specs.declared.work.Worked.{Worked}
@@ -19,7 +19,7 @@ use Rattle.agent_pool.specs.code.Starts.{IsWorkOf}
 use Rattle.agent_pool.specs.Transcripts.{Played, GoesOn, Leads, Learns, at_rest, number_of}
 use Rattle.agent_pool.proofs.Seating.{AreApartFrom, apart_from, other_cons, own_cons}
 
-goes_agent : (entries : List Entry) (a b : Held) → GoesOn entries a b → b.agent ≡ a.agent
+goes_agent : (entries : List AgentEntry) (a b : Held) → GoesOn entries a b → b.agent ≡ a.agent
 goes_agent [] a b goes = ap (λ (p : Held). p.agent) goes
 goes_agent (Begun job ∷ es) a b goes = goes_agent es a b goes
 goes_agent (Asked server stamp ∷ es) a b goes = goes_agent es (after_item a server goes.0 stamp) b goes.3

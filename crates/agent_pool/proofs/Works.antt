@@ -6,8 +6,8 @@ use Rattle.std.proofs.lemmas.Option.{same_Some}
 use Rattle.txn_core.specs.Agents.{has_sense}
 use Rattle.txn_core.specs.Doing.{Fixed}
 use Rattle.txn_core.specs.declared.job.Job.{Job}
-use Rattle.run_certify.specs.declared.entry.Entry.{Entry}
-use Rattle.run_certify.specs.declared.entry.Entry.TheVariants.{Begun}
+use Rattle.run_certify.specs.declared.entry.AgentEntry.{AgentEntry}
+use Rattle.run_certify.specs.declared.entry.AgentEntry.TheVariants.{Begun}
 use Rattle.agent_pool.specs.declared.asking.Came.TheVariants as came
 use Rattle.agent_pool.specs.declared.work.JobDone.{JobDone}
 use Rattle.agent_pool.specs.declared.work.Halt.{Halt}
@@ -43,7 +43,7 @@ told_longer a b job count at longer told =
       start = told.start;
       end = told.end;
       leads =
-          subst (λ (e : Entry). Leads b.agent.fixed (at_rest told.start) (Begun job ∷ (told.asked ++ e ∷ [])) (at_rest told.end)) same
+          subst (λ (e : AgentEntry). Leads b.agent.fixed (at_rest told.start) (Begun job ∷ (told.asked ++ e ∷ [])) (at_rest told.end)) same
           (subst (λ (f : Fixed). Leads f (at_rest told.start) (Begun job ∷ (told.asked ++ end ∷ [])) (at_rest told.end)) (sym longer.fixed) told.leads);
     }
 

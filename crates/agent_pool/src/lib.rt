@@ -58,6 +58,6 @@ pub use pool::{Pool, run_pool};
 pub use pool_context::NamedJob;
 pub use ready::are_ready;
 pub use run_certify::{
-    CertifyFault, Decided, DecidedTransaction, Entry, KeptEnd, KeptJob, Transcript, Transcripts,
-    certify,
+    AgentEntry, CertifyFault, Decided, DecidedTransaction, KeptEnd, KeptJob, Transcript,
+    Transcripts, certify,
 };

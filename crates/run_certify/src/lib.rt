@@ -40,6 +40,6 @@ mod votes;
 mod walk;
 
 pub use decided::{Decided, DecidedTransaction};
-pub use entry::{Entry, KeptEnd, KeptJob, Transcript, Transcripts};
+pub use entry::{AgentEntry, KeptEnd, KeptJob, Transcript, Transcripts};
 pub use fault::CertifyFault;
 pub use judging::certify;

@@ -10,7 +10,7 @@ use byte_streams::MemoryOut;
 use file_ops::{Answers, Refusal};
 use law_certified::promise;
 use run_certify::{
-    CertifyFault, Decided, DecidedTransaction, Entry, Transcript, Transcripts, certify,
+    AgentEntry, CertifyFault, Decided, DecidedTransaction, Transcript, Transcripts, certify,
 };
 use server_lock::{Histories, History, Item};
 use std::alloc::{AllocError, Global};
@@ -30,7 +30,7 @@ pub(crate) fn histories(rt: &(impl Abort + AllocGlobal), items: Vec<Vec<Item>>) 
 /// The transcripts of agents that put down these entries.
 pub(crate) fn transcripts(
     rt: &(impl Abort + AllocGlobal),
-    entries: Vec<Vec<Entry>>,
+    entries: Vec<Vec<AgentEntry>>,
 ) -> Transcripts {
     let mut transcripts = Vec::new(rt.alloc());
     for list in entries {

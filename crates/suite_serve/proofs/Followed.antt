@@ -10,8 +10,8 @@ use Rattle.txn_core.specs.Agents.{is_idle}
 use Rattle.txn_core.specs.Standing.{Standing}
 use Rattle.txn_core.specs.declared.job.Job.{Job}
 use Rattle.run_core.specs.declared.done.EndedJob.{EndedJob}
-use Rattle.run_certify.specs.declared.entry.Entry.{Entry}
-use Rattle.run_certify.specs.declared.entry.Entry.TheVariants.{Begun, Asked, Ended}
+use Rattle.run_certify.specs.declared.entry.AgentEntry.{AgentEntry}
+use Rattle.run_certify.specs.declared.entry.AgentEntry.TheVariants.{Begun, Asked, Ended}
 use Rattle.agent_pool.specs.declared.outcome.JobOutcome.{JobOutcome}
 use Rattle.agent_pool.specs.Pools.{begun_by}
 use Rattle.agent_pool.specs.Seats.{AreReady, HasPass, WentOn, numbers_of, passes_for}
@@ -90,7 +90,7 @@ begun_both [] ys = omega arith
 begun_both (x ∷ xs) ys = let e = begun_both xs ys in omega arith
 
 later_all : (old new : List Held) (lead : Played) (others later now : List Played) → AllZip (FollowsAll (lead ∷ [])) others later → AllZip (WentOn old new) later now
-    → AreNew others → (entries : List Entry) → Contains (transcripts_of now) entries
+    → AreNew others → (entries : List AgentEntry) → Contains (transcripts_of now) entries
     → (server stamp : ℕ) → server < most_numbers → Contains entries (Asked server stamp) → known_at lead server < stamp
 later_all old new lead [] [] [] follow went fresh entries has server stamp there asked = let low = has.1 in absurd (omega arith)
 later_all old new lead [] [] (n ∷ now) follow went fresh entries has server stamp there asked = absurd went
@@ -112,7 +112,7 @@ later_all old new lead (o ∷ others) (l ∷ later) (n ∷ now) follow went fres
 
 -- ---- how the first jobs ended
 
-ends_at : (before asked after : List Entry) (begun : Entry) (end : EndedJob) → slice_get (before ++ begun ∷ (asked ++ Ended end ∷ after)) (length before + (length asked + 1)) ≡ Some (Ended end)
+ends_at : (before asked after : List AgentEntry) (begun : AgentEntry) (end : EndedJob) → slice_get (before ++ begun ∷ (asked ++ Ended end ∷ after)) (length before + (length asked + 1)) ≡ Some (Ended end)
 ends_at before asked after begun end =
     let next : length asked + 1 ≡ suc (length asked + 0) = omega arith in
     ap (λ n. slice_get (before ++ begun ∷ (asked ++ Ended end ∷ after)) (length before + n)) next

@@ -9,8 +9,8 @@ use Rattle.std.specs.List.{AllZip}
 use Rattle.txn_core.specs.declared.job.Job.{Job}
 use Rattle.suite_prefix.specs.SettingsRules.{Opening}
 use Rattle.server_lock.specs.Passes.{Held, passes_of}
-use Rattle.run_certify.specs.declared.entry.Entry.{Entry}
-use Rattle.run_certify.specs.declared.entry.Entry.TheVariants.{Begun, Asked, Lacked, Forgot, Ended}
+use Rattle.run_certify.specs.declared.entry.AgentEntry.{AgentEntry}
+use Rattle.run_certify.specs.declared.entry.AgentEntry.TheVariants.{Begun, Asked, Lacked, Forgot, Ended}
 use Rattle.agent_pool.specs.declared.outcome.JobOutcome.{JobOutcome}
 use Rattle.agent_pool.specs.declared.pool.Pool.{Pool}
 use Rattle.agent_pool.specs.declared.pool_context.NamedJob.{NamedJob}
@@ -95,7 +95,7 @@ numbered_one old new was (n ∷ m ∷ now) others all is are = absurd all.1
 abbrev AllOfFirst : ℕ → List JobOutcome → Type 0
 AllOfFirst few outcomes = (place : ℕ) (outcome : JobOutcome) → slice_get outcomes place ≡ Some outcome → (outcome.agent ≡ 0) × (outcome.count < few)
 
-begins_more : (before rest : List Entry) (job : Job) → begins before < begins (before ++ Begun job ∷ rest)
+begins_more : (before rest : List AgentEntry) (job : Job) → begins before < begins (before ++ Begun job ∷ rest)
 begins_more [] rest job = omega arith
 begins_more (Begun other ∷ before) rest job = let e = begins_more before rest job in omega arith
 begins_more (Asked server stamp ∷ before) rest job = begins_more before rest job
@@ -106,7 +106,7 @@ begins_more (Ended outcome ∷ before) rest job = begins_more before rest job
 -- an agent began a job that it has told
 began : (player : Played) (job : Job) (number place : ℕ) → IsTold player job number place → number < begins player.entries
 began player job number place told =
-    let end : Entry = Ended (record { agent = number_of player; count = number; steps = length told.asked; ending = told.ending }) in
+    let end : AgentEntry = Ended (record { agent = number_of player; count = number; steps = length told.asked; ending = told.ending }) in
     let more = begins_more told.before (told.asked ++ end ∷ told.after) job in
     let split = ap begins told.split in
     let count = told.count in

@@ -1,7 +1,7 @@
 use Rattle.std.proofs.Common.{◌≡◌, ◌+◌, ◌-◌, ◌++◌, ◌∷◌, [], Option, Some, None, refl, length, ap, sym, ◌∙◌, append_assoc, arith}
 use Rattle.std.specs.Option.{option_or}
 use Rattle.run_core.specs.declared.done.EndedJob.{EndedJob}
-use Rattle.run_certify.specs.declared.entry.Entry.TheVariants.{Ended}
+use Rattle.run_certify.specs.declared.entry.AgentEntry.TheVariants.{Ended}
 use Rattle.txn_core.specs.Agents.{is_idle}
 use Rattle.txn_core.specs.Agents as agents
 use Rattle.txn_core.specs.declared.response.Response.{Response}

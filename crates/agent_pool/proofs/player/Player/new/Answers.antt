@@ -1,6 +1,6 @@
 use Rattle.std.proofs.Common.{◌≡◌, ℕ, List, [], replicate}
 use Rattle.txn_core.specs.Standing.{Standing}
-use Rattle.run_certify.specs.declared.entry.Entry.{Entry}
+use Rattle.run_certify.specs.declared.entry.AgentEntry.{AgentEntry}
 use Rattle.agent_pool.specs.Transcripts.{first_player, most_numbers}
 use Rattle.agent_pool.proofs.player.Player.new.Goals as goal
 
