@@ -1,8 +1,6 @@
 -- Begins of a transcript, what a pass does beside it, and what its agent knows.
-use Rattle.std.proofs.Common.{◌≡◌, ℕ, ◌+◌, List, [], ◌∷◌, ◌++◌, subst, arith, slice_set}
-use Rattle.server_lock.specs.Passes.{Held, after_item}
-use Rattle.run_certify.specs.declared.entry.AgentEntry.{AgentEntry}
-use Rattle.run_certify.specs.declared.entry.AgentEntry.TheVariants.{Begun, Asked, Lacked, Forgot, Ended}
+use Rattle.agent_pool.proofs.Vocabulary.{◌≡◌, ℕ, ◌+◌, List, [], ◌∷◌, ◌++◌, subst, arith, slice_set, Held, after_item, AgentEntry, Begun, Asked, Forgot, Ended}
+use Rattle.run_certify.specs.declared.entry.AgentEntry.TheVariants.{Lacked}
 use Rattle.agent_pool.specs.Transcripts.{GoesOn, Learns, begins}
 
 pub begins-append : (xs ys : List AgentEntry) → begins (xs ++ ys) ≡ begins xs + begins ys

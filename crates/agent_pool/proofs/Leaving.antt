@@ -1,29 +1,18 @@
 -- What an agent leaves in its transcript for a job.
-use Rattle.std.proofs.Common.{◌≡◌, ◌≢◌, ◌⊎◌, inl, inr, ℕ, ◌+◌, ◌-◌, ◌<◌, ◌≤◌, List, [], ◌∷◌, ◌++◌, true, false, refl, ap, ◌∙◌, sym, subst, arith, length, append_assoc, append-nil}
-use Rattle.std.specs.Prelude.{◌&&◌, nat_lt, slice_index, IsTrue, Option, Some, None, Result, Ok, Err, IfOk, IfSome}
-use Rattle.std.proofs.Math.ListN.{length-set}
-use Rattle.std.proofs.lemmas.List.{length-append}
-use Rattle.std.proofs.lemmas.Option.{same_Some}
-use Rattle.rep_core.specs.declared.reply.Reply.{Reply}
-use Rattle.rep_core.specs.declared.request.Request.{Request}
-use Rattle.rep_core.specs.declared.stamped.Stamped.{Stamped}
-use Rattle.rep_core.specs.Fits.{fits}
-use Rattle.server_lock.specs.declared.miss.Miss.{Miss}
-use Rattle.server_lock.specs.declared.miss.Miss.TheVariants.{Lack, Stale}
-use Rattle.server_lock.specs.Passes.{Held, after_reply, front_at, sent_stamp}
-use Rattle.std.proofs.lemmas.Bool.{and_parts}
-use Rattle.txn_core.specs.Doing.{Fixed}
-use Rattle.txn_core.specs.declared.ending.Ending.{Ending}
-use Rattle.txn_core.specs.Agents.{Agent, Taken, begin, begins as begins_job, has_sense, is_idle, max_jobs, next_of, take}
-use Rattle.txn_core.specs.Standing.{FitsAsked, Standing}
+use Rattle.agent_pool.proofs.Vocabulary.{◌≡◌, ◌≢◌, ◌⊎◌, inl, inr, ℕ, ◌+◌, ◌-◌, ◌<◌, ◌≤◌, List, [], ◌∷◌, ◌++◌, true, false, refl, ap, ◌∙◌, sym, subst, arith}
+use Rattle.agent_pool.proofs.Vocabulary.{length, append_assoc, ◌&&◌, nat_lt, slice_index, IsTrue, Option, Some, None, Result, Ok, Err, IfOk, IfSome}
+use Rattle.agent_pool.proofs.Vocabulary.{length-set, length-append, same_Some, Reply, Request, Stamped, fits, Miss, Lack, Stale, Held, after_reply, front_at}
+use Rattle.agent_pool.proofs.Vocabulary.{sent_stamp, and_parts, Fixed, Ending, Agent, Taken, begin, has_sense, is_idle, max_jobs, next_of, FitsAsked, Standing}
+use Rattle.agent_pool.proofs.Vocabulary.{AgentEntry, Begun, Asked, Forgot, Ended, Came, Delivery, AsksNobody, CannotGoOn, DidJob, DidMore, HasSeen, Hears}
+use Rattle.agent_pool.proofs.Vocabulary.{RanTo, delivery_from, end_entry, known_after, stamp_in, Played, AreAsks, At, Does, IsLonger, Leads, after_response}
+use Rattle.agent_pool.proofs.Vocabulary.{at_rest, is_ask, number_of}
+use Rattle.std.proofs.Common.{append-nil}
+use Rattle.txn_core.specs.Agents.{begins as begins_job, take}
+use Rattle.run_certify.specs.declared.entry.AgentEntry.TheVariants.{Lacked}
+use Rattle.agent_pool.specs.code.Steps.{Leaves}
+use Rattle.agent_pool.specs.Transcripts.{GoesOn, Learns, begins}
 use Rattle.txn_core.specs.declared.job.Job.{Job}
-use Rattle.run_certify.specs.declared.entry.AgentEntry.{AgentEntry}
-use Rattle.run_certify.specs.declared.entry.AgentEntry.TheVariants.{Begun, Asked, Lacked, Forgot, Ended}
-use Rattle.agent_pool.specs.declared.asking.Came.{Came}
 use Rattle.agent_pool.specs.declared.asking.Came.TheVariants as came
-use Rattle.agent_pool.specs.declared.asking.Delivery.{Delivery}
-use Rattle.agent_pool.specs.code.Steps.{AsksNobody, CannotGoOn, DidJob, DidMore, HasSeen, Hears, Leaves, RanTo, delivery_from, end_entry, known_after, stamp_in}
-use Rattle.agent_pool.specs.Transcripts.{Played, AreAsks, At, Does, GoesOn, IsLonger, Leads, Learns, after_response, at_rest, begins, is_ask, number_of}
 use Rattle.agent_pool.proofs.Begins.{begins-append, goes-append, learns-append}
 
 asks-append : (xs ys : List AgentEntry) → AreAsks xs → AreAsks ys → AreAsks (xs ++ ys)

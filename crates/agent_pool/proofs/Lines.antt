@@ -1,15 +1,12 @@
 -- Each move keeps the rule of the channel.
-use Rattle.std.proofs.Common.{◌≡◌, ◌≢◌, ◌⊎◌, inl, inr, ℕ, zero, suc, ◌+◌, ◌<◌, ◌≤◌, Bool, true, false, true≢false, length, List, [], ◌∷◌, ◌++◌, set, sym, refl, ap, ◌∙◌, subst, ⊎_elim, append_assoc, arith}
-use Rattle.std.specs.Prelude.{Some, slice_get}
-use Rattle.std.proofs.lemmas.List.{append-nil, length-append}
-use Rattle.std.proofs.lemmas.Option.{same_Some}
+use Rattle.agent_pool.proofs.Vocabulary.{◌≡◌, ◌≢◌, ◌⊎◌, inl, inr, ℕ, zero, suc, ◌+◌, ◌<◌, ◌≤◌, Bool, true, false, true≢false, length, List, [], ◌∷◌, ◌++◌, set}
+use Rattle.agent_pool.proofs.Vocabulary.{sym, refl, ap, ◌∙◌, subst, ⊎_elim, append_assoc, arith, Some, slice_get, length-append, same_Some, Pushes, Pops}
+use Rattle.agent_pool.proofs.Vocabulary.{Forks, Merges, at_set, at_snoc, Hand, PoolItem, End}
+use Rattle.std.proofs.lemmas.List.{append-nil}
+use Rattle.crossbeam_channel.specs.Fifo.{Learns}
+use Rattle.agent_pool.specs.declared.line.PoolItem.TheVariants.{Job}
 use mathlib.Core.Option.{some, some-injective, some-ne-none}
 use lib.ListN.{get_elem?}
-use Rattle.crossbeam_channel.specs.Fifo.{Pushes, Pops, Forks, Learns, Merges}
-use Rattle.atomic_table.proofs.Lists.{at_set, at_snoc}
-use Rattle.agent_pool.specs.declared.line.Hand.{Hand}
-use Rattle.agent_pool.specs.declared.line.PoolItem.{PoolItem}
-use Rattle.agent_pool.specs.declared.line.PoolItem.TheVariants.{End, Job}
 use Rattle.agent_pool.specs.Line.{
   feeder,
   spent,

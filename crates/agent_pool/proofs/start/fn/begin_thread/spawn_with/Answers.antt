@@ -1,8 +1,4 @@
-use Rattle.std.proofs.Common.{sym, subst}
-use Rattle.crossbeam_channel.specs.Claims.{Pass, IsSeatAt}
-use Rattle.crossbeam_channel.specs.Ends.{receives_on}
-use Rattle.agent_pool.specs.declared.line.Hand.{Hand}
-use Rattle.agent_pool.specs.declared.line.PoolItem.{PoolItem}
+use Rattle.agent_pool.proofs.Vocabulary.{sym, subst, Pass, IsSeatAt, receives_on, Hand, PoolItem}
 use Rattle.agent_pool.proofs.start.fn.begin_thread.spawn_with.Goals as goal
 
 pub returns-then-is_err : goal.returns-then-is_err
