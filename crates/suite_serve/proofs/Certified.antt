@@ -1,20 +1,9 @@
 -- What was certified is what came of a script's jobs.
-use Rattle.std.proofs.Common.{◌≡◌, ◌∙◌, ap, arith, refl, sym, subst, ℕ, ◌+◌, List, [], ◌∷◌, length, map, None}
+use Rattle.suite_serve.proofs.Vocabulary.{◌≡◌, ◌∙◌, ap, arith, refl, sym, subst, ℕ, ◌+◌, List, [], ◌∷◌, length, map, None, begun_by, Played, Item, AgentEntry}
+use Rattle.suite_serve.proofs.Vocabulary.{IsCertified, CertifiedIsPromised, TellsOfTime, made_by, JobOutcome, NamedJob, Plan, AreBefore, AreFirst, AreJobEnds}
+use Rattle.suite_serve.proofs.Vocabulary.{Came, IsServed, begun_in, end_in, items_in, AreDone, HaveEnded, StandBefore, named_from, transcripts_of, Worked}
+use Rattle.suite_serve.specs.Served.{AreApart, AreInOrder}
 use Rattle.txn_core.specs.declared.job.Job.{Job}
-use Rattle.agent_pool.specs.Pools.{begun_by}
-use Rattle.agent_pool.specs.Transcripts.{Played}
-use Rattle.server_lock.specs.declared.item.Item.{Item}
-use Rattle.run_certify.specs.declared.entry.AgentEntry.{AgentEntry}
-use Rattle.run_certify.specs.Certified.{IsCertified}
-use Rattle.run_certify.specs.Promised.{CertifiedIsPromised}
-use Rattle.law_certified.specs.Histories.{TellsOfTime}
-use Rattle.server_lock.specs.Counts.{made_by}
-use Rattle.agent_pool.specs.declared.outcome.JobOutcome.{JobOutcome}
-use Rattle.agent_pool.specs.declared.pool_context.NamedJob.{NamedJob}
-use Rattle.suite_serve.specs.Scripts.{Plan}
-use Rattle.suite_serve.specs.Served.{AreApart, AreBefore, AreFirst, AreInOrder, AreJobEnds, Came, IsServed, begun_in, end_in, items_in}
-use Rattle.suite_serve.specs.code.Working.{AreDone, HaveEnded, StandBefore, named_from, transcripts_of}
-use Rattle.suite_serve.specs.declared.serving.Worked.{Worked}
 use Rattle.suite_serve.proofs.Ended.{all_ends, apart_ends, before_ends, first_ends, order_ends}
 
 -- what came of jobs, by the outcomes that a pool gave

@@ -1,20 +1,12 @@
 -- From outcomes to how jobs ended in the agents' transcripts.
-use Rattle.std.proofs.Common.{◌≡◌, ◌∙◌, ap, sym, refl, subst, arith, ℕ, zero, suc, ◌+◌, ◌<◌, List, [], ◌∷◌, ◌++◌, length, map}
-use Rattle.std.proofs.lemmas.List.{length-map}
-use Rattle.std.proofs.lemmas.Option.{none-some, same_Some, slice_get-map}
-use Rattle.std.specs.Prelude.{Contains, slice_get, Option, Some}
-use Rattle.std.specs.Prelude.{option_map}
+use Rattle.suite_serve.proofs.Vocabulary.{◌≡◌, ◌∙◌, ap, sym, refl, subst, arith, ℕ, zero, suc, ◌+◌, ◌<◌, List, [], ◌∷◌, ◌++◌, length, map, length-map}
+use Rattle.suite_serve.proofs.Vocabulary.{none-some, same_Some, slice_get-map, Contains, slice_get, Option, Some, option_map, EndedJob, AgentEntry, Begun}
+use Rattle.suite_serve.proofs.Vocabulary.{Ended, JobOutcome, NamedJob, end_of, Played, number_of, AreBefore, AreFirst, AreJobEnds, EndsIn, IsJobEnd, JobEnd}
+use Rattle.suite_serve.proofs.Vocabulary.{done_as, end_in, end_there, named_end, AreNumbered, AreOfFirst, HasEnded, HaveEnded, StandBefore, named_from}
+use Rattle.suite_serve.proofs.Vocabulary.{transcripts_of}
+use Rattle.suite_serve.specs.Served.{AreApart, AreInOrder}
 use Rattle.txn_core.specs.declared.job.Job.{Job}
-use Rattle.run_core.specs.declared.done.EndedJob.{EndedJob}
-use Rattle.run_certify.specs.declared.entry.AgentEntry.{AgentEntry}
-use Rattle.run_certify.specs.declared.entry.AgentEntry.TheVariants.{Begun, Ended}
-use Rattle.agent_pool.specs.declared.outcome.JobOutcome.{JobOutcome}
-use Rattle.agent_pool.specs.declared.pool_context.NamedJob.{NamedJob}
-use Rattle.agent_pool.specs.Endings.{end_of}
-use Rattle.agent_pool.specs.Transcripts.{Played, number_of}
 use Rattle.agent_pool.specs.Pools.{AreApart as ApartOutcomes, AreInOrder as OutcomesInOrder}
-use Rattle.suite_serve.specs.Served.{AreApart, AreBefore, AreFirst, AreInOrder, AreJobEnds, EndsIn, IsJobEnd, JobEnd, done_as, end_in, end_there, named_end}
-use Rattle.suite_serve.specs.code.Working.{AreNumbered, AreOfFirst, HasEnded, HaveEnded, StandBefore, named_from, transcripts_of}
 use Rattle.suite_serve.proofs.Numbers.{number_at}
 use Rattle.suite_serve.proofs.Places.{contained_get, get_contained, get_front, get_past, mapped_get}
 

@@ -1,10 +1,6 @@
 -- What agents know of servers, and the stamps that they were told.
-use Rattle.std.proofs.Common.{◌≡◌, ◌⊎◌, inl, inr, ap, arith, ℕ, zero, suc, ◌+◌, ◌<◌, ◌≤◌, List, [], ◌∷◌, length, refl, slice_index, slice_set}
-use Rattle.std.specs.Prelude.{Contains}
-use Rattle.std.proofs.Math.ListN.{length-set}
-use Rattle.run_certify.specs.declared.entry.AgentEntry.{AgentEntry}
-use Rattle.run_certify.specs.declared.entry.AgentEntry.TheVariants.{Begun, Asked, Lacked, Forgot, Ended}
-use Rattle.agent_pool.specs.Transcripts.{Learns}
+use Rattle.suite_serve.proofs.Vocabulary.{◌≡◌, ◌⊎◌, inl, inr, ap, arith, ℕ, zero, suc, ◌+◌, ◌<◌, ◌≤◌, List, [], ◌∷◌, length, refl, slice_index, slice_set}
+use Rattle.suite_serve.proofs.Vocabulary.{Contains, length-set, AgentEntry, Begun, Asked, Lacked, Forgot, Ended, Learns}
 
 -- what is in a list is its first, or in the rest
 pub contains_or : {A : Type 0} (x : A) (xs : List A) (y : A) → Contains (x ∷ xs) y → (x ≡ y) ⊎ Contains xs y
