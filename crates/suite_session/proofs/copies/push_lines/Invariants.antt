@@ -1,5 +1,4 @@
-use Rattle.std.proofs.Common.{◌≡◌, ◌++◌}
-use Rattle.suite_session.specs.Copies.{standing_lines}
+use Rattle.suite_session.proofs.Vocabulary.{◌≡◌, ◌++◌, standing_lines}
 use Rattle.suite_session.proofs.copies.push_lines.Given as goal
 
 abbrev pub invariant-loop-number : goal.invariant-loop-number

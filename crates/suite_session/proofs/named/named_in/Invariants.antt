@@ -1,5 +1,4 @@
-use Rattle.suite_session.specs.Places.{named_in}
-use Rattle.suite_session.specs.code.Naming.{AreTold, HaveSame}
+use Rattle.suite_session.proofs.Vocabulary.{named_in, AreTold, HaveSame}
 use Rattle.suite_session.proofs.named.named_in.Given as goal
 
 abbrev pub invariant-loop-number : goal.invariant-loop-number
