@@ -1,12 +1,8 @@
-use Rattle.std.proofs.Common.{◌<◌, ◌∙◌, ◌+◌, ◌++◌, ℕ, List, [], Err, ap, arith, length, refl}
-use Rattle.byte_streams.specs.Streams.{one_more}
+use Rattle.suite_script.proofs.Vocabulary.{◌<◌, ◌∙◌, ◌+◌, ◌++◌, ℕ, List, [], Err, ap, arith, length, refl, one_more, comes_to, prints_from, play_error_of}
+use Rattle.suite_script.proofs.Vocabulary.{Language, language_of, owns}
 use Rattle.suite_script.proofs.Gathering.{failed}
 use Rattle.suite_script.proofs.Played.{IsPlayed, all_written, broken_line, looked_through, moved_so, read_on, stopped, unplayed}
 use Rattle.suite_script.proofs.Playing.{found_left, stops_next}
-use Rattle.suite_script.specs.Gathering.{comes_to}
-use Rattle.suite_script.specs.Playing.{prints_from}
-use Rattle.suite_script.specs.Readings.{play_error_of}
-use Rattle.suite_script.specs.Scripts.{Language, language_of, owns}
 use Rattle.suite_script.specs.declared.fault.ScriptError.TheVariants.{Memory}
 use Rattle.suite_script.specs.declared.play_error.PlayError.TheVariants as play
 use Rattle.suite_script.proofs.stage.play_lines.Given.{Over}

@@ -1,8 +1,5 @@
-use Rattle.std.proofs.Common.{[], ◌+◌, ◌<◌, ◌^◌, length}
+use Rattle.suite_script.proofs.Vocabulary.{[], ◌+◌, ◌<◌, ◌^◌, length, comes_to, prints_from, language_of, owns}
 use Rattle.suite_script.proofs.Played.{IsPlayed}
-use Rattle.suite_script.specs.Gathering.{comes_to}
-use Rattle.suite_script.specs.Playing.{prints_from}
-use Rattle.suite_script.specs.Scripts.{language_of, owns}
 use Rattle.suite_script.proofs.stage.play_lines.Given as goal
 
 abbrev pub invariant-loop-text : goal.invariant-loop-text

@@ -1,4 +1,4 @@
-use Rattle.std.proofs.Common.{[]}
+use Rattle.suite_script.proofs.Vocabulary.{[]}
 use Rattle.suite_script.proofs.Gathering.{failed, prints_nothing}
 use Rattle.suite_script.specs.declared.play_error.PlayError.TheVariants.{Memory}
 use Rattle.suite_script.proofs.stage.LineStage.write_line.Goals as goal
