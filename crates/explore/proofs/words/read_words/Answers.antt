@@ -1,4 +1,4 @@
-use Rattle.std.proofs.Common.{None, Some, ◌+◌, ap, arith, refl, ◌∙◌}
+use Rattle.explore.proofs.Vocabulary.{None, Some, ◌+◌, ap, arith, refl, ◌∙◌}
 use Rattle.explore.proofs.WordByWord.{all_read, one_read, read_is, wrong_read}
 use Rattle.explore.proofs.words.read_words.Goals as goal
 

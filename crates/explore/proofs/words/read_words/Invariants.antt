@@ -1,4 +1,4 @@
-use Rattle.std.proofs.Common.{◌-◌}
+use Rattle.explore.proofs.Vocabulary.{◌-◌}
 use Rattle.explore.proofs.WordByWord.{IsReadTo}
 use Rattle.explore.proofs.words.read_words.Given as goal
 
