@@ -1,16 +1,8 @@
 -- From what a parse comes to, to the answer.
-use Rattle.std.proofs.Common.{◌≡◌, ℕ, Option, Some, None, ◌⊎◌, inl, inr, sym, subst, true, [], ◌∷◌, Result, Ok, Err}
-use Rattle.std.specs.List.{list_all}
-use Rattle.clap.specs.Kinds.{IsAmong, Kinds}
-use Rattle.clap.proofs.WalkLemmas.{both}
-use Rattle.clap.specs.declared.error.kind.ErrorKind.{ErrorKind}
-use Rattle.clap.specs.declared.error.kind.ErrorKind.TheVariants.{ArgumentConflict, DisplayHelp, InvalidSubcommand, InvalidValue, MissingRequiredArgument, MissingSubcommand, OutOfMemory, TooManyValues, UnknownArgument}
-use Rattle.suite_args.specs.Answering.{Answers, AnswersServe, AnswersTo}
-use Rattle.suite_args.specs.CommandLine.{Asked, acl, agents_of, help, nothing, plays, serves, topic}
-use Rattle.suite_args.specs.declared.request.ArgsError.{ArgsError}
-use Rattle.suite_args.specs.declared.request.ArgsError.TheVariants.{CommandLine, Memory}
-use Rattle.suite_args.specs.declared.request.Invocation.{Invocation}
-use Rattle.suite_args.specs.declared.request.Invocation.TheVariants.{Acl, Help, Plays, Serve}
+use Rattle.suite_args.proofs.Vocabulary.{◌≡◌, ℕ, Option, Some, None, ◌⊎◌, inl, inr, sym, subst, true, [], ◌∷◌, Result, Ok, Err, list_all, IsAmong, Kinds, both}
+use Rattle.suite_args.proofs.Vocabulary.{ErrorKind, ArgumentConflict, DisplayHelp, InvalidSubcommand, InvalidValue, MissingRequiredArgument, MissingSubcommand}
+use Rattle.suite_args.proofs.Vocabulary.{OutOfMemory, TooManyValues, UnknownArgument, Answers, AnswersServe, AnswersTo, Asked, acl, agents_of, help, nothing}
+use Rattle.suite_args.proofs.Vocabulary.{plays, serves, topic, ArgsError, CommandLine, Memory, Invocation, Acl, Help, Plays, Serve}
 use Rattle.suite_args.proofs.Meanings.{Meets, are_mistakes, is_mistake}
 
 -- a parse with matches has no fault, and they say what the words ask for
