@@ -157,3 +157,9 @@ item_told list number place (Err error) same begins = tt
 pub answered : (question : Question) (given text : List ℕ) (before after : Option (List ℕ)) (failures failures_after status : ℕ) → IsAnswer question given text
     → Finishes text done status before after failures failures_after → Ends question given before after failures failures_after status
 answered question given text before after failures failures_after status is written = inl (record { text = text; is = is; written = written })
+
+-- ---- the same head
+
+pub same_head : {E : Type 0} (head other : List ℕ) (result : Result (Vec ℕ Global) E) → head ≡ other → IfOk result (λ text. BeginsWith head text.items)
+    → IfOk result (λ text. BeginsWith other text.items)
+same_head head other result same begins = subst (λ (one : List ℕ). IfOk result (λ text. BeginsWith one text.items)) same begins

@@ -7,7 +7,7 @@ ghost use Rattle.forms.specs.Finding.{BeginsWith, place_text, tab};
 use crate::above::Above;
 use crate::fields::{entry_in, uncommented};
 use crate::finding::{ItemEnds, ends_of, item_of_text, push_item};
-use crate::list::{ListReason, count_of_items, item_in, text_told};
+use crate::list::{count_of_items, item_in, text_told};
 use crate::reason::{Reason, Reasoned, push_told};
 use acl_text::{NameError, Names, TextFault, item_place, push_text_code, read_acl};
 use script_text::WordParts;
@@ -33,8 +33,8 @@ pub(crate) fn found_in_list(
         return printed(alloc, ends_of(list, place), fault, told_of(list, fault));
     }
     let Some(place) = item_place(list, number as usize) else {
-        let few = Reason::List(ListReason::Few(count_of_items(list)));
-        return printed(alloc, ends_of(list, None), None, Reasoned::of(few, b""));
+        let few = Reasoned::of(Reason::Few, b"").with(count_of_items(list));
+        return printed(alloc, ends_of(list, None), None, few);
     };
     let item = item_in(list, number as usize);
     let fault = fault_of(alloc, item, &names)?;

@@ -3,11 +3,11 @@
 use crate::above::Above;
 use crate::fields::Kind;
 use crate::list::word_told;
-use crate::number::{NumberReason, groups_told, number_told, servers_told};
+use crate::number::{MAX_ID, groups_told, number_told, servers_told};
 use crate::places::limits;
 use crate::reason::{Reason, Reasoned};
 use crate::votes::{begins_as_votes, form_told, valid_told};
-use crate::word::{WordReason, bytes_told, name_told};
+use crate::word::{bytes_told, name_told};
 use acl_text::TextFault;
 use script_text::Words;
 use suite_script::{Expected, FormEnding, LineFault, LineForm, Misfit, Place, Scope, VERBS};
@@ -183,13 +183,12 @@ fn text_fault(fault: LineFault) -> Option<TextFault> {
 
 /// What is told of the number of a user or a group: it may be a name that has one.
 fn id_told<'a>(above: Above<'_>, kind: Kind, word: &'a [u8]) -> Reasoned<'a> {
-    let told = number_told(word, 0, u64::from(u32::MAX));
-    if told.reason != Reason::Number(NumberReason::NoNumber) {
-        return told;
-    }
+    let told = number_told(word, 0, MAX_ID);
     match above.named(kind, word) {
-        Some(named) => Reasoned::of(Reason::Number(NumberReason::Named(named.number)), word),
-        None => told,
+        Some(named) if told.reason == Reason::NoNumber => {
+            Reasoned::of(Reason::Named, word).with(named.number)
+        }
+        _ => told,
     }
 }
 
@@ -197,7 +196,7 @@ fn id_told<'a>(above: Above<'_>, kind: Kind, word: &'a [u8]) -> Reasoned<'a> {
 fn may_be_shifted(misfit: Misfit, told: Reasoned<'_>) -> bool {
     match misfit.fault {
         LineFault::List(fault) => matches!(fault, TextFault::Syntax(_)),
-        LineFault::BadName => !matches!(told.reason, Reason::Word(WordReason::Length(_, _))),
+        LineFault::BadName => told.reason != Reason::Length,
         LineFault::Settings(_) => true,
         LineFault::Form => is_shifted_form(misfit.expected, told),
         LineFault::Order | LineFault::NameTwice | LineFault::Votes(_) => false,
@@ -206,9 +205,7 @@ fn may_be_shifted(misfit: Misfit, told: Reasoned<'_>) -> bool {
 
 fn is_shifted_form(expected: Expected, told: Reasoned<'_>) -> bool {
     match told.reason {
-        Reason::LineEnds
-        | Reason::OperationEnds
-        | Reason::Number(NumberReason::Gap | NumberReason::Many(_, _)) => false,
+        Reason::LineEnds | Reason::OperationEnds | Reason::Gap | Reason::Many => false,
         _ => match expected {
             Expected::Place(Place::Votes | Place::OpeningVotes) => !begins_as_votes(told.word),
             Expected::Place(Place::Init | Place::Lists) => false,

@@ -5,14 +5,21 @@ use crate::reading::widest;
 use std::alloc::{AllocError, Global};
 use suite_script::{FormEnding, Forms, LineForm, PLAY_LINES, SERVE_LINES, TABLE_LINES, VERBS};
 
+/// The commands, with the lines of their scripts.
+pub(crate) const COMMANDS: [(&[u8], Forms); 3] = [
+    (b"play", PLAY_LINES),
+    (b"serve", SERVE_LINES),
+    (b"table", TABLE_LINES),
+];
+
 /// The lines of a command's scripts, by the command's name.
 pub(crate) fn lines_of(command: &[u8]) -> Option<Forms> {
-    match command {
-        b"play" => Some(PLAY_LINES),
-        b"serve" => Some(SERVE_LINES),
-        b"table" => Some(TABLE_LINES),
-        _ => None,
+    for (name, forms) in COMMANDS {
+        if command == name {
+            return Some(forms);
+        }
     }
+    None
 }
 
 /// The table.
