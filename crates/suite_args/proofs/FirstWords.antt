@@ -1,10 +1,11 @@
 -- What `clap` makes of the first word where a command takes no operand.
 use Rattle.suite_args.proofs.Vocabulary.{◌≡◌, ◌∙◌, ap, ap₂, refl, Bool, true, false, List, [], ◌∷◌, None, if◌then◌else◌, option_map_or, long_of, Kinds}
-use Rattle.suite_args.proofs.Vocabulary.{or_else, flag_word_fault, other_fault, positional_fault, step_fault, stray_fault, turn_fault, walk_fault, word_fault}
-use Rattle.suite_args.proofs.Vocabulary.{Shape, Held, Names, Step, Walk, after_step, arg_by_index, idle, long_or_other, nothing_held, subcommand_met}
-use Rattle.suite_args.proofs.Vocabulary.{subcommand_or_other, trailing, value, walk_from, walked, word_met, DisplayHelp, InvalidSubcommand, UnknownArgument}
-use Rattle.suite_args.proofs.Vocabulary.{ends_options, is_help_option, is_option}
-use Rattle.clap.specs.Walk.{Text}
+use Rattle.suite_args.proofs.Vocabulary.{or_else, flag_word_fault, other_fault, positional_fault, step_fault, stray_fault, turn_fault, word_fault, Shape, Held}
+use Rattle.suite_args.proofs.Vocabulary.{Names, Step, Walk, after_step, arg_by_index, idle, long_or_other, nothing_held, subcommand_met, subcommand_or_other}
+use Rattle.suite_args.proofs.Vocabulary.{trailing, value, walk_from, word_met, DisplayHelp, InvalidSubcommand, UnknownArgument, ends_options, is_help_option}
+use Rattle.suite_args.proofs.Vocabulary.{is_option}
+use Rattle.clap.specs.Faults.{walk_fault}
+use Rattle.clap.specs.Walk.{Text, walked}
 use Rattle.suite_args.proofs.Meanings.{are_mistakes, mistakes_first}
 use Rattle.suite_args.proofs.OptionWords.{KnowsHelp, help_faults, plain_faults, plain_met, wrong_faults}
 

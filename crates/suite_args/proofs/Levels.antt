@@ -1,9 +1,9 @@
 -- What a parse comes to at each of the commands.
 use Rattle.suite_args.proofs.Vocabulary.{◌≡◌, ◌∙◌, ap, ap₂, sym, subst, refl, arith, Bool, true, false, ◌≤◌, List, [], ◌∷◌, Some, length, if◌then◌else◌}
-use Rattle.suite_args.proofs.Vocabulary.{usize_max, Kinds, or_else, check_fault, defaults_fault, level_fault, settle_fault, walk_fault, rows_at, Held, Walk}
-use Rattle.suite_args.proofs.Vocabulary.{finished, nothing_held, settled, walk, walk_from, asked_in, Asked, acl, help, nothing, plays, serves, topic}
-use Rattle.suite_args.proofs.Vocabulary.{asked_by_option, asked_of_acl, asked_of_script, ends_options, is_help_option, nothing_more, DisplayHelp, Script, Play}
-use Rattle.suite_args.proofs.Vocabulary.{Table}
+use Rattle.suite_args.proofs.Vocabulary.{usize_max, Kinds, or_else, check_fault, level_fault, settle_fault, rows_at, Held, Walk, finished, nothing_held}
+use Rattle.suite_args.proofs.Vocabulary.{settled, walk, walk_from, asked_in, Asked, acl, help, nothing, plays, serves, topic, asked_by_option, asked_of_acl}
+use Rattle.suite_args.proofs.Vocabulary.{asked_of_script, ends_options, is_help_option, nothing_more, DisplayHelp, Script, Play, Table}
+use Rattle.clap.specs.Faults.{defaults_fault, walk_fault}
 use Rattle.clap.specs.Walk.{Text}
 use Rattle.suite_args.proofs.Meanings.{Meets, are_mistakes, mistakes_first}
 use Rattle.suite_args.proofs.BuiltCommands.{acl_shape, script_shape, script_knows}

@@ -1,11 +1,12 @@
 -- How `clap` walks over the words after `acl`.
 use Rattle.suite_args.proofs.Vocabulary.{◌≡◌, ◌∙◌, ap, ap₂, sym, subst, refl, codes, arith, ℕ, Bool, true, false, ◌+◌, ◌≤◌, List, [], ◌∷◌, ◌++◌, Option, Some}
 use Rattle.suite_args.proofs.Vocabulary.{None, length, append-nil, append_assoc, length-append, nat_tests, if◌then◌else◌, fold, long_of, usize_max, Kinds}
-use Rattle.suite_args.proofs.Vocabulary.{or_else, values_kinds, range_kinds, flag_word_fault, other_fault, settle_fault, step_fault, turn_fault, walk_fault}
-use Rattle.suite_args.proofs.Vocabulary.{word_fault, Held, Step, Waiting, Walk, after_step, idle, long_or_other, plain_word, positional, subcommand_met}
-use Rattle.suite_args.proofs.Vocabulary.{subcommand_or_other, trailing, value, walked, word_met, DisplayHelp, Asked, acl, help, nothing, plays, serves, topic}
+use Rattle.suite_args.proofs.Vocabulary.{or_else, values_kinds, range_kinds, flag_word_fault, other_fault, settle_fault, step_fault, turn_fault, word_fault}
+use Rattle.suite_args.proofs.Vocabulary.{Held, Step, Waiting, Walk, after_step, idle, long_or_other, plain_word, positional, subcommand_met}
+use Rattle.suite_args.proofs.Vocabulary.{subcommand_or_other, trailing, value, word_met, DisplayHelp, Asked, acl, help, nothing, plays, serves, topic}
 use Rattle.suite_args.proofs.Vocabulary.{asked_by_option, asked_of_acl, ends_options, is_help_option, is_option, with_name}
-use Rattle.clap.specs.Walk.{Text}
+use Rattle.clap.specs.Faults.{walk_fault}
+use Rattle.clap.specs.Walk.{Text, walked}
 use Rattle.clap.specs.declared.builder.value_parser.ValueParser.TheVariants as vp
 use Rattle.suite_args.proofs.Meanings.{are_mistakes, mistakes_first}
 use Rattle.suite_args.proofs.OptionWords.{held_so_far, help_faults, plain_faults, plain_met, wrong_faults}

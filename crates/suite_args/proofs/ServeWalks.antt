@@ -1,8 +1,9 @@
 -- How `clap` walks over the words after `serve`.
 use Rattle.suite_args.proofs.Vocabulary.{◌≡◌, ◌∙◌, ap, ap₂, sym, subst, refl, codes, true≢false, ℕ, Bool, true, false, ◌==◌, ◌&&◌, List, [], ◌∷◌, Option, Some}
 use Rattle.suite_args.proofs.Vocabulary.{None, Result, Ok, Err, if◌then◌else◌, fold, unwrap_or, after_first, before_first, bytes_eq, has_byte, long_of, Kinds}
-use Rattle.suite_args.proofs.Vocabulary.{or_else, check_fault, defaults_fault, flag_word_fault, level_fault, long_fault, other_fault, settle_fault, step_fault}
-use Rattle.suite_args.proofs.Vocabulary.{stray_fault, turn_fault, walk_fault, word_fault, rows_at, DisplayHelp, asked_in}
+use Rattle.suite_args.proofs.Vocabulary.{or_else, check_fault, flag_word_fault, level_fault, long_fault, other_fault, settle_fault, step_fault, stray_fault}
+use Rattle.suite_args.proofs.Vocabulary.{turn_fault, word_fault, rows_at, DisplayHelp, asked_in}
+use Rattle.clap.specs.Faults.{defaults_fault, walk_fault}
 use Rattle.clap.specs.Walk.{
   Held,
   Outcome,

@@ -11,19 +11,18 @@ pub use Rattle.std.specs.Box.{box_value}
 pub use Rattle.std.specs.List.{after_first, before_first, list_all, slice_index_or}
 pub use Rattle.std.specs.Option.{option_map_or}
 pub use Rattle.std.specs.Prelude.{Box, IsSomeAnd, encode_utf8, fold, if◌then◌else◌, option_and_then, slice_get, unwrap_or}
-pub use Rattle.std.specs.Str.{bytes_eq, chars}
+pub use Rattle.std.specs.Str.{bytes_eq}
 pub use Rattle.clap.proofs.CutLemmas.{Lacks, before_first-Lacks}
 pub use Rattle.clap.proofs.WalkLemmas.{both, first_value-rows, raw_values-rows, walk_stopped}
-pub use Rattle.clap.specs.Faults.{bundle_fault, bundle_step_fault, check_fault, defaults_fault, entered_fault, flag_word_fault, flags_fault, level_fault}
-pub use Rattle.clap.specs.Faults.{long_fault, option_fault, other_fault, positional_fault, react_fault, settle_fault, short_fault, step_fault, stray_fault}
-pub use Rattle.clap.specs.Faults.{turn_fault, use_fault, walk_fault, word_fault}
+pub use Rattle.clap.specs.Faults.{bundle_fault, bundle_step_fault, check_fault, entered_fault, flag_word_fault, level_fault, long_fault, option_fault}
+pub use Rattle.clap.specs.Faults.{other_fault, positional_fault, react_fault, settle_fault, short_fault, step_fault, stray_fault, turn_fault, use_fault}
+pub use Rattle.clap.specs.Faults.{word_fault}
 pub use Rattle.clap.specs.Kinds.{IsAmong, Kinds, or_else, range_kinds, values_kinds}
 pub use Rattle.clap.specs.Lexer.{has_byte, long_of, long_of_rest, short_of, short_of_rest, strip_byte, usize_max}
 pub use Rattle.clap.specs.Simple.{Shape, built, entered, filled, help_rule, names_of, new_shape, rows_at}
 pub use Rattle.clap.specs.Walk.{Held, Names, Outcome, Rule, Step, Waiting, Walk, after_flag, after_step, arg_by_index, arg_by_long, arg_by_short}
-pub use Rattle.clap.specs.Walk.{attached_value, bundle, bundle_met, bundle_step, finished, idle, long_or_other, nothing_held, plain, plain_word, positional}
-pub use Rattle.clap.specs.Walk.{reacted, settled, short_or_plain, subcommand_met, subcommand_or_other, takes_values, trailing, value, walk, walk_from, walked}
-pub use Rattle.clap.specs.Walk.{word_met}
+pub use Rattle.clap.specs.Walk.{attached_value, bundle, bundle_step, finished, idle, long_or_other, nothing_held, plain, plain_word, positional, reacted}
+pub use Rattle.clap.specs.Walk.{settled, short_or_plain, subcommand_met, subcommand_or_other, takes_values, trailing, value, walk, walk_from, word_met}
 pub use Rattle.clap.specs.Words.{HasKind, all_of, app_of, first_of, found_of, is_simple, is_simple_and_free, kind_of, new_app, rows_of, rule_of}
 pub use Rattle.clap.specs.Words.{subcommand_rows, subcommand_rows_of, with_rule, with_subcommand}
 pub use Rattle.clap.specs.declared.builder.command.Command.TheViews.{out-Command}

@@ -1,14 +1,14 @@
 -- What a parse of a whole command line comes to.
 use Rattle.suite_args.proofs.Vocabulary.{◌≡◌, ◌∙◌, ap, ap₂, sym, subst, refl, codes, arith, true≢false, Bool, true, false, ◌≤◌, ◌||◌, List, [], ◌∷◌, ◌++◌}
-use Rattle.suite_args.proofs.Vocabulary.{Option, Some, None, is_some, length, if◌then◌else◌, fold, option_map, bytes_eq, chars, bytes_eq-Decides, usize_max}
-use Rattle.suite_args.proofs.Vocabulary.{Kinds, or_else, check_fault, defaults_fault, entered_fault, level_fault, settle_fault, turn_fault, walk_fault, Shape}
-use Rattle.suite_args.proofs.Vocabulary.{entered, names_of, rows_at, Held, Names, Walk, finished, idle, nothing_held, settled, subcommand_met, walk, walked}
-use Rattle.suite_args.proofs.Vocabulary.{walk_stopped, DisplayHelp, InvalidSubcommand, asked_in, script_word, suites, Asked, help, nothing, topic, asked_by}
-use Rattle.suite_args.proofs.Vocabulary.{asked_by_option, asked_of_acl, asked_of_script, asked_of_serve, untold, ends_options, is_help_option, Script, Play}
-use Rattle.suite_args.proofs.Vocabulary.{Table}
-use Rattle.clap.specs.Faults.{fault_of}
+use Rattle.suite_args.proofs.Vocabulary.{Option, Some, None, is_some, length, if◌then◌else◌, fold, option_map, bytes_eq, bytes_eq-Decides, usize_max, Kinds}
+use Rattle.suite_args.proofs.Vocabulary.{or_else, check_fault, entered_fault, level_fault, settle_fault, turn_fault, Shape, entered, names_of, rows_at, Held}
+use Rattle.suite_args.proofs.Vocabulary.{Names, Walk, finished, idle, nothing_held, settled, subcommand_met, walk, walk_stopped, DisplayHelp}
+use Rattle.suite_args.proofs.Vocabulary.{InvalidSubcommand, asked_in, script_word, suites, Asked, help, nothing, topic, asked_by, asked_by_option}
+use Rattle.suite_args.proofs.Vocabulary.{asked_of_acl, asked_of_script, asked_of_serve, untold, ends_options, is_help_option, Script, Play, Table}
+use Rattle.std.specs.Str.{chars}
+use Rattle.clap.specs.Faults.{defaults_fault, fault_of, walk_fault}
 use Rattle.clap.specs.Simple.{subcommand_of}
-use Rattle.clap.specs.Walk.{Row, Text}
+use Rattle.clap.specs.Walk.{Row, Text, walked}
 use Rattle.suite_args.proofs.Meanings.{Meets, are_mistakes, mistakes_first}
 use Rattle.suite_args.proofs.BuiltCommands.{acl_shape, commands, script_shape, serve_shape, top, top_knows}
 use Rattle.suite_args.proofs.FirstWords.{start, end_alone, end_and_more, end_walked, help_first, other_first}

@@ -1,7 +1,8 @@
 -- How a word begins, as `clap` cuts it and as the command line's definition does.
 use Rattle.suite_args.proofs.Vocabulary.{◌≡◌, ◌∙◌, ap, sym, refl, ℕ, Bool, true, false, zero, suc, arith, true≢false, ◌==◌, ◌||◌, [], ◌∷◌, Some, None}
-use Rattle.suite_args.proofs.Vocabulary.{if◌then◌else◌, option_and_then, slice_get, before_first, chars, eqb-true, Lacks, before_first-Lacks, has_byte}
-use Rattle.suite_args.proofs.Vocabulary.{long_of, long_of_rest, short_of, short_of_rest, strip_byte, flag_of}
+use Rattle.suite_args.proofs.Vocabulary.{if◌then◌else◌, option_and_then, slice_get, before_first, eqb-true, Lacks, before_first-Lacks, has_byte, long_of}
+use Rattle.suite_args.proofs.Vocabulary.{long_of_rest, short_of, short_of_rest, strip_byte, flag_of}
+use Rattle.std.specs.Str.{chars}
 use Rattle.clap.specs.Walk.{Text}
 
 -- a word that begins with no hyphen
