@@ -3,8 +3,10 @@ use Rattle.suite_play.proofs.Vocabulary.{◌≡◌, ℕ, zero, suc, false, List,
 use Rattle.suite_play.proofs.Vocabulary.{subst, Bool, IfOk, true, not, flat_map, list_all, and_parts, false≢true, append-nil, IsAccepted, Opening, IsValid}
 use Rattle.suite_play.proofs.Vocabulary.{Fixed, Step, Done, EndedJob, World, step, after, dones, outcomes, dones-append, outcomes-append, CanBe, VotesAreValid}
 use Rattle.suite_play.proofs.Vocabulary.{IsPromised, front, promised, ScriptFault, Pending, Script, owns, script_of, scripted, whole, Command, header}
-use Rattle.suite_play.proofs.Vocabulary.{language, all_lines, endless, played, steps, steps_of, events_in, events_of, is_audit, LinesAreEvents, PlayIsPromised}
-use Rattle.suite_play.proofs.Vocabulary.{outcome_line, outcome_text}
+use Rattle.suite_play.proofs.Vocabulary.{language, all_lines, endless, played, events_in, events_of, is_audit, LinesAreEvents, PlayIsPromised, outcome_line}
+use Rattle.suite_play.proofs.Vocabulary.{outcome_text}
+use Rattle.suite_play.specs.Playing.{steps}
+use Rattle.suite_play.specs.Promised.{steps_of}
 use Rattle.run_core.specs.declared.event.Event.{Event}
 use Rattle.suite_play.specs.declared.command.Command.TheVariants as line
 use Rattle.suite_play.proofs.ValidLines.{valid_lines}

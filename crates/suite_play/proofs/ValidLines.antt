@@ -3,7 +3,8 @@ use Rattle.suite_play.proofs.Vocabulary.{ℕ, zero, suc, List, [], ◌∷◌, Op
 use Rattle.suite_play.proofs.Vocabulary.{Op, both, AllGiveValidVotes, GivesValidVotes, VotesAreValid, is_semicolon, Opening, each_of, AllHaveValidVotes}
 use Rattle.suite_play.proofs.Vocabulary.{HasValidVotes, after_any, after_end, then_holds, valid_operations, operations, Pending, owns, Word, at_end, caller}
 use Rattle.suite_play.proofs.Vocabulary.{number, ScriptFault, Job, Transaction, Sweep, last_site, begin_in, said_after, said_by, server_in, steps_in}
-use Rattle.suite_play.proofs.Vocabulary.{transaction_in, verb_in, language, places_of, endless, events_in, events_of, steps_of, Command, Places}
+use Rattle.suite_play.proofs.Vocabulary.{transaction_in, verb_in, language, places_of, endless, events_in, events_of, Command, Places}
+use Rattle.suite_play.specs.Promised.{steps_of}
 use Rattle.file_ops.specs.declared.operation.Action.TheVariants as action
 use Rattle.run_core.specs.declared.event.Event.TheVariants as event
 use Rattle.suite_play.specs.declared.command.Command.TheVariants.{Event}

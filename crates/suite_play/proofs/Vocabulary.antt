@@ -88,8 +88,8 @@ pub use Rattle.suite_play.specs.Commands.{begin_in, said_after, said_by, server_
 pub use Rattle.suite_play.specs.Headers.{among, header, old_in, opening_lines}
 pub use Rattle.suite_play.specs.Laws.{RunIsUntilIdle}
 pub use Rattle.suite_play.specs.Outputs.{language, lines_of, places_of, play_output}
-pub use Rattle.suite_play.specs.Playing.{Printed, all_lines, before, endless, of_event, played, steps}
-pub use Rattle.suite_play.specs.Promised.{LinesAreEvents, PlayIsPromised, events_in, events_of, is_audit, steps_of}
+pub use Rattle.suite_play.specs.Playing.{Printed, all_lines, before, endless, of_event, played}
+pub use Rattle.suite_play.specs.Promised.{LinesAreEvents, PlayIsPromised, events_in, events_of, is_audit}
 pub use Rattle.suite_play.specs.Texts.{audit_lines, item_line, outcome_line, outcome_text}
 pub use Rattle.suite_play.specs.code.Kept.{commands, kept_command, kept_event, kept_job}
 pub use Rattle.suite_play.specs.code.Playing.{after_line, line_of}
