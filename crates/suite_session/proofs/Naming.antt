@@ -1,8 +1,9 @@
 -- Numbers in sets and in lists, and how many are not among them.
 use Rattle.suite_session.proofs.Vocabulary.{◌≡◌, ◌∙◌, ℕ, zero, suc, ◌+◌, ◌==◌, Bool, true, false, ◌||◌, not, cond, List, [], ◌∷◌, ◌++◌, Option, Some, None, ap}
 use Rattle.suite_session.proofs.Vocabulary.{arith, refl, sym, false≢true, nat_tests, list_any-append, is_at, fold, list_any, nat_cmp, codes, decimal, State}
-use Rattle.suite_session.proofs.Vocabulary.{server_at, Replica, line_feed, has, room_line, room_lines, taken_text, unnamed, AreTold, HaveSame}
+use Rattle.suite_session.proofs.Vocabulary.{server_at, Replica, line_feed, has, room_line, taken_text, unnamed, AreTold, HaveSame}
 use Rattle.run_core.specs.Worlds.{World}
+use Rattle.suite_session.specs.Places.{room_lines}
 
 -- ---- a set has what the list of its keys has
 

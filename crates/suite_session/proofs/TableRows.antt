@@ -4,9 +4,10 @@ use Rattle.suite_session.proofs.Vocabulary.{nat_tests, append-nil, none-some, sa
 use Rattle.suite_session.proofs.Vocabulary.{of_row, all_shown, IsShown, NeverAs, copy_at, AllKeepSides, register, row_shown, HaveVersions, machine_of}
 use Rattle.suite_session.proofs.Vocabulary.{beginning, quorums_show, Inv, IsQuorum, Beginning, WasCopy, content_at, prefix_at, Event, table_of, empty_content}
 use Rattle.suite_session.proofs.Vocabulary.{Content, Kind, held_by, Opening, Prefix, PrefixKind, Replica, Copies, child_in, child_of, found, found_at}
-use Rattle.suite_session.proofs.Vocabulary.{found_on, newest, shown_by, shown_for, shown_at, unless_absent, IsTheRow, child_by, leads_at, leads_to, numbered}
+use Rattle.suite_session.proofs.Vocabulary.{found_on, shown_by, shown_for, shown_at, unless_absent, IsTheRow, child_by, leads_at, leads_to, numbered}
 use Rattle.suite_session.proofs.Vocabulary.{numbered_at, row_in, row_told, Shown, row_with, Configuration, votes_in, IsValid}
 use Rattle.law_suite_machine.specs.Machine.{World}
+use Rattle.suite_session.specs.Rows.{newest}
 use Rattle.suite_content.specs.declared.content.Kind.TheVariants as holds
 use Rattle.suite_prefix.specs.declared.copies.PrefixKind.TheVariants as kind
 use Rattle.suite_session.proofs.NewestCopies.{IsNewest, is_newest}

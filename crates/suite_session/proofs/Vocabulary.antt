@@ -104,14 +104,14 @@ pub use Rattle.vote_core.specs.Quorums.{Configuration, Representative, votes_in}
 pub use Rattle.vote_core.specs.Servers.{are_below}
 pub use Rattle.vote_core.specs.Validity.{IsValid, max_servers}
 pub use Rattle.vote_core.specs.declared.fault.VotesFault.{VotesFault}
-pub use Rattle.suite_session.specs.Copies.{standing_at, standing_line, standing_lines}
-pub use Rattle.suite_session.specs.HeldLocks.{lock_line, locks_by, locks_text}
-pub use Rattle.suite_session.specs.Places.{has, named_by, named_in, numbers_by, room_line, room_lines, taken_text, unnamed}
+pub use Rattle.suite_session.specs.Copies.{standing_at, standing_line}
+pub use Rattle.suite_session.specs.HeldLocks.{lock_line, locks_by}
+pub use Rattle.suite_session.specs.Places.{has, named_by, numbers_by, room_line, taken_text, unnamed}
 pub use Rattle.suite_session.specs.Played.{AreDone, LinesBelowArePlayed, SessionIsPlay, first_state, language_below, manner, told_for}
 pub use Rattle.suite_session.specs.Promised.{IsMadeBy, IsPromisedOf, SessionIsPromised, begins_headed, events_by, events_said, ways}
 pub use Rattle.suite_session.specs.Questions.{spelling}
 pub use Rattle.suite_session.specs.Rows.{Copies, answered_or, child_in, child_of, copies_of, copy_in, found, found_at, found_on, has_answered, in_effect_by}
-pub use Rattle.suite_session.specs.Rows.{in_effect_in, is_answered, newer, newest, shown_at, shown_by, shown_for, standing, unless_absent, version_of}
+pub use Rattle.suite_session.specs.Rows.{in_effect_in, is_answered, newer, shown_at, shown_by, shown_for, standing, unless_absent, version_of}
 pub use Rattle.suite_session.specs.Services.{after_own, asks, at_first, head_of, heads, opened_of, own_of, told}
 pub use Rattle.suite_session.specs.TableRows.{IsTheRow, RowsAreTheTables, child_by, leads_at, leads_to, numbered, numbered_at, row_in, row_told}
 pub use Rattle.suite_session.specs.code.Naming.{AreTold, HaveSame}

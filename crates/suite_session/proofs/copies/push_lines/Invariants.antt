@@ -1,4 +1,5 @@
-use Rattle.suite_session.proofs.Vocabulary.{◌≡◌, ◌++◌, standing_lines}
+use Rattle.suite_session.proofs.Vocabulary.{◌≡◌, ◌++◌}
+use Rattle.suite_session.specs.Copies.{standing_lines}
 use Rattle.suite_session.proofs.copies.push_lines.Given as goal
 
 abbrev pub invariant-loop-number : goal.invariant-loop-number

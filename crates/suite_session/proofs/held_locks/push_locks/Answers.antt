@@ -1,4 +1,5 @@
-use Rattle.suite_session.proofs.Vocabulary.{◌++◌, ◌∙◌, ap, sym, append_assoc, append-nil, server_at, locks_by, locks_text}
+use Rattle.suite_session.proofs.Vocabulary.{◌++◌, ◌∙◌, ap, sym, append_assoc, append-nil, server_at, locks_by}
+use Rattle.suite_session.specs.HeldLocks.{locks_text}
 use Rattle.suite_session.proofs.OneMore.{locks_more, none_locked}
 use Rattle.suite_session.proofs.held_locks.push_locks.Goals as goal
 

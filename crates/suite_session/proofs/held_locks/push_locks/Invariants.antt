@@ -1,4 +1,5 @@
-use Rattle.suite_session.proofs.Vocabulary.{◌≡◌, ◌++◌, locks_text}
+use Rattle.suite_session.proofs.Vocabulary.{◌≡◌, ◌++◌}
+use Rattle.suite_session.specs.HeldLocks.{locks_text}
 use Rattle.suite_session.proofs.held_locks.push_locks.Given as goal
 
 abbrev pub invariant-loop-number : goal.invariant-loop-number

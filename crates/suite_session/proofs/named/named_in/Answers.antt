@@ -1,4 +1,5 @@
-use Rattle.suite_session.proofs.Vocabulary.{◌||◌, ◌==◌, ◌∙◌, ap, subst, sym, server_at, has, named_by, named_in, AreTold}
+use Rattle.suite_session.proofs.Vocabulary.{◌||◌, ◌==◌, ◌∙◌, ap, subst, sym, server_at, has, named_by, AreTold}
+use Rattle.suite_session.specs.Places.{named_in}
 use Rattle.suite_session.proofs.Naming.{has_append, none_told, or_false}
 use Rattle.suite_session.proofs.OneMore.{named_more, root_named}
 use Rattle.suite_session.proofs.named.named_in.Goals as goal

@@ -1,4 +1,5 @@
-use Rattle.suite_session.proofs.Vocabulary.{◌++◌, ◌∙◌, ap, sym, append_assoc, append-nil, server_at, room_line, room_lines}
+use Rattle.suite_session.proofs.Vocabulary.{◌++◌, ◌∙◌, ap, sym, append_assoc, append-nil, server_at, room_line}
+use Rattle.suite_session.specs.Places.{room_lines}
 use Rattle.suite_session.proofs.OneMore.{no_room, room_more}
 use Rattle.suite_session.proofs.places.push_lines.Goals as goal
 

@@ -1,4 +1,5 @@
-use Rattle.suite_session.proofs.Vocabulary.{◌≡◌, ◌++◌, room_lines}
+use Rattle.suite_session.proofs.Vocabulary.{◌≡◌, ◌++◌}
+use Rattle.suite_session.specs.Places.{room_lines}
 use Rattle.suite_session.proofs.places.push_lines.Given as goal
 
 abbrev pub invariant-loop-number : goal.invariant-loop-number

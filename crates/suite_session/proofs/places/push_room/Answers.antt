@@ -1,5 +1,6 @@
-use Rattle.suite_session.proofs.Vocabulary.{◌≡◌, ◌++◌, ◌∙◌, OnOk, ap, subst, named_in, room_lines}
+use Rattle.suite_session.proofs.Vocabulary.{◌≡◌, ◌++◌, ◌∙◌, OnOk, ap, subst}
 use Rattle.suite_session.proofs.Naming.{same_lines}
+use Rattle.suite_session.specs.Places.{named_in, room_lines}
 use Rattle.suite_session.proofs.places.push_room.Goals as goal
 
 pub returns : goal.returns
