@@ -53,7 +53,7 @@ pub use Rattle.explore.specs.Lines.{kept_line, language, lines_of, play_in}
 pub use Rattle.explore.specs.Retold.{Retelling, before_events, begin_line, begun, is_of, line_at, lines_above, lines_below, retell, spaced_behind, told_steps}
 pub use Rattle.explore.specs.Retold.{without}
 pub use Rattle.explore.specs.Shown.{Shown, Shows, printed_all, printed_of, shown_in, shown_of}
-pub use Rattle.explore.specs.Tasks.{IsRun, Led, after_event, jobs_for, jobs_in, led_by, led_in, line_events, step_events, steps_taken, steps_with, with_line}
+pub use Rattle.explore.specs.Tasks.{IsRun, Led, after_event, jobs_for, jobs_in, led_by, led_in, line_events, step_events, steps_with, with_line}
 pub use Rattle.explore.specs.Waits.{line_of, number_behind, number_below, waits_from}
 pub use Rattle.explore.specs.Ways.{decided_jobs, first_in, job_line, job_lines, joined, joined_at, more_ends, numbers_from, rest_in, way_lines, ways_from}
 pub use Rattle.explore.specs.Words.{asks_help, first_reading, read_from, wanted_behind, wanted_by, wanted_of, with_word}
