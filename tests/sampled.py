@@ -5,8 +5,9 @@ Plays orders that are drawn (`explore --sample`) of the scripts of examples/expl
 ones (50 by default), and looks whether each way that is told is one of those in which the jobs may end: the kept ones,
 which another program told, or those of the whole search. The script of a way has to lead there, and its answers are
 those of the plain table. The same seed has to tell the same, and another one may not. So are 1,000 jobs of 64 agents
-played. Refuses allocations, closes streams, tells wrong words and asks questions: it is never said that a way is not
-there, or that all are told. Prints each that differs; status 1 where one does.
+played, and each of 32 servers crashes in some. Refuses allocations, closes streams, tells wrong words and asks
+questions: it is never said that a way is not there, or that all are told. Prints each that differs; status 1 where one
+does.
 """
 import os
 import re
@@ -114,6 +115,16 @@ def play_many(tally: Tally) -> None:
     tally.holds(status == 0 and not wrong, f"1,000 jobs: {'; '.join(wrong)[:300]}")
 
 
+def crash_each(tally: Tally) -> None:
+    """Any server may crash: where one alone of 32 has a vote, in some order it is down and nothing is decided."""
+    for server in (0, 7, 8, 31):
+        votes = ",".join("1" if place == server else "0" for place in range(32))
+        script = f"servers 32\nagents 1\nvotes {votes}/1/1\nroot 0 0 777\ncache 0 0 0\ntogether\nbegin 0 0 0 0 list /\n"
+        status, told = sampled(built.program("explore"), script, f"--sample {ORDERS} --crashes 1")
+        is_found = ("0.0 undecided U1 suite 0 got 0 of 1",) in ways_in(told)
+        tally.holds(status == NOT_ALL and is_found, f"server {server} of 32: status {status}, ways {ways_in(told)}")
+
+
 def refuse(tally: Tally) -> None:
     """Where memory is refused it tells less, or that memory ran out."""
     with open(STORY, encoding="utf-8") as file:
@@ -211,6 +222,7 @@ def main() -> int:
     others = compare_kept(tally) + compare_random(given.scripts, given.first, tally)
     tally.holds(others > 0, "no other seed tells other ways")
     play_many(tally)
+    crash_each(tally)
     refuse(tally)
     tell_wrong(tally)
     ask(tally)
