@@ -37,6 +37,14 @@ for word; do :; done
 [ $# = 1 ] && { read -r line; cat > /dev/null; echo "read $line"; exit 0; }
 exit "$word"
 """
+# In place of the program: each command that has a script is that, with the words behind it.
+COMMANDS = """#!/bin/sh
+own=${0%/*}/commands
+[ -x "$own/$1" ] || exec "$own/suites" "$@"
+own=$own/$1
+shift
+exec "$own" "$@"
+"""
 # Words that ask for help.
 HELP = (
     "help votes",
@@ -130,18 +138,15 @@ class Copy(Tally):
         return given
 
     def build(self, name: str, text: str) -> None:
-        """Puts a script in the place of the checked build of a program."""
-        os.makedirs(os.path.join(self.top, "out"), exist_ok=True)
-        path = os.path.join(self.top, "out", name)
-        with open(path, "w", encoding="utf-8") as file:
-            file.write(text)
-        os.chmod(path, 0o755)
-        subprocess.run(
-            [sys.executable, "-c", KEEP],
-            cwd=self.top,
-            env={**os.environ, "PYTHONPATH": os.path.join(self.top, "tools"), "SUITES_PROGRAM": name},
-            check=True,
-        )
+        """Puts a script in the place of a command of the checked build, or under `suites` of all that have none."""
+        folder = os.path.join(self.top, "out", "commands")
+        os.makedirs(folder, exist_ok=True)
+        for path, told in ((os.path.join(folder, name), text), (os.path.join(self.top, "out", "suites"), COMMANDS)):
+            with open(path, "w", encoding="utf-8") as file:
+                file.write(told)
+            os.chmod(path, 0o755)
+        settings = {**os.environ, "PYTHONPATH": os.path.join(self.top, "tools")}
+        subprocess.run([sys.executable, "-c", KEEP], cwd=self.top, env=settings, check=True)
 
     def on_terminal(self, words: list[str], *pieces: bytes, stdin: int | None = None) -> str:
         """What a terminal shows of an answer, where these are typed, each once nothing more comes; or where this is the
