@@ -18,24 +18,7 @@ from pages import proved_page
 
 # The names that two crates have, with what a type is that is called so. A new one is given a name of its own.
 MAY = {
-    "Answer": {"file_ops": "an operation's", "server_lock": "a server's", "suite_history": "what a judge prints"},
-    "Asked": {"suite_collect": "of a server", "history_judge": "by a call"},
-    "Decision": {"rep_core": "what is to be recorded", "run_certify": "what was decided, with who asked"},
-    "Ending": {"txn_core": "of a job", "suite_script": "of a line's form"},
     "Entry": {"acl_core": "of a list", "run_certify": "of a transcript"},
-    "Form": {"suite_prefix": "of a copy's bytes", "suite_script": "of a line"},
-    "History": {"server_lock": "of a server", "suite_history": "of calls"},
-    "Item": {"server_lock": "of a history", "agent_pool": "of the line of jobs"},
-    "Names": {"acl_text": "of users and groups", "suite_args": "the same, as words"},
-    "Ops": {"txn_core": "of a transaction", "history_judge": "of a call"},
-    "Parts": {"rep_core": "of a Prepare", "script_text": "of a word"},
-    "Request": {"rep_core": "to a server", "suite_args": "of the command line"},
-    "Served": {"run_core": "a request", "suite_serve": "a script"},
-    "Service": {"file_ops": "servers and opening votes", "script_desk": "what lines are carried out on"},
-    "Stage": {"txn_core": "of an agent", "suite_script": "what lines are played on"},
-    "Told": {"suite_collect": "by a server", "history_judge": "to a call"},
-    "Verdict": {"rep_core": "on a transaction", "history_judge": "on a history"},
-    "Words": {"script_text": "of a line", "byte_streams": "of the command line"},
 }
 # As many names of records are those of several crates at most, and so many public types are found at least.
 MOST, FEWEST = 64, 180

@@ -8,7 +8,7 @@ ghost use Rattle.agent_pool.specs.code.Steps.{Hears, delivery_from, stamp_in};
 
 use run_certify::{Entry, KeptEnd};
 use run_core::EndedJob;
-use server_lock::{Answer, Miss};
+use server_lock::{Miss, ServerAnswer};
 use txn_core::{Agent, Response};
 
 /// Where a job ended: the count of its agent's jobs before it, and the place of its end in the transcript.
@@ -39,7 +39,7 @@ pub struct Delivery {
 }
 
 /// The delivery of this answer of this server. There is none where the pass was of other servers.
-pub(crate) fn delivery_from(server: u8, answer: Answer) -> Option<Delivery>
+pub(crate) fn delivery_from(server: u8, answer: ServerAnswer) -> Option<Delivery>
     ensures { result ≡ delivery_from server answer.reply }
 {
     match answer.into_reply() {
@@ -59,7 +59,7 @@ pub(crate) fn delivery_from(server: u8, answer: Answer) -> Option<Delivery>
 }
 
 /// The stamp of the reply, if there is one.
-pub(crate) fn stamp_in(answer: &Answer) -> Option<u64>
+pub(crate) fn stamp_in(answer: &ServerAnswer) -> Option<u64>
     ensures { result ≡ stamp_in answer.now.reply }
 {
     match answer.reply() {

@@ -21,7 +21,7 @@ use acl_text::{TextFault, item_place};
 use script_text::{Words, push_number};
 use std::alloc::{AllocError, Global};
 use suite_prefix::SettingsFault;
-use suite_script::{Expected, Form, Forms, LineFault, Misfit, push_line_code};
+use suite_script::{Expected, Forms, LineFault, LineForm, Misfit, push_line_code};
 
 /// Where an item of a list begins, and where it does without the white space before it, and where it ends.
 #[derive(Clone, Copy)]
@@ -119,7 +119,7 @@ fn of_standing(
     alloc: Global,
     reading: &Reading,
     above: Above<'_>,
-    form: Form,
+    form: LineForm,
     words: Words<'_>,
 ) -> Result<Vec<u8>, AllocError>
     requires { Contains (all_of reading.now.forms) form }
@@ -149,7 +149,7 @@ fn of_form(
     alloc: Global,
     reading: &Reading,
     above: Above<'_>,
-    form: Form,
+    form: LineForm,
     words: Words<'_>,
 ) -> Result<Vec<u8>, AllocError>
     ensures { IfOk result (λ text. BeginsWith (head_of (line_misfit reading.now.scope form.places.now form.ending words.entry)) text.items) }
@@ -192,7 +192,7 @@ fn rest_of_form(
     alloc: Global,
     reading: &Reading,
     above: Above<'_>,
-    line: (Form, &[u8]),
+    line: (LineForm, &[u8]),
     misfit: Option<Misfit>,
 ) -> Result<Vec<u8>, AllocError> {
     let (form, rest) = line;
@@ -285,7 +285,7 @@ fn of_first(
 }
 
 /// What is found of a line as a whole.
-fn of_whole(number: u64, fault: LineFault, due: Option<Form>, told: Reasoned<'_>) -> Found<'_>
+fn of_whole(number: u64, fault: LineFault, due: Option<LineForm>, told: Reasoned<'_>) -> Found<'_>
     ensures number { result.number ≡ number }
     ensures fault { result.fault ≡ Some fault }
 {
@@ -301,7 +301,7 @@ fn of_whole(number: u64, fault: LineFault, due: Option<Form>, told: Reasoned<'_>
 }
 
 /// Nothing is found.
-fn of_none(form: Option<Form>) -> Found<'static>
+fn of_none(form: Option<LineForm>) -> Found<'static>
     ensures { result.fault ≡ None }
 {
     Found {
@@ -349,7 +349,7 @@ fn end(
 }
 
 /// A form as it is written down.
-fn push_written(text: &mut Vec<u8>, form: Form) -> Result<(), AllocError> {
+fn push_written(text: &mut Vec<u8>, form: LineForm) -> Result<(), AllocError> {
     text.extend_from_slice(form.word)?;
     if !form.places.is_empty() {
         text.push(b' ')?;

@@ -5,7 +5,7 @@ use crate::reading::{form_of, known};
 use crate::reason::{Numbers, Reason, Reasoned};
 use crate::table::lines_of;
 use std::alloc::AllocError;
-use suite_script::{Form, Forms, VERBS};
+use suite_script::{Forms, LineForm, VERBS};
 
 /// Why the first word of a line does not fit.
 #[derive(Clone, Copy, PartialEq, Eq, Debug)]
@@ -122,7 +122,7 @@ pub(crate) fn misplaced_told<'a>(
     above: Above<'_>,
     forms: Forms,
     begun: u64,
-    due: Option<Form>,
+    due: Option<LineForm>,
     word: &'a [u8],
 ) -> Reasoned<'a> {
     let of_header = [forms.header, forms.optional];

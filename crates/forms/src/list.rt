@@ -7,7 +7,7 @@ use crate::number::{NumberReason, is_digits};
 use crate::reason::{Numbers, Reason, Reasoned};
 use acl_core::{AclFault, MAX_ENTRIES};
 use acl_text::{TextFault, item_place};
-use script_text::{Parts, push_number};
+use script_text::{WordParts, push_number};
 use std::alloc::AllocError;
 
 /// Why a text is no list.
@@ -142,8 +142,8 @@ fn entries_told<'a>(above: Above<'_>, text: &'a [u8], side: Side, fault: AclFaul
 /// How many items are entries of one of the two lists.
 fn count_of(text: &[u8], side: Side) -> u64 {
     let mut count = 0u64;
-    for line in Parts::new(text, b'\n') {
-        for item in Parts::new(uncommented(line), b',') {
+    for line in WordParts::new(text, b'\n') {
+        for item in WordParts::new(uncommented(line), b',') {
             if is_of(item, side) {
                 count = count.saturating_add(1);
             }
@@ -162,8 +162,8 @@ fn is_of(item: &[u8], side: Side) -> bool {
 /// The number of the first item that names somebody.
 fn first_named(text: &[u8], side: Side) -> u64 {
     let mut number = 0u64;
-    for line in Parts::new(text, b'\n') {
-        for item in Parts::new(uncommented(line), b',') {
+    for line in WordParts::new(text, b'\n') {
+        for item in WordParts::new(uncommented(line), b',') {
             number = number.saturating_add(1);
             if let Some(said) = entry_in(item) {
                 if said.side == side && !said.whom.is_empty() {
@@ -182,8 +182,8 @@ fn doubled_told<'a>(
     side: Side,
     kind: Option<Kind>,
 ) -> Reasoned<'a> {
-    for line in Parts::new(text, b'\n') {
-        for item in Parts::new(uncommented(line), b',') {
+    for line in WordParts::new(text, b'\n') {
+        for item in WordParts::new(uncommented(line), b',') {
             if let Some(said) = entry_in(item) {
                 if said.side == side
                     && may_double(said, kind)
@@ -230,8 +230,8 @@ fn is_same(above: Above<'_>, item: &[u8], sought: Said<'_>) -> bool {
 
 fn count_same(above: Above<'_>, text: &[u8], sought: Said<'_>) -> u64 {
     let mut count = 0u64;
-    for line in Parts::new(text, b'\n') {
-        for item in Parts::new(uncommented(line), b',') {
+    for line in WordParts::new(text, b'\n') {
+        for item in WordParts::new(uncommented(line), b',') {
             if is_same(above, item, sought) {
                 count = count.saturating_add(1);
             }
@@ -248,8 +248,8 @@ pub(crate) fn push_same(
     sought: Said<'_>,
 ) -> Result<(), AllocError> {
     let mut number = 0u64;
-    for line in Parts::new(list, b'\n') {
-        for item in Parts::new(uncommented(line), b',') {
+    for line in WordParts::new(list, b'\n') {
+        for item in WordParts::new(uncommented(line), b',') {
             number = number.saturating_add(1);
             if is_same(above, item, sought) {
                 text.push(b' ')?;
@@ -263,8 +263,8 @@ pub(crate) fn push_same(
 /// How many items a text has, empty ones too.
 pub(crate) fn count_of_items(text: &[u8]) -> u64 {
     let mut count = 0u64;
-    for line in Parts::new(text, b'\n') {
-        for _ in Parts::new(uncommented(line), b',') {
+    for line in WordParts::new(text, b'\n') {
+        for _ in WordParts::new(uncommented(line), b',') {
             count = count.saturating_add(1);
         }
     }

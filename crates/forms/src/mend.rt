@@ -17,7 +17,7 @@ use crate::reading::{Reading, Standing};
 use crate::reason::{Reason, Reasoned};
 use script_text::{Words, push_number};
 use std::alloc::{AllocError, Global};
-use suite_script::{Ending, Expected, Form, Forms, LineFault, VERBS};
+use suite_script::{Expected, FormEnding, Forms, LineFault, LineForm, VERBS};
 
 /// A word that does not fit: its number, its fault, what was expected there (of a line as a whole nothing), the form
 /// that has this place or is due, and the number of the form's first word.
@@ -26,7 +26,7 @@ pub(crate) struct Found<'a> {
     pub(crate) number: u64,
     pub(crate) fault: Option<LineFault>,
     pub(crate) expected: Option<Expected>,
-    pub(crate) form: Option<Form>,
+    pub(crate) form: Option<LineForm>,
     pub(crate) begin: u64,
     pub(crate) is_shifted: bool,
     pub(crate) told: Reasoned<'a>,
@@ -53,7 +53,7 @@ pub(crate) struct Trial<'a> {
 fn is_misfit(
     alloc: Global,
     reading: &Reading,
-    form: Form,
+    form: LineForm,
     words: Words<'_>,
 ) -> Result<bool, AllocError>
     ensures { IfOk result (λ does. does ≡ is_some (line_misfit reading.now.scope form.places.now form.ending words.entry)) }
@@ -193,7 +193,7 @@ impl<'a> Trial<'a> {
         self,
         text: &mut Vec<u8>,
         at: u64,
-        forms: &[Form],
+        forms: &[LineForm],
         is_before: bool,
     ) -> Result<(), AllocError>
         ensures { OnOk result (AddsMends self.entry at is_before text.old.items text.new.items) }
@@ -209,7 +209,7 @@ impl<'a> Trial<'a> {
         self,
         text: &mut Vec<u8>,
         at: u64,
-        parts: &[&[Form]],
+        parts: &[&[LineForm]],
         is_before: bool,
     ) -> Result<(), AllocError>
         ensures { OnOk result (AddsMends self.entry at is_before text.old.items text.new.items) }
@@ -314,7 +314,7 @@ impl<'a> Trial<'a> {
 
     /// Whether the line has its form with a word more, which stands in a place of the form up to that of the word.
     #[tactic(auto, using(crate::proofs::Mending::is_missing))]
-    fn is_missing(self, form: Form, found: Found<'_>) -> Result<bool, AllocError>
+    fn is_missing(self, form: LineForm, found: Found<'_>) -> Result<bool, AllocError>
         ensures { IfOk result (λ does. IsTrue does → IsMissingIn self.entry) }
     {
         let mut at = found.begin;
@@ -329,7 +329,7 @@ impl<'a> Trial<'a> {
         }
         at = at.saturating_add(1);
         match form.ending {
-            Ending::Perhaps(place) if at <= found.number => {
+            FormEnding::Perhaps(place) if at <= found.number => {
                 self.fits(at, Change::Before(sample(place)))
             }
             _ => Ok(false),
@@ -351,7 +351,7 @@ impl<'a> Trial<'a> {
         let Some(misfit) = self.reading.scope.misfit(self.alloc, form, words)? else {
             return Ok(false);
         };
-        let (Ending::Operations, Expected::End) = (form.ending, misfit.expected) else {
+        let (FormEnding::Operations, Expected::End) = (form.ending, misfit.expected) else {
             return Ok(false);
         };
         if is_verb(self.word(misfit.number.saturating_sub(1))) {

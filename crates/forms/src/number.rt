@@ -7,7 +7,7 @@ ghost use Rattle.forms.specs.Reasons.{number_reason, number_told};
 ghost use Rattle.script_text.specs.Numbers.{is_number};
 
 use crate::reason::{Numbers, Reason, Reasoned};
-use script_text::{Parts, read_number};
+use script_text::{WordParts, read_number};
 
 /// The most numbers of groups, a user's own and the others, as `acl_text` has it.
 const MAX_NUMBERS: u64 = 33;
@@ -97,7 +97,7 @@ fn is_list(word: &[u8]) -> bool {
 
 /// Whether a part of a word between commas is empty.
 fn has_gap(word: &[u8]) -> bool {
-    for part in Parts::new(word, b',') {
+    for part in WordParts::new(word, b',') {
         if part.is_empty() {
             return true;
         }
@@ -114,7 +114,7 @@ pub(crate) fn groups_told(word: &[u8]) -> Reasoned<'_> {
         return Reasoned::of(Reason::Number(NumberReason::Gap), word);
     }
     let mut count = 0u64;
-    for part in Parts::new(word, b',') {
+    for part in WordParts::new(word, b',') {
         count = count.saturating_add(1);
         if count <= MAX_NUMBERS && number_reason(part, 0, u64::from(u32::MAX)).is_some() {
             return part_told(word, part, u64::from(u32::MAX));
@@ -137,7 +137,7 @@ pub(crate) fn servers_told(word: &[u8], last: u64) -> Reasoned<'_> {
     if !is_list(word) || has_gap(word) {
         return Reasoned::of(Reason::Number(NumberReason::NoNumber), word);
     }
-    for part in Parts::new(word, b',') {
+    for part in WordParts::new(word, b',') {
         if number_reason(part, 0, last).is_some() {
             return part_told(word, part, last);
         }

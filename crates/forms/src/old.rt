@@ -4,7 +4,7 @@ use crate::above::Above;
 use crate::fields::{fields_of, trimmed, uncommented};
 use crate::reason::{Numbers, Reason, Reasoned};
 use crate::votes::last_listed;
-use script_text::Parts;
+use script_text::WordParts;
 
 /// The most entries and servers of form 1, as `suite_prefix` has them.
 const OLD_ENTRIES: u64 = 64;
@@ -55,7 +55,7 @@ fn list_unheld(above: Above<'_>) -> Option<OldReason> {
         return None;
     };
     let mut count = 0u64;
-    for item in Parts::new(uncommented(list), b',') {
+    for item in WordParts::new(uncommented(list), b',') {
         if !trimmed(item).is_empty() {
             count = count.saturating_add(1);
         }
@@ -72,7 +72,7 @@ fn list_unheld(above: Above<'_>) -> Option<OldReason> {
 
 fn votes_unheld(above: Above<'_>) -> Option<OldReason> {
     let (_, mut words) = above.line_of(b"votes")?;
-    let mut parts = Parts::new(words.next()?, b'/');
+    let mut parts = WordParts::new(words.next()?, b'/');
     let last = last_listed(parts.next()?);
     if last >= OLD_SERVERS {
         Some(OldReason::Server(last, OLD_SERVERS))

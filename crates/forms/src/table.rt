@@ -3,7 +3,7 @@
 use crate::places::{PLACES, meaning, name, push_limits, sample};
 use crate::reading::widest;
 use std::alloc::{AllocError, Global};
-use suite_script::{Ending, Form, Forms, PLAY_LINES, SERVE_LINES, TABLE_LINES, VERBS};
+use suite_script::{FormEnding, Forms, LineForm, PLAY_LINES, SERVE_LINES, TABLE_LINES, VERBS};
 
 /// The lines of a command's scripts, by the command's name.
 pub(crate) fn lines_of(command: &[u8]) -> Option<Forms> {
@@ -48,7 +48,7 @@ fn push_part(
     text: &mut Vec<u8>,
     command: &[u8],
     part: &[u8],
-    forms: &[Form],
+    forms: &[LineForm],
 ) -> Result<(), AllocError> {
     for form in forms {
         push_fields(text, &[b"line", command, part])?;
@@ -59,7 +59,7 @@ fn push_part(
 }
 
 /// A form with what it does, as the last fields of a line.
-fn push_form(text: &mut Vec<u8>, form: Form) -> Result<(), AllocError> {
+fn push_form(text: &mut Vec<u8>, form: LineForm) -> Result<(), AllocError> {
     text.extend_from_slice(form.word)?;
     text.push(b'\t')?;
     push_places(text, form)?;
@@ -82,7 +82,7 @@ fn push_fields(text: &mut Vec<u8>, fields: &[&[u8]]) -> Result<(), AllocError> {
 }
 
 /// The places of a form, with spaces between them.
-pub(crate) fn push_places(text: &mut Vec<u8>, form: Form) -> Result<(), AllocError> {
+pub(crate) fn push_places(text: &mut Vec<u8>, form: LineForm) -> Result<(), AllocError> {
     let mut gap: &[u8] = b"";
     for place in form.places {
         text.extend_from_slice(gap)?;
@@ -90,14 +90,14 @@ pub(crate) fn push_places(text: &mut Vec<u8>, form: Form) -> Result<(), AllocErr
         gap = b" ";
     }
     match form.ending {
-        Ending::Whole => Ok(()),
-        Ending::Perhaps(place) => {
+        FormEnding::Whole => Ok(()),
+        FormEnding::Perhaps(place) => {
             text.extend_from_slice(gap)?;
             text.push(b'[')?;
             text.extend_from_slice(name(place))?;
             text.extend_from_slice(b"]")
         }
-        Ending::Operations => {
+        FormEnding::Operations => {
             text.extend_from_slice(gap)?;
             text.extend_from_slice(b"OPERATIONS")
         }

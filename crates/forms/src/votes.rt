@@ -2,7 +2,7 @@
 
 use crate::number::{NumberReason, number_reason};
 use crate::reason::{Numbers, Reason, Reasoned};
-use script_text::{Parts, read_number};
+use script_text::{WordParts, read_number};
 use vote_core::{MAX_SERVERS, VotesFault};
 
 /// The most votes of a server, and the most that a read or a write may be said to collect, as `suite_script` has them.
@@ -72,7 +72,7 @@ struct Cut<'a> {
 }
 
 fn parts_of(word: &[u8]) -> Option<Cut<'_>> {
-    let mut parts = Parts::new(word, b'/');
+    let mut parts = WordParts::new(word, b'/');
     let shares = parts.next()?;
     let read = parts.next()?;
     let write = parts.next()?;
@@ -106,7 +106,7 @@ pub(crate) fn form_told(word: &[u8]) -> Reasoned<'_> {
 
 fn cut_told<'a>(word: &'a [u8], cut: Cut<'a>) -> Reasoned<'a> {
     let mut count = 0u64;
-    for part in Parts::new(cut.shares, b',') {
+    for part in WordParts::new(cut.shares, b',') {
         count = count.saturating_add(1);
         if count <= MAX_SERVERS as u64 && part != b"-".as_slice() {
             if let Some(reason) = counted(part, MAX_VOTES, VotesReason::NoShare) {
@@ -180,7 +180,7 @@ pub(crate) fn valid_told(word: &[u8], servers: u64, fault: VotesFault) -> Reason
 /// All votes together.
 fn total_of(shares: &[u8]) -> u64 {
     let mut total = 0u64;
-    for share in Parts::new(shares, b',') {
+    for share in WordParts::new(shares, b',') {
         total = total.saturating_add(read_number(share, MAX_VOTES).unwrap_or(0));
     }
     total
@@ -190,7 +190,7 @@ fn total_of(shares: &[u8]) -> u64 {
 pub(crate) fn last_listed(shares: &[u8]) -> u64 {
     let mut last = 0u64;
     let mut server = 0u64;
-    for share in Parts::new(shares, b',') {
+    for share in WordParts::new(shares, b',') {
         if share != b"-".as_slice() {
             last = server;
         }

@@ -14,8 +14,8 @@ use Rattle.file_ops.specs.Rows.{Rows}
 use Rattle.file_ops.specs.Paths.{names_of}
 use Rattle.file_ops.specs.Operations.{act, operation}
 use Rattle.file_ops.specs.Transactions.{Played, after, play, transaction, max_operations}
-use Rattle.history_judge.specs.declared.history.Asked.{Asked}
-use Rattle.history_judge.specs.declared.history.Asked.TheVariants.{Ops, Test}
+use Rattle.history_judge.specs.declared.history.CallRequest.{CallRequest}
+use Rattle.history_judge.specs.declared.history.CallRequest.TheVariants.{Ops, Test}
 use Rattle.history_judge.specs.Alike.{IsNoMake, DoSame, AreSameAt, AskSame}
 use Rattle.history_judge.specs.Histories.{outcome_of}
 use Rattle.history_judge.proofs.Among.{below_or}
@@ -80,7 +80,7 @@ module _ (service : Service) (t t' : ℕ) (caller : Identity) where
     same_ops ops others (record { long = let long = same.long in omega (arith, long); same = λ place one theirs. same.same (suc place) one theirs }),
   )
 
-  pub outcome_same : (rows : Rows) (asked other : Asked) → AskSame asked other → outcome_of service rows t caller asked ≡ outcome_of service rows t' caller other
+  pub outcome_same : (rows : Rows) (asked other : CallRequest) → AskSame asked other → outcome_of service rows t caller asked ≡ outcome_of service rows t' caller other
   outcome_same rows (Ops ops) (Ops others) same = transaction_same rows ops others (same_ops ops others same)
   outcome_same rows (Ops ops) (Test path wanted) same = absurd same
   outcome_same rows (Test path wanted) other same = absurd same

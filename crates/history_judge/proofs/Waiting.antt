@@ -7,7 +7,7 @@ use Rattle.acl_core.specs.Identity.{Identity}
 use Rattle.file_ops.specs.Rows.{Rows, PlainTable}
 use Rattle.file_ops.specs.Transactions.{replies}
 use Rattle.history_judge.specs.declared.history.Call.{Call}
-use Rattle.history_judge.specs.declared.history.Told.{Told}
+use Rattle.history_judge.specs.declared.history.CallReply.{CallReply}
 use Rattle.history_judge.specs.declared.placed.Placed.{Placed}
 use Rattle.history_judge.specs.declared.window.Due.{Due}
 use Rattle.history_judge.specs.Alike.{Waits}
@@ -22,7 +22,7 @@ use Rattle.history_judge.proofs.Searching.{StandsFor, stand_for}
 use Rattle.history_judge.proofs.Standing.{precede_told, untold_call}
 use Rattle.history_judge.proofs.Going.{into_then, comes_on}
 
-told_later : (told : Option Told) (called later : ℕ) → called ≤ later → WasToldBefore told called → WasToldBefore told later
+told_later : (told : Option CallReply) (called later : ℕ) → called ≤ later → WasToldBefore told called → WasToldBefore told later
 told_later None called later less before = before
 told_later (Some told) called later less before = omega (arith, less, before)
 

@@ -18,7 +18,7 @@ ghost use Rattle.run_certify.specs.code.Walks.{AskedFails, AskedGoes, EntryFails
 ghost use Rattle.run_certify.specs.Merges.{ItemAt, IsMerge};
 
 use crate::begun::Begun;
-use crate::decided::{Decided, Decision};
+use crate::decided::{Decided, DecidedTransaction};
 use crate::entry::{Entry, Transcript};
 use crate::fault::CertifyFault;
 use crate::heads::Heads;
@@ -44,7 +44,7 @@ pub(crate) struct Walk<'a> {
     heads: Heads<'a>,
     unused: Unused<'a>,
     begun: Begun<'a>,
-    decisions: Vec<Decision>,
+    decisions: Vec<DecidedTransaction>,
 }
 
 impl<'a> Model for Walk<'a> {
@@ -379,7 +379,7 @@ impl<'a> Walk<'a> {
     }
 
     /// What was decided, if what was served decided the transaction of an agent.
-    fn decision(&self, agent: u8, served: &Served) -> Result<Option<Decision>, AllocError>
+    fn decision(&self, agent: u8, served: &Served) -> Result<Option<DecidedTransaction>, AllocError>
         ensures { IfOk result (λ one. one ≡ decision_by (job_at self.now.begun.jobs agent) (Some served.now)) }
     {
         decision_of(self.begun.job(agent), served)

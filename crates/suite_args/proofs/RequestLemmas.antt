@@ -7,7 +7,7 @@ use Rattle.clap.specs.Words.{Row, Text, all_of, rows_of, found_of, subcommand_ro
 use Rattle.clap.specs.declared.parser.matches.SubCommand.{SubCommand}
 use Rattle.clap.specs.declared.parser.matches.ArgMatches.TheViews.{out-SubCommand}
 use Rattle.suite_args.specs.Answering.{Answers, asked_in}
-use Rattle.suite_args.specs.declared.request.Request.TheVariants.{Acl}
+use Rattle.suite_args.specs.declared.request.Invocation.TheVariants.{Acl}
 
 module _ {Z : Type 0} where
   -- the name and the rows of a command are found together

@@ -7,7 +7,7 @@ use Rattle.file_ops.specs.declared.operation.Action.TheVariants as action
 use Rattle.file_ops.specs.declared.operation.Init.{Init}
 use Rattle.suite_content.specs.declared.content.Kind.{Kind}
 use Rattle.suite_content.specs.declared.content.Kind.TheVariants.{File, Folder}
-use Rattle.suite_script.specs.declared.form.Ending.TheVariants.{Perhaps}
+use Rattle.suite_script.specs.declared.form.FormEnding.TheVariants.{Perhaps}
 use Rattle.suite_script.specs.declared.form.Place.TheVariants as place
 use Rattle.suite_script.specs.declared.misfit.Misfit.{Misfit}
 use Rattle.acl_text.specs.Tables.{Tables}

@@ -2,7 +2,7 @@ use Rattle.std.proofs.Common.{rules, ℕ, List, sym, subst, arith}
 use Rattle.crossbeam_channel.specs.Claims.{Pass, view, IsSeatAt}
 use Rattle.crossbeam_channel.specs.Ends.{receives_on}
 use Rattle.agent_pool.specs.declared.line.Hand.{Hand}
-use Rattle.agent_pool.specs.declared.line.Item.{Item}
+use Rattle.agent_pool.specs.declared.line.PoolItem.{PoolItem}
 use Rattle.agent_pool.specs.declared.work.JobDone.{JobDone}
 use Rattle.agent_pool.specs.Taken.{Took}
 use Rattle.agent_pool.specs.code.Working.{RiseInPlace}
@@ -16,7 +16,7 @@ loop-init g c =
     let back = made.back c.args.context.now.servers.now.servers c.args.context.now.jobs.now in (
       tt,
       tt,
-      subst (λ (ticket : Pass Item Hand). IsSeatAt (receives_on c.args.context.now.receiver.now) ticket) (sym made.ticket) c.requires.ticket.0,
+      subst (λ (ticket : Pass PoolItem Hand). IsSeatAt (receives_on c.args.context.now.receiver.now) ticket) (sym made.ticket) c.requires.ticket.0,
       back.takes,
       search rules,
       made.work c.args.context.now.jobs.now,

@@ -6,7 +6,7 @@ use Rattle.script_text.specs.Numbers.{number_up_to}
 use Rattle.suite_args.specs.Answering.{AnswersServe}
 use Rattle.suite_args.specs.CommandLine.{at_least_one, max_agents}
 use Rattle.suite_args.specs.declared.request.ArgsError.TheVariants.{CommandLine}
-use Rattle.suite_args.specs.declared.request.Request.TheVariants.{Serve}
+use Rattle.suite_args.specs.declared.request.Invocation.TheVariants.{Serve}
 use Rattle.suite_args.proofs.answer.agents_in.Goals as goal
 use Rattle.suite_args.proofs.answer.agents_in.Goals.{in_default-via-in-Some+else-agents-gt0, in_default-via-in_default}
 
