@@ -45,7 +45,7 @@ mod ways;
 mod words;
 
 use byte_streams::{
-    ByteIn, ByteOut, COMMAND_LINE, DONE, FAULTY, MAX_INPUT, Words, finish, finish_line,
+    ByteIn, ByteOut, COMMAND_LINE, CommandWords, DONE, FAULTY, MAX_INPUT, finish, finish_line,
     lack_memory, read_all, tell_unread,
 };
 use explored::show_script;
@@ -73,7 +73,7 @@ const HELP: &[u8] =
 
 /// Does what the words behind the command ask for, and says the exit status. Meanwhile it tells on a stream of its own
 /// how far it is, where that is asked for.
-pub fn obey<W: Words, I: ByteIn, O: ByteOut, E: ByteOut + Drop>(
+pub fn obey<W: CommandWords, I: ByteIn, O: ByteOut, E: ByteOut + Drop>(
     alloc: Global,
     words: &W,
     reader: &mut I,

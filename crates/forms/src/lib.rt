@@ -71,7 +71,7 @@ mod whose;
 mod word;
 
 use byte_streams::{
-    ByteIn, ByteOut, COMMAND_LINE, DONE, MAX_INPUT, Wanted, Words, finish, finish_line,
+    ByteIn, ByteOut, COMMAND_LINE, CommandWords, DONE, MAX_INPUT, Wanted, finish, finish_line,
     lack_memory, read_all, read_wanted, tell_unread,
 };
 use finding::found_in;
@@ -121,7 +121,7 @@ enum Wish {
 }
 
 /// Does what the words behind the command ask for, and says the exit status.
-pub fn obey<W: Words, I: ByteIn, O: ByteOut>(
+pub fn obey<W: CommandWords, I: ByteIn, O: ByteOut>(
     alloc: Global,
     words: &W,
     reader: &mut I,
@@ -163,7 +163,7 @@ fn work<I: ByteIn, O: ByteOut>(alloc: Global, wish: Wish, reader: &mut I, writer
 }
 
 /// What the words of the command line ask for.
-fn read_words<W: Words>(words: &W) -> Wish
+fn read_words<W: CommandWords>(words: &W) -> Wish
     ensures { IfSome (W.words words.now) (λ given. Asks given result) }
 {
     match read_wanted(words) {
@@ -177,7 +177,7 @@ fn read_words<W: Words>(words: &W) -> Wish
 }
 
 /// What the two words of the command line ask.
-fn asked<W: Words>(words: &W) -> Option<Question> {
+fn asked<W: CommandWords>(words: &W) -> Option<Question> {
     let mut word = [0; 24];
     let length = words.word(0, &mut word).ok()?;
     let command = lines_of(word.get(..length)?);

@@ -20,7 +20,7 @@ ghost use Rattle.judge.specs.Runs.{Does, Ends, Runs, Told, wanted_by};
 mod words;
 
 use byte_streams::{
-    ByteIn, ByteOut, COMMAND_LINE, DONE, FAULTY, Words, finish, finish_line, lack_memory,
+    ByteIn, ByteOut, COMMAND_LINE, CommandWords, DONE, FAULTY, finish, finish_line, lack_memory,
     read_all, tell_unread,
 };
 use std::alloc::Global;
@@ -37,7 +37,7 @@ const HELP: &[u8] = b"Tells whether a history is one plain table's.
 ";
 
 /// Does what the words behind the command ask for, and says the exit status.
-pub fn obey<W: Words, I: ByteIn, O: ByteOut>(
+pub fn obey<W: CommandWords, I: ByteIn, O: ByteOut>(
     alloc: Global,
     words: &W,
     reader: &mut I,

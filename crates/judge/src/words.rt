@@ -3,7 +3,7 @@
 ghost use Rattle.std.specs.Prelude.{◌≡◌, IfSome};
 ghost use Rattle.judge.specs.Runs.{wanted_by, wanted_by_one};
 
-use byte_streams::Words;
+use byte_streams::CommandWords;
 use std::env::FillError;
 
 /// What the words of the command line ask for.
@@ -19,7 +19,7 @@ pub(crate) enum Wanted {
 const LONGEST: usize = 16;
 
 /// What the words of the command line ask for: at most one.
-pub(crate) fn read_words<W: Words>(words: &W) -> Wanted
+pub(crate) fn read_words<W: CommandWords>(words: &W) -> Wanted
     ensures { IfSome (W.words words.now) (λ given. result ≡ wanted_by given) }
 {
     let mut word = [0; LONGEST];

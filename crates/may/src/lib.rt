@@ -27,8 +27,8 @@ mod question;
 mod words;
 
 use byte_streams::{
-    ByteIn, ByteOut, COMMAND_LINE, DONE, FAULTY, MAX_INPUT, Wanted, Words, finish, finish_line,
-    lack_memory, read_all, read_wanted, tell_unread,
+    ByteIn, ByteOut, COMMAND_LINE, CommandWords, DONE, FAULTY, MAX_INPUT, Wanted, finish,
+    finish_line, lack_memory, read_all, read_wanted, tell_unread,
 };
 use fault::{InputError, InputFault, push_fault};
 use question::{push_answer, read_question};
@@ -50,7 +50,7 @@ Where a line is faulty, nothing is printed but `fault line N: CODE`.
 ";
 
 /// Does what the words behind the command ask for, and says the exit status.
-pub fn obey<W: Words, I: ByteIn, O: ByteOut>(
+pub fn obey<W: CommandWords, I: ByteIn, O: ByteOut>(
     alloc: Global,
     words: &W,
     reader: &mut I,

@@ -12,9 +12,7 @@ mod line;
 mod report;
 mod row;
 
-use byte_streams::{
-    MemoryIn, MemoryOut, MemoryWords, SystemIn, SystemOut, read_all, write_all,
-};
+use byte_streams::{MemoryIn, MemoryOut, MemoryWords, SystemIn, SystemOut, read_all, write_all};
 use line::Unread;
 use report::{Report, RowAt};
 use row::Row;

@@ -24,7 +24,7 @@ mod refusal;
 mod words;
 
 use byte_streams::{
-    ByteIn, ByteOut, COMMAND_LINE, DONE, MAX_INPUT, SystemOut, Words, finish, lack_memory,
+    ByteIn, ByteOut, COMMAND_LINE, CommandWords, DONE, MAX_INPUT, SystemOut, finish, lack_memory,
     read_all, write_all,
 };
 use logged::{Logged, serve_logged};
@@ -46,7 +46,7 @@ const HELP: &[u8] = b"Serves a script of jobs, and writes what each job's caller
 ";
 
 /// Does what the words behind the command ask for, and says the exit status.
-pub fn obey<R: Threads + Wait + Sync + Files<File = File>, W: Words, I: ByteIn, O: ByteOut>(
+pub fn obey<R: Threads + Wait + Sync + Files<File = File>, W: CommandWords, I: ByteIn, O: ByteOut>(
     rt: &R,
     alloc: Global,
     words: &W,

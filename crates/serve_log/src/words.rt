@@ -3,7 +3,7 @@
 ghost use Rattle.std.specs.Prelude.{◌≤◌, IfOk, IfSome};
 ghost use Rattle.serve_log.specs.Logs.{IsServable};
 
-use byte_streams::Words;
+use byte_streams::CommandWords;
 use script_text::read_number;
 use std::alloc::{AllocError, Global};
 use std::env::FillError;
@@ -32,7 +32,7 @@ const AGENTS: &[u8] = b"--agents";
 const LOG: &[u8] = b"--log";
 
 /// What the words of the command line ask for: both options, each with its value, in any order.
-pub(crate) fn read_words<W: Words>(words: &W, alloc: Global) -> Result<Wanted, AllocError>
+pub(crate) fn read_words<W: CommandWords>(words: &W, alloc: Global) -> Result<Wanted, AllocError>
     ensures { IfOk result IsServable }
 {
     if is_word(words, 0, b"--help") && is_end(words, 1) {
@@ -49,7 +49,12 @@ pub(crate) fn read_words<W: Words>(words: &W, alloc: Global) -> Result<Wanted, A
 }
 
 /// What is asked for by the values at these places: of how many agents there are, and of the file.
-fn wanted_at<W: Words>(words: &W, alloc: Global, agents: usize, log: usize) -> Result<Wanted, AllocError>
+fn wanted_at<W: CommandWords>(
+    words: &W,
+    alloc: Global,
+    agents: usize,
+    log: usize,
+) -> Result<Wanted, AllocError>
     ensures { IfOk result IsServable }
 {
     let Some(agents) = agents_at(words, agents) else {
@@ -62,13 +67,13 @@ fn wanted_at<W: Words>(words: &W, alloc: Global, agents: usize, log: usize) -> R
 }
 
 /// Whether there is no word at a place.
-fn is_end<W: Words>(words: &W, place: usize) -> bool {
+fn is_end<W: CommandWords>(words: &W, place: usize) -> bool {
     let mut word = [0; LONGEST];
     matches!(words.word(place, &mut word), Err(FillError::NotPresent))
 }
 
 /// Whether this is the word at a place.
-fn is_word<W: Words>(words: &W, place: usize, wanted: &[u8]) -> bool {
+fn is_word<W: CommandWords>(words: &W, place: usize, wanted: &[u8]) -> bool {
     let mut word = [0; LONGEST];
     match words.word(place, &mut word) {
         Ok(length) => word.get(..length).unwrap_or(b"") == wanted,
@@ -77,7 +82,7 @@ fn is_word<W: Words>(words: &W, place: usize, wanted: &[u8]) -> bool {
 }
 
 /// How many agents the word at a place says that there are.
-fn agents_at<W: Words>(words: &W, place: usize) -> Option<u8>
+fn agents_at<W: CommandWords>(words: &W, place: usize) -> Option<u8>
     ensures { IfSome result (λ agents. (1 ≤ agents) × (agents ≤ MAX_AGENTS)) }
 {
     let mut word = [0; LONGEST];
@@ -91,7 +96,11 @@ fn agents_at<W: Words>(words: &W, place: usize) -> Option<u8>
 }
 
 /// The word at a place, where there is one that is UTF-8 and no longer than a path.
-fn word_at<W: Words>(words: &W, alloc: Global, place: usize) -> Result<Option<String>, AllocError> {
+fn word_at<W: CommandWords>(
+    words: &W,
+    alloc: Global,
+    place: usize,
+) -> Result<Option<String>, AllocError> {
     let mut word = [0; LONGEST];
     let Ok(length) = words.word(place, &mut word) else {
         return Ok(None);

@@ -29,7 +29,7 @@ ghost use Rattle.line_session.specs.Answers.{manner_of};
 ghost use Rattle.line_session.specs.InTime.{AnswersAll, Speaks};
 
 use byte_streams::{
-    ByteIn, ByteOut, COMMAND_LINE, DONE, NO_STREAM, Words, finish, lack_memory,
+    ByteIn, ByteOut, COMMAND_LINE, CommandWords, DONE, NO_STREAM, finish, lack_memory,
 };
 use line_session::{Desk, SystemTalk, Talk, session};
 use opened::open_journal;
@@ -49,7 +49,7 @@ const HELP: &[u8] = b"Answers each line of a script of events before it reads th
 ";
 
 /// Does what the words behind the command ask for, and says the exit status.
-pub fn obey<R: Files<File = File>, W: Words, I: ByteIn + Drop, O: ByteOut + Drop>(
+pub fn obey<R: Files<File = File>, W: CommandWords, I: ByteIn + Drop, O: ByteOut + Drop>(
     rt: &R,
     alloc: Global,
     words: &W,

@@ -1,6 +1,6 @@
 //! The command line: what is asked for.
 
-use byte_streams::Words;
+use byte_streams::CommandWords;
 use std::alloc::{AllocError, Global};
 use std::env::FillError;
 
@@ -33,7 +33,7 @@ const MOST: usize = 5;
 const LONGEST: usize = 4_096;
 
 /// What the words of the command line ask for.
-pub(crate) fn read_words<W: Words>(words: &W, alloc: Global) -> Result<Wanted, AllocError> {
+pub(crate) fn read_words<W: CommandWords>(words: &W, alloc: Global) -> Result<Wanted, AllocError> {
     let mut marks = false;
     let mut is_synced = true;
     let mut name = None;
@@ -89,7 +89,11 @@ fn wished(marks: bool, is_synced: bool, name: Option<String>) -> Wanted {
 }
 
 /// The word at a place, where there is one that is UTF-8 and no longer than a path.
-fn word_at<W: Words>(words: &W, alloc: Global, place: usize) -> Result<Option<String>, AllocError> {
+fn word_at<W: CommandWords>(
+    words: &W,
+    alloc: Global,
+    place: usize,
+) -> Result<Option<String>, AllocError> {
     let mut word = [0; LONGEST];
     let Ok(length) = words.word(place, &mut word) else {
         return Ok(None);

@@ -1,6 +1,6 @@
 //! The commands that are libraries of their own, by the first word.
 
-use byte_streams::Words;
+use byte_streams::CommandWords;
 use std::env::FillError;
 
 /// A command that is a library of its own.
@@ -22,7 +22,7 @@ const LONGEST: usize = 8;
 const LOG: &[u8] = b"--log";
 
 /// The command that the first word names, if it is one of these.
-pub(crate) fn command<W: Words>(words: &W) -> Option<Command> {
+pub(crate) fn command<W: CommandWords>(words: &W) -> Option<Command> {
     let mut word = [0; LONGEST];
     let length = words.word(0, &mut word).ok()?;
     match word.get(..length)? {
@@ -38,7 +38,7 @@ pub(crate) fn command<W: Words>(words: &W) -> Option<Command> {
 }
 
 /// Whether one of the words is the option that has a history written.
-fn has_log<W: Words>(words: &W) -> bool {
+fn has_log<W: CommandWords>(words: &W) -> bool {
     let mut word = [0; LOG.len()];
     for place in 1..usize::MAX {
         match words.word(place, &mut word) {

@@ -30,8 +30,8 @@ mod tracer;
 mod words;
 
 use byte_streams::{
-    ByteIn, ByteOut, COMMAND_LINE, DONE, FAULTY, MAX_INPUT, NO_STREAM, Wanted, Words, finish,
-    finish_line, lack_memory, read_all, read_wanted, tell_unread,
+    ByteIn, ByteOut, COMMAND_LINE, CommandWords, DONE, FAULTY, MAX_INPUT, NO_STREAM, Wanted,
+    finish, finish_line, lack_memory, read_all, read_wanted, tell_unread,
 };
 use std::alloc::Global;
 use std::env::FillError;
@@ -58,7 +58,7 @@ enum Wish {
 }
 
 /// Does what the words behind the command ask for, and says the exit status.
-pub fn obey<W: Words, I: ByteIn, O: ByteOut>(
+pub fn obey<W: CommandWords, I: ByteIn, O: ByteOut>(
     alloc: Global,
     words: &W,
     reader: &mut I,
@@ -99,7 +99,7 @@ fn work<I: ByteIn, O: ByteOut>(alloc: Global, wish: Wish, reader: &mut I, writer
 }
 
 /// What the words of the command line ask for.
-fn read_words<W: Words>(words: &W) -> Wish
+fn read_words<W: CommandWords>(words: &W) -> Wish
     ensures { IfSome (W.words words.now) (λ given. result ≡ wish_of given) }
 {
     match read_wanted(words) {
@@ -111,7 +111,7 @@ fn read_words<W: Words>(words: &W) -> Wish
 }
 
 /// Whether there is one word, which is `--json`.
-fn wants_events<W: Words>(words: &W) -> bool
+fn wants_events<W: CommandWords>(words: &W) -> bool
     ensures { IfSome (W.words words.now) (λ given. result ≡ wants_events given) }
 {
     let mut word = [0; 8];
@@ -122,7 +122,7 @@ fn wants_events<W: Words>(words: &W) -> bool
 }
 
 /// Whether there is no second word.
-fn is_last<W: Words>(words: &W) -> bool
+fn is_last<W: CommandWords>(words: &W) -> bool
     ensures { IfSome (W.words words.now) (λ given. result ≡ is_none (slice_get given 1)) }
 {
     match words.word(1, &mut [0]) {
