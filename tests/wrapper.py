@@ -247,12 +247,16 @@ def says_once_a_day(copy: Copy) -> None:
 
 
 def tells_all_commands(copy: Copy) -> None:
-    """Help tells each word that `./suites` knows."""
+    """Help tells each word that `./suites` knows, and so does README.md."""
     with open(os.path.join(copy.top, "suites"), encoding="utf-8") as file:
-        known = re.findall(r"^([a-z|-]+)\)", file.read().split("\ncase $1 in\n")[1], re.M)
+        known = " ".join(re.findall(r"\b(?:own|tools|options)='([^']*)'", file.read())).split()
+    with open(os.path.join(copy.top, "README.md"), encoding="utf-8") as file:
+        page = file.read()
     text = copy.answer(["--help"])[1]
-    for word in "|".join([*known, "play|table|acl|serve"]).split("|"):
+    copy.holds(len(known) > 20, f"of ./suites are known: {known}")
+    for word in known:
         copy.holds(re.search(rf"^  {word}\b", text, re.M), f"--help tells nothing of {word}")
+        copy.holds(re.search(rf"`(?:\./suites )?{word}\b", page), f"README.md tells nothing of {word}")
     for line in ("./suites play < examples/play/server-down.script", "./suites --test"):
         copy.holds(f"  {line} " in text, f"--help does not show {line}")
 
