@@ -170,7 +170,7 @@ def played(watch: Watch, lines: list[str], order: list[int]) -> list[tuple[Told,
     calls = {call.made: call for call in calls_of(lines)}
     placed = [calls[place] for place in order]
     jobs = [f"do {call.asks}" for call in placed if not is_test(call)]
-    status, said = watch.asked("suites", "\n".join([root_of(lines), *jobs, ""]), "table")
+    status, said = watch.asked("table", "\n".join([root_of(lines), *jobs, ""]))
     if status != DONE:
         raise Ended("suites", status)
     answers = iter(said.splitlines())
