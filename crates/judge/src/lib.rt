@@ -8,7 +8,8 @@
 //! The exit status is 0 where there is an order, 1 where there is none, 2 for other words, 3 for a fault, 4 out of
 //! memory. It is 6 where a stream failed or the input is above 128 MiB.
 //!
-//! **Promises.** `Runs` says what the program has done when it ends: of its input and its output.
+//! **Promises.** Of `obey` it is said (`Obeys`, `Does`) what is done of the words when it ends: of its input and its
+//! output (`Runs`).
 //!
 //! **Files**: `words`. **Definitions** (`specs/`): `Runs`.
 #![tactic(auto)]

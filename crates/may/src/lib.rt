@@ -1,15 +1,15 @@
 //! Answers questions about access: may this caller have what it wants of a file with this list? If not, which entry
 //! decides?
 //!
-//! It is the example of a program over `acl_core` and `acl_text` alone; `./suites may` is it.
+//! It is the example of what stands on `acl_core` and `acl_text` alone; `./suites may` asks it.
 //!
 //! Standard input has one question a line, `OWNER GROUP UID GID[,GROUP..] WANTED LIST`, all numbers. Standard
 //! output has an answer for each, in order: `granted` or `denied WANTED by ENTRY`. If a line is faulty, nothing is
 //! printed but `fault line N: CODE`. The exit status is 0, or 2 for other words than `--help`, 3 for a fault, 4 out
 //! of memory. It is 6 where a stream failed or the input is above 16 MiB.
 //!
-//! **Promises.** Each answer is that of the access check (`specs/Answers.antt`); `Does` says what the program has
-//! done of its words when it ends, and with which exit status.
+//! **Promises.** Each answer is that of the access check (`specs/Answers.antt`); of `obey` it is said (`Obeys`, `Does`)
+//! what is done of the words when it ends, and with which exit status.
 //!
 //! **Files**: `fault`, `words`, `question`. **Definitions** (`specs/`): `Words`, `Questions`, `Faults`, `Answers`,
 //! `Runs`.

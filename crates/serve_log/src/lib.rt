@@ -24,7 +24,7 @@ mod refusal;
 mod words;
 
 use byte_streams::{
-    ByteIn, ByteOut, COMMAND_LINE, CommandWords, DONE, MAX_INPUT, SystemOut, finish, lack_memory,
+    ByteIn, ByteOut, COMMAND_LINE, CommandWords, MAX_INPUT, SystemOut, finish, lack_memory,
     read_all, write_all,
 };
 use logged::{Logged, serve_logged};
@@ -39,12 +39,6 @@ use suite_prefix::MAX_AGENTS;
 use suite_serve::read_script;
 use words::{Wanted, Wish, read_words};
 
-const HELP: &[u8] = b"Serves a script of jobs, and writes what each job's caller saw as a history.
-
-  --agents N   how many agents there are: 1 to 64
-  --log FILE   the history is written into this file
-";
-
 /// Does what the words behind the command ask for, and says the exit status.
 pub fn obey<R: Threads + Wait + Sync + Files<File = File>, W: CommandWords, I: ByteIn, O: ByteOut>(
     rt: &R,
@@ -58,7 +52,6 @@ pub fn obey<R: Threads + Wait + Sync + Files<File = File>, W: CommandWords, I: B
             Ok(status) => status,
             Err(refusal) => tell_refusal(alloc, writer, refusal),
         },
-        Ok(Wanted::Help) => finish(writer, HELP, DONE),
         Ok(Wanted::Nothing) => finish(writer, b"fault command line\n", COMMAND_LINE),
         Err(AllocError) => lack_memory(writer),
     }

@@ -20,7 +20,6 @@ pub(crate) struct Wish {
 #[derive(Drop)]
 pub(crate) enum Wanted {
     Serve(Wish),
-    Help,
     Nothing,
 }
 
@@ -35,9 +34,7 @@ const LOG: &[u8] = b"--log";
 pub(crate) fn read_words<W: CommandWords>(words: &W, alloc: Global) -> Result<Wanted, AllocError>
     ensures { IfOk result IsServable }
 {
-    if is_word(words, 0, b"--help") && is_end(words, 1) {
-        Ok(Wanted::Help)
-    } else if !is_end(words, 4) {
+    if !is_end(words, 4) {
         Ok(Wanted::Nothing)
     } else if is_word(words, 0, AGENTS) && is_word(words, 2, LOG) {
         wanted_at(words, alloc, 1, 3)

@@ -8,8 +8,8 @@
 //! With `--json` the same is told as objects of JSON, one a line (`docs/EVENTS.md`, `event_json`). It takes no
 //! other word but `--help`.
 //!
-//! **Promises.** `Does` says what the program has done when it ends: of a script that has a fault nothing is told but its
-//! first one, by its line, as `play` tells it, and of one that has none no fault is.
+//! **Promises.** Of `obey` it is said (`Obeys`, `Does`) what is done of the words when it ends: of a script that has a
+//! fault nothing is told but its first one, by its line, as `play` tells it, and of one that has none no fault is.
 //!
 //! **Files**: `lines`, `words`, `asked`, `told`, `standing`, `agents`, `events`, `teller`, `tracer`.
 //! **Definitions** (`specs/`): `Runs`, `Traced`.
