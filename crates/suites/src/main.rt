@@ -16,10 +16,8 @@ use byte_streams::{SystemIn, SystemOut, SystemWords};
 use commands::{Command, command};
 use std::alloc::{AllocError, Global};
 use std::env::{Env, FillError};
-use std::fs::File;
 use std::io;
 use std::process::ExitCode;
-use std::rt::Files;
 use std::sync::Wait;
 use std::thread::Threads;
 use suite_cli::{ByteIn, ByteOut, lack_memory, run};
@@ -46,7 +44,7 @@ fn main(rt: HostRuntime) -> ExitCode {
 }
 
 /// Does what all words ask for.
-fn run_own<R: Env + Files<File = File> + Threads + Wait + Sync, I: ByteIn, O: ByteOut>(
+fn run_own<R: Env + Threads + Wait + Sync, I: ByteIn, O: ByteOut>(
     rt: &R,
     alloc: Global,
     reader: &mut I,
