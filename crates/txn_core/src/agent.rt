@@ -229,26 +229,11 @@ impl Agent {
         ensures err { OnErr result ((self.new ≡ self.old) × (ended.new ≡ ended.old)) }
         ensures memory { IfErr result (λ _. IsTrue (wanting.by_taking (agents.next_of self.old.fixed self.old.state) (response_of came.entry))) }
     {
-        match came {
-            Ok(said) => self.hear(said, ended),
-            Err(lack) => {
-                self.lack(lack, ended);
-                Ok(())
-            }
-        }
-    }
-
-    /// The server that it asks next replied. The ending of its job, where that is at its end, is put into a
-    /// place, which else keeps what it has.
-    #[inline(always)]
-    fn hear(&mut self, said: &Reply, ended: &mut Option<Ending>) -> Result<(), AllocError>
-        requires fits { FitsAsked (agents.next_of self.old.fixed self.old.state) (Replied said.now) }
-        ensures ok { OnOk result (ended.new ≡ option_or (agents.take self.old.fixed self.old.state (Replied said.now)).ending ended.old) }
-        ensures new { OnOk result (self.new ≡ record self.old { state = (agents.take self.old.fixed self.old.state (Replied said.now)).agent }) }
-        ensures err { OnErr result ((self.new ≡ self.old) × (ended.new ≡ ended.old)) }
-        ensures memory { IfErr result (λ _. IsTrue (wanting.by_taking (agents.next_of self.old.fixed self.old.state) (Replied said.now))) }
-    {
-        if let Flow::Ended(ending) = self.on_reply(said)? {
+        let flow = match came {
+            Ok(said) => self.on_reply(said),
+            Err(lack) => Ok(self.on_lack(lack)),
+        };
+        if let Flow::Ended(ending) = flow? {
             self.doing = None;
             *ended = Some(ending);
         }
@@ -268,18 +253,6 @@ impl Agent {
                 sweep_run.on_reply(self.resources.alloc, &self.resources.fixed_parts, said)
             }
             None => Ok(Flow::On),
-        }
-    }
-
-    /// Its request was not served. The ending of its job, where that is at its end, is put into a place, which
-    /// else keeps what it has.
-    fn lack(&mut self, lack: Lack, ended: &mut Option<Ending>)
-        ensures ending { ended.new ≡ option_or (agents.take self.old.fixed self.old.state (Lacked lack)).ending ended.old }
-        ensures new { self.new ≡ record self.old { state = (agents.take self.old.fixed self.old.state (Lacked lack)).agent } }
-    {
-        if let Flow::Ended(ending) = self.on_lack(lack) {
-            self.doing = None;
-            *ended = Some(ending);
         }
     }
 
