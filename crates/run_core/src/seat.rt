@@ -134,25 +134,19 @@ impl WorldAgent {
         ensures ended { ended.new ≡ option_or (option_map (seats.ended_with agent count self.old.actor.steps) ending) ended.old }
         ensures state { self.new ≡ record self.old { actor = record self.old.actor { steps = steps_after self.old.actor.steps ending } } }
     {
-        match ending {
-            None => self.steps = self.steps.saturating_add(1),
-            Some(ending) => self.end(agent, count, ending, ended),
-        }
-    }
-
-    /// Its job ended, with a step more.
-    fn end(&mut self, agent: u8, count: u64, ending: Ending, ended: &mut Option<EndedJob>)
-        ensures ended { ended.new ≡ Some (seats.ended_with agent count self.old.actor.steps ending) }
-        ensures state { self.new ≡ record self.old { actor = record self.old.actor { steps = 0 } } }
-    {
         let steps = self.steps.saturating_add(1);
-        self.steps = 0;
-        let outcome = EndedJob {
-            agent,
-            count,
-            steps,
-            ending,
-        };
-        *ended = Some(outcome);
+        match ending {
+            None => self.steps = steps,
+            Some(ending) => {
+                let outcome = EndedJob {
+                    agent,
+                    count,
+                    steps,
+                    ending,
+                };
+                self.steps = 0;
+                *ended = Some(outcome);
+            }
+        }
     }
 }
