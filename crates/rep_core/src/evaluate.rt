@@ -272,13 +272,9 @@ impl ServerState {
     pub(crate) fn can_prepare(&self, t: u64, parts: &[Part]) -> bool
         ensures { result ≡ service.can_prepare (state_of self.now) t parts.now }
     {
-        self.locks.has_locks_for(t, parts) && !lists_twice(parts) && self.are_sound(parts)
-    }
-
-    fn are_sound(&self, parts: &[Part]) -> bool
-        ensures { result ≡ list_all (store.is_sound_part (state_of self.now).store) parts.now }
-    {
-        parts.iter().all(|part| self.store.is_sound_part(part))
+        self.locks.has_locks_for(t, parts)
+            && !lists_twice(parts)
+            && parts.iter().all(|part| self.store.is_sound_part(part))
     }
 }
 
