@@ -13,7 +13,6 @@ ghost use Rattle.txn_core.specs.Wanting as wanting;
 ghost use Rattle.txn_core.specs.code.Asking.{Asks, Wants, fixed_on};
 ghost use Rattle.txn_core.specs.code.Goings.{ending_of};
 ghost use Rattle.txn_core.specs.code.Telling.{Tells, carrying_out};
-ghost use Rattle.txn_core.specs.declared.job.Job.TheVariants.{Sweep};
 ghost use Rattle.txn_core.specs.declared.response.Response.TheVariants.{Replied, Lacked};
 
 use crate::ending::{Ending, Flow};
@@ -162,7 +161,8 @@ impl Agent {
                 self.carry_out(task)
             }
             Job::Sweep { server } => {
-                self.sweep(*server);
+                let sweep_run = SweepRun::new(self.resources.alloc, *server);
+                self.doing = Some(Doing::RunningSweep(sweep_run));
                 Ok(())
             }
         }
@@ -177,14 +177,6 @@ impl Agent {
         let txn_run = TransactionRun::begin(&mut self.resources, task)?;
         self.doing = txn_run.map(Doing::Running);
         Ok(())
-    }
-
-    /// A sweep starts.
-    fn sweep(&mut self, server: u8)
-        ensures { self.new ≡ record self.old { state = agents.started self.old.fixed self.old.state (Sweep server) } }
-    {
-        let sweep_run = SweepRun::new(self.resources.alloc, server);
-        self.doing = Some(Doing::RunningSweep(sweep_run));
     }
 
     /// Of which server it asks next, and what, which is put into a place of the caller's: nothing is, where
