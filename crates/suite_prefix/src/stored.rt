@@ -1,6 +1,7 @@
 //! Copies kept as their bytes.
 
 ghost use Rattle.std.specs.Prelude.{◌≡◌, IfOk};
+ghost use Rattle.std.specs.Arc.{arc_value};
 ghost use Rattle.suite_prefix.specs.Bytes.{bytes_in, content_bytes};
 ghost use Rattle.suite_prefix.specs.Copies.{IsCopy};
 ghost use Rattle.suite_prefix.specs.Forms.{CanHold};
@@ -18,13 +19,14 @@ use crate::shared::SharedPrefix;
 use crate::writing::{encode_in, put_prefix, room_for_prefix};
 use std::alloc::{AllocError, Global};
 use std::marker::Model;
+use std::sync::Arc;
 use suite_content::Content;
 
-/// A valid copy, kept as its bytes, in a form that can hold it. What was written or read of them is kept beside them, to be shared when it
-/// is asked for, and does not show. It stands on the heap, so that the copy is cheap to move.
+/// A valid copy, kept as its bytes, in a form that can hold it. A clone shares them. What was written or read of them is
+/// kept beside them, to be shared when it is asked for, and does not show.
 #[derive(Drop)]
 pub struct StoredCopy {
-    bytes: Vec<u8>,
+    bytes: Arc<Vec<u8>, Global>,
     read: Option<Box<Read>>,
 }
 
@@ -39,14 +41,16 @@ struct Read {
 
 impl Model for StoredCopy {
     ghost use Rattle.std.specs.Prelude.{IfSome};
+    ghost use Rattle.std.specs.Arc.{arc_value};
     ghost use Rattle.suite_prefix.specs.Stored.{Kept};
     ghost use Rattle.suite_prefix.specs.code.Records.{IsReadOf, IsRecord, kept_in};
 
     ghost Value = { Kept };
 
-    ghost view = { λ stored. kept_in stored.bytes.items };
+    ghost view = { λ stored. kept_in (arc_value stored.bytes).items };
 
-    ghost invariant = { λ stored. IsRecord stored.bytes.items × IfSome stored.read (λ read. IsReadOf (kept_in stored.bytes.items).copy read.value) };
+    ghost invariant = { λ stored. IsRecord (arc_value stored.bytes).items
+        × IfSome stored.read (λ read. IsReadOf (kept_in (arc_value stored.bytes).items).copy read.value) };
 }
 
 impl Clone for StoredCopy {
@@ -77,7 +81,8 @@ impl StoredCopy {
     {
         let bytes = encode_in(alloc, form, copy)?;
         let read = read_of(alloc, copy)?;
-        Ok(kept_beside(bytes, read))
+        let shared = Arc::new(alloc, bytes)?;
+        Ok(kept_beside(shared, read))
     }
 
     /// The copy under another prefix, in the form that is written. The bytes of its content are taken as they
@@ -104,7 +109,8 @@ impl StoredCopy {
         put_prefix(&mut left, Form::Two, prefix)?;
         left.extend_from_slice(&head.dver.to_be_bytes())?;
         left.extend_from_slice(content)?;
-        Ok(kept(left))
+        let shared = Arc::new(alloc, left)?;
+        Ok(kept(shared))
     }
 
     /// The form of the bytes.
@@ -211,7 +217,7 @@ impl StoredCopy {
         ensures valid { IsCopy self.now.copy }
         ensures held { CanHold self.now.form self.now.copy.prefix }
     {
-        &self.bytes
+        self.bytes.as_slice()
     }
 
     /// The copy. Only memory keeps it from being read.
@@ -257,18 +263,18 @@ impl StoredCopy {
 }
 
 /// The copy with these bytes.
-fn kept(bytes: Vec<u8>) -> StoredCopy
-    requires { IsRecord bytes.items }
-    ensures { result ≡ kept_in bytes.items }
+fn kept(bytes: Arc<Vec<u8>, Global>) -> StoredCopy
+    requires { IsRecord (arc_value bytes).items }
+    ensures { result ≡ kept_in (arc_value bytes).items }
 {
     StoredCopy { bytes, read: None }
 }
 
 /// The copy with these bytes, and beside them what would be read of them.
-fn kept_beside(bytes: Vec<u8>, read: Box<Read>) -> StoredCopy
-    requires record { IsRecord bytes.items }
-    requires read { IsReadOf (kept_in bytes.items).copy read.value }
-    ensures { result ≡ kept_in bytes.items }
+fn kept_beside(bytes: Arc<Vec<u8>, Global>, read: Box<Read>) -> StoredCopy
+    requires record { IsRecord (arc_value bytes).items }
+    requires read { IsReadOf (kept_in (arc_value bytes).items).copy read.value }
+    ensures { result ≡ kept_in (arc_value bytes).items }
 {
     StoredCopy {
         bytes,
