@@ -41,13 +41,21 @@ found change (e ∷ edits) suite = of (change e.0) refl (found change edits suit
         ∙ here (e.0 == suite) made refl was rest
     of None was rest = none (e.0 == suite) refl was rest
 
--- what is not touched stays
-untouched : (edits : Edits) (suite : ℕ) (row : Option Row) → touches edits suite ≡ false → seen edits suite row ≡ row
+-- what is not touched stays, and its content was not set
+pub untouched : (edits : Edits) (suite : ℕ) (row : Option Row) → touches edits suite ≡ false → seen edits suite row ≡ row
 untouched [] suite row is = refl
 untouched (e ∷ edits) suite row is =
     elim (e.0 == suite) as (λ b. (b || touches edits suite) ≡ false → cond b (changed e.1 (seen edits suite row)) (seen edits suite row) ≡ row) [
       | true ↦ λ is. cc
       | false ↦ λ is. untouched edits suite row is
+    ] is
+
+pub untouched_unset : (edits : Edits) (suite : ℕ) → touches edits suite ≡ false → is_set edits suite ≡ false
+untouched_unset [] suite is = refl
+untouched_unset (e ∷ edits) suite is =
+    elim (e.0 == suite) as (λ b. (b || touches edits suite) ≡ false → ((b && sets_content e.1) || is_set edits suite) ≡ false) [
+      | true ↦ λ is. cc
+      | false ↦ λ is. untouched_unset edits suite is
     ] is
 
 -- a suite that is touched is held

@@ -3,7 +3,7 @@
 ghost use Rattle.std.specs.Prelude.{◌≡◌, ◌<◌, ◌∷◌, ◌||◌, [], Bool, IfOk, OnOk, OnErr, length, drop};
 ghost use Rattle.std.specs.Option.{option_map};
 ghost use Rattle.file_exec.specs.Following.{changed, seen, sets_content, is_set};
-ghost use Rattle.file_exec.specs.Changes.{makes, sets_acl, sets_votes, some};
+ghost use Rattle.file_exec.specs.Changes.{makes, sets_acl, sets_votes, some, touches};
 ghost use Rattle.file_exec.specs.code.Overlay.{seen_row, IsWholeIf};
 
 use crate::copying::copied;
@@ -153,13 +153,21 @@ pub(crate) fn seen<'a>(
     ensures row { option_map seen_row result ≡ seen edits.now suite (option_map seen_row row.entry) }
     ensures whole { (opened : Bool) → IsWholeIf opened row.entry → IsWholeIf (is_set edits.now suite || opened) result }
 {
-    if edits.is_empty() {
-        return row;
+    if touches(edits, suite) {
+        seen_after(edits, suite, row)
+    } else {
+        row
     }
-    seen_after(edits, suite, row)
 }
 
-/// The row of a suite after edits, where there may be some.
+/// Whether one of the edits is of a suite.
+fn touches(edits: &[(u64, Edit)], suite: u64) -> bool
+    ensures { result ≡ touches edits.now suite }
+{
+    edits.iter().any(|(of, _)| *of == suite)
+}
+
+/// The row of a suite after edits, of which some are of it.
 fn seen_after<'a>(edits: &'a [(u64, Edit)], suite: u64, row: Option<Seen<'a>>) -> Option<Seen<'a>>
     ensures row { option_map seen_row result ≡ seen edits.now suite (option_map seen_row row.entry) }
     ensures whole { (opened : Bool) → IsWholeIf opened row.entry → IsWholeIf (is_set edits.now suite || opened) result }
