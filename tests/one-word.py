@@ -1,10 +1,8 @@
 #!/usr/bin/env python3
 """tests/one-word.py [--told]
 
-One word, one meaning: looks whether the name of a public type is that of one crate alone. Names that two crates have
-stand in a table here, each with what it is in which crate. Status 1 where a name is found that is not in the table, or
-one of the table is no longer that of these crates. Counts the records of definitions whose name several crates have,
-which may only become fewer; --told tells them.
+One word, one meaning: a public type's name is one crate's. Status 1 where two crates have a name. Counts the records of
+definitions whose name several crates have, which may only become fewer; --told tells them.
 """
 import collections
 import glob
@@ -16,27 +14,6 @@ from played import TOP, Tally
 from common import console, text_of
 from pages import proved_page
 
-# The names that two crates have, with what a type is that is called so. A new one is given a name of its own.
-MAY = {
-    "Answer": {"file_ops": "an operation's", "server_lock": "a server's", "suite_history": "what a judge prints"},
-    "Asked": {"suite_collect": "of a server", "history_judge": "by a call"},
-    "Decision": {"rep_core": "what is to be recorded", "run_certify": "what was decided, with who asked"},
-    "Ending": {"txn_core": "of a job", "suite_script": "of a line's form"},
-    "Entry": {"acl_core": "of a list", "run_certify": "of a transcript"},
-    "Form": {"suite_prefix": "of a copy's bytes", "suite_script": "of a line"},
-    "History": {"server_lock": "of a server", "suite_history": "of calls"},
-    "Item": {"server_lock": "of a history", "agent_pool": "of the line of jobs"},
-    "Names": {"acl_text": "of users and groups", "suite_args": "the same, as words"},
-    "Ops": {"txn_core": "of a transaction", "history_judge": "of a call"},
-    "Parts": {"rep_core": "of a Prepare", "script_text": "of a word"},
-    "Request": {"rep_core": "to a server", "suite_args": "of the command line"},
-    "Served": {"run_core": "a request", "suite_serve": "a script"},
-    "Service": {"file_ops": "servers and opening votes", "script_desk": "what lines are carried out on"},
-    "Stage": {"txn_core": "of an agent", "suite_script": "what lines are played on"},
-    "Told": {"suite_collect": "by a server", "history_judge": "to a call"},
-    "Verdict": {"rep_core": "on a transaction", "history_judge": "on a history"},
-    "Words": {"script_text": "of a line", "byte_streams": "of the command line"},
-}
 # As many names of records are those of several crates at most, and so many public types are found at least.
 MOST, FEWEST = 64, 180
 TYPE = re.compile(r"^pub (?:struct|enum|trait|type) (\w+)", re.M)
@@ -73,16 +50,13 @@ def main() -> int:
         for name in types(crate):
             owners[name].add(crate)
     for name, crates in sorted(owners.items()):
-        is_known = len(crates) == 1 or crates == set(MAY.get(name, ()))
-        tally.holds(is_known, f"{name} is a public type of {' and of '.join(sorted(crates))}")
-    for name in MAY:
-        tally.holds(len(owners[name]) > 1, f"{name} is that of one crate, and stands in the table of tests/one-word.py")
+        tally.holds(len(crates) == 1, f"{name} is a public type of {' and of '.join(sorted(crates))}")
     tally.holds(len(owners) >= FEWEST, f"only {len(owners)} public types are found")
     doubles = {name: crates for name, crates in records().items() if len(crates) > 1}
     tally.holds(len(doubles) <= MOST, f"{len(doubles)} names of records are those of several crates, and not {MOST}")
     for name, crates in sorted(doubles.items()) if is_told else ():
         print(f"{name}: {' '.join(sorted(crates))}")
-    print(f"told: {len(MAY)} names are public types of several crates, {len(doubles)} records of several")
+    print(f"told: {len(doubles)} names of records are those of several crates")
     return tally.told("names of types")
 
 

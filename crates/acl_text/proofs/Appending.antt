@@ -1,6 +1,5 @@
 -- Texts that grow at their end.
-use Rattle.std.proofs.Common.{◌≡◌, ℕ, List, ◌++◌, Result, Ok, Err, append_assoc, ap, ◌∙◌}
-use Rattle.std.specs.Result.{OnErr}
+use Rattle.acl_text.proofs.Vocabulary.{◌≡◌, ℕ, List, ◌++◌, Result, Ok, Err, append_assoc, ap, ◌∙◌, OnErr}
 
 -- what holds anyway holds on an error
 pub held : {T E P : Type 0} (r : Result T E) → P → OnErr r P

@@ -1,11 +1,9 @@
 -- Texts in which some bytes do not stand: where they are cut, and what trimming leaves.
-use Rattle.std.proofs.Common.{◌≡◌, ℕ, suc, ◌+◌, ◌-◌, Bool, true, false, cond, not, List, [], ◌∷◌, ◌++◌, length, take, drop, get_or, refl, sym, ap, ◌∙◌, arith}
-use Rattle.std.specs.List.{list_all, slice_split, onto_first, before_first, prefix_len, suffix_len, position_or_len}
-use Rattle.std.proofs.lemmas.Bool.{and_parts, and_from, not-true}
+use Rattle.acl_text.proofs.Vocabulary.{◌≡◌, ℕ, suc, ◌+◌, ◌-◌, Bool, true, false, cond, not, List, [], ◌∷◌, ◌++◌, length, take, drop, get_or, refl, sym, ap}
+use Rattle.acl_text.proofs.Vocabulary.{◌∙◌, arith, list_all, slice_split, onto_first, before_first, prefix_len, suffix_len, position_or_len, and_parts}
+use Rattle.acl_text.proofs.Vocabulary.{and_from, not-true, slice_split-cons_no, slice_split-cons_yes, suffix_len-take_no, AllPass-from_list_all, is_white}
+use Rattle.acl_text.proofs.Vocabulary.{trimmed}
 use Rattle.std.proofs.lemmas.List.{take_all}
-use Rattle.std.proofs.lemmas.List.Splits.{slice_split-cons_no, slice_split-cons_yes}
-use Rattle.std.proofs.lemmas.List.Sums.{suffix_len-take_no, AllPass-from_list_all}
-use Rattle.acl_text.specs.Layout.{is_white, trimmed}
 
 -- whether no byte passes a test
 abbrev pub lacks : (ℕ → Bool) → List ℕ → Bool

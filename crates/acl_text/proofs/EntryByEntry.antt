@@ -1,25 +1,9 @@
 -- Entries of two lists that are taken one at a time.
-use Rattle.std.proofs.Common.{◌≡◌, ℕ, List, [], ◌∷◌, ◌++◌, Option, None, Some, Result, Ok, Err, option_map, refl, ap, sym, subst, ◌∙◌, append-nil, IsPermutation}
-use Rattle.std.specs.List.{cons_option}
-use Rattle.std.specs.Option.{option_or}
-use Rattle.std.specs.Result.{IfErr, IfOk, IsErrAnd, OnOk}
-use Rattle.acl_core.specs.declared.entry.Entry.{Entry}
-use Rattle.acl_core.specs.declared.fault.AclError.{AclError}
-use Rattle.acl_core.specs.declared.fault.AclFault.{AclFault}
+use Rattle.acl_text.proofs.Vocabulary.{◌≡◌, ℕ, List, [], ◌∷◌, ◌++◌, Option, None, Some, Result, Ok, Err, option_map, refl, ap, sym, subst, ◌∙◌, append-nil}
+use Rattle.acl_text.proofs.Vocabulary.{IsPermutation, cons_option, option_or, IfErr, IfOk, IsErrAnd, OnOk, Entry, AclError, AclFault, Lists, fault_in}
+use Rattle.acl_text.proofs.Vocabulary.{first_fault, IsTallyOf, Tallied, SidedEntry, Side, Access, Default, Invalid, Memory, Tallies, AreTallied, fault_of_list}
+use Rattle.acl_text.proofs.Vocabulary.{default_entries, entries_of, if_of, Tables, Spells, SpellsLists, default_fault, lists_fault}
 use Rattle.acl_core.specs.declared.fault.AclError.TheVariants as acl
-use Rattle.acl_core.specs.declared.lists.Lists.{Lists}
-use Rattle.acl_core.specs.AccessLists.{fault_in, first_fault}
-use Rattle.acl_core.specs.Tallies.{IsTallyOf, Tallied}
-use Rattle.acl_text.specs.declared.item.SidedEntry.{SidedEntry}
-use Rattle.acl_text.specs.declared.item.Side.{Side}
-use Rattle.acl_text.specs.declared.item.Side.TheVariants.{Access, Default}
-use Rattle.acl_text.specs.declared.read.TextFault.TheVariants.{Invalid, Memory}
-use Rattle.acl_text.specs.declared.read.Tallies.{Tallies}
-use Rattle.acl_text.specs.code.Tallied.{AreTallied}
-use Rattle.acl_text.specs.Faults.{fault_of_list}
-use Rattle.acl_text.specs.Sides.{default_entries, entries_of, if_of}
-use Rattle.acl_text.specs.Tables.{Tables}
-use Rattle.acl_text.specs.Texts.{Spells, SpellsLists, default_fault, lists_fault}
 
 pub on_ok : {T E P Q : Type 0} (r : Result T E) → OnOk r P → (P → Q) → OnOk r Q
 on_ok (Ok x) done more = more done

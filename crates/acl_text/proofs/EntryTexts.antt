@@ -1,33 +1,13 @@
 -- The text of an entry is read as that entry.
-use Rattle.std.proofs.Common.{◌≡◌, ℕ, ◌<◌, ◌≤◌, ◌%◌, ◌&&◌, Bool, true, false, not, eqb, List, [], ◌∷◌, ◌++◌, length, map, Some, Ok, codes, decimal, refl, sym, ap, ◌∙◌, append_assoc, arith}
-use Rattle.std.specs.Char.{is_ascii_digit}
-use Rattle.std.specs.List.{list_all}
-use Rattle.std.specs.Result.{result_map_both}
-use Rattle.std.specs.Str.{all_ascii_digits}
-use Rattle.std.proofs.lemmas.Bool.{agree_below_at, eqb-true, and_from}
-use Rattle.std.proofs.lemmas.Bool.Decides.{nat_tests}
-use Rattle.std.proofs.lemmas.Fmt.{digits_decimal, decimal_is_IsNumeral}
-use Rattle.std.proofs.lemmas.List.Folds.{list_all-append}
-use Rattle.std.proofs.lemmas.Str.Parse.{numerals_by_value, tells_all_ascii_digits}
-use Rattle.acl_core.specs.declared.entry.Tag.{Tag}
+use Rattle.acl_text.proofs.Vocabulary.{◌≡◌, ℕ, ◌<◌, ◌≤◌, ◌%◌, ◌&&◌, Bool, true, false, not, eqb, List, [], ◌∷◌, ◌++◌, length, map, Some, Ok, codes, decimal}
+use Rattle.acl_text.proofs.Vocabulary.{refl, sym, ap, ◌∙◌, append_assoc, arith, is_ascii_digit, list_all, result_map_both, all_ascii_digits, agree_below_at}
+use Rattle.acl_text.proofs.Vocabulary.{eqb-true, and_from, nat_tests, digits_decimal, decimal_is_IsNumeral, list_all-append, numerals_by_value}
+use Rattle.acl_text.proofs.Vocabulary.{tells_all_ascii_digits, Tag, Entry, Perms, entry_of, may_read, may_write, may_execute, has_permission, digit_of}
+use Rattle.acl_text.proofs.Vocabulary.{qualifier, same_by_fields, Keyword, User, Group, Mask, Other, Side, Access, Default, reading, entry_reading}
+use Rattle.acl_text.proofs.Vocabulary.{fields_reading, sided_reading, fits_keyword, numbered, tag_of, are_permissions, permission_digit, word_of, keyword_of}
+use Rattle.acl_text.proofs.Vocabulary.{is_default, is_white, colon, parts, trimmed, fields_of, is_name_byte, max_id, sided_entry, Tables, entry_text}
+use Rattle.acl_text.proofs.Vocabulary.{sided_text, tag_text}
 use Rattle.acl_core.specs.declared.entry.Tag.TheVariants as tag
-use Rattle.acl_core.specs.declared.entry.Entry.{Entry}
-use Rattle.acl_core.specs.declared.perms.Perms.{Perms}
-use Rattle.acl_core.specs.Entries.{entry_of}
-use Rattle.acl_core.specs.Permissions.{may_read, may_write, may_execute, has_permission, digit_of}
-use Rattle.acl_core.specs.Tags.{qualifier}
-use Rattle.acl_core.proofs.EntryEquality.{same_by_fields}
-use Rattle.acl_text.specs.declared.keyword.Keyword.{Keyword}
-use Rattle.acl_text.specs.declared.keyword.Keyword.TheVariants.{User, Group, Mask, Other}
-use Rattle.acl_text.specs.declared.item.Side.{Side}
-use Rattle.acl_text.specs.declared.item.Side.TheVariants.{Access, Default}
-use Rattle.acl_text.specs.Grammar.{reading, entry_reading, fields_reading, sided_reading, fits_keyword, numbered, tag_of, are_permissions, permission_digit}
-use Rattle.acl_text.specs.Keywords.{word_of, keyword_of, is_default}
-use Rattle.acl_text.specs.Layout.{is_white, colon, parts, trimmed, fields_of}
-use Rattle.acl_text.specs.Qualifiers.{is_name_byte, max_id}
-use Rattle.acl_text.specs.Sides.{sided_entry}
-use Rattle.acl_text.specs.Tables.{Tables}
-use Rattle.acl_text.specs.Writing.{entry_text, sided_text, tag_text}
 use Rattle.acl_text.proofs.CleanText.{lacks, split_at_byte, trimmed_clean, list_all_wider}
 use Rattle.acl_text.proofs.Letters.{three, tail, is_plain, letter_facts}
 use Rattle.acl_text.proofs.Numbers.{fits}

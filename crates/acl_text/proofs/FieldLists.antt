@@ -1,11 +1,7 @@
 -- Items of more fields than an entry has.
-use Rattle.std.proofs.Common.{◌≡◌, ℕ, true, eqb, List, ◌∷◌, Option, None, Some, is_some, Err, map, refl}
+use Rattle.acl_text.proofs.Vocabulary.{◌≡◌, ℕ, true, eqb, List, ◌∷◌, Option, None, Some, is_some, Err, map, refl, Syntax, colon, trimmed, parts_left, Tables}
+use Rattle.acl_text.proofs.Vocabulary.{fields_reading}
 use denote.Ref.{Bor}
-use Rattle.acl_text.specs.declared.item.ItemFault.TheVariants.{Syntax}
-use Rattle.acl_text.specs.Layout.{colon, trimmed}
-use Rattle.acl_text.specs.code.Remaining.{parts_left}
-use Rattle.acl_text.specs.Tables.{Tables}
-use Rattle.acl_text.specs.Grammar.{fields_reading}
 use Rattle.acl_text.proofs.Splits.{some_part}
 
 -- an item with a fourth field is no entry

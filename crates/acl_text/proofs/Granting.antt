@@ -1,23 +1,9 @@
 -- What is granted by the letters of a field, and the entry that it makes.
-use Rattle.std.proofs.Common.{◌≡◌, ℕ, ◌+◌, ◌≤◌, Bool, true, false, cond, eqb, List, [], ◌∷◌, ◌++◌, Some, Err, refl, sym, ap, subst, ◌∙◌, inl, inr, arith}
-use Rattle.std.specs.Char.{is_ascii_digit}
-use Rattle.std.specs.List.{list_all, list_any}
-use Rattle.std.specs.Result.{result_map_both}
-use Rattle.std.proofs.lemmas.Bool.{and_parts, and_from, and_right, or_cases, cases_Bool, eqb-true, eq-eqb, false_from_ne_true}
-use Rattle.std.proofs.lemmas.Bool.Decides.{nat_tests}
-use Rattle.std.proofs.lemmas.List.Folds.{list_all-append}
-use Rattle.std.proofs.lemmas.List.Sums.{sum_by-append}
-use Rattle.acl_core.proofs.ListFacts.{count_by-cons}
-use Rattle.acl_core.specs.Entries.{entry_of}
-use Rattle.acl_core.specs.Permissions.{digit_of}
-use Rattle.acl_text.specs.declared.item.ItemFault.TheVariants.{Syntax}
-use Rattle.acl_text.specs.declared.item.Letters.{Letters}
-use Rattle.acl_text.specs.declared.keyword.Keyword.{Keyword}
-use Rattle.acl_text.specs.Grammar.{are_permissions, entry_reading, fits_keyword, hyphen, is_permission_byte, letter_r, letter_w, letter_x, permission_bytes, permission_digit, stands_in, tag_of, times_in}
-use Rattle.acl_text.specs.code.Reading.{IsReadOf}
-use Rattle.acl_text.specs.Items.{Grants}
-use Rattle.acl_text.specs.Qualifiers.{is_name_byte}
-use Rattle.acl_text.specs.Tables.{Tables}
+use Rattle.acl_text.proofs.Vocabulary.{◌≡◌, ℕ, ◌+◌, ◌≤◌, Bool, true, false, cond, eqb, List, [], ◌∷◌, ◌++◌, Some, Err, refl, sym, ap, subst, ◌∙◌, inl, inr}
+use Rattle.acl_text.proofs.Vocabulary.{arith, is_ascii_digit, list_all, list_any, result_map_both, and_parts, and_from, and_right, or_cases, cases_Bool}
+use Rattle.acl_text.proofs.Vocabulary.{eqb-true, eq-eqb, false_from_ne_true, nat_tests, list_all-append, sum_by-append, count_by-cons, entry_of, digit_of}
+use Rattle.acl_text.proofs.Vocabulary.{Syntax, Letters, Keyword, are_permissions, entry_reading, fits_keyword, hyphen, is_permission_byte, letter_r, letter_w}
+use Rattle.acl_text.proofs.Vocabulary.{letter_x, permission_bytes, permission_digit, stands_in, tag_of, times_in, IsReadOf, Grants, is_name_byte, Tables}
 use Rattle.acl_text.proofs.CleanText.{list_all_wider}
 use Rattle.acl_text.proofs.ItemGrammar.{few_if_once, grants_from_test, once_if_there, test_from_grants, there_if_once}
 

@@ -1,13 +1,7 @@
 -- The fault of an item is never want of memory.
-use Rattle.std.proofs.Common.{◌≡◌, ℕ, ◌+◌, List, [], ◌∷◌, Option, Some, Result, Ok, Err, sym, ap, ◌∙◌}
-use Rattle.acl_core.specs.declared.lists.Lists.{Lists}
-use Rattle.acl_text.specs.declared.item.ItemFault.{ItemFault}
+use Rattle.acl_text.proofs.Vocabulary.{◌≡◌, ℕ, ◌+◌, List, [], ◌∷◌, Option, Some, Result, Ok, Err, sym, ap, ◌∙◌, Lists, ItemFault, SidedEntry, TextFault}
+use Rattle.acl_text.proofs.Vocabulary.{Memory, fault_at, first_item_fault}
 use Rattle.acl_text.specs.declared.item.ItemFault.TheVariants as item
-use Rattle.acl_text.specs.declared.item.SidedEntry.{SidedEntry}
-use Rattle.acl_text.specs.declared.read.TextFault.{TextFault}
-use Rattle.acl_text.specs.declared.read.TextFault.TheVariants.{Memory}
-use Rattle.acl_text.specs.Faults.{fault_at}
-use Rattle.acl_text.specs.Texts.{first_item_fault}
 
 one_is_named : (fault : ItemFault) (n : ℕ) → Some (fault_at fault n) ≡ Some Memory → ⊥
 one_is_named item.Syntax n is = cc

@@ -1,29 +1,14 @@
 -- An item reads as an entry exactly when it is written as one.
-use Rattle.std.proofs.Common.{◌≡◌, ℕ, ◌<◌, ◌≤◌, Bool, true, false, cond, leb, eqb, not, ◌&&◌, ◌||◌, List, [], ◌∷◌, ◌++◌, length, map, Option, Some, None, Result, Ok, Err, codes, refl, sym, ap, subst, ◌∙◌, inl, inr, arith}
-use Rattle.std.specs.Char.{is_ascii_digit}
-use Rattle.std.specs.List.{list_all, list_any, find, count_by, join_with_byte}
-use Rattle.std.specs.Option.{ok_or}
-use Rattle.std.specs.Result.{result_map_both}
-use Rattle.std.specs.Str.{bytes_eq}
-use Rattle.std.specs.Str.Parse.{digits_value}
-use Rattle.std.proofs.lemmas.Bool.{and_parts, and_from, or_cases, and_right, cases_Bool, eqb-true, leb-true, le-leb}
-use Rattle.std.proofs.lemmas.Bool.Decides.{nat_tests}
-use Rattle.std.proofs.lemmas.List.Folds.{list_all-append}
-use Rattle.std.proofs.lemmas.List.Splits.{join_with_byte-slice_split}
-use Rattle.std.proofs.lemmas.Slice.Eq.{bytes_eq-Decides}
-use Rattle.acl_core.proofs.ListFacts.{count_by-cons}
-use Rattle.acl_core.specs.declared.entry.Tag.{Tag}
+use Rattle.acl_text.proofs.Vocabulary.{◌≡◌, ℕ, ◌<◌, ◌≤◌, Bool, true, false, cond, leb, eqb, not, ◌&&◌, ◌||◌, List, [], ◌∷◌, ◌++◌, length, map, Option, Some}
+use Rattle.acl_text.proofs.Vocabulary.{None, Result, Ok, Err, codes, refl, sym, ap, subst, ◌∙◌, inl, inr, arith, is_ascii_digit, list_all, list_any, find}
+use Rattle.acl_text.proofs.Vocabulary.{count_by, join_with_byte, ok_or, result_map_both, bytes_eq, digits_value, and_parts, and_from, or_cases, and_right}
+use Rattle.acl_text.proofs.Vocabulary.{cases_Bool, eqb-true, leb-true, le-leb, nat_tests, list_all-append, join_with_byte-slice_split, bytes_eq-Decides}
+use Rattle.acl_text.proofs.Vocabulary.{count_by-cons, Tag, Entry, entry_of, digit_of, ItemFault, SidedEntry, Side, Access, Default, Keyword, User, Group, Mask}
+use Rattle.acl_text.proofs.Vocabulary.{Other, IsSpaced, Denotes, Says, Grants, IsLong, IsShort, IsLaidOut, IsItemOf, IsDefaultItemOf, SaysItem, is_single}
+use Rattle.acl_text.proofs.Vocabulary.{word_of, letter_of, keyword_among, keyword_of, single_keyword_of, is_default, colon, is_white, parts, trimmed}
+use Rattle.acl_text.proofs.Vocabulary.{fields_of, is_name_byte, max_id, id_of, sided_entry, Tables, number_in}
 use Rattle.acl_core.specs.declared.entry.Tag.TheVariants as tag
-use Rattle.acl_core.specs.declared.entry.Entry.{Entry}
-use Rattle.acl_core.specs.Entries.{entry_of}
-use Rattle.acl_core.specs.Permissions.{digit_of}
-use Rattle.acl_text.specs.declared.item.ItemFault.{ItemFault}
 use Rattle.acl_text.specs.declared.item.ItemFault.TheVariants as item
-use Rattle.acl_text.specs.declared.item.SidedEntry.{SidedEntry}
-use Rattle.acl_text.specs.declared.item.Side.{Side}
-use Rattle.acl_text.specs.declared.item.Side.TheVariants.{Access, Default}
-use Rattle.acl_text.specs.declared.keyword.Keyword.{Keyword}
-use Rattle.acl_text.specs.declared.keyword.Keyword.TheVariants.{User, Group, Mask, Other}
 use Rattle.acl_text.specs.Grammar.{
   letter_r,
   letter_w,
@@ -43,12 +28,6 @@ use Rattle.acl_text.specs.Grammar.{
   sided_reading,
   reading,
 }
-use Rattle.acl_text.specs.Items.{IsSpaced, Denotes, Says, Grants, IsLong, IsShort, IsLaidOut, IsItemOf, IsDefaultItemOf, SaysItem, is_single}
-use Rattle.acl_text.specs.Keywords.{word_of, letter_of, keyword_among, keyword_of, single_keyword_of, is_default}
-use Rattle.acl_text.specs.Layout.{colon, is_white, parts, trimmed, fields_of}
-use Rattle.acl_text.specs.Qualifiers.{is_name_byte, max_id, id_of}
-use Rattle.acl_text.specs.Sides.{sided_entry}
-use Rattle.acl_text.specs.Tables.{Tables, number_in}
 use Rattle.acl_text.proofs.CleanText.{lacks, split_lacking, split_at_byte, list_all_wider}
 use Rattle.acl_text.proofs.Trimming.{trimmed_spaced, spaced_by_trimming}
 

@@ -1,8 +1,6 @@
 -- Places of parts, one part after another.
-use Rattle.std.proofs.Common.{◌≡◌, ℕ, ◌+◌, ◌-◌, ◌<◌, ◌≤◌, zero, suc, List, ◌∷◌, ◌++◌, length, ap, refl, ◌∙◌, arith}
-use Rattle.std.specs.List.{slice_get}
-use Rattle.acl_text.specs.Layout.{line_feed, parts}
-use Rattle.acl_text.specs.Places.{begins, begins_of_lines, item_place, item_places}
+use Rattle.acl_text.proofs.Vocabulary.{◌≡◌, ℕ, ◌+◌, ◌-◌, ◌<◌, ◌≤◌, zero, suc, List, ◌∷◌, ◌++◌, length, ap, refl, ◌∙◌, arith, slice_get, line_feed, parts}
+use Rattle.acl_text.proofs.Vocabulary.{begins, begins_of_lines, item_place, item_places}
 use Rattle.acl_text.proofs.ItemCounts.{cut_length}
 
 one_less : (n : ℕ) → n ≡ suc n - 1

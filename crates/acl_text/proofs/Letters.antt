@@ -1,9 +1,6 @@
 -- The three characters of permissions, over all eight sets, with or without white space after them.
-use Rattle.std.proofs.Common.{◌≡◌, ℕ, ◌&&◌, Bool, true, false, not, if◌then◌else◌, List, [], ◌∷◌, ◌++◌, refl, eqb}
-use Rattle.std.specs.List.{list_all}
-use Rattle.acl_core.specs.Permissions.{digit_of}
-use Rattle.acl_text.specs.Layout.{trimmed, colon, parts}
-use Rattle.acl_text.specs.Grammar.{are_permissions, permission_digit}
+use Rattle.acl_text.proofs.Vocabulary.{◌≡◌, ℕ, ◌&&◌, Bool, true, false, not, if◌then◌else◌, List, [], ◌∷◌, ◌++◌, refl, eqb, list_all, digit_of, trimmed, colon}
+use Rattle.acl_text.proofs.Vocabulary.{parts, are_permissions, permission_digit}
 
 -- the characters of r, w and x
 abbrev pub three : Bool → Bool → Bool → List ℕ

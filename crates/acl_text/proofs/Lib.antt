@@ -1,3 +1,4 @@
+mod Vocabulary
 pub mod Splits
 pub mod NameLookups
 pub mod Numbers

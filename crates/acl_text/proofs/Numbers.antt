@@ -1,11 +1,6 @@
 -- The number that decimal digits write, digit by digit.
-use Rattle.std.proofs.Common.{◌≡◌, ℕ, ◌+◌, ◌-◌, ◌*◌, ◌<◌, ◌≤◌, true, false, cond, List, length, get_or, take, leb, Some, None, sym, ◌∙◌, ap, arith}
-use Rattle.std.specs.Char.{is_ascii_digit, digit_value}
-use Rattle.std.specs.Str.Parse.{digits_value}
-use Rattle.std.proofs.lemmas.Bool.Decides.{nat_tests}
-use Rattle.std.proofs.lemmas.Int.Digits.{digits_value_more}
-use Rattle.std.proofs.lemmas.Str.Parse.{digits_value-take-le}
-use Rattle.acl_text.specs.Qualifiers.{id_of, max_id}
+use Rattle.acl_text.proofs.Vocabulary.{◌≡◌, ℕ, ◌+◌, ◌-◌, ◌*◌, ◌<◌, ◌≤◌, true, false, cond, List, length, get_or, take, leb, Some, None, sym, ◌∙◌, ap, arith}
+use Rattle.acl_text.proofs.Vocabulary.{is_ascii_digit, digit_value, digits_value, nat_tests, digits_value_more, digits_value-take-le, id_of, max_id}
 
 -- what a digit adds
 pub value_of_digit : (d : ℕ) → is_ascii_digit d ≡ true → digit_value d ≡ d - 48

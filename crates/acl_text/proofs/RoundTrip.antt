@@ -1,23 +1,10 @@
 -- The texts that are written of two lists spell these lists.
-use Rattle.std.proofs.Common.{◌≡◌, ℕ, ◌≤◌, ◌&&◌, Bool, true, false, not, eqb, List, [], ◌∷◌, ◌++◌, map, Option, None, Some, Ok, codes, refl, sym, ap, ◌∙◌, ◌⊎◌, inl, inr, append_assoc, append-nil}
-use Rattle.std.specs.List.{list_all, filter_map, flat_map, join_by}
-use Rattle.std.proofs.lemmas.Bool.{cases_Bool, and_parts, and_from}
-use Rattle.std.proofs.lemmas.List.Folds.{list_all-append}
-use Rattle.acl_core.specs.declared.entry.Entry.{Entry}
-use Rattle.acl_core.specs.declared.perms.Perms.{Perms}
-use Rattle.acl_core.specs.Permissions.{may_read, may_write, may_execute, has_permission, has_all}
-use Rattle.acl_core.specs.Tags.{qualifier}
-use Rattle.acl_text.specs.declared.item.SidedEntry.{SidedEntry}
-use Rattle.acl_text.specs.declared.item.Side.{Side}
-use Rattle.acl_text.specs.declared.item.Side.TheVariants.{Access, Default}
-use Rattle.acl_text.specs.Grammar.{reading}
-use Rattle.acl_text.specs.Laws.{LongTextSpells, ShortTextSpells, NumbersFit}
-use Rattle.acl_text.specs.Layout.{items_of, items_of_line, uncommented, parts, comma, line_feed}
-use Rattle.acl_text.specs.Qualifiers.{max_id}
-use Rattle.acl_text.specs.Sides.{default_entries, entries_of, sided_entry}
-use Rattle.acl_text.specs.Tables.{Tables}
-use Rattle.acl_text.specs.Texts.{Spells, readings}
-use Rattle.acl_text.specs.Writing.{canonical, entry_text, remark, is_limited, common_text, line_text, long_lines, mask_of, next_text, sided_text}
+use Rattle.acl_text.proofs.Vocabulary.{◌≡◌, ℕ, ◌≤◌, ◌&&◌, Bool, true, false, not, eqb, List, [], ◌∷◌, ◌++◌, map, Option, None, Some, Ok, codes, refl, sym, ap}
+use Rattle.acl_text.proofs.Vocabulary.{◌∙◌, ◌⊎◌, inl, inr, append_assoc, append-nil, list_all, filter_map, flat_map, join_by, cases_Bool, and_parts, and_from}
+use Rattle.acl_text.proofs.Vocabulary.{list_all-append, Entry, Perms, may_read, may_write, may_execute, has_permission, has_all, qualifier, SidedEntry, Side}
+use Rattle.acl_text.proofs.Vocabulary.{Access, Default, reading, LongTextSpells, ShortTextSpells, NumbersFit, items_of, items_of_line, uncommented, parts}
+use Rattle.acl_text.proofs.Vocabulary.{comma, line_feed, max_id, default_entries, entries_of, sided_entry, Tables, Spells, readings, canonical, entry_text}
+use Rattle.acl_text.proofs.Vocabulary.{remark, is_limited, common_text, line_text, long_lines, mask_of, next_text, sided_text}
 use Rattle.acl_text.proofs.CleanText.{lacks, split_lacking, split_at_byte, before_lacking, before_at_byte, list_all_wider}
 use Rattle.acl_text.proofs.Letters.{tail, is_plain, letter_facts}
 use Rattle.acl_text.proofs.EntryTexts.{sided_text_read, sided_text_plain}

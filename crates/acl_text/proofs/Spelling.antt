@@ -1,16 +1,7 @@
 -- A text whose items are all read spells what they say.
-use Rattle.std.proofs.Common.{◌≡◌, ℕ, ◌+◌, List, [], ◌∷◌, Option, None, Result, Ok, Err, map, option_map, refl, ap, ◌∙◌}
-use Rattle.std.specs.List.{filter_map, cons_option}
-use Rattle.std.specs.Option.{option_or}
-use Rattle.acl_core.specs.AccessLists.{first_fault}
-use Rattle.acl_text.specs.declared.item.ItemFault.{ItemFault}
-use Rattle.acl_text.specs.declared.item.SidedEntry.{SidedEntry}
-use Rattle.acl_text.specs.declared.item.Side.TheVariants.{Access, Default}
-use Rattle.acl_text.specs.declared.read.TextFault.TheVariants.{Invalid}
-use Rattle.acl_text.specs.Laws.{SpelledIsRead}
-use Rattle.acl_text.specs.Sides.{entries_of}
-use Rattle.acl_text.specs.Tables.{Tables}
-use Rattle.acl_text.specs.Texts.{Spells, default_fault, readings, first_item_fault, entry_said, lists_fault, said_in}
+use Rattle.acl_text.proofs.Vocabulary.{◌≡◌, ℕ, ◌+◌, List, [], ◌∷◌, Option, None, Result, Ok, Err, map, option_map, refl, ap, ◌∙◌, filter_map, cons_option}
+use Rattle.acl_text.proofs.Vocabulary.{option_or, first_fault, ItemFault, SidedEntry, Access, Default, Invalid, SpelledIsRead, entries_of, Tables, Spells}
+use Rattle.acl_text.proofs.Vocabulary.{default_fault, readings, first_item_fault, entry_said, lists_fault, said_in}
 
 abbrev Reading : Type 0
 Reading = Result (Option SidedEntry) ItemFault

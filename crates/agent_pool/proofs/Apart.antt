@@ -1,15 +1,9 @@
 -- Outcomes stay in order.
-use Rattle.std.proofs.Common.{◌≡◌, ◌≢◌, ◌⊎◌, ⊎_elim, inl, inr, ℕ, zero, suc, ◌+◌, ◌<◌, ◌≤◌, List, [], ◌∷◌, ◌++◌, map, take, slice_set, subst, refl, ap, ◌∙◌, sym, arith}
-use Rattle.std.specs.Prelude.{Contains, slice_get, Option, Some, None}
-use Rattle.std.proofs.lemmas.Option.{same_Some, slice_get-get_or}
-use Rattle.std.proofs.lemmas.List.{length-take, get_or-take}
-use Rattle.std.proofs.lemmas.List.Elements.{Contains-append_left, Contains-append_right}
-use Rattle.agent_pool.specs.declared.work.JobDone.{JobDone}
-use Rattle.agent_pool.specs.declared.outcome.JobOutcome.{JobOutcome}
-use Rattle.agent_pool.specs.code.Working.{RiseBetween, RiseInPlace}
-use Rattle.agent_pool.specs.Pools.{AreApart, AreInOrder}
-use Rattle.agent_pool.specs.code.Filled.{AreInOrderIn, AreBelow, AreNone, AreOfThese, IsPut}
-use Rattle.agent_pool.specs.Seats.{AreDistinct}
+use Rattle.agent_pool.proofs.Vocabulary.{◌≡◌, ◌≢◌, ◌⊎◌, ⊎_elim, inl, inr, ℕ, zero, suc, ◌+◌, ◌<◌, ◌≤◌, List, [], ◌∷◌, ◌++◌, map, slice_set, subst, refl, ap}
+use Rattle.agent_pool.proofs.Vocabulary.{◌∙◌, sym, arith, Contains, slice_get, Option, Some, None, same_Some, slice_get-get_or, length-take, get_or-take}
+use Rattle.agent_pool.proofs.Vocabulary.{Contains-append_left, Contains-append_right, JobDone, JobOutcome, RiseBetween, RiseInPlace, AreApart, AreInOrder}
+use Rattle.agent_pool.proofs.Vocabulary.{AreInOrderIn, AreBelow, AreNone, AreOfThese, IsPut, AreDistinct}
+use Rattle.std.proofs.Common.{take}
 
 pub same_or : (j i : ℕ) → (j ≡ i) ⊎ (j ≢ i)
 same_or zero zero = inl refl

@@ -1,10 +1,7 @@
 -- Places by their two columns.
-use Rattle.std.proofs.Common.{◌≡◌, ◌≢◌, ⊎_elim, ◌∙◌, ℕ, zero, suc, ◌+◌, ◌<◌, ◌≤◌, Bool, true, false, List, [], ◌∷◌, length, map, slice_set, refl, ap, sym, arith}
-use Rattle.std.specs.Prelude.{replicate, slice_get, slice_index_or, Option, Some, None}
-use Rattle.std.proofs.lemmas.Option.{same_Some, slice_get_within}
-use Rattle.agent_pool.specs.declared.outcome.JobOutcome.{JobOutcome}
-use Rattle.agent_pool.specs.code.Filled.{AreNone}
-use Rattle.agent_pool.specs.code.Slots.{slot_of, slots_of}
+use Rattle.agent_pool.proofs.Vocabulary.{◌≡◌, ◌≢◌, ⊎_elim, ◌∙◌, ℕ, zero, suc, ◌+◌, ◌<◌, ◌≤◌, Bool, true, false, List, [], ◌∷◌, length, map, slice_set, refl}
+use Rattle.agent_pool.proofs.Vocabulary.{ap, sym, arith, replicate, slice_get, slice_index_or, Option, Some, None, same_Some, slice_get_within, JobOutcome}
+use Rattle.agent_pool.proofs.Vocabulary.{AreNone, slot_of, slots_of}
 use Rattle.agent_pool.proofs.Apart.{same_or}
 
 -- there are as many as outcomes

@@ -1,24 +1,12 @@
 -- Outcomes at their places.
-use Rattle.std.proofs.Common.{◌≡◌, ℕ, zero, suc, ◌+◌, ◌<◌, true, false, List, [], ◌∷◌, ◌++◌, length, map, take, slice_set, subst, refl, ap, ◌∙◌, sym, arith}
-use Rattle.std.specs.Prelude.{All, is_some, Contains, slice_get, slice_index_or, Option, Some, None}
-use Rattle.std.proofs.lemmas.Option.{same_Some}
-use Rattle.std.proofs.lemmas.List.Elements.{All-cons, All-head, All-nil, All-tail}
-use Rattle.std.specs.List.{AllZip}
-use Rattle.server_lock.specs.Passes.{Held}
-use Rattle.txn_core.specs.Agents.{has_sense}
-use Rattle.agent_pool.specs.declared.work.JobDone.{JobDone}
-use Rattle.agent_pool.specs.declared.work.SeatedAgent.{SeatedAgent}
-use Rattle.agent_pool.specs.declared.work.Worked.{Worked}
-use Rattle.agent_pool.specs.declared.pool_context.NamedJob.{NamedJob}
-use Rattle.agent_pool.specs.declared.outcome.JobOutcome.{JobOutcome}
-use Rattle.agent_pool.specs.code.Gathering.{AllRan}
-use Rattle.agent_pool.specs.Pools.{AreOutcomes, IsOf, IsOutcome, begun_by}
-use Rattle.agent_pool.specs.code.Filled.{AreIdle, AreNone, IsFilled, IsPut, done_in, filled_in, players_of, sitting}
-use Rattle.agent_pool.specs.Seats.{AreDistinct, numbers_of}
-use Rattle.agent_pool.specs.code.Seated.{IsSeated}
-use Rattle.agent_pool.specs.code.Starts.{IsWorkOf}
-use Rattle.agent_pool.specs.Transcripts.{Played, IsIdle, IsTold, begins, number_of}
-use Rattle.agent_pool.specs.code.Working.{AllDone, IsDone, IsHalted}
+use Rattle.agent_pool.proofs.Vocabulary.{◌≡◌, ℕ, zero, suc, ◌+◌, ◌<◌, true, false, List, [], ◌∷◌, ◌++◌, length, map, slice_set, subst, refl, ap, ◌∙◌, sym}
+use Rattle.agent_pool.proofs.Vocabulary.{arith, All, is_some, Contains, slice_get, slice_index_or, Option, Some, None, same_Some, All-cons, All-head, All-nil}
+use Rattle.agent_pool.proofs.Vocabulary.{All-tail, AllZip, Held, has_sense, JobDone, SeatedAgent, Worked, NamedJob, JobOutcome, AllRan, AreOutcomes, IsOutcome}
+use Rattle.agent_pool.proofs.Vocabulary.{begun_by, AreIdle, AreNone, IsFilled, IsPut, done_in, filled_in, players_of, sitting, AreDistinct, numbers_of}
+use Rattle.agent_pool.proofs.Vocabulary.{IsSeated, IsWorkOf, Played, IsIdle, IsTold, number_of, AllDone, IsDone, IsHalted}
+use Rattle.std.proofs.Common.{take}
+use Rattle.agent_pool.specs.Pools.{IsOf}
+use Rattle.agent_pool.specs.Transcripts.{begins}
 use Rattle.agent_pool.proofs.Zips.{zip_set}
 
 pub none_push : (xs : List (Option JobOutcome)) → AreNone xs → AreNone (xs ++ None ∷ [])

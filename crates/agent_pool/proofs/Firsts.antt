@@ -1,7 +1,5 @@
 -- The agents of a service as they began no job yet.
-use Rattle.std.proofs.Common.{◌≡◌, ℕ, zero, suc, ◌+◌, [], ◌∷◌, ◌++◌, ap, ◌∙◌, arith}
-use Rattle.suite_prefix.specs.SettingsRules.{Opening}
-use Rattle.agent_pool.specs.Transcripts.{first_player, players_from}
+use Rattle.agent_pool.proofs.Vocabulary.{◌≡◌, ℕ, zero, suc, ◌+◌, [], ◌∷◌, ◌++◌, ap, ◌∙◌, arith, Opening, first_player, players_from}
 
 players_suc : (given : Opening) (start count : ℕ) → players_from given start (suc count) ≡ players_from given start count ++ first_player given (start + count) ∷ []
 players_suc given start zero = let e : start ≡ start + 0 = omega arith in ap (λ n. first_player given n ∷ []) e

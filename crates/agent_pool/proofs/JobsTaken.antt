@@ -1,22 +1,13 @@
 -- What an agent took, as it goes on.
-use Rattle.std.proofs.Common.{◌≡◌, ◌≢◌, ◌⊎◌, inl, inr, ⊎_elim, ℕ, zero, suc, ◌<◌, ◌≤◌, Bool, true, false, List, [], ◌∷◌, ◌++◌, length, refl, ap, ◌∙◌, sym, subst, arith, append_assoc, append-nil}
-use Rattle.std.specs.Prelude.{is_some, get_or, Contains, IfErr, IfOk, Option, Some, None, Result, Ok, Err}
-use Rattle.std.specs.List.{AllZip}
-use Rattle.std.proofs.lemmas.List.Elements.{Contains-append_left}
-use Rattle.std.proofs.lemmas.Option.{same_Some, slice_get_within}
-use Rattle.agent_pool.specs.declared.fault.PoolFault.{PoolFault}
-use Rattle.agent_pool.specs.declared.fault.PoolFault.TheVariants.{Double, Memory, Missing, Stranger}
-use Rattle.agent_pool.specs.declared.pool_context.NamedJob.{NamedJob}
-use Rattle.agent_pool.specs.declared.work.JobDone.{JobDone}
-use Rattle.agent_pool.specs.declared.work.Halt.{Halt}
-use Rattle.agent_pool.specs.declared.work.Halt.TheVariants.{Lacked, Strange, Stuck}
-use Rattle.agent_pool.specs.declared.work.SeatedAgent.{SeatedAgent}
-use Rattle.agent_pool.specs.declared.work.Worked.{Worked}
-use Rattle.agent_pool.specs.Gathers.{Gathers, HaveOne, IsDouble, IsMissing, NoneFailed, TellsOf, first_strange, first_stuck, lacked_or, lacks_memory, places, places_by, strange_or, stuck_or}
-use Rattle.agent_pool.specs.Line.{places_below, weigh}
-use Rattle.agent_pool.specs.Pools.{IsFaultOf, job_numbers}
-use Rattle.agent_pool.specs.Taken.{AllTook, AreTaken, HasReason, Leaves, Took}
-use Rattle.agent_pool.specs.code.Starts.{IsWorkOf}
+use Rattle.agent_pool.proofs.Vocabulary.{◌≡◌, ◌≢◌, ◌⊎◌, inl, inr, ⊎_elim, ℕ, zero, suc, ◌<◌, ◌≤◌, Bool, true, false, List, [], ◌∷◌, ◌++◌, length, refl, ap}
+use Rattle.agent_pool.proofs.Vocabulary.{◌∙◌, sym, subst, arith, append_assoc, is_some, get_or, Contains, IfErr, IfOk, Option, Some, None, Result, Ok, Err}
+use Rattle.agent_pool.proofs.Vocabulary.{AllZip, Contains-append_left, same_Some, slice_get_within, PoolFault, Double, Memory, Missing, Stranger, NamedJob}
+use Rattle.agent_pool.proofs.Vocabulary.{JobDone, Halt, Strange, Stuck, SeatedAgent, Worked, Gathers, HaveOne, IsDouble, IsMissing, NoneFailed, TellsOf}
+use Rattle.agent_pool.proofs.Vocabulary.{first_strange, first_stuck, lacked_or, lacks_memory, places, places_by, strange_or, stuck_or, places_below, weigh}
+use Rattle.agent_pool.proofs.Vocabulary.{IsFaultOf, job_numbers, AllTook, AreTaken, HasReason, Took, IsWorkOf}
+use Rattle.std.proofs.Common.{append-nil}
+use Rattle.agent_pool.specs.declared.work.Halt.TheVariants.{Lacked}
+use Rattle.agent_pool.specs.Taken.{Leaves}
 use Rattle.agent_pool.proofs.Lines.{weigh_append}
 use Rattle.agent_pool.proofs.Seen.{strange_is}
 use Rattle.agent_pool.proofs.Works.{number_there}

@@ -1,13 +1,10 @@
 -- What an agent keeps: its number, and its count until it begins a job. At an ending it is idle.
-use Rattle.std.proofs.Common.{◌≡◌, ◌≢◌, ℕ, ◌+◌, Bool, true, false, refl, ap}
-use Rattle.std.specs.Prelude.{Option, Some, None, if◌then◌else◌}
-use Rattle.rep_core.specs.declared.request.Request.{Request}
-use Rattle.txn_core.specs.declared.ending.Ending.{Ending}
+use Rattle.agent_pool.proofs.Vocabulary.{◌≡◌, ◌≢◌, ℕ, ◌+◌, Bool, true, false, refl, ap, Option, Some, None, if◌then◌else◌, Request, Ending, Transaction, Sweep}
+use Rattle.agent_pool.proofs.Vocabulary.{Response, Fixed, Doing, Running, RunningSweep, After, Ends, Agent, begin, end_of, is_idle, left, next_of, started}
+use Rattle.agent_pool.proofs.Vocabulary.{take_in}
+use Rattle.txn_core.specs.Doing.{GoesOn}
+use Rattle.txn_core.specs.Agents.{begins, take}
 use Rattle.txn_core.specs.declared.job.Job.{Job}
-use Rattle.txn_core.specs.declared.job.Job.TheVariants.{Transaction, Sweep}
-use Rattle.txn_core.specs.declared.response.Response.{Response}
-use Rattle.txn_core.specs.Doing.{Fixed, Doing, Running, RunningSweep, After, GoesOn, Ends}
-use Rattle.txn_core.specs.Agents.{Agent, begin, begins, end_of, is_idle, left, next_of, started, take, take_in}
 
 ended_idle : {D : Type 0} (as_doing : D → Doing) (after : After D) (ending : Ending) → end_of after ≡ Some ending → is_idle (left as_doing after) ≡ true
 ended_idle as_doing (GoesOn more) ending ends = cc

@@ -1,36 +1,25 @@
 -- What an agent leaves in its transcript for a job.
-use Rattle.std.proofs.Common.{◌≡◌, ◌≢◌, ◌⊎◌, inl, inr, ℕ, ◌+◌, ◌-◌, ◌<◌, ◌≤◌, List, [], ◌∷◌, ◌++◌, true, false, refl, ap, ◌∙◌, sym, subst, arith, length, append_assoc, append-nil}
-use Rattle.std.specs.Prelude.{◌&&◌, nat_lt, slice_index, IsTrue, Option, Some, None, Result, Ok, Err, IfOk, IfSome}
-use Rattle.std.proofs.Math.ListN.{length-set}
-use Rattle.std.proofs.lemmas.List.{length-append}
-use Rattle.std.proofs.lemmas.Option.{same_Some}
-use Rattle.rep_core.specs.declared.reply.Reply.{Reply}
-use Rattle.rep_core.specs.declared.request.Request.{Request}
-use Rattle.rep_core.specs.declared.stamped.Stamped.{Stamped}
-use Rattle.rep_core.specs.Fits.{fits}
-use Rattle.server_lock.specs.declared.miss.Miss.{Miss}
-use Rattle.server_lock.specs.declared.miss.Miss.TheVariants.{Lack, Stale}
-use Rattle.server_lock.specs.Passes.{Held, after_reply, front_at, sent_stamp}
-use Rattle.std.proofs.lemmas.Bool.{and_parts}
-use Rattle.txn_core.specs.Doing.{Fixed}
-use Rattle.txn_core.specs.declared.ending.Ending.{Ending}
-use Rattle.txn_core.specs.Agents.{Agent, Taken, begin, begins as begins_job, has_sense, is_idle, max_jobs, next_of, take}
-use Rattle.txn_core.specs.Standing.{FitsAsked, Standing}
+use Rattle.agent_pool.proofs.Vocabulary.{◌≡◌, ◌≢◌, ◌⊎◌, inl, inr, ℕ, ◌+◌, ◌-◌, ◌<◌, ◌≤◌, List, [], ◌∷◌, ◌++◌, true, false, refl, ap, ◌∙◌, sym, subst, arith}
+use Rattle.agent_pool.proofs.Vocabulary.{length, append_assoc, ◌&&◌, nat_lt, slice_index, IsTrue, Option, Some, None, Result, Ok, Err, IfOk, IfSome}
+use Rattle.agent_pool.proofs.Vocabulary.{length-set, length-append, same_Some, Reply, Request, Stamped, fits, Miss, Lack, Stale, Held, after_reply, front_at}
+use Rattle.agent_pool.proofs.Vocabulary.{sent_stamp, and_parts, Fixed, Ending, Agent, Taken, begin, has_sense, is_idle, max_jobs, next_of, FitsAsked, Standing}
+use Rattle.agent_pool.proofs.Vocabulary.{AgentEntry, Begun, Asked, Forgot, Ended, Came, Delivery, AsksNobody, CannotGoOn, DidJob, DidMore, HasSeen, Hears}
+use Rattle.agent_pool.proofs.Vocabulary.{RanTo, delivery_from, end_entry, known_after, stamp_in, Played, AreAsks, At, Does, IsLonger, Leads, after_response}
+use Rattle.agent_pool.proofs.Vocabulary.{at_rest, is_ask, number_of}
+use Rattle.std.proofs.Common.{append-nil}
+use Rattle.txn_core.specs.Agents.{begins as begins_job, take}
+use Rattle.run_certify.specs.declared.entry.AgentEntry.TheVariants.{Lacked}
+use Rattle.agent_pool.specs.code.Steps.{Leaves}
+use Rattle.agent_pool.specs.Transcripts.{GoesOn, Learns, begins}
 use Rattle.txn_core.specs.declared.job.Job.{Job}
-use Rattle.run_certify.specs.declared.entry.Entry.{Entry}
-use Rattle.run_certify.specs.declared.entry.Entry.TheVariants.{Begun, Asked, Lacked, Forgot, Ended}
-use Rattle.agent_pool.specs.declared.asking.Came.{Came}
 use Rattle.agent_pool.specs.declared.asking.Came.TheVariants as came
-use Rattle.agent_pool.specs.declared.asking.Delivery.{Delivery}
-use Rattle.agent_pool.specs.code.Steps.{AsksNobody, CannotGoOn, DidJob, DidMore, HasSeen, Hears, Leaves, RanTo, delivery_from, end_entry, known_after, stamp_in}
-use Rattle.agent_pool.specs.Transcripts.{Played, AreAsks, At, Does, GoesOn, IsLonger, Leads, Learns, after_response, at_rest, begins, is_ask, number_of}
 use Rattle.agent_pool.proofs.Begins.{begins-append, goes-append, learns-append}
 
-asks-append : (xs ys : List Entry) → AreAsks xs → AreAsks ys → AreAsks (xs ++ ys)
+asks-append : (xs ys : List AgentEntry) → AreAsks xs → AreAsks ys → AreAsks (xs ++ ys)
 asks-append [] ys all more = more
 asks-append (x ∷ xs) ys all more = (all.0, asks-append xs ys all.1 more)
 
-no_begins : (xs : List Entry) → AreAsks xs → begins xs ≡ 0
+no_begins : (xs : List AgentEntry) → AreAsks xs → begins xs ≡ 0
 no_begins [] all = refl
 no_begins (Begun job ∷ xs) all = cc
 no_begins (Asked server stamp ∷ xs) all = no_begins xs all.1
@@ -52,7 +41,7 @@ longer_same a = record { fixed = refl; number = refl; rest = []; entries = sym (
 
 -- ---- what the agent function makes of it
 
-pub leads-append : (fixed : Fixed) (a b c : At) (xs ys : List Entry) → Leads fixed a xs b → Leads fixed b ys c → Leads fixed a (xs ++ ys) c
+pub leads-append : (fixed : Fixed) (a b c : At) (xs ys : List AgentEntry) → Leads fixed a xs b → Leads fixed b ys c → Leads fixed a (xs ++ ys) c
 leads-append fixed a b c [] ys x y = subst (λ (q : At). Leads fixed q ys c) x y
 leads-append fixed a b c (e ∷ xs) ys x y = (x.0, x.1, leads-append fixed x.0 b c xs ys x.2 y)
 
@@ -85,7 +74,7 @@ took taken agent ending is gives = let back = sym is in λ i. record { agent = b
 pub did_nothing : (servers begun : ℕ) (a : Played) (p : Held) → DidMore servers begun a a p p came.On
 did_nothing servers begun a p = record { longer = longer_same a; went = refl; leads = λ n. refl; leaves = tt; stuck = λ e. cc }
 
-leaves_on : (begun : ℕ) (a b c : Played) (rest more : List Entry) (what : Came) → number_of b ≡ number_of a → b.entries ≡ a.entries ++ rest → AreAsks rest → Leaves begun b more c what → Leaves begun a (rest ++ more) c what
+leaves_on : (begun : ℕ) (a b c : Played) (rest more : List AgentEntry) (what : Came) → number_of b ≡ number_of a → b.entries ≡ a.entries ++ rest → AreAsks rest → Leaves begun b more c what → Leaves begun a (rest ++ more) c what
 leaves_on begun a b c rest more came.On number is all after = asks-append rest more all after
 leaves_on begun a b c rest more came.Stuck number is all after = asks-append rest more all after
 leaves_on begun a b c rest more came.Lacked number is all after = asks-append rest more all after
@@ -190,7 +179,7 @@ heard servers begun delivery old new p q (came.Ended ran) counted asks goes lear
       stuck = λ e. cc;
     }
 
-ran_to : (job : Job) (old mid new : Played) (rest : List Entry) (what : Came) → number_of mid ≡ number_of old → mid.entries ≡ old.entries ++ Begun job ∷ [] → number_of new ≡ number_of mid → new.entries ≡ mid.entries ++ rest
+ran_to : (job : Job) (old mid new : Played) (rest : List AgentEntry) (what : Came) → number_of mid ≡ number_of old → mid.entries ≡ old.entries ++ Begun job ∷ [] → number_of new ≡ number_of mid → new.entries ≡ mid.entries ++ rest
     → Leaves (length mid.entries) mid rest new what → (what ≢ came.Lacked → Leads new.agent.fixed (at_rest old.agent.state) (Begun job ∷ rest) (at_rest new.agent.state)) → has_sense new.agent.fixed job ≡ true → RanTo job old new what
 ran_to job old mid new rest came.On same began number more leaves leads sense = tt
 ran_to job old mid new rest came.Stuck same began number more leaves leads sense = tt
@@ -223,7 +212,7 @@ ran_to job old mid new rest (came.Ended ran) same began number more leaves leads
         at = (let at = leaves.4 in omega arith);
         start = old.agent.state;
         end = new.agent.state;
-        leads = subst (λ (es : List Entry). Leads new.agent.fixed (at_rest old.agent.state) (Begun job ∷ es) (at_rest new.agent.state)) rests (leads (λ e. cc));
+        leads = subst (λ (es : List AgentEntry). Leads new.agent.fixed (at_rest old.agent.state) (Begun job ∷ es) (at_rest new.agent.state)) rests (leads (λ e. cc));
       },
       count,
       omega arith,
@@ -304,23 +293,23 @@ lacked_job servers job a b p same = record {
 }
 
 -- the same as `heard`, where the fields are named apart
-pub heard_in : (servers begun number : ℕ) (delivery : Delivery) (old new : Played) (agent : Standing) (entries : List Entry) (p q : Held) (what : Came) → agent ≡ old.agent
+pub heard_in : (servers begun number : ℕ) (delivery : Delivery) (old new : Played) (agent : Standing) (entries : List AgentEntry) (p q : Held) (what : Came) → agent ≡ old.agent
     → entries ≡ old.entries → number ≡ number_of old → old.agent.state.count ≡ begins old.entries
     → is_ask delivery.entry ≡ true → GoesOn (delivery.entry ∷ []) p q → Learns old.known (delivery.entry ∷ []) new.known → DoesBy delivery agent
     → Hears number begun delivery agent entries new.agent new.entries what → DidMore servers begun old new p q what
 heard_in servers begun number delivery old new agent entries p q what a e n counted asks goes learns does h =
     heard servers begun delivery old new p q what counted asks goes learns (subst (λ (s : Standing). DoesBy delivery s) a does)
     (subst (λ (m : ℕ). Hears m begun delivery old.agent old.entries new.agent new.entries what) n
-    (subst (λ (es : List Entry). Hears number begun delivery old.agent es new.agent new.entries what) e (subst (λ (s : Standing). Hears number begun delivery s entries new.agent new.entries what) a h)))
+    (subst (λ (es : List AgentEntry). Hears number begun delivery old.agent es new.agent new.entries what) e (subst (λ (s : Standing). Hears number begun delivery s entries new.agent new.entries what) a h)))
 
-ask_first : (entry : Entry) (entries : List Entry) → is_ask entry ≡ true → begins (entry ∷ entries) ≡ begins entries
+ask_first : (entry : AgentEntry) (entries : List AgentEntry) → is_ask entry ≡ true → begins (entry ∷ entries) ≡ begins entries
 ask_first (Begun job) entries asks = cc
 ask_first (Asked server stamp) entries asks = refl
 ask_first (Lacked server lack) entries asks = refl
 ask_first (Forgot site) entries asks = cc
 ask_first (Ended outcome) entries asks = cc
 
-pub heard_begins : (number begun : ℕ) (delivery : Delivery) (old : Standing) (entries : List Entry) (new : Standing) (more : List Entry) (what : Came)
+pub heard_begins : (number begun : ℕ) (delivery : Delivery) (old : Standing) (entries : List AgentEntry) (new : Standing) (more : List AgentEntry) (what : Came)
     → is_ask delivery.entry ≡ true → Hears number begun delivery old entries new more what → begins more ≡ begins entries
 heard_begins number begun delivery old entries new more came.On asks h = ap begins h.3.0 ∙ begins-append entries (delivery.entry ∷ []) ∙ (let one = ask_first delivery.entry [] asks in omega arith)
 heard_begins number begun delivery old entries new more came.Stuck asks h = absurd h.3

@@ -1,3 +1,4 @@
+mod Vocabulary
 pub mod Columns
 pub mod Lines
 pub mod Zips

@@ -1,15 +1,12 @@
 -- Each move keeps the rule of the channel.
-use Rattle.std.proofs.Common.{◌≡◌, ◌≢◌, ◌⊎◌, inl, inr, ℕ, zero, suc, ◌+◌, ◌<◌, ◌≤◌, Bool, true, false, true≢false, length, List, [], ◌∷◌, ◌++◌, set, sym, refl, ap, ◌∙◌, subst, ⊎_elim, append_assoc, arith}
-use Rattle.std.specs.Prelude.{Some, slice_get}
-use Rattle.std.proofs.lemmas.List.{append-nil, length-append}
-use Rattle.std.proofs.lemmas.Option.{same_Some}
+use Rattle.agent_pool.proofs.Vocabulary.{◌≡◌, ◌≢◌, ◌⊎◌, inl, inr, ℕ, zero, suc, ◌+◌, ◌<◌, ◌≤◌, Bool, true, false, true≢false, length, List, [], ◌∷◌, ◌++◌, set}
+use Rattle.agent_pool.proofs.Vocabulary.{sym, refl, ap, ◌∙◌, subst, ⊎_elim, append_assoc, arith, Some, slice_get, length-append, same_Some, Pushes, Pops}
+use Rattle.agent_pool.proofs.Vocabulary.{Forks, Merges, at_set, at_snoc, Hand, PoolItem, End}
+use Rattle.std.proofs.lemmas.List.{append-nil}
+use Rattle.crossbeam_channel.specs.Fifo.{Learns}
+use Rattle.agent_pool.specs.declared.line.PoolItem.TheVariants.{Job}
 use mathlib.Core.Option.{some, some-injective, some-ne-none}
 use lib.ListN.{get_elem?}
-use Rattle.crossbeam_channel.specs.Fifo.{Pushes, Pops, Forks, Learns, Merges}
-use Rattle.atomic_table.proofs.Lists.{at_set, at_snoc}
-use Rattle.agent_pool.specs.declared.line.Hand.{Hand}
-use Rattle.agent_pool.specs.declared.line.Item.{Item}
-use Rattle.agent_pool.specs.declared.line.Item.TheVariants.{End, Job}
 use Rattle.agent_pool.specs.Line.{
   feeder,
   spent,
@@ -70,7 +67,7 @@ pub weigh_append : (h : ℕ → ℕ) (xs ys : List ℕ) → weigh h (xs ++ ys) �
 weigh_append h [] ys = omega arith
 weigh_append h (x ∷ xs) ys = let more = weigh_append h xs ys in omega arith
 
-places_append : (xs ys : List Item) → places_in (xs ++ ys) ≡ places_in xs ++ places_in ys
+places_append : (xs ys : List PoolItem) → places_in (xs ++ ys) ≡ places_in xs ++ places_in ys
 places_append [] ys = refl
 places_append (End ∷ xs) ys = places_append xs ys
 places_append (Job place ∷ xs) ys = ap (λ ps. place ∷ ps) (places_append xs ys)
@@ -163,7 +160,7 @@ puts_job n seat place v puts next none items hands short h at =
       refl,
     )
 
-pub puts_item : (n seat : ℕ) (v : Hand) (item : Item) → MayPut v item → Pushes IsEachOnce n seat v item (λ w. w ≡ after_put v item)
+pub puts_item : (n seat : ℕ) (v : Hand) (item : PoolItem) → MayPut v item → Pushes IsEachOnce n seat v item (λ w. w ≡ after_put v item)
 puts_item n seat v End may = puts_end n seat v may.0 may.1
 puts_item n seat v (Job place) may = puts_job n seat place v may.0 may.1 may.2
 
@@ -187,12 +184,12 @@ in_jobs (suc n) i place e =
     (snoc_cases (jobs_below n) (Job n) (Job place) i e)
 
 at_place : (put ends i place : ℕ) → slice_get (jobs_below put ++ marks ends) i ≡ Some (Job place) → place ≡ i
-at_place put zero i place e = in_jobs put i place (subst (λ (xs : List Item). slice_get xs i ≡ Some (Job place)) (append-nil (jobs_below put)) e)
+at_place put zero i place e = in_jobs put i place (subst (λ (xs : List PoolItem). slice_get xs i ≡ Some (Job place)) (append-nil (jobs_below put)) e)
 at_place put (suc ends) i place e =
     ⊎_elim (at_place put ends i place)
     (λ (h : (i ≡ length (jobs_below put ++ marks ends)) × (End ≡ Job place)). absurd (let both = h.1 in cc))
     (snoc_cases (jobs_below put ++ marks ends) End (Job place) i
-    (subst (λ (xs : List Item). slice_get xs i ≡ Some (Job place)) (sym (append_assoc (jobs_below put) (marks ends) (End ∷ []))) e))
+    (subst (λ (xs : List PoolItem). slice_get xs i ≡ Some (Job place)) (sym (append_assoc (jobs_below put) (marks ends) (End ∷ []))) e))
 
 -- and where an end mark stands
 no_end : (put i : ℕ) → slice_get (jobs_below put) i ≡ Some End → ⊥
@@ -201,7 +198,7 @@ no_end (suc n) i e =
     ⊎_elim (no_end n i) (λ (h : (i ≡ length (jobs_below n)) × (Job n ≡ End)). let both = h.1 in cc) (snoc_cases (jobs_below n) (Job n) End i e)
 
 at_end : (put ends i : ℕ) → slice_get (jobs_below put ++ marks ends) i ≡ Some End → (0 < ends) × (put ≤ i)
-at_end put zero i e = absurd (no_end put i (subst (λ (xs : List Item). slice_get xs i ≡ Some End) (append-nil (jobs_below put)) e))
+at_end put zero i e = absurd (no_end put i (subst (λ (xs : List PoolItem). slice_get xs i ≡ Some End) (append-nil (jobs_below put)) e))
 at_end put (suc ends) i e =
     ⊎_elim (λ (at : slice_get (jobs_below put ++ marks ends) i ≡ Some End). ((omega arith), (at_end put ends i at).1))
     (λ (h : (i ≡ length (jobs_below put ++ marks ends)) × (End ≡ End)). (
@@ -209,20 +206,20 @@ at_end put (suc ends) i e =
       let long = length-append (jobs_below put) (marks ends) in let jobs = jobs_long put in let here = h.0 in omega arith,
     ))
     (snoc_cases (jobs_below put ++ marks ends) End End i
-    (subst (λ (xs : List Item). slice_get xs i ≡ Some End) (sym (append_assoc (jobs_below put) (marks ends) (End ∷ []))) e))
+    (subst (λ (xs : List PoolItem). slice_get xs i ≡ Some End) (sym (append_assoc (jobs_below put) (marks ends) (End ∷ []))) e))
 
-gone_at : (gone items : List Item) (x : Item) → slice_get (gone ++ x ∷ items) (length gone) ≡ Some x
+gone_at : (gone items : List PoolItem) (x : PoolItem) → slice_get (gone ++ x ∷ items) (length gone) ≡ Some x
 gone_at [] items x = refl
 gone_at (y ∷ gone) items x = gone_at gone items x
 
 -- the first job that is left stands at the place behind those that are gone
-next_place : (put ends place : ℕ) (gone items : List Item) → gone ++ Job place ∷ items ≡ jobs_below put ++ marks ends → place ≡ length gone
+next_place : (put ends place : ℕ) (gone items : List PoolItem) → gone ++ Job place ∷ items ≡ jobs_below put ++ marks ends → place ≡ length gone
 next_place put ends place gone items split =
-    at_place put ends (length gone) place (subst (λ (xs : List Item). slice_get xs (length gone) ≡ Some (Job place)) split (gone_at gone items (Job place)))
+    at_place put ends (length gone) place (subst (λ (xs : List PoolItem). slice_get xs (length gone) ≡ Some (Job place)) split (gone_at gone items (Job place)))
 
-next_end : (put ends : ℕ) (gone items : List Item) → gone ++ End ∷ items ≡ jobs_below put ++ marks ends → (0 < ends) × (put ≤ length gone)
+next_end : (put ends : ℕ) (gone items : List PoolItem) → gone ++ End ∷ items ≡ jobs_below put ++ marks ends → (0 < ends) × (put ≤ length gone)
 next_end put ends gone items split =
-    at_end put ends (length gone) (subst (λ (xs : List Item). slice_get xs (length gone) ≡ Some End) split (gone_at gone items End))
+    at_end put ends (length gone) (subst (λ (xs : List PoolItem). slice_get xs (length gone) ≡ Some End) split (gone_at gone items End))
 
 pub takes : (seat : ℕ) (v : Hand) → IsTaker v → Pops IsEachOnce seat v (λ x w. TakesItem v x w)
 takes seat v is End items hands h at =
@@ -289,12 +286,12 @@ takes seat v is (Job place) items hands h at =
     )
 
 -- a job that is taken stands behind those that were
-pub behind_job : (v : Hand) (x : Item) (w : Hand) (place : ℕ) → TakesItem v x w → x ≡ Job place → v.low ≤ place
+pub behind_job : (v : Hand) (x : PoolItem) (w : Hand) (place : ℕ) → TakesItem v x w → x ≡ Job place → v.low ≤ place
 behind_job v End w place took is = absurd (cc)
 behind_job v (Job other) w place took is = let same : other ≡ place = cc in let low = took.0 in omega arith
 
 -- an end mark changes nothing else
-pub end_taken : (v : Hand) (x : Item) (w : Hand) → TakesItem v x w → x ≡ End → (w.taken ≡ v.taken) × (w.ended ≡ true)
+pub end_taken : (v : Hand) (x : PoolItem) (w : Hand) → TakesItem v x w → x ≡ End → (w.taken ≡ v.taken) × (w.ended ≡ true)
 end_taken v End w took is = (ap (λ (h : Hand). h.taken) took.1, ap (λ (h : Hand). h.ended) took.1)
 end_taken v (Job other) w took is = absurd (cc)
 
@@ -406,7 +403,7 @@ places_of_jobs zero = refl
 places_of_jobs (suc n) = places_append (jobs_below n) (Job n ∷ []) ∙ ap (λ ps. ps ++ n ∷ []) (places_of_jobs n)
 
 -- where all jobs are gone, and perhaps some end marks, the places are those of the jobs
-all_gone : (g : ℕ → ℕ) (put ends : ℕ) (gone items : List Item) → gone ++ items ≡ jobs_below put ++ marks ends → put ≤ length gone → weigh g (places_in gone) ≡ weigh g (places_below put)
+all_gone : (g : ℕ → ℕ) (put ends : ℕ) (gone items : List PoolItem) → gone ++ items ≡ jobs_below put ++ marks ends → put ≤ length gone → weigh g (places_in gone) ≡ weigh g (places_below put)
 all_gone g put ends gone items split long =
     let jobs = jobs_long put in
     let cut = long_cut gone items (jobs_below put) (marks ends) split (omega arith) in

@@ -1,20 +1,7 @@
 -- A pool of what agents did.
-use Rattle.std.proofs.Common.{◌+◌, List, subst, ◌∙◌, sym, ap}
-use Rattle.std.specs.Prelude.{All, Result, Ok, Err, IfOk}
-use Rattle.std.specs.List.{AllZip}
-use Rattle.server_lock.specs.Passes.{Held}
-use Rattle.agent_pool.specs.declared.fault.PoolFault.{PoolFault}
-use Rattle.agent_pool.specs.declared.pool.Pool.{Pool}
-use Rattle.agent_pool.specs.declared.work.SeatedAgent.{SeatedAgent}
-use Rattle.agent_pool.specs.declared.work.Worked.{Worked}
-use Rattle.agent_pool.specs.declared.pool_context.NamedJob.{NamedJob}
-use Rattle.agent_pool.specs.code.Gathering.{IsGathered}
-use Rattle.agent_pool.specs.Pools.{AreOutcomes, IsPoolOf, begun_by}
-use Rattle.agent_pool.specs.code.Filled.{done_in, players_of}
-use Rattle.agent_pool.specs.Seats.{AreDistinct, WentOn, numbers_of}
-use Rattle.agent_pool.specs.code.Seated.{AreSeated}
-use Rattle.agent_pool.specs.code.Starts.{IsWorkOf}
-use Rattle.agent_pool.specs.Transcripts.{Played, IsIdle}
+use Rattle.agent_pool.proofs.Vocabulary.{◌+◌, List, subst, ◌∙◌, sym, ap, All, Result, Ok, Err, IfOk, AllZip, Held, PoolFault, Pool, SeatedAgent, Worked}
+use Rattle.agent_pool.proofs.Vocabulary.{NamedJob, IsGathered, AreOutcomes, IsPoolOf, begun_by, done_in, players_of, AreDistinct, WentOn, numbers_of}
+use Rattle.agent_pool.proofs.Vocabulary.{AreSeated, IsWorkOf, Played, IsIdle}
 use Rattle.agent_pool.proofs.Filling.{all_begun, all_idle, sits_same}
 use Rattle.agent_pool.proofs.Returning.{all_went, others_back}
 

@@ -1,16 +1,10 @@
 -- Which agents can work with which passes: those of a start, a part of them, and those that come back with others that stayed behind.
-use Rattle.std.proofs.Common.{◌≡◌, ◌≢◌, ◌⊎◌, ⊎_elim, inl, inr, ℕ, zero, suc, ◌+◌, ◌<◌, ◌≤◌, List, [], ◌∷◌, ◌++◌, refl, ap, ◌∙◌, sym, subst, arith, append_assoc, append-nil}
-use Rattle.std.specs.Prelude.{All, ◌↔◌, slice_get, Some, None}
-use Rattle.std.specs.List.{AllZip}
-use Rattle.std.proofs.lemmas.Option.{same_Some}
-use Rattle.std.proofs.lemmas.List.Elements.{All-cons, All-head, All-nil, All-tail}
-use Rattle.suite_prefix.specs.SettingsRules.{Opening}
-use Rattle.server_lock.specs.Passes.{Held, agents_from, new_pass, passes_of}
-use Rattle.agent_pool.specs.declared.pool.Pool.{Pool}
-use Rattle.agent_pool.specs.declared.pool_context.NamedJob.{NamedJob}
-use Rattle.agent_pool.specs.Pools.{IsPoolOf}
-use Rattle.agent_pool.specs.Seats.{AreDistinct, AreReady, HasPass, IsOther, WentOn, numbers_of, passes_for}
-use Rattle.agent_pool.specs.Transcripts.{Played, IsIdle, first_player, number_of, players_from}
+use Rattle.agent_pool.proofs.Vocabulary.{◌≡◌, ◌≢◌, ◌⊎◌, ⊎_elim, inl, inr, ℕ, zero, suc, ◌+◌, ◌<◌, ◌≤◌, List, [], ◌∷◌, ◌++◌, refl, ap, ◌∙◌, sym, subst, arith}
+use Rattle.agent_pool.proofs.Vocabulary.{append_assoc, All, ◌↔◌, slice_get, Some, None, AllZip, same_Some, All-cons, All-head, All-nil, All-tail, Opening}
+use Rattle.agent_pool.proofs.Vocabulary.{Held, agents_from, new_pass, Pool, NamedJob, IsPoolOf, AreDistinct, AreReady, HasPass, IsOther, WentOn, numbers_of}
+use Rattle.agent_pool.proofs.Vocabulary.{passes_for, Played, IsIdle, first_player, number_of, players_from}
+use Rattle.std.proofs.Common.{append-nil}
+use Rattle.server_lock.specs.Passes.{passes_of}
 use Rattle.agent_pool.proofs.Seating.{apart_from, others_before, other_cons, own_cons}
 
 all_front : (P : Played → Type 0) (xs ys : List Played) → All P (xs ++ ys) → All P xs

@@ -1,25 +1,16 @@
 -- The passes that come back.
-use Rattle.std.proofs.Common.{◌≡◌, ℕ, List, [], ◌∷◌, ◌++◌, refl, ap, ◌∙◌, sym, subst, append-nil}
-use Rattle.std.specs.Prelude.{Option, Some, None}
-use Rattle.std.specs.List.{AllZip}
-use Rattle.std.proofs.lemmas.List.Elements.{All-head, All-tail, filter-append}
-use Rattle.server_lock.specs.Counts.{passes_by}
-use Rattle.server_lock.specs.Passes.{Held, after_item}
-use Rattle.run_certify.specs.declared.entry.Entry.{Entry}
-use Rattle.run_certify.specs.declared.entry.Entry.TheVariants.{Begun, Asked, Lacked, Forgot, Ended}
+use Rattle.agent_pool.proofs.Vocabulary.{◌≡◌, ℕ, List, [], ◌∷◌, ◌++◌, refl, ap, ◌∙◌, sym, subst, Option, Some, None, AllZip, All-head, All-tail, filter-append}
+use Rattle.agent_pool.proofs.Vocabulary.{passes_by, Held, after_item, AgentEntry, Begun, Asked, Forgot, Ended, SeatedAgent, Worked, NamedJob, players_of}
+use Rattle.agent_pool.proofs.Vocabulary.{AllRan, AreDistinct, IsOther, WentOn, numbers_of, passes_for, AreSeated, IsSeated, IsWorkOf, Played, Leads, at_rest}
+use Rattle.agent_pool.proofs.Vocabulary.{number_of}
+use Rattle.std.proofs.Common.{append-nil}
+use Rattle.run_certify.specs.declared.entry.AgentEntry.TheVariants.{Lacked}
+use Rattle.agent_pool.specs.code.Filled.{passes_of}
+use Rattle.agent_pool.specs.Transcripts.{GoesOn, Learns}
 use Rattle.agent_pool.specs.declared.work.Halt.TheVariants.{Lacked as NoMemory}
-use Rattle.agent_pool.specs.declared.work.SeatedAgent.{SeatedAgent}
-use Rattle.agent_pool.specs.declared.work.Worked.{Worked}
-use Rattle.agent_pool.specs.declared.pool_context.NamedJob.{NamedJob}
-use Rattle.agent_pool.specs.code.Filled.{passes_of, players_of}
-use Rattle.agent_pool.specs.code.Gathering.{AllRan}
-use Rattle.agent_pool.specs.Seats.{AreDistinct, IsOther, WentOn, numbers_of, passes_for}
-use Rattle.agent_pool.specs.code.Seated.{AreSeated, IsSeated}
-use Rattle.agent_pool.specs.code.Starts.{IsWorkOf}
-use Rattle.agent_pool.specs.Transcripts.{Played, GoesOn, Leads, Learns, at_rest, number_of}
 use Rattle.agent_pool.proofs.Seating.{AreApartFrom, apart_from, other_cons, own_cons}
 
-goes_agent : (entries : List Entry) (a b : Held) → GoesOn entries a b → b.agent ≡ a.agent
+goes_agent : (entries : List AgentEntry) (a b : Held) → GoesOn entries a b → b.agent ≡ a.agent
 goes_agent [] a b goes = ap (λ (p : Held). p.agent) goes
 goes_agent (Begun job ∷ es) a b goes = goes_agent es a b goes
 goes_agent (Asked server stamp ∷ es) a b goes = goes_agent es (after_item a server goes.0 stamp) b goes.3

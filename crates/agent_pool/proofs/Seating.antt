@@ -1,15 +1,9 @@
 -- Agents with their passes, which are taken out and come back.
-use Rattle.std.proofs.Common.{◌≡◌, ◌≢◌, ℕ, zero, suc, ◌+◌, ◌-◌, ◌<◌, Bool, true, false, cond, List, [], ◌∷◌, ◌++◌, length, take, drop, subst, refl, ap, ◌∙◌, sym, arith}
-use Rattle.std.specs.Prelude.{All, slice_get, slice_index_or, Option, Some, None, ◌==◌}
-use Rattle.std.specs.List.{AllZip, remove}
-use Rattle.std.proofs.lemmas.Bool.{eq-eqb, ne_eqb}
-use Rattle.std.proofs.lemmas.List.Elements.{All-head, All-tail}
-use Rattle.server_lock.specs.Counts.{passes_by, seat_of}
-use Rattle.server_lock.specs.Passes.{Held}
-use Rattle.agent_pool.specs.declared.work.SeatedAgent.{SeatedAgent}
-use Rattle.agent_pool.specs.Seats.{AreDistinct, HasPass, IsOther, numbers_of, passes_for}
-use Rattle.agent_pool.specs.code.Seated.{AreSeated, IsSeated, IsTakenOut}
-use Rattle.agent_pool.specs.Transcripts.{Played, number_of}
+use Rattle.agent_pool.proofs.Vocabulary.{◌≡◌, ◌≢◌, ℕ, zero, suc, ◌+◌, ◌-◌, ◌<◌, Bool, true, false, cond, List, [], ◌∷◌, ◌++◌, length, drop, subst, refl, ap}
+use Rattle.agent_pool.proofs.Vocabulary.{◌∙◌, sym, arith, All, slice_get, slice_index_or, Option, Some, None, ◌==◌, AllZip, remove, eq-eqb, ne_eqb, All-head}
+use Rattle.agent_pool.proofs.Vocabulary.{All-tail, passes_by, seat_of, Held, SeatedAgent, AreDistinct, HasPass, IsOther, numbers_of, passes_for, AreSeated}
+use Rattle.agent_pool.proofs.Vocabulary.{IsSeated, IsTakenOut, Played, number_of}
+use Rattle.std.proofs.Common.{take}
 
 -- ---- a pass among passes
 

@@ -1,29 +1,14 @@
 -- Outcomes that were put, and what is told of them.
-use Rattle.std.proofs.Common.{◌≡◌, ◌≢◌, ◌⊎◌, ⊎_elim, inl, inr, ℕ, zero, suc, ◌+◌, ◌<◌, ◌≤◌, Bool, false, List, [], ◌∷◌, ◌++◌, length, map, take, slice_set, subst, refl, ap, ◌∙◌, sym, append_assoc, append-nil, arith}
-use Rattle.std.specs.Prelude.{Contains, IfErr, IsErrAnd, get_or, slice_get, slice_index_or, Option, Some, None, Result, Ok, Err}
-use Rattle.std.specs.List.{AllZip}
-use Rattle.std.proofs.lemmas.Option.{same_Some, slice_get_within}
-use Rattle.std.proofs.lemmas.List.Elements.{All-cons, All-nil, Contains-append_cases, Contains-append_left, Contains-append_right}
-use Rattle.server_lock.specs.Passes.{Held}
-use Rattle.agent_pool.specs.declared.fault.PoolFault.{PoolFault}
-use Rattle.agent_pool.specs.declared.fault.PoolFault.TheVariants.{Double, Memory, Missing}
-use Rattle.agent_pool.specs.declared.outcome.JobOutcome.{JobOutcome}
-use Rattle.agent_pool.specs.declared.pool.Pool.{Pool}
-use Rattle.agent_pool.specs.declared.work.JobDone.{JobDone}
-use Rattle.agent_pool.specs.declared.work.Halt.{Halt}
-use Rattle.agent_pool.specs.declared.work.Halt.TheVariants.{Lacked, Strange, Stuck}
-use Rattle.agent_pool.specs.declared.work.SeatedAgent.{SeatedAgent}
-use Rattle.agent_pool.specs.declared.work.Worked.{Worked}
-use Rattle.agent_pool.specs.declared.pool_context.NamedJob.{NamedJob}
-use Rattle.agent_pool.specs.Gathers.{Gathers, HaveOne, IsDouble, IsMissing, NoneFailed, TellsOf, first_strange, first_stuck, lacked_or, lacks_memory, places, places_by, strange_or, stuck_or}
-use Rattle.agent_pool.specs.Seats.{AreDistinct, passes_for}
-use Rattle.agent_pool.specs.Taken.{IsHandedBack}
-use Rattle.agent_pool.specs.Transcripts.{Played, number_of}
-use Rattle.agent_pool.specs.code.Filled.{AreNone, IsPut}
-use Rattle.agent_pool.specs.code.Gathering.{AllRan, AreSeen, AreWithin, IsEmpty, IsTaken, IsWithin}
-use Rattle.agent_pool.specs.code.Seated.{IsSeated}
-use Rattle.agent_pool.specs.code.Starts.{IsWorkOf}
-use Rattle.agent_pool.specs.code.Working.{AllDone, IsHalted, IsWorked}
+use Rattle.agent_pool.proofs.Vocabulary.{◌≡◌, ◌≢◌, ◌⊎◌, ⊎_elim, inl, inr, ℕ, zero, suc, ◌+◌, ◌<◌, ◌≤◌, Bool, false, List, [], ◌∷◌, ◌++◌, length, map}
+use Rattle.agent_pool.proofs.Vocabulary.{slice_set, subst, refl, ap, ◌∙◌, sym, append_assoc, arith, Contains, IfErr, IsErrAnd, get_or, slice_get}
+use Rattle.agent_pool.proofs.Vocabulary.{slice_index_or, Option, Some, None, Result, Ok, Err, AllZip, same_Some, slice_get_within, All-cons, All-nil}
+use Rattle.agent_pool.proofs.Vocabulary.{Contains-append_cases, Contains-append_left, Contains-append_right, Held, PoolFault, Double, Memory, Missing}
+use Rattle.agent_pool.proofs.Vocabulary.{JobOutcome, Pool, JobDone, Halt, Strange, Stuck, SeatedAgent, Worked, NamedJob, Gathers, HaveOne, IsDouble, IsMissing}
+use Rattle.agent_pool.proofs.Vocabulary.{NoneFailed, TellsOf, first_strange, first_stuck, lacked_or, lacks_memory, places, places_by, strange_or, stuck_or}
+use Rattle.agent_pool.proofs.Vocabulary.{AreDistinct, passes_for, IsHandedBack, Played, number_of, AreNone, IsPut, AllRan, AreSeen, AreWithin, IsEmpty}
+use Rattle.agent_pool.proofs.Vocabulary.{IsTaken, IsWithin, IsSeated, IsWorkOf, AllDone, IsHalted, IsWorked}
+use Rattle.std.proofs.Common.{take, append-nil}
+use Rattle.agent_pool.specs.declared.work.Halt.TheVariants.{Lacked}
 use Rattle.agent_pool.proofs.Apart.{none_at, put_cases, same_or, set_apart, set_here}
 use Rattle.agent_pool.proofs.Zips.{zip_then}
 

@@ -1,25 +1,13 @@
 -- What holds of a thread's work, as it goes on.
-use Rattle.std.proofs.Common.{◌≡◌, ◌≢◌, ℕ, zero, suc, ◌+◌, ◌≤◌, List, [], ◌∷◌, ◌++◌, true, false, length, refl, ap, ◌∙◌, sym, subst, arith, append_assoc, append-nil}
-use Rattle.std.specs.Prelude.{is_some, slice_get, Contains, Option, Some, None}
-use Rattle.std.proofs.lemmas.List.{length-append}
-use Rattle.std.proofs.lemmas.Option.{same_Some}
-use Rattle.txn_core.specs.Agents.{has_sense}
-use Rattle.txn_core.specs.Doing.{Fixed}
+use Rattle.agent_pool.proofs.Vocabulary.{◌≡◌, ◌≢◌, ℕ, zero, suc, ◌+◌, ◌≤◌, List, [], ◌∷◌, ◌++◌, true, false, length, refl, ap, ◌∙◌, sym, subst, arith}
+use Rattle.agent_pool.proofs.Vocabulary.{append_assoc, is_some, slice_get, Contains, Option, Some, None, length-append, same_Some, has_sense, Fixed}
+use Rattle.agent_pool.proofs.Vocabulary.{AgentEntry, Begun, JobDone, Halt, SeatedAgent, Worked, NamedJob, IsWorkOf, DidJob, end_entry, job_numbers, Played}
+use Rattle.agent_pool.proofs.Vocabulary.{IsIdle, IsLonger, IsTold, Leads, at_rest, number_of, AllDone, IsDone, IsHalted, RiseBetween, RiseInPlace}
+use Rattle.std.proofs.Common.{append-nil}
+use Rattle.agent_pool.specs.Transcripts.{GoesOn, begins}
 use Rattle.txn_core.specs.declared.job.Job.{Job}
-use Rattle.run_certify.specs.declared.entry.Entry.{Entry}
-use Rattle.run_certify.specs.declared.entry.Entry.TheVariants.{Begun}
 use Rattle.agent_pool.specs.declared.asking.Came.TheVariants as came
-use Rattle.agent_pool.specs.declared.work.JobDone.{JobDone}
-use Rattle.agent_pool.specs.declared.work.Halt.{Halt}
 use Rattle.agent_pool.specs.declared.work.Halt.TheVariants.{Lacked}
-use Rattle.agent_pool.specs.declared.work.SeatedAgent.{SeatedAgent}
-use Rattle.agent_pool.specs.declared.work.Worked.{Worked}
-use Rattle.agent_pool.specs.declared.pool_context.NamedJob.{NamedJob}
-use Rattle.agent_pool.specs.code.Starts.{IsWorkOf}
-use Rattle.agent_pool.specs.code.Steps.{DidJob, end_entry}
-use Rattle.agent_pool.specs.Pools.{job_numbers}
-use Rattle.agent_pool.specs.Transcripts.{Played, GoesOn, IsIdle, IsLonger, IsTold, Leads, at_rest, begins, number_of}
-use Rattle.agent_pool.specs.code.Working.{AllDone, IsDone, IsHalted, RiseBetween, RiseInPlace}
 use Rattle.agent_pool.proofs.Begins.{begins-append, goes-append}
 use Rattle.agent_pool.proofs.Leaving.{leads_longer, longer_longer}
 
@@ -43,7 +31,7 @@ told_longer a b job count at longer told =
       start = told.start;
       end = told.end;
       leads =
-          subst (λ (e : Entry). Leads b.agent.fixed (at_rest told.start) (Begun job ∷ (told.asked ++ e ∷ [])) (at_rest told.end)) same
+          subst (λ (e : AgentEntry). Leads b.agent.fixed (at_rest told.start) (Begun job ∷ (told.asked ++ e ∷ [])) (at_rest told.end)) same
           (subst (λ (f : Fixed). Leads f (at_rest told.start) (Begun job ∷ (told.asked ++ end ∷ [])) (at_rest told.end)) (sym longer.fixed) told.leads);
     }
 

@@ -2,17 +2,17 @@
 use Rattle.std.specs.Prelude.{ℕ, ◌==◌, List, slice_get, Option, Some, None}
 use Rattle.std.specs.List.{find}
 use Rattle.run_core.specs.declared.done.EndedJob.{EndedJob}
-use Rattle.run_certify.specs.declared.entry.Entry.{Entry}
-use Rattle.run_certify.specs.declared.entry.Entry.TheVariants.{Ended}
+use Rattle.run_certify.specs.declared.entry.AgentEntry.{AgentEntry}
+use Rattle.run_certify.specs.declared.entry.AgentEntry.TheVariants.{Ended}
 use Rattle.agent_pool.specs.declared.outcome.JobOutcome.{JobOutcome}
 use Rattle.agent_pool.specs.Transcripts.{Played, number_of}
 
-abbrev pub end_of : Option Entry → Option EndedJob
+abbrev pub end_of : Option AgentEntry → Option EndedJob
 end_of (Some (Ended outcome)) = Some outcome
 end_of _ = None
 
 -- the end at a place of a transcript
-abbrev pub end_at : List Entry → ℕ → Option EndedJob
+abbrev pub end_at : List AgentEntry → ℕ → Option EndedJob
 end_at entries at = end_of (slice_get entries at)
 
 abbrev pub end_by : ℕ → Option Played → Option EndedJob

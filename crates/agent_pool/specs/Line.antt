@@ -3,8 +3,8 @@ use Rattle.std.specs.Prelude.{◌≡◌, ℕ, zero, suc, ◌+◌, ◌<◌, ◌�
 use mathlib.Core.Option.{some}
 use lib.ListN.{get_elem?}
 use Rattle.agent_pool.specs.declared.line.Hand.{Hand}
-use Rattle.agent_pool.specs.declared.line.Item.{Item}
-use Rattle.agent_pool.specs.declared.line.Item.TheVariants.{End, Job}
+use Rattle.agent_pool.specs.declared.line.PoolItem.{PoolItem}
+use Rattle.agent_pool.specs.declared.line.PoolItem.TheVariants.{End, Job}
 
 -- ---- hands, and what they do
 
@@ -31,21 +31,21 @@ either_one false other = other
 abbrev pub with_taken : Hand → Hand → Hand
 with_taken hand other = record hand { back = hand.back + 1; ended = either_one hand.ended other.ended; taken = hand.taken ++ other.taken }
 
-abbrev pub after_put : Hand → Item → Hand
+abbrev pub after_put : Hand → PoolItem → Hand
 after_put hand End = record hand { ends = hand.ends + 1 }
 after_put hand (Job place) = record hand { put = place + 1 }
 
-abbrev pub after_take : Hand → Item → Hand
+abbrev pub after_take : Hand → PoolItem → Hand
 after_take hand End = record hand { ended = true }
 after_take hand (Job place) = record hand { low = place + 1; taken = hand.taken ++ place ∷ [] }
 
 -- what is taken stands behind all jobs that this hand has taken
-abbrev pub IsBehind : Hand → Item → Type 0
+abbrev pub IsBehind : Hand → PoolItem → Type 0
 IsBehind hand End = Unit {0}
 IsBehind hand (Job place) = hand.low ≤ place
 
 -- an item was taken so
-abbrev pub TakesItem : Hand → Item → Hand → Type 0
+abbrev pub TakesItem : Hand → PoolItem → Hand → Type 0
 TakesItem hand item after = IsBehind hand item × (after ≡ after_take hand item)
 
 -- it is one of those that take
@@ -57,18 +57,18 @@ abbrev pub IsFirst : Hand → Type 0
 IsFirst hand = (hand.puts ≡ true) × (hand.put ≡ 0) × (hand.ends ≡ 0)
 
 -- it may put this: the next job, before all end marks, or an end mark for a hand that takes
-abbrev pub MayPut : Hand → Item → Type 0
+abbrev pub MayPut : Hand → PoolItem → Type 0
 MayPut hand End = (hand.puts ≡ true) × (hand.ends < hand.takers)
 MayPut hand (Job place) = (hand.puts ≡ true) × (hand.put ≡ place) × (hand.ends ≡ 0)
 
 -- ---- what was put
 
 -- the jobs at the places below a number, in their order
-abbrev pub jobs_below : ℕ → List Item
+abbrev pub jobs_below : ℕ → List PoolItem
 jobs_below zero = []
 jobs_below (suc n) = jobs_below n ++ Job n ∷ []
 
-abbrev pub marks : ℕ → List Item
+abbrev pub marks : ℕ → List PoolItem
 marks zero = []
 marks (suc n) = marks n ++ End ∷ []
 
@@ -78,7 +78,7 @@ places_below zero = []
 places_below (suc n) = places_below n ++ n ∷ []
 
 -- the places of the jobs among these items
-abbrev pub places_in : List Item → List ℕ
+abbrev pub places_in : List PoolItem → List ℕ
 places_in [] = []
 places_in (End ∷ items) = places_in items
 places_in (Job place ∷ items) = place ∷ places_in items
@@ -116,12 +116,12 @@ pub record IsKnown (put ends takers back gone seat : ℕ) (hand : Hand) : Type 0
 
 -- What was put is so many jobs, each once, in their order, and after them end marks, no more than there are hands that take. What the channel holds
 -- is the rest of it. Who takes has taken no job behind those that are gone, and the jobs that are gone are those that were taken, each as often.
-pub record IsEachOnce (items : List Item) (hands : List Hand) : Type 0 where
+pub record IsEachOnce (items : List PoolItem) (hands : List Hand) : Type 0 where
   pub put : ℕ
   pub ends : ℕ
   pub takers : ℕ
   pub back : ℕ
-  pub gone : List Item
+  pub gone : List PoolItem
   pub split : gone ++ items ≡ jobs_below put ++ marks ends
   pub few : ends ≤ takers
   pub out : total one_that_takes hands + back ≡ takers

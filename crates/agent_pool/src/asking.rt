@@ -6,9 +6,9 @@ ghost use Rattle.txn_core.specs.Agents.{next_of};
 ghost use Rattle.txn_core.specs.Standing.{FitsAsked};
 ghost use Rattle.agent_pool.specs.code.Steps.{Hears, delivery_from, stamp_in};
 
-use run_certify::{Entry, KeptEnd};
+use run_certify::{AgentEntry, KeptEnd};
 use run_core::EndedJob;
-use server_lock::{Answer, Miss};
+use server_lock::{Miss, ServerAnswer};
 use txn_core::{Agent, Response};
 
 /// Where a job ended: the count of its agent's jobs before it, and the place of its end in the transcript.
@@ -34,24 +34,24 @@ pub enum Came {
 /// An answer as it is delivered: what is written down of it, and what the agent is told.
 #[derive(Drop)]
 pub struct Delivery {
-    pub(crate) entry: Entry,
+    pub(crate) entry: AgentEntry,
     pub(crate) response: Response,
 }
 
 /// The delivery of this answer of this server. There is none where the pass was of other servers.
-pub(crate) fn delivery_from(server: u8, answer: Answer) -> Option<Delivery>
+pub(crate) fn delivery_from(server: u8, answer: ServerAnswer) -> Option<Delivery>
     ensures { result ≡ delivery_from server answer.reply }
 {
     match answer.into_reply() {
         Ok(reply) => Some(Delivery {
-            entry: Entry::Asked {
+            entry: AgentEntry::Asked {
                 server,
                 stamp: reply.stamp,
             },
             response: Response::Replied(reply.value),
         }),
         Err(Miss::Lack(lack)) => Some(Delivery {
-            entry: Entry::Lacked { server, lack },
+            entry: AgentEntry::Lacked { server, lack },
             response: Response::Lacked(lack),
         }),
         Err(Miss::Stale(_)) => None,
@@ -59,7 +59,7 @@ pub(crate) fn delivery_from(server: u8, answer: Answer) -> Option<Delivery>
 }
 
 /// The stamp of the reply, if there is one.
-pub(crate) fn stamp_in(answer: &Answer) -> Option<u64>
+pub(crate) fn stamp_in(answer: &ServerAnswer) -> Option<u64>
     ensures { result ≡ stamp_in answer.now.reply }
 {
     match answer.reply() {
@@ -72,7 +72,7 @@ pub(crate) fn stamp_in(answer: &Answer) -> Option<u64>
 /// so many entries, ends with that, the end is written down too.
 pub(crate) fn hear(
     agent: &mut Agent,
-    entries: &mut Vec<Entry>,
+    entries: &mut Vec<AgentEntry>,
     delivery: Delivery,
     number: u8,
     begun: usize,
@@ -103,6 +103,6 @@ pub(crate) fn hear(
     let Ok(kept) = KeptEnd::new(*entries.allocator(), ended) else {
         return Came::Lacked;
     };
-    entries.push_reserved(Entry::Ended(kept));
+    entries.push_reserved(AgentEntry::Ended(kept));
     Came::Ended(Ran { count, at })
 }

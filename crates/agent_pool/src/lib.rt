@@ -51,12 +51,13 @@ mod start;
 mod work;
 
 pub use fault::PoolFault;
-pub use line::{EachOnce, Hand, Item};
+pub use line::{EachOnce, Hand, PoolItem};
 pub use outcome::{JobOutcome, end_at, ended};
 pub use player::{Player, first_players};
 pub use pool::{Pool, run_pool};
 pub use pool_context::NamedJob;
 pub use ready::are_ready;
 pub use run_certify::{
-    CertifyFault, Decided, Decision, Entry, KeptEnd, KeptJob, Transcript, Transcripts, certify,
+    AgentEntry, CertifyFault, Decided, DecidedTransaction, KeptEnd, KeptJob, Transcript,
+    Transcripts, certify,
 };

@@ -12,7 +12,7 @@ use std::sync::Wait;
 
 /// What is put: an end mark, or a job, named by its place among those that were handed in.
 #[derive(Clone, Copy)]
-pub enum Item {
+pub enum PoolItem {
     End,
     Job(usize),
 }
@@ -36,7 +36,7 @@ pub struct Hand {
 /// put than threads may take. Each thread takes jobs in their order, and what all took is what was put and is gone.
 pub struct EachOnce;
 
-impl Protocol<Item, Hand> for EachOnce {
+impl Protocol<PoolItem, Hand> for EachOnce {
     ghost use Rattle.agent_pool.specs.Line.{feeder, IsEachOnce};
 
     ghost holds = { IsEachOnce };
@@ -69,7 +69,7 @@ impl Join<Hand> for Returning {
 /// Whether all that was put was taken.
 pub(crate) struct Counts;
 
-impl Lesson<Item, Hand> for Counts {
+impl Lesson<PoolItem, Hand> for Counts {
     ghost use Rattle.agent_pool.specs.Line.{TookAll};
 
     ghost fact = { λ v items. TookAll v };
@@ -78,14 +78,14 @@ impl Lesson<Item, Hand> for Counts {
 /// An item was put.
 pub(crate) struct Puts;
 
-impl Outcome<Item, Hand> for Puts {
+impl Outcome<PoolItem, Hand> for Puts {
     ghost use Rattle.std.specs.Prelude.{◌≡◌};
     ghost use Rattle.agent_pool.specs.Line.{after_put};
 
     ghost then = { λ v x w. w ≡ after_put v x };
 }
 
-impl Lesson<Item, Hand> for Puts {
+impl Lesson<PoolItem, Hand> for Puts {
     ghost use Rattle.std.specs.Prelude.{⊤};
 
     ghost fact = { λ v items. ⊤ };
@@ -94,23 +94,23 @@ impl Lesson<Item, Hand> for Puts {
 /// An item was taken.
 pub(crate) struct Takes;
 
-impl Outcome<Item, Hand> for Takes {
+impl Outcome<PoolItem, Hand> for Takes {
     ghost use Rattle.agent_pool.specs.Line.{TakesItem};
 
     ghost then = { TakesItem };
 }
 
-impl Lesson<Item, Hand> for Takes {
+impl Lesson<PoolItem, Hand> for Takes {
     ghost use Rattle.std.specs.Prelude.{⊤};
 
     ghost fact = { λ v items. ⊤ };
 }
 
-pub(crate) type Sender = RuledSender<Item, Hand, EachOnce>;
+pub(crate) type Sender = RuledSender<PoolItem, Hand, EachOnce>;
 
-pub(crate) type Receiver = RuledReceiver<Item, Hand, EachOnce>;
+pub(crate) type Receiver = RuledReceiver<PoolItem, Hand, EachOnce>;
 
-pub(crate) type Ticket = Pass<Item, Hand>;
+pub(crate) type Ticket = Pass<PoolItem, Hand>;
 
 /// Puts so many jobs, one after the other, and then so many end marks, no more than threads may take.
 pub(crate) fn feed<R: Wait>(rt: &R, sender: &Sender, ticket: &mut Ticket, jobs: usize, ends: usize)
@@ -121,16 +121,16 @@ pub(crate) fn feed<R: Wait>(rt: &R, sender: &Sender, ticket: &mut Ticket, jobs: 
     ensures fed { view ticket.new ≡ record (view ticket.old) { put = jobs; ends = ends } }
 {
     for place in 0..jobs {
-        put(rt, sender, ticket, Item::Job(place));
+        put(rt, sender, ticket, PoolItem::Job(place));
     }
     for _ in 0..ends {
-        put(rt, sender, ticket, Item::End);
+        put(rt, sender, ticket, PoolItem::End);
     }
 }
 
 /// Puts an item. The end at which threads take is there as long as this call, so nothing is refused; what were, would be
 /// put again.
-fn put<R: Wait>(rt: &R, sender: &Sender, ticket: &mut Ticket, item: Item)
+fn put<R: Wait>(rt: &R, sender: &Sender, ticket: &mut Ticket, item: PoolItem)
     requires seat { IsSeatAt (sends_on sender.now) ticket.old }
     requires may { MayPut (view ticket.old) item }
     ensures seat { IsSeatAt (sends_on sender.now) ticket.new }
@@ -146,7 +146,7 @@ fn put<R: Wait>(rt: &R, sender: &Sender, ticket: &mut Ticket, item: Item)
 
 /// Takes an item: a job stands behind all that were taken so. The end at which jobs are put is there as long as this call,
 /// so there is one to come; where none did, it would be waited for again.
-pub(crate) fn take<R: Wait>(rt: &R, receiver: &Receiver, ticket: &mut Ticket) -> Item
+pub(crate) fn take<R: Wait>(rt: &R, receiver: &Receiver, ticket: &mut Ticket) -> PoolItem
     requires { IsSeatAt (receives_on receiver.now) ticket.old × IsTaker (view ticket.old) }
     ensures seat { IsSeatAt (receives_on receiver.now) ticket.new × IsTaker (view ticket.new) }
     ensures taken { TakesItem (view ticket.old) result (view ticket.new) }

@@ -6,7 +6,7 @@ ghost use Rattle.agent_pool.specs.Endings.{end_at, ended_at};
 ghost use Rattle.agent_pool.specs.Transcripts.{number_of};
 
 use crate::player::Player;
-use run_certify::Entry;
+use run_certify::AgentEntry;
 use run_core::EndedJob;
 use std::ops::Deref;
 
@@ -38,11 +38,11 @@ fn agent_of(players: &[Player], number: u8) -> Option<&Player>
 }
 
 /// The end at a place of a transcript, if one is there.
-pub fn end_at(entries: &[Entry], at: usize) -> Option<&EndedJob>
+pub fn end_at(entries: &[AgentEntry], at: usize) -> Option<&EndedJob>
     ensures { option_map (λ told. told.now) result ≡ end_at entries.now at }
 {
     match entries.get(at) {
-        Some(Entry::Ended(told)) => Some(told.deref()),
+        Some(AgentEntry::Ended(told)) => Some(told.deref()),
         _ => None,
     }
 }

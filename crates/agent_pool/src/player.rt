@@ -2,7 +2,7 @@
 
 ghost use Rattle.std.specs.Prelude.{◌≡◌, ℕ, ◌<◌, ◌≤◌, ◌++◌, ◌∷◌, [], length, max, IfOk, IfSome, OnOk, OnErr, true, false, None, Ok, Some};
 ghost use Rattle.txn_core.specs.Agents as agents;
-ghost use Rattle.run_certify.specs.declared.entry.Entry.TheVariants.{Begun, Forgot};
+ghost use Rattle.run_certify.specs.declared.entry.AgentEntry.TheVariants.{Begun, Forgot};
 ghost use Rattle.agent_pool.specs.code.Steps.{AsksNobody, DidMore};
 ghost use Rattle.agent_pool.specs.Transcripts.{first_player, known_at, most_numbers, number_of, players_from};
 
@@ -10,7 +10,7 @@ use crate::asking::{Came, delivery_from, hear, stamp_in};
 use crate::known::{learn, unite};
 use crate::pool_context::PoolContext;
 use rep_core::Request;
-use run_certify::{Entry, KeptJob, Transcript};
+use run_certify::{AgentEntry, KeptJob, Transcript};
 use server_lock::{Gate, Pass, Servers};
 use std::alloc::{AllocError, Global};
 use std::marker::Model;
@@ -27,7 +27,7 @@ const MOST_NUMBERS: usize = 256;
 pub struct Player {
     number: u8,
     agent: Agent,
-    entries: Vec<Entry>,
+    entries: Vec<AgentEntry>,
     known: Vec<u64>,
 }
 
@@ -75,7 +75,7 @@ impl Player {
     }
 
     /// What it did.
-    pub fn entries(&self) -> &[Entry]
+    pub fn entries(&self) -> &[AgentEntry]
         ensures { result.now ≡ self.now.entries }
     {
         &self.entries
@@ -110,7 +110,7 @@ impl Player {
     {
         self.entries.reserve(1)?;
         self.agent.forget(site);
-        self.entries.push_reserved(Entry::Forgot { site });
+        self.entries.push_reserved(AgentEntry::Forgot { site });
         Ok(())
     }
 
@@ -132,7 +132,7 @@ impl Player {
         if self.agent.count() == count {
             return Ok(false);
         }
-        self.entries.push_reserved(Entry::Begun(kept));
+        self.entries.push_reserved(AgentEntry::Begun(kept));
         Ok(true)
     }
 

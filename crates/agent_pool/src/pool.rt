@@ -14,7 +14,7 @@ ghost use Rattle.agent_pool.specs.code.Starts.{IsWorkOf};
 
 use crate::fault::PoolFault;
 use crate::gather::{Room, gather};
-use crate::line::{EachOnce, Hand, Item, Taking, feed};
+use crate::line::{EachOnce, Hand, PoolItem, Taking, feed};
 use crate::outcome::JobOutcome;
 use crate::passes::seats;
 use crate::player::Player;
@@ -69,7 +69,9 @@ pub fn run_pool<R: Threads + Wait + Sync, G: Gate + Sync>(
     let count = seats.len();
     passes.reserve(count)?;
     let waiting = count + jobs.len().min(MAX_WAITING);
-    let (sender, receiver, ticket) = bounded_with::<Item, Hand, EachOnce, Global>(alloc, waiting)?;
+    let (sender, receiver, ticket) = bounded_with::<PoolItem, Hand, EachOnce, Global>(
+        alloc, waiting,
+    )?;
     let context = PoolContext {
         alloc,
         gate,

@@ -13,7 +13,7 @@ ghost use Rattle.agent_pool.specs.Transcripts.{IsIdle};
 ghost use Rattle.agent_pool.specs.declared.asking.Came.TheVariants.{On};
 
 use crate::asking::{Came, Ran};
-use crate::line::{Item, Ticket, take};
+use crate::line::{PoolItem, Ticket, take};
 use crate::player::Player;
 use crate::pool_context::{NamedJob, PoolContext};
 use server_lock::{Gate, Pass};
@@ -237,8 +237,8 @@ pub(crate) fn work<R: Wait, G: Gate>(
     } = Returned::new(context.alloc, seat, ticket);
     for _ in rt.forever() {
         match take(rt, context.receiver, &mut ticket) {
-            Item::Job(place) => worked = worked.carry_out(rt, context, place, &was),
-            Item::End => {
+            PoolItem::Job(place) => worked = worked.carry_out(rt, context, place, &was),
+            PoolItem::End => {
                 return Returned {
                     worked,
                     ticket,

@@ -32,5 +32,5 @@ pub use memory::{MemoryIn, MemoryOut};
 pub use reading::{ReadError, read_all};
 pub use system::{SystemIn, SystemOut};
 pub use traits::{ByteIn, ByteOut, ReadFailed, WriteFailed};
-pub use wanted::{MemoryWords, SystemWords, Wanted, Words, read_wanted};
+pub use wanted::{CommandWords, MemoryWords, SystemWords, Wanted, read_wanted};
 pub use writing::write_all;

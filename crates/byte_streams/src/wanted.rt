@@ -6,7 +6,7 @@ ghost use Rattle.byte_streams.specs.Words.{SaysWord, filled, front_of, wanted_by
 use std::env::{Env, FillError};
 
 /// The words behind the program's name.
-pub trait Words {
+pub trait CommandWords {
     // The words, where they are told.
     ghost words: { Self → Option (List (List ℕ)) };
 
@@ -29,7 +29,7 @@ impl<'a, R: Env> SystemWords<'a, R> {
     }
 }
 
-impl<'a, R: Env> Words for SystemWords<'a, R> {
+impl<'a, R: Env> CommandWords for SystemWords<'a, R> {
     ghost words = { λ _. None };
 
     fn word(&self, place: usize, buffer: &mut [u8]) -> Result<usize, FillError> {
@@ -46,7 +46,7 @@ pub struct MemoryWords<'a> {
 impl<'a> MemoryWords<'a> {
     /// These words.
     pub fn new(words: &'a [&'a [u8]]) -> MemoryWords<'a>
-        ensures { ⟦<MemoryWords<'a> as Words>⟧.words result ≡ Some (map (λ w. w.now) words.now) }
+        ensures { ⟦<MemoryWords<'a> as CommandWords>⟧.words result ≡ Some (map (λ w. w.now) words.now) }
     {
         MemoryWords { words }
     }
@@ -59,7 +59,7 @@ impl<'a> MemoryWords<'a> {
     }
 }
 
-impl<'a> Words for MemoryWords<'a> {
+impl<'a> CommandWords for MemoryWords<'a> {
     ghost words = { λ given. Some (map (λ w. w.now) given.words.now) };
 
     fn word(&self, place: usize, buffer: &mut [u8]) -> Result<usize, FillError> {
@@ -95,7 +95,7 @@ pub enum Wanted {
 }
 
 /// What the words of the command line ask for.
-pub fn read_wanted<W: Words>(words: &W) -> Wanted
+pub fn read_wanted<W: CommandWords>(words: &W) -> Wanted
     ensures { IfSome (W.words words.now) (λ given. result ≡ wanted_by given) }
 {
     let mut word = [0; 8];

@@ -1,3 +1,4 @@
+mod Vocabulary
 pub mod Places
 pub mod Joining
 pub mod Stepping

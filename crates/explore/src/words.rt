@@ -4,7 +4,7 @@ ghost use Rattle.std.specs.Prelude.{◌≡◌, IfSome, option_map, slice_get};
 ghost use Rattle.explore.specs.Words.{asks_help, choice_in, first_reading, from_one, is_at_odds, is_ordered, is_sampled, large, small, wanted_behind};
 ghost use Rattle.explore.specs.Words.{wanted_by, wide, with_number, with_option, with_word, with_word_behind};
 
-use byte_streams::{Words, read_wanted};
+use byte_streams::{CommandWords, read_wanted};
 use script_text::read_number;
 use std::env::FillError;
 
@@ -91,7 +91,7 @@ const MOST: usize = 19;
 const LONGEST: usize = 20;
 
 /// What the words of the command line ask for.
-pub(crate) fn read_words<W: Words>(words: &W) -> Wanted
+pub(crate) fn read_words<W: CommandWords>(words: &W) -> Wanted
     ensures { IfSome (W.words words.now) (λ given. result ≡ wanted_by given) }
 {
     if asks_help(words) {
@@ -113,7 +113,7 @@ pub(crate) fn read_words<W: Words>(words: &W) -> Wanted
 }
 
 /// Whether the first word asks for help.
-fn asks_help<W: Words>(words: &W) -> bool
+fn asks_help<W: CommandWords>(words: &W) -> bool
     ensures { IfSome (W.words words.now) (λ given. result ≡ asks_help given) }
 {
     matches!(read_wanted(words), byte_streams::Wanted::Help)
@@ -144,7 +144,7 @@ fn first_reading() -> Reading
 }
 
 /// What is asked for with the word at a place, if that says something; nothing, where no word is.
-fn read_word<W: Words>(words: &W, place: usize, reading: Reading) -> Option<Option<Reading>>
+fn read_word<W: CommandWords>(words: &W, place: usize, reading: Reading) -> Option<Option<Reading>>
     ensures { IfSome (W.words words.now) (λ given. result ≡ option_map (with_word reading) (slice_get given place)) }
 {
     let mut word = [0; LONGEST];

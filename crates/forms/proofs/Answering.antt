@@ -11,7 +11,7 @@ use Rattle.suite_script.specs.Scripts.{is_skipped}
 use Rattle.suite_script.specs.Words.{Word}
 use Rattle.suite_script.specs.declared.fault.LineFault.{LineFault}
 use Rattle.suite_script.specs.declared.fault.LineFault.TheVariants as code
-use Rattle.suite_script.specs.declared.form.Form.{Form}
+use Rattle.suite_script.specs.declared.form.LineForm.{LineForm}
 use Rattle.suite_script.specs.declared.form.Forms.{Forms}
 use Rattle.suite_script.specs.declared.scope.Scope.{Scope}
 use Rattle.forms.specs.Answers.{Again, IsAnswer, IsOfCommand, IsOfEach, IsOfItem, IsOfLine, Misplaced, TellsLine, TellsMisfit, TellsNothing, TellsWhole, TellsWords, TooLarge, Unknown}
@@ -79,7 +79,7 @@ large_told scope forms first rest number fault result old is_number is_fault beg
     told_whole scope forms first rest 2 (code.Settings OldTooLarge) result (λ text is. TooLarge old is)
     (same_begins number 2 fault (Some (code.Settings OldTooLarge)) result is_number is_fault begins)
 
-pub misfit_told : (scope : Scope) (forms : Forms) (form : Form) (rest : List Word) (text : List ℕ) → Contains (all_of forms) form
+pub misfit_told : (scope : Scope) (forms : Forms) (form : LineForm) (rest : List Word) (text : List ℕ) → Contains (all_of forms) form
     → BeginsWith (head_of (line_misfit scope form.places.now form.ending rest)) text → TellsMisfit scope forms form.word.now rest text ⊎ TellsWhole forms form.word.now text
 misfit_told scope forms form rest text there tells = inl (record { form = form; is_one = there; begins = refl; tells = tells })
 
@@ -157,3 +157,9 @@ item_told list number place (Err error) same begins = tt
 pub answered : (question : Question) (given text : List ℕ) (before after : Option (List ℕ)) (failures failures_after status : ℕ) → IsAnswer question given text
     → Finishes text done status before after failures failures_after → Ends question given before after failures failures_after status
 answered question given text before after failures failures_after status is written = inl (record { text = text; is = is; written = written })
+
+-- ---- the same head
+
+pub same_head : {E : Type 0} (head other : List ℕ) (result : Result (Vec ℕ Global) E) → head ≡ other → IfOk result (λ text. BeginsWith head text.items)
+    → IfOk result (λ text. BeginsWith other text.items)
+same_head head other result same begins = subst (λ (one : List ℕ). IfOk result (λ text. BeginsWith one text.items)) same begins

@@ -12,8 +12,8 @@ use Rattle.std.proofs.lemmas.Grind.{flat_map-append}
 use Rattle.script_text.specs.Words.{is_blank, words}
 use Rattle.suite_script.specs.Misfits.{line_misfit}
 use Rattle.suite_script.specs.Words.{Word}
-use Rattle.suite_script.specs.declared.form.Ending.TheVariants.{Operations}
-use Rattle.suite_script.specs.declared.form.Form.{Form}
+use Rattle.suite_script.specs.declared.form.FormEnding.TheVariants.{Operations}
+use Rattle.suite_script.specs.declared.form.LineForm.{LineForm}
 use Rattle.suite_script.specs.declared.misfit.Expected.TheVariants.{End}
 use Rattle.suite_script.specs.declared.misfit.Misfit.{Misfit}
 use Rattle.suite_script.specs.declared.scope.Scope.{Scope}
@@ -57,7 +57,7 @@ is_none None h = refl
 is_none (Some a) h = let no : true ≡ false = h in cc
 
 -- a line whose first word is that of a form, where no other word misfits
-pub fits_one : (scope : Scope) (forms : List Form) (form : Form) (first : Word) (rest left : List Word) → left ≡ first ∷ rest → Contains forms form → form.word.now ≡ first
+pub fits_one : (scope : Scope) (forms : List LineForm) (form : LineForm) (first : Word) (rest left : List Word) → left ≡ first ∷ rest → Contains forms form → form.word.now ≡ first
     → is_some (line_misfit scope form.places.now form.ending rest) ≡ false → FitsOne scope forms left
 fits_one scope forms form first rest left is there begins fits =
     subst (FitsOne scope forms) (sym is) (record { form = form; is_one = there; begins = begins; fits = is_none (line_misfit scope form.places.now form.ending rest) fits })
@@ -116,7 +116,7 @@ none_told scope forms line text is = Many text (record { told = []; are_words = 
 pub many_told : (scope : Scope) (forms : Forms) (line text : List ℕ) → Adds (IsTooMany scope forms line) [] text → IsShift scope forms line text
 many_told scope forms line text adds = Many text (told_all (IsTooMany scope forms line) text adds)
 
-pub is_cut : (scope : Scope) (forms : Forms) (line : List ℕ) (form : Form) (first : Word) (rest : List Word) (misfit : Misfit) → Contains (all_of forms) form → words line ≡ first ∷ rest
+pub is_cut : (scope : Scope) (forms : Forms) (line : List ℕ) (form : LineForm) (first : Word) (rest : List Word) (misfit : Misfit) → Contains (all_of forms) form → words line ≡ first ∷ rest
     → form.word.now ≡ first → form.ending ≡ Operations → line_misfit scope form.places.now form.ending rest ≡ Some misfit → misfit.expected ≡ End
     → is_verb (numbered (misfit.number - 1) (words line)) ≡ false → IsCut scope forms line
 is_cut scope forms line form first rest misfit is_one is_line begins has_operations misfits ends before =

@@ -9,7 +9,7 @@ use Rattle.suite_script.specs.Misfits.{line_misfit}
 use Rattle.suite_script.specs.Scripts.{is_skipped}
 use Rattle.suite_script.specs.Words.{Word}
 use Rattle.suite_script.specs.declared.fault.LineFault.TheVariants as line
-use Rattle.suite_script.specs.declared.form.Form.{Form}
+use Rattle.suite_script.specs.declared.form.LineForm.{LineForm}
 use Rattle.suite_script.specs.declared.form.Forms.{Forms}
 use Rattle.suite_script.specs.declared.scope.Scope.{Scope}
 use Rattle.forms.specs.Finding.{BeginsWith, head_of, place_text, tab, told_at}
@@ -19,7 +19,7 @@ use Rattle.forms.specs.declared.Question.TheVariants as asked
 
 -- the first word stands in its place: the first that its form does not allow is told, with its fault
 pub record TellsMisfit (scope : Scope) (forms : Forms) (first : Word) (rest : List Word) (text : List ℕ) : Type 0 where
-  pub form : Form
+  pub form : LineForm
   pub is_one : Contains (all_of forms) form
   pub begins : form.word.now ≡ first
   pub tells : BeginsWith (head_of (line_misfit scope form.places.now form.ending rest)) text

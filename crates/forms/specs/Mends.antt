@@ -6,8 +6,8 @@ use Rattle.script_text.specs.Words.{words}
 use Rattle.suite_script.specs.Misfits.{line_misfit}
 use Rattle.suite_script.specs.Operations.{spelling, verbs}
 use Rattle.suite_script.specs.Words.{Word}
-use Rattle.suite_script.specs.declared.form.Ending.TheVariants.{Operations}
-use Rattle.suite_script.specs.declared.form.Form.{Form}
+use Rattle.suite_script.specs.declared.form.FormEnding.TheVariants.{Operations}
+use Rattle.suite_script.specs.declared.form.LineForm.{LineForm}
 use Rattle.suite_script.specs.declared.form.Forms.{Forms}
 use Rattle.suite_script.specs.declared.misfit.Expected.TheVariants.{End}
 use Rattle.suite_script.specs.declared.misfit.Misfit.{Misfit}
@@ -15,22 +15,22 @@ use Rattle.suite_script.specs.declared.scope.Scope.{Scope}
 use Rattle.forms.specs.Finding.{tab}
 
 -- the forms of all lines of a command's scripts
-abbrev pub all_of : Forms → List Form
+abbrev pub all_of : Forms → List LineForm
 all_of forms = forms.header.now ++ forms.optional.now ++ forms.names.now ++ forms.own.now
 
 -- the form of a line that begins with a word
-abbrev pub form_in : Forms → Word → Option Form
+abbrev pub form_in : Forms → Word → Option LineForm
 form_in forms word = find (λ form. bytes_eq word form.word.now) (all_of forms)
 
 -- one of these forms begins with this word, and the words behind it fit in that form
-pub record FitsIn (scope : Scope) (forms : List Form) (first : Word) (rest : List Word) : Type 0 where
-  pub form : Form
+pub record FitsIn (scope : Scope) (forms : List LineForm) (first : Word) (rest : List Word) : Type 0 where
+  pub form : LineForm
   pub is_one : Contains forms form
   pub begins : form.word.now ≡ first
   pub fits : line_misfit scope form.places.now form.ending rest ≡ None
 
 -- the words of a line are those of one of these forms
-abbrev pub FitsOne : Scope → List Form → List Word → Type 0
+abbrev pub FitsOne : Scope → List LineForm → List Word → Type 0
 FitsOne scope forms [] = ⊥
 FitsOne scope forms (first ∷ rest) = FitsIn scope forms first rest
 
@@ -102,7 +102,7 @@ is_verb word = list_any (λ verb. bytes_eq word (spelling verb)) verbs
 
 -- an operation of a line has a word too many, behind a word that begins none: its path may have a space
 pub record IsCut (scope : Scope) (forms : Forms) (line : List ℕ) : Type 0 where
-  pub form : Form
+  pub form : LineForm
   pub rest : List Word
   pub misfit : Misfit
   pub is_one : Contains (all_of forms) form

@@ -6,7 +6,7 @@ ghost use Rattle.acl_text.specs.Keywords.{is_default, keyword_of};
 ghost use Rattle.acl_text.specs.Layout.{is_white, trimmed, uncommented};
 ghost use Rattle.acl_text.specs.Qualifiers.{is_name_byte};
 
-use script_text::Parts;
+use script_text::WordParts;
 use std::slice::from_ref;
 
 /// The kind of an entry.
@@ -126,7 +126,7 @@ fn is_default(field: &[u8]) -> bool
 
 /// The fields of an item.
 pub(crate) fn fields_of(item: &[u8]) -> Fields<'_> {
-    let mut parts = Parts::new(item, b':');
+    let mut parts = WordParts::new(item, b':');
     let first = trimmed(parts.next().unwrap_or(b""));
     let is_marked = is_default(first);
     let marker = if is_marked { Some(first) } else { None };

@@ -8,7 +8,7 @@ ghost use Rattle.forms.specs.Finding.{BeginsWith, head_at, head_of, item_in, ite
 ghost use Rattle.forms.specs.Mends.{all_of};
 
 use crate::above::Above;
-use crate::first::{FirstReason, misplaced_told, unknown_told};
+use crate::first::{misplaced_told, unknown_told};
 use crate::list::item_ends;
 use crate::mend::{Found, Trial, push_mends};
 use crate::old::unheld;
@@ -21,7 +21,7 @@ use acl_text::{TextFault, item_place};
 use script_text::{Words, push_number};
 use std::alloc::{AllocError, Global};
 use suite_prefix::SettingsFault;
-use suite_script::{Expected, Form, Forms, LineFault, Misfit, push_line_code};
+use suite_script::{Expected, Forms, LineFault, LineForm, Misfit, push_line_code};
 
 /// Where an item of a list begins, and where it does without the white space before it, and where it ends.
 #[derive(Clone, Copy)]
@@ -79,7 +79,7 @@ fn of_line(
     match words.next() {
         Some(first) => of_words(alloc, reading, above, first, words),
         None => {
-            let told = Reasoned::of(Reason::First(FirstReason::Blank), b"");
+            let told = Reasoned::of(Reason::Blank, b"");
             let found = of_whole(1, LineFault::Form, reading.due(), told);
             of_first(alloc, reading, above, found)
         }
@@ -119,7 +119,7 @@ fn of_standing(
     alloc: Global,
     reading: &Reading,
     above: Above<'_>,
-    form: Form,
+    form: LineForm,
     words: Words<'_>,
 ) -> Result<Vec<u8>, AllocError>
     requires { Contains (all_of reading.now.forms) form }
@@ -129,7 +129,7 @@ fn of_standing(
     let line = words.rest();
     if form.word == b"together".as_slice() {
         if let Some((number, _)) = above.line_of(form.word) {
-            let told = Reasoned::of(Reason::First(FirstReason::Again(number)), form.word);
+            let told = Reasoned::of(Reason::Again, form.word).with(number);
             let found = of_whole(1, LineFault::Form, None, told);
             return of_first(alloc, reading, above, found);
         }
@@ -145,33 +145,23 @@ fn of_standing(
 }
 
 /// What is printed of a line whose first word stands in its place.
+#[tactic(auto, using(crate::proofs::Answering::same_head))]
 fn of_form(
     alloc: Global,
     reading: &Reading,
     above: Above<'_>,
-    form: Form,
+    form: LineForm,
     words: Words<'_>,
 ) -> Result<Vec<u8>, AllocError>
     ensures { IfOk result (λ text. BeginsWith (head_of (line_misfit reading.now.scope form.places.now form.ending words.entry)) text.items) }
 {
     let line = words.rest();
     let misfit = reading.scope.misfit(alloc, form, words)?;
-    let mut text = head(alloc, misfit)?;
-    let rest = rest_of_form(alloc, reading, above, (form, line), misfit)?;
-    text.extend_from_slice(&rest)?;
-    Ok(text)
+    let found = found_at(reading, above, form, line, misfit);
+    of_first(alloc, reading, above, found)
 }
 
 /// What is printed first: the number of the word that does not fit, and the code of its fault.
-fn head(alloc: Global, misfit: Option<Misfit>) -> Result<Vec<u8>, AllocError>
-    ensures { IfOk result (λ text. text.items ≡ head_of misfit) }
-{
-    match misfit {
-        Some(misfit) => head_at(alloc, misfit.number, Some(misfit.fault)),
-        None => head_at(alloc, 0, None),
-    }
-}
-
 fn head_at(alloc: Global, number: u64, fault: Option<LineFault>) -> Result<Vec<u8>, AllocError>
     ensures { IfOk result (λ text. text.items ≡ head_at number fault) }
 {
@@ -186,37 +176,34 @@ fn head_at(alloc: Global, number: u64, fault: Option<LineFault>) -> Result<Vec<u
     Ok(text)
 }
 
-/// What is printed then: what was expected, the form that has this place, where the faulty item of a list begins, and
-/// why the word does not fit.
-fn rest_of_form(
-    alloc: Global,
+/// What is found of a line of a form whose words after the first are these.
+fn found_at<'a>(
     reading: &Reading,
     above: Above<'_>,
-    line: (Form, &[u8]),
+    form: LineForm,
+    line: &'a [u8],
     misfit: Option<Misfit>,
-) -> Result<Vec<u8>, AllocError> {
-    let (form, rest) = line;
+) -> Found<'a>
+    ensures { head_at result.number result.fault ≡ head_of misfit }
+{
     let Some(misfit) = misfit else {
-        return end(alloc, reading, above, no_ends(), of_none(Some(form)));
+        return of_none(Some(form));
     };
-    let spot = spot_of(form, rest, misfit);
+    let spot = spot_of(form, line, misfit);
     let (told, is_shifted) = told_at(&reading.scope, above, spot, misfit);
-    let found = Found {
+    let item = match spot.word {
+        Some(word) => ends_of(word, item_in(word, misfit.fault)),
+        None => no_ends(),
+    };
+    Found {
         number: misfit.number,
         fault: Some(misfit.fault),
         expected: Some(misfit.expected),
         form: Some(spot.form),
         begin: spot.begin,
+        item,
         is_shifted,
         told,
-    };
-    end(alloc, reading, above, item_of(spot, misfit.fault), found)
-}
-
-fn item_of(spot: Spot<'_>, fault: LineFault) -> ItemEnds {
-    match spot.word {
-        Some(word) => ends_of(word, item_in(word, fault)),
-        None => no_ends(),
     }
 }
 
@@ -269,7 +256,7 @@ fn expected_name(expected: Expected) -> &'static [u8] {
     }
 }
 
-/// What is printed of what is found of a line as a whole, if it is a fault.
+/// What is printed of what is found of a line.
 fn of_first(
     alloc: Global,
     reading: &Reading,
@@ -279,13 +266,13 @@ fn of_first(
     ensures { IfOk result (λ text. BeginsWith (head_at found.entry.number found.entry.fault) text.items) }
 {
     let mut text = head_at(alloc, found.number, found.fault)?;
-    let rest = end(alloc, reading, above, no_ends(), found)?;
+    let rest = end(alloc, reading, above, found)?;
     text.extend_from_slice(&rest)?;
     Ok(text)
 }
 
 /// What is found of a line as a whole.
-fn of_whole(number: u64, fault: LineFault, due: Option<Form>, told: Reasoned<'_>) -> Found<'_>
+fn of_whole(number: u64, fault: LineFault, due: Option<LineForm>, told: Reasoned<'_>) -> Found<'_>
     ensures number { result.number ≡ number }
     ensures fault { result.fault ≡ Some fault }
 {
@@ -295,13 +282,14 @@ fn of_whole(number: u64, fault: LineFault, due: Option<Form>, told: Reasoned<'_>
         expected: None,
         form: due,
         begin: 1,
+        item: no_ends(),
         is_shifted: false,
         told,
     }
 }
 
 /// Nothing is found.
-fn of_none(form: Option<Form>) -> Found<'static>
+fn of_none(form: Option<LineForm>) -> Found<'static>
     ensures { result.fault ≡ None }
 {
     Found {
@@ -310,6 +298,7 @@ fn of_none(form: Option<Form>) -> Found<'static>
         expected: None,
         form,
         begin: 1,
+        item: no_ends(),
         is_shifted: false,
         told: Reasoned::of(Reason::Due, b""),
     }
@@ -320,7 +309,6 @@ fn end(
     alloc: Global,
     reading: &Reading,
     above: Above<'_>,
-    item: ItemEnds,
     found: Found<'_>,
 ) -> Result<Vec<u8>, AllocError> {
     let expected = match (found.fault, found.expected) {
@@ -335,7 +323,7 @@ fn end(
         None => text.push(b'-')?,
     }
     text.push(b'\t')?;
-    push_item(&mut text, item)?;
+    push_item(&mut text, found.item)?;
     let trial = Trial {
         alloc,
         reading,
@@ -349,7 +337,7 @@ fn end(
 }
 
 /// A form as it is written down.
-fn push_written(text: &mut Vec<u8>, form: Form) -> Result<(), AllocError> {
+fn push_written(text: &mut Vec<u8>, form: LineForm) -> Result<(), AllocError> {
     text.extend_from_slice(form.word)?;
     if !form.places.is_empty() {
         text.push(b' ')?;

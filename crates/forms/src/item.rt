@@ -6,87 +6,8 @@ ghost use Rattle.acl_text.specs.Grammar.{are_permissions, is_permission_byte, pe
 
 use crate::above::Above;
 use crate::fields::{Fields, Kind, fields_of, no_name_byte};
-use crate::reason::{Numbers, Reason, Reasoned};
-use crate::word::WordReason;
+use crate::reason::{Reason, Reasoned};
 use std::slice::from_ref;
-
-/// Why an item is no entry.
-#[derive(Clone, Copy, PartialEq, Eq, Debug)]
-pub(crate) enum ItemReason {
-    /// No keyword stands before the first colon.
-    NoKeyword,
-    /// What stands there is no keyword.
-    UnknownKeyword,
-    /// No colon stands behind the keyword.
-    NoColon,
-    /// One colon stands in an item of a kind that has two.
-    OneColon(Kind),
-    /// It has so many colons.
-    Colons(u64),
-    /// An entry of a kind that names nobody names somebody.
-    NamesSomebody(Kind),
-    /// Permissions are a digit.
-    Digit,
-    /// The byte is no permission.
-    NoPermission,
-    /// A permission stands twice.
-    Twice,
-    /// There are more than three hyphens.
-    Hyphens,
-    /// No entry stands behind the word of a default list.
-    MarkedNothing,
-    /// No user, or no group, has this name.
-    Nobody(Kind),
-    /// The same, and a group, or a user, has it.
-    OfOtherKind(Kind),
-}
-
-impl ItemReason {
-    pub(crate) fn name(self) -> &'static [u8] {
-        match self {
-            ItemReason::NoKeyword => b"no-keyword",
-            ItemReason::UnknownKeyword => b"unknown-keyword",
-            ItemReason::NoColon => b"no-colon",
-            ItemReason::OneColon(_) => b"one-colon",
-            ItemReason::Colons(_) => b"colons",
-            ItemReason::NamesSomebody(_) => b"names-somebody",
-            ItemReason::Digit => b"digit",
-            ItemReason::NoPermission => b"no-permission",
-            ItemReason::Twice => b"twice",
-            ItemReason::Hyphens => b"hyphens",
-            ItemReason::MarkedNothing => b"marked-nothing",
-            ItemReason::Nobody(_) => b"nobody",
-            ItemReason::OfOtherKind(_) => b"of-other-kind",
-        }
-    }
-
-    pub(crate) fn numbers(self) -> Numbers {
-        match self {
-            ItemReason::Colons(count) => [Some(count), None],
-            _ => [None, None],
-        }
-    }
-
-    pub(crate) fn kind(self) -> Option<Kind> {
-        match self {
-            ItemReason::OneColon(kind)
-            | ItemReason::NamesSomebody(kind)
-            | ItemReason::Nobody(kind)
-            | ItemReason::OfOtherKind(kind) => Some(kind),
-            _ => None,
-        }
-    }
-}
-
-fn told<'a>(reason: ItemReason, item: &'a [u8], part: &'a [u8]) -> Reasoned<'a>
-    ensures { result.reason ≡ Reason.Item reason }
-{
-    Reasoned {
-        reason: Reason::Item(reason),
-        word: item,
-        part,
-    }
-}
 
 /// Why an item has not the form of an entry.
 pub(crate) fn form_told(item: &[u8]) -> Reasoned<'_> {
@@ -94,10 +15,10 @@ pub(crate) fn form_told(item: &[u8]) -> Reasoned<'_> {
     match (fields.marker, Kind::of(fields.keyword)) {
         (_, Some(kind)) => kind_told(item, fields, kind),
         (Some(marker), None) if fields.keyword.is_empty() => {
-            told(ItemReason::MarkedNothing, item, marker)
+            Reasoned::of(Reason::MarkedNothing, item).at(marker)
         }
-        (None, None) if fields.keyword.is_empty() => told(ItemReason::NoKeyword, item, item),
-        (_, None) => told(ItemReason::UnknownKeyword, item, fields.keyword),
+        (None, None) if fields.keyword.is_empty() => Reasoned::of(Reason::NoKeyword, item),
+        (_, None) => Reasoned::of(Reason::UnknownKeyword, item).at(fields.keyword),
     }
 }
 
@@ -105,29 +26,31 @@ pub(crate) fn form_told(item: &[u8]) -> Reasoned<'_> {
 fn kind_told<'a>(item: &'a [u8], fields: Fields<'a>, kind: Kind) -> Reasoned<'a> {
     let has_whom = matches!(kind, Kind::User | Kind::Group);
     let Some(second) = fields.second else {
-        return told(ItemReason::NoColon, item, fields.keyword);
+        return Reasoned::of(Reason::NoColon, item).at(fields.keyword);
     };
     let Some(third) = fields.third else {
         return if has_whom {
-            told(ItemReason::OneColon(kind), item, second)
+            Reasoned::of(Reason::OneColon, item)
+                .of_kind(kind)
+                .at(second)
         } else {
             permissions_told(item, second)
         };
     };
     if fields.more > 0 {
         let colons = fields.more.saturating_add(2);
-        return told(ItemReason::Colons(colons), item, item);
+        return Reasoned::of(Reason::Colons, item).with(colons);
     }
     if !has_whom && !second.is_empty() {
-        return told(ItemReason::NamesSomebody(kind), item, second);
+        return Reasoned::of(Reason::NamesSomebody, item)
+            .of_kind(kind)
+            .at(second);
     }
     let permissions = permissions_told(item, third);
     match no_name_byte(second) {
-        Some(part) if permissions.reason == Reason::Due => Reasoned {
-            reason: Reason::Word(WordReason::NoNameByte),
-            word: item,
-            part,
-        },
+        Some(part) if permissions.reason == Reason::Due => {
+            Reasoned::of(Reason::NoNameByte, item).at(part)
+        }
         _ => permissions,
     }
 }
@@ -189,16 +112,16 @@ fn permissions_told<'a>(item: &'a [u8], field: &'a [u8]) -> Reasoned<'a>
     ensures { (result.reason ≡ Reason.Due) ↔ (are_permissions field.now ≡ true) }
 {
     if matches!(field, [b'0'..=b'7']) {
-        return told(ItemReason::Digit, item, field);
+        return Reasoned::of(Reason::Digit, item).at(field);
     }
     if let Some(part) = no_permission(field) {
-        return told(ItemReason::NoPermission, item, part);
+        return Reasoned::of(Reason::NoPermission, item).at(part);
     }
     if let Some(letter) = doubled_letter(field) {
-        return told(ItemReason::Twice, item, first_of(field, letter));
+        return Reasoned::of(Reason::Twice, item).at(first_of(field, letter));
     }
     if count_of(field, b'-') > 3 {
-        return told(ItemReason::Hyphens, item, field);
+        return Reasoned::of(Reason::Hyphens, item).at(field);
     }
     Reasoned::of(Reason::Due, item)
 }
@@ -214,10 +137,10 @@ pub(crate) fn nobody_told<'a>(above: Above<'_>, item: &'a [u8]) -> Reasoned<'a> 
         _ => Kind::User,
     };
     let reason = match above.named(other, whom) {
-        Some(_) => ItemReason::OfOtherKind(kind),
-        None => ItemReason::Nobody(kind),
+        Some(_) => Reason::OfOtherKind,
+        None => Reason::Nobody,
     };
-    told(reason, item, whom)
+    Reasoned::of(reason, item).of_kind(kind).at(whom)
 }
 
 /// Whom an item names.

@@ -3,59 +3,12 @@
 use crate::above::Above;
 use crate::fields::{Kind, Said, Side, entry_in, trimmed, uncommented, white_before};
 use crate::item::{form_told, nobody_told, whom_of};
-use crate::number::{NumberReason, is_digits};
-use crate::reason::{Numbers, Reason, Reasoned};
+use crate::number::{MAX_ID, is_digits};
+use crate::reason::{Reason, Reasoned};
 use acl_core::{AclFault, MAX_ENTRIES};
 use acl_text::{TextFault, item_place};
-use script_text::{Parts, push_number};
+use script_text::{WordParts, push_number};
 use std::alloc::AllocError;
-
-/// Why a text is no list.
-#[derive(Clone, Copy, PartialEq, Eq, Debug)]
-pub(crate) enum ListReason {
-    /// It has a carriage return.
-    CarriageReturn,
-    /// It has no colon.
-    NoList,
-    /// It has digits alone, and is no mode.
-    NoMode,
-    /// No entry is of this kind that names nobody.
-    Lacks(Kind),
-    /// Entries are of one kind, in one of the two lists, and of the one who is named.
-    Doubled(Kind, Side),
-    /// The item of this number names somebody, and there is no mask.
-    Unmasked(u64),
-    /// There are so many items, and not the one that was asked for.
-    Few(u64),
-}
-
-impl ListReason {
-    pub(crate) fn name(self) -> &'static [u8] {
-        match self {
-            ListReason::CarriageReturn => b"carriage-return",
-            ListReason::NoList => b"no-list",
-            ListReason::NoMode => b"no-mode",
-            ListReason::Lacks(_) => b"lacks",
-            ListReason::Doubled(_, _) => b"doubled",
-            ListReason::Unmasked(_) => b"unmasked",
-            ListReason::Few(_) => b"few",
-        }
-    }
-
-    pub(crate) fn numbers(self) -> Numbers {
-        match self {
-            ListReason::Unmasked(number) | ListReason::Few(number) => [Some(number), None],
-            _ => [None, None],
-        }
-    }
-
-    pub(crate) fn kind(self) -> Option<Kind> {
-        match self {
-            ListReason::Lacks(kind) | ListReason::Doubled(kind, _) => Some(kind),
-            _ => None,
-        }
-    }
-}
 
 /// What is told of a word that is no list, and no mode where it could be one.
 pub(crate) fn word_told<'a>(
@@ -67,13 +20,13 @@ pub(crate) fn word_told<'a>(
     if word.contains(&b':') {
         return match fault {
             Some(fault) => text_told(above, word, fault),
-            None => Reasoned::of(Reason::List(ListReason::CarriageReturn), word),
+            None => Reasoned::of(Reason::CarriageReturn, word),
         };
     }
     let reason = if !may_be_mode {
-        Reason::List(ListReason::NoList)
+        Reason::NoList
     } else if is_digits(word) {
-        Reason::List(ListReason::NoMode)
+        Reason::NoMode
     } else {
         Reason::Due
     };
@@ -87,11 +40,9 @@ pub(crate) fn text_told<'a>(above: Above<'_>, text: &'a [u8], fault: TextFault) 
         TextFault::UnknownName(number) => nobody_told(above, item_in(text, number)),
         TextFault::NumberTooBig(number) => {
             let item = item_in(text, number);
-            Reasoned {
-                reason: Reason::Number(NumberReason::Above(u64::from(u32::MAX))),
-                word: item,
-                part: whom_of(item),
-            }
+            Reasoned::of(Reason::Above, item)
+                .with(MAX_ID)
+                .at(whom_of(item))
         }
         TextFault::Invalid(fault) => entries_told(above, text, Side::Access, fault),
         TextFault::DefaultInvalid(fault) => entries_told(above, text, Side::Default, fault),
@@ -123,27 +74,28 @@ pub(crate) fn item_ends(text: &[u8], place: usize) -> (u64, u64) {
 
 /// What is told of the entries of one of the two lists.
 fn entries_told<'a>(above: Above<'_>, text: &'a [u8], side: Side, fault: AclFault) -> Reasoned<'a> {
-    let reason = match fault {
-        AclFault::NoUserObj => ListReason::Lacks(Kind::User),
-        AclFault::NoGroupObj => ListReason::Lacks(Kind::Group),
-        AclFault::NoOther => ListReason::Lacks(Kind::Other),
-        AclFault::TwiceSingle => return doubled_told(above, text, side, None),
-        AclFault::UserTwice => return doubled_told(above, text, side, Some(Kind::User)),
-        AclFault::GroupTwice => return doubled_told(above, text, side, Some(Kind::Group)),
-        AclFault::MaskMissing => ListReason::Unmasked(first_named(text, side)),
-        AclFault::TooMany => {
-            let many = NumberReason::Many(count_of(text, side), MAX_ENTRIES as u64);
-            return Reasoned::of(Reason::Number(many), text);
+    let lacks = Reasoned::of(Reason::Lacks, text);
+    match fault {
+        AclFault::NoUserObj => lacks.of_kind(Kind::User),
+        AclFault::NoGroupObj => lacks.of_kind(Kind::Group),
+        AclFault::NoOther => lacks.of_kind(Kind::Other),
+        AclFault::TwiceSingle => doubled_told(above, text, side, None),
+        AclFault::UserTwice => doubled_told(above, text, side, Some(Kind::User)),
+        AclFault::GroupTwice => doubled_told(above, text, side, Some(Kind::Group)),
+        AclFault::MaskMissing => {
+            Reasoned::of(Reason::Unmasked, text).with(first_named(text, side))
         }
-    };
-    Reasoned::of(Reason::List(reason), text)
+        AclFault::TooMany => Reasoned::of(Reason::Many, text)
+            .with(count_of(text, side))
+            .and(MAX_ENTRIES as u64),
+    }
 }
 
 /// How many items are entries of one of the two lists.
 fn count_of(text: &[u8], side: Side) -> u64 {
     let mut count = 0u64;
-    for line in Parts::new(text, b'\n') {
-        for item in Parts::new(uncommented(line), b',') {
+    for line in WordParts::new(text, b'\n') {
+        for item in WordParts::new(uncommented(line), b',') {
             if is_of(item, side) {
                 count = count.saturating_add(1);
             }
@@ -162,8 +114,8 @@ fn is_of(item: &[u8], side: Side) -> bool {
 /// The number of the first item that names somebody.
 fn first_named(text: &[u8], side: Side) -> u64 {
     let mut number = 0u64;
-    for line in Parts::new(text, b'\n') {
-        for item in Parts::new(uncommented(line), b',') {
+    for line in WordParts::new(text, b'\n') {
+        for item in WordParts::new(uncommented(line), b',') {
             number = number.saturating_add(1);
             if let Some(said) = entry_in(item) {
                 if said.side == side && !said.whom.is_empty() {
@@ -182,18 +134,15 @@ fn doubled_told<'a>(
     side: Side,
     kind: Option<Kind>,
 ) -> Reasoned<'a> {
-    for line in Parts::new(text, b'\n') {
-        for item in Parts::new(uncommented(line), b',') {
+    for line in WordParts::new(text, b'\n') {
+        for item in WordParts::new(uncommented(line), b',') {
             if let Some(said) = entry_in(item) {
                 if said.side == side
                     && may_double(said, kind)
                     && count_same(above, text, said) > 1
                 {
-                    return Reasoned {
-                        reason: Reason::List(ListReason::Doubled(said.kind, side)),
-                        word: text,
-                        part: said.whom,
-                    };
+                    let doubled = Reasoned::of(Reason::Doubled, text).of_kind(said.kind);
+                    return doubled.of_side(side).at(said.whom);
                 }
             }
         }
@@ -230,8 +179,8 @@ fn is_same(above: Above<'_>, item: &[u8], sought: Said<'_>) -> bool {
 
 fn count_same(above: Above<'_>, text: &[u8], sought: Said<'_>) -> u64 {
     let mut count = 0u64;
-    for line in Parts::new(text, b'\n') {
-        for item in Parts::new(uncommented(line), b',') {
+    for line in WordParts::new(text, b'\n') {
+        for item in WordParts::new(uncommented(line), b',') {
             if is_same(above, item, sought) {
                 count = count.saturating_add(1);
             }
@@ -248,8 +197,8 @@ pub(crate) fn push_same(
     sought: Said<'_>,
 ) -> Result<(), AllocError> {
     let mut number = 0u64;
-    for line in Parts::new(list, b'\n') {
-        for item in Parts::new(uncommented(line), b',') {
+    for line in WordParts::new(list, b'\n') {
+        for item in WordParts::new(uncommented(line), b',') {
             number = number.saturating_add(1);
             if is_same(above, item, sought) {
                 text.push(b' ')?;
@@ -263,8 +212,8 @@ pub(crate) fn push_same(
 /// How many items a text has, empty ones too.
 pub(crate) fn count_of_items(text: &[u8]) -> u64 {
     let mut count = 0u64;
-    for line in Parts::new(text, b'\n') {
-        for _ in Parts::new(uncommented(line), b',') {
+    for line in WordParts::new(text, b'\n') {
+        for _ in WordParts::new(uncommented(line), b',') {
             count = count.saturating_add(1);
         }
     }

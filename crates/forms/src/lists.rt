@@ -7,10 +7,10 @@ ghost use Rattle.forms.specs.Finding.{BeginsWith, place_text, tab};
 use crate::above::Above;
 use crate::fields::{entry_in, uncommented};
 use crate::finding::{ItemEnds, ends_of, item_of_text, push_item};
-use crate::list::{ListReason, count_of_items, item_in, text_told};
+use crate::list::{count_of_items, item_in, text_told};
 use crate::reason::{Reason, Reasoned, push_told};
 use acl_text::{NameError, Names, TextFault, item_place, push_text_code, read_acl};
-use script_text::Parts;
+use script_text::WordParts;
 use std::alloc::{AllocError, Global};
 
 /// What is printed of a list, or of its item of this number. Each name is taken for one that has a number; or none is.
@@ -33,8 +33,8 @@ pub(crate) fn found_in_list(
         return printed(alloc, ends_of(list, place), fault, told_of(list, fault));
     }
     let Some(place) = item_place(list, number as usize) else {
-        let few = Reason::List(ListReason::Few(count_of_items(list)));
-        return printed(alloc, ends_of(list, None), None, Reasoned::of(few, b""));
+        let few = Reasoned::of(Reason::Few, b"").with(count_of_items(list));
+        return printed(alloc, ends_of(list, None), None, few);
     };
     let item = item_in(list, number as usize);
     let fault = fault_of(alloc, item, &names)?;
@@ -72,8 +72,8 @@ fn with_number(fault: TextFault, number: usize) -> Option<TextFault> {
 /// Gives each name of a list a number of its own, as a user's and as a group's.
 fn name_all(names: &mut Names, list: &[u8]) -> Result<(), AllocError> {
     let mut number = u32::MAX;
-    for line in Parts::new(list, b'\n') {
-        for item in Parts::new(uncommented(line), b',') {
+    for line in WordParts::new(list, b'\n') {
+        for item in WordParts::new(uncommented(line), b',') {
             if let Some(said) = entry_in(item) {
                 is_noted(names.add_user(said.whom, number))?;
                 is_noted(names.add_group(said.whom, number))?;

@@ -9,7 +9,8 @@ ghost use Rattle.forms.specs.Mends.{AreTold, FitsOne, IsWord, all_of, changed, f
 ghost use Rattle.forms.specs.code.Trials.{AddsAllFields, AddsFields, AddsMany, AddsMends, IsCutIn, IsMissingIn, IsShiftIn, MendsIn, change_of};
 
 use crate::above::Above;
-use crate::first::{FirstReason, mark_of};
+use crate::finding::ItemEnds;
+use crate::first::mark_of;
 use crate::number::is_digits;
 use crate::old::unheld;
 use crate::places::sample;
@@ -17,17 +18,18 @@ use crate::reading::{Reading, Standing};
 use crate::reason::{Reason, Reasoned};
 use script_text::{Words, push_number};
 use std::alloc::{AllocError, Global};
-use suite_script::{Ending, Expected, Form, Forms, LineFault, VERBS};
+use suite_script::{Expected, FormEnding, LineFault, LineForm, VERBS};
 
 /// A word that does not fit: its number, its fault, what was expected there (of a line as a whole nothing), the form
-/// that has this place or is due, and the number of the form's first word.
+/// that has this place or is due, the number of the form's first word, and where the faulty item of a list stands.
 #[derive(Clone, Copy)]
 pub(crate) struct Found<'a> {
     pub(crate) number: u64,
     pub(crate) fault: Option<LineFault>,
     pub(crate) expected: Option<Expected>,
-    pub(crate) form: Option<Form>,
+    pub(crate) form: Option<LineForm>,
     pub(crate) begin: u64,
+    pub(crate) item: ItemEnds,
     pub(crate) is_shifted: bool,
     pub(crate) told: Reasoned<'a>,
 }
@@ -53,7 +55,7 @@ pub(crate) struct Trial<'a> {
 fn is_misfit(
     alloc: Global,
     reading: &Reading,
-    form: Form,
+    form: LineForm,
     words: Words<'_>,
 ) -> Result<bool, AllocError>
     ensures { IfOk result (λ does. does ≡ is_some (line_misfit reading.now.scope form.places.now form.ending words.entry)) }
@@ -193,7 +195,7 @@ impl<'a> Trial<'a> {
         self,
         text: &mut Vec<u8>,
         at: u64,
-        forms: &[Form],
+        forms: &[LineForm],
         is_before: bool,
     ) -> Result<(), AllocError>
         ensures { OnOk result (AddsMends self.entry at is_before text.old.items text.new.items) }
@@ -204,76 +206,29 @@ impl<'a> Trial<'a> {
         Ok(())
     }
 
-    #[tactic(auto, using(crate::proofs::Mending::adds_none, crate::proofs::Mending::adds_more))]
-    fn push_parts(
-        self,
-        text: &mut Vec<u8>,
-        at: u64,
-        parts: &[&[Form]],
-        is_before: bool,
-    ) -> Result<(), AllocError>
-        ensures { OnOk result (AddsMends self.entry at is_before text.old.items text.new.items) }
-    {
-        for part in parts {
-            self.push_firsts(text, at, part, is_before)?;
-        }
-        Ok(())
-    }
-
-    /// Adds the operations whose word mends the line.
-    #[tactic(auto, using(crate::proofs::Mending::adds_none, crate::proofs::Mending::adds_more))]
-    fn push_verbs(self, text: &mut Vec<u8>, at: u64, is_before: bool) -> Result<(), AllocError>
-        ensures { OnOk result (AddsMends self.entry at is_before text.old.items text.new.items) }
-    {
-        for verb in VERBS.iter() {
-            self.push_if(text, at, verb.form().word, is_before)?;
-        }
-        Ok(())
-    }
-
-    /// Adds the first words with which the line has its form, in the place of its first word; or before that, where
-    /// one line of the header may be due.
-    fn push_lines(
-        self,
-        text: &mut Vec<u8>,
-        found: Found<'_>,
-        is_before: bool,
-    ) -> Result<(), AllocError>
-        ensures { OnOk result (AddsMends self.entry found.entry.number is_before text.old.items text.new.items) }
-    {
-        let reading = self.reading;
-        let Forms {
-            header,
-            optional,
-            names,
-            own,
-        } = reading.forms;
-        match found.form {
-            Some(due) if is_before => self.push_if(text, found.number, due.word, is_before),
-            None if is_before => self.push_parts(text, found.number, &[names, own], is_before),
-            _ => {
-                let parts = [header, optional, names, own];
-                self.push_parts(text, found.number, &parts, is_before)
+    /// The forms whose first words may mend the line: of a line that begins as none does those of all lines, or before it of
+    /// the one that is due; where an operation is due those of operations.
+    fn candidates(self, found: Found<'_>, is_before: bool) -> Result<Vec<LineForm>, AllocError> {
+        let mut forms = Vec::new(self.alloc);
+        match (found.expected, found.told.reason, found.form) {
+            (None, Reason::Unknown, Some(due)) if is_before => forms.push(due)?,
+            (None, Reason::Unknown, _) => {
+                let lines = self.reading.forms;
+                if !is_before {
+                    forms.extend_from_slice(lines.header)?;
+                    forms.extend_from_slice(lines.optional)?;
+                }
+                forms.extend_from_slice(lines.names)?;
+                forms.extend_from_slice(lines.own)?;
             }
-        }
-    }
-
-    #[tactic(auto, using(crate::proofs::Mending::adds_none))]
-    fn push_words(
-        self,
-        text: &mut Vec<u8>,
-        found: Found<'_>,
-        is_before: bool,
-    ) -> Result<(), AllocError>
-        ensures { OnOk result (AddsMends self.entry found.entry.number is_before text.old.items text.new.items) }
-    {
-        match (found.expected, found.told.reason) {
-            (None, Reason::First(FirstReason::Unknown)) => self.push_lines(text, found, is_before),
-            (Some(Expected::Operation), Reason::Due) => {
-                self.push_verbs(text, found.number, is_before)
+            (Some(Expected::Operation), Reason::Due, _) => {
+                for verb in VERBS.iter() {
+                    forms.push(verb.form())?;
+                }
             }
-            _ => Ok(()),
+            _ => {}
         }
+        Ok(forms)
     }
 
     /// The words that mend the line, in the place of the one that does not fit or before it, each with a space behind
@@ -283,7 +238,8 @@ impl<'a> Trial<'a> {
         ensures { IfOk result (λ text. AreTold (λ word. MendsIn self.entry found.entry.number (placed is_before word)) text.items) }
     {
         let mut text = Vec::new(self.alloc);
-        self.push_words(&mut text, found, is_before)?;
+        let forms = self.candidates(found, is_before)?;
+        self.push_firsts(&mut text, found.number, &forms, is_before)?;
         Ok(text)
     }
 
@@ -314,7 +270,7 @@ impl<'a> Trial<'a> {
 
     /// Whether the line has its form with a word more, which stands in a place of the form up to that of the word.
     #[tactic(auto, using(crate::proofs::Mending::is_missing))]
-    fn is_missing(self, form: Form, found: Found<'_>) -> Result<bool, AllocError>
+    fn is_missing(self, form: LineForm, found: Found<'_>) -> Result<bool, AllocError>
         ensures { IfOk result (λ does. IsTrue does → IsMissingIn self.entry) }
     {
         let mut at = found.begin;
@@ -329,7 +285,7 @@ impl<'a> Trial<'a> {
         }
         at = at.saturating_add(1);
         match form.ending {
-            Ending::Perhaps(place) if at <= found.number => {
+            FormEnding::Perhaps(place) if at <= found.number => {
                 self.fits(at, Change::Before(sample(place)))
             }
             _ => Ok(false),
@@ -351,7 +307,7 @@ impl<'a> Trial<'a> {
         let Some(misfit) = self.reading.scope.misfit(self.alloc, form, words)? else {
             return Ok(false);
         };
-        let (Ending::Operations, Expected::End) = (form.ending, misfit.expected) else {
+        let (FormEnding::Operations, Expected::End) = (form.ending, misfit.expected) else {
             return Ok(false);
         };
         if is_verb(self.word(misfit.number.saturating_sub(1))) {

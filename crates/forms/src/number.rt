@@ -3,54 +3,17 @@
 ghost use Rattle.std.specs.Prelude.{◌≡◌};
 ghost use Rattle.std.specs.Char.{is_ascii_digit};
 ghost use Rattle.std.specs.List.{list_all};
-ghost use Rattle.forms.specs.Reasons.{number_reason, number_told};
+ghost use Rattle.forms.specs.Reasons.{TellsNumber, number_reason};
 ghost use Rattle.script_text.specs.Numbers.{is_number};
 
-use crate::reason::{Numbers, Reason, Reasoned};
-use script_text::{Parts, read_number};
+use crate::reason::{Reason, Reasoned};
+use script_text::{WordParts, read_number};
 
 /// The most numbers of groups, a user's own and the others, as `acl_text` has it.
 const MAX_NUMBERS: u64 = 33;
 
-/// Why a word is not the number that is due, or are not the numbers.
-#[derive(Clone, Copy, PartialEq, Eq, Debug)]
-pub(crate) enum NumberReason {
-    /// It is no number.
-    NoNumber,
-    /// It is a name, which has this number.
-    Named(u64),
-    /// It is below the least.
-    Below(u64),
-    /// It is above the most.
-    Above(u64),
-    /// A comma has no number beside it.
-    Gap,
-    /// There are so many, and at most so many are allowed.
-    Many(u64, u64),
-}
-
-impl NumberReason {
-    pub(crate) fn name(self) -> &'static [u8] {
-        match self {
-            NumberReason::NoNumber => b"no-number",
-            NumberReason::Named(_) => b"named",
-            NumberReason::Below(_) => b"below",
-            NumberReason::Above(_) => b"above",
-            NumberReason::Gap => b"gap",
-            NumberReason::Many(_, _) => b"many",
-        }
-    }
-
-    pub(crate) fn numbers(self) -> Numbers {
-        match self {
-            NumberReason::Named(number)
-            | NumberReason::Below(number)
-            | NumberReason::Above(number) => [Some(number), None],
-            NumberReason::Many(count, most) => [Some(count), Some(most)],
-            NumberReason::NoNumber | NumberReason::Gap => [None, None],
-        }
-    }
-}
+/// The last number of a user or a group.
+pub(crate) const MAX_ID: u64 = 4_294_967_295;
 
 /// Whether all bytes are digits.
 fn are_digits(word: &[u8]) -> bool
@@ -66,25 +29,26 @@ pub(crate) fn is_digits(word: &[u8]) -> bool
     0 < word.len() && are_digits(word)
 }
 
-/// Why a word is no number within its limits, if it is none.
-pub(crate) fn number_reason(word: &[u8], least: u64, most: u64) -> Option<NumberReason>
+/// Why a word is no number within its limits, if it is none; and the limit that it passes.
+pub(crate) fn number_reason(word: &[u8], least: u64, most: u64) -> Option<(Reason, Option<u64>)>
     ensures { result ≡ number_reason least most word.now }
 {
     match read_number(word, most) {
-        Some(number) if number < least => Some(NumberReason::Below(least)),
+        Some(number) if number < least => Some((Reason::Below, Some(least))),
         Some(_) => None,
-        None if is_digits(word) => Some(NumberReason::Above(most)),
-        None => Some(NumberReason::NoNumber),
+        None if is_digits(word) => Some((Reason::Above, Some(most))),
+        None => Some((Reason::NoNumber, None)),
     }
 }
 
 /// What is told of a number.
 pub(crate) fn number_told(word: &[u8], least: u64, most: u64) -> Reasoned<'_>
-    ensures reason { result.reason ≡ number_told (number_reason least most word.now) }
+    ensures told { TellsNumber (number_reason least most word.now) result }
     ensures part { result.part.now ≡ word.now }
 {
     match number_reason(word, least, most) {
-        Some(reason) => Reasoned::of(Reason::Number(reason), word),
+        Some((reason, Some(limit))) => Reasoned::of(reason, word).with(limit),
+        Some((reason, None)) => Reasoned::of(reason, word),
         None => Reasoned::of(Reason::Due, word),
     }
 }
@@ -97,7 +61,7 @@ fn is_list(word: &[u8]) -> bool {
 
 /// Whether a part of a word between commas is empty.
 fn has_gap(word: &[u8]) -> bool {
-    for part in Parts::new(word, b',') {
+    for part in WordParts::new(word, b',') {
         if part.is_empty() {
             return true;
         }
@@ -105,42 +69,47 @@ fn has_gap(word: &[u8]) -> bool {
     false
 }
 
+/// What is told of the first of so many numbers, with commas between them, that is above the most.
+fn first_above(word: &[u8], most: u64, many: u64) -> Option<Reasoned<'_>> {
+    let mut count = 0u64;
+    for part in WordParts::new(word, b',') {
+        count = count.saturating_add(1);
+        if count <= many && number_reason(part, 0, most).is_some() {
+            return Some(Reasoned::of(Reason::Above, word).with(most).at(part));
+        }
+    }
+    None
+}
+
+/// How many parts a word has, with a separator between them.
+pub(crate) fn count_of(word: &[u8], separator: u8) -> u64 {
+    let mut count = 0u64;
+    for _ in WordParts::new(word, separator) {
+        count = count.saturating_add(1);
+    }
+    count
+}
+
 /// What is told of numbers of groups.
 pub(crate) fn groups_told(word: &[u8]) -> Reasoned<'_> {
     if !is_list(word) {
-        return Reasoned::of(Reason::Number(NumberReason::NoNumber), word);
+        return Reasoned::of(Reason::NoNumber, word);
     }
     if has_gap(word) {
-        return Reasoned::of(Reason::Number(NumberReason::Gap), word);
+        return Reasoned::of(Reason::Gap, word);
     }
-    let mut count = 0u64;
-    for part in Parts::new(word, b',') {
-        count = count.saturating_add(1);
-        if count <= MAX_NUMBERS && number_reason(part, 0, u64::from(u32::MAX)).is_some() {
-            return part_told(word, part, u64::from(u32::MAX));
-        }
-    }
-    Reasoned::of(Reason::Number(NumberReason::Many(count, MAX_NUMBERS)), word)
-}
-
-/// What is told of a part that is a number above the most.
-fn part_told<'a>(word: &'a [u8], part: &'a [u8], most: u64) -> Reasoned<'a> {
-    Reasoned {
-        reason: Reason::Number(NumberReason::Above(most)),
-        word,
-        part,
+    match first_above(word, MAX_ID, MAX_NUMBERS) {
+        Some(told) => told,
+        None => Reasoned::of(Reason::Many, word)
+            .with(count_of(word, b','))
+            .and(MAX_NUMBERS),
     }
 }
 
 /// What is told of numbers of servers.
 pub(crate) fn servers_told(word: &[u8], last: u64) -> Reasoned<'_> {
     if !is_list(word) || has_gap(word) {
-        return Reasoned::of(Reason::Number(NumberReason::NoNumber), word);
+        return Reasoned::of(Reason::NoNumber, word);
     }
-    for part in Parts::new(word, b',') {
-        if number_reason(part, 0, last).is_some() {
-            return part_told(word, part, last);
-        }
-    }
-    Reasoned::of(Reason::Due, word)
+    first_above(word, last, u64::MAX).unwrap_or(Reasoned::of(Reason::Due, word))
 }

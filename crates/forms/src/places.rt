@@ -31,29 +31,52 @@ pub(crate) const PLACES: [Place; 19] = [
     Place::Lists,
 ];
 
+/// The name of a place, a word that fits there in a script with one server and one agent too, and what stands there.
+fn about(place: Place) -> [&'static [u8]; 3] {
+    match place {
+        Place::Servers => [b"SERVERS", b"32", b"how many servers there are"],
+        Place::Agents => [b"AGENTS", b"64", b"how many agents there are"],
+        Place::Votes | Place::OpeningVotes => [b"VOTES", b"1/1/1", b"votes such as 1,1,1/2/2"],
+        Place::Uid => [b"UID", b"0", b"the number of a user"],
+        Place::Gid => [b"GID", b"0", b"the number of a group"],
+        Place::Init => [b"INIT", b"644", b"three octal digits or a list"],
+        Place::Budget => [b"BUDGET", b"0", b"the most bytes of a cache"],
+        Place::Quota => [b"QUOTA", b"0", b"the most bytes of a site's part of it"],
+        Place::Slots => [b"SLOTS", b"0", b"the most entries of a cache"],
+        Place::Old => [b"OLD", b"0", b"numbers of servers with commas between them"],
+        Place::UserName | Place::GroupName => [b"NAME", b"~", b"a name"],
+        Place::Agent => [b"A", b"0", b"the number of an agent"],
+        Place::Server => [b"S", b"0", b"the number of a server"],
+        Place::Site => [b"SITE", b"0", b"a number from 0 to 15"],
+        Place::Steps => [b"N", b"0", b"how many steps"],
+        Place::Gids => [
+            b"GIDS",
+            b"0",
+            b"the numbers of the user's groups with commas between them",
+        ],
+        Place::Path => [b"PATH", b"/a", b"a path"],
+        Place::Contents => [
+            b"HEX",
+            b"00",
+            b"hexadecimal digits, two a byte, or - for none",
+        ],
+        Place::Lists => [b"LIST", b"u::r,g::r,o::r", b"a list"],
+    }
+}
+
 /// The name of a place.
 pub(crate) fn name(place: Place) -> &'static [u8] {
-    match place {
-        Place::Servers => b"SERVERS",
-        Place::Agents => b"AGENTS",
-        Place::Votes | Place::OpeningVotes => b"VOTES",
-        Place::Uid => b"UID",
-        Place::Gid => b"GID",
-        Place::Init => b"INIT",
-        Place::Budget => b"BUDGET",
-        Place::Quota => b"QUOTA",
-        Place::Slots => b"SLOTS",
-        Place::Old => b"OLD",
-        Place::UserName | Place::GroupName => b"NAME",
-        Place::Agent => b"A",
-        Place::Server => b"S",
-        Place::Site => b"SITE",
-        Place::Steps => b"N",
-        Place::Gids => b"GIDS",
-        Place::Path => b"PATH",
-        Place::Contents => b"HEX",
-        Place::Lists => b"LIST",
-    }
+    about(place)[0]
+}
+
+/// A word that fits in a place.
+pub(crate) fn sample(place: Place) -> &'static [u8] {
+    about(place)[1]
+}
+
+/// What stands in a place.
+pub(crate) fn meaning(place: Place) -> &'static [u8] {
+    about(place)[2]
 }
 
 /// The least and the most of a number in its place.
@@ -106,44 +129,4 @@ fn push_range(text: &mut Vec<u8>, least: u64, most: u64, code: &[u8]) -> Result<
     push_number(text, most)?;
     text.push(b'\t')?;
     text.extend_from_slice(code)
-}
-
-/// A word that fits in a place, in a script with one server and one agent too.
-pub(crate) fn sample(place: Place) -> &'static [u8] {
-    match place {
-        Place::Servers => b"32",
-        Place::Agents => b"64",
-        Place::Votes | Place::OpeningVotes => b"1/1/1",
-        Place::Init => b"644",
-        Place::UserName | Place::GroupName => b"~",
-        Place::Path => b"/a",
-        Place::Contents => b"00",
-        Place::Lists => b"u::r,g::r,o::r",
-        _ => b"0",
-    }
-}
-
-/// What stands in a place.
-pub(crate) fn meaning(place: Place) -> &'static [u8] {
-    match place {
-        Place::Servers => b"how many servers there are",
-        Place::Agents => b"how many agents there are",
-        Place::Votes | Place::OpeningVotes => b"votes such as 1,1,1/2/2",
-        Place::Uid => b"the number of a user",
-        Place::Gid => b"the number of a group",
-        Place::Init => b"three octal digits or a list",
-        Place::Budget => b"the most bytes of a cache",
-        Place::Quota => b"the most bytes of a site's part of it",
-        Place::Slots => b"the most entries of a cache",
-        Place::Old => b"numbers of servers with commas between them",
-        Place::UserName | Place::GroupName => b"a name",
-        Place::Agent => b"the number of an agent",
-        Place::Server => b"the number of a server",
-        Place::Site => b"a number from 0 to 15",
-        Place::Steps => b"how many steps",
-        Place::Gids => b"the numbers of the user's groups with commas between them",
-        Place::Path => b"a path",
-        Place::Contents => b"hexadecimal digits, two a byte, or - for none",
-        Place::Lists => b"a list",
-    }
 }

@@ -13,7 +13,7 @@ use acl_text::Names;
 use script_text::{Lines, Words, read_number};
 use std::alloc::{AllocError, Global};
 use suite_prefix::MAX_AGENTS;
-use suite_script::{Form, Forms, Place, Scope};
+use suite_script::{Forms, LineForm, Place, Scope};
 use vote_core::MAX_SERVERS;
 
 /// A script that was read up to some line.
@@ -33,11 +33,11 @@ pub(crate) struct Reading {
 #[derive(Clone, Copy)]
 pub(crate) enum Standing {
     /// In its place.
-    Here(Form),
+    Here(LineForm),
     /// Out of its place; a line of the header is due, where it is known which.
-    Misplaced(Option<Form>),
+    Misplaced(Option<LineForm>),
     /// Nowhere.
-    Unknown(Option<Form>),
+    Unknown(Option<LineForm>),
 }
 
 /// As many servers and agents as there may be, and no names.
@@ -50,14 +50,14 @@ pub(crate) fn widest(alloc: Global) -> Scope {
 }
 
 /// The form of a line that begins with a word.
-pub(crate) fn form_of(forms: &[Form], word: &[u8]) -> Option<Form>
+pub(crate) fn form_of(forms: &[LineForm], word: &[u8]) -> Option<LineForm>
     ensures { result ≡ find (λ form. bytes_eq word.now form.word.now) forms.now }
 {
     forms.iter().copied().find(|form| word == form.word)
 }
 
 /// The form of a line of a script that begins with a word.
-pub(crate) fn known(forms: Forms, word: &[u8]) -> Option<Form>
+pub(crate) fn known(forms: Forms, word: &[u8]) -> Option<LineForm>
     ensures { result ≡ form_in forms word.now }
 {
     form_of(forms.header, word)
@@ -112,7 +112,7 @@ impl Reading {
     }
 
     /// The line of the header that is due, if one is.
-    pub(crate) fn due(&self) -> Option<Form>
+    pub(crate) fn due(&self) -> Option<LineForm>
         ensures { IfSome result (λ form. Contains self.now.forms.header.now form) }
     {
         self.forms.header.get(self.header).copied()
@@ -146,7 +146,7 @@ impl Reading {
     }
 
     /// Where a line stands that is not in its place.
-    fn misplaced(&self, word: &[u8], due: Option<Form>) -> Standing
+    fn misplaced(&self, word: &[u8], due: Option<LineForm>) -> Standing
         ensures { StandsIn self.now.forms word.now result }
     {
         match known(self.forms, word) {
@@ -174,7 +174,7 @@ impl Reading {
     }
 
     /// Notes what a line says: how many servers or agents there are, or a name.
-    fn note(&mut self, form: Form, mut words: Words<'_>) -> Result<(), AllocError>
+    fn note(&mut self, form: LineForm, mut words: Words<'_>) -> Result<(), AllocError>
         ensures { self.new.forms ≡ self.old.forms }
     {
         let (Some(place), Some(word)) = (form.places.first(), words.next()) else {

@@ -3,21 +3,21 @@
 use crate::above::Above;
 use crate::fields::Kind;
 use crate::list::word_told;
-use crate::number::{NumberReason, groups_told, number_told, servers_told};
+use crate::number::{MAX_ID, groups_told, number_told, servers_told};
 use crate::places::limits;
 use crate::reason::{Reason, Reasoned};
 use crate::votes::{begins_as_votes, form_told, valid_told};
-use crate::word::{WordReason, bytes_told, name_told};
+use crate::word::{bytes_told, name_told};
 use acl_text::TextFault;
 use script_text::Words;
-use suite_script::{Ending, Expected, Form, LineFault, Misfit, Place, Scope, VERBS};
+use suite_script::{Expected, FormEnding, LineFault, LineForm, Misfit, Place, Scope, VERBS};
 use vote_core::MAX_SERVERS;
 
 /// Where a word stands that does not fit: the form that has its place, the number of the form's first word, the word,
 /// where there is one, and the word before it.
 #[derive(Clone, Copy)]
 pub(crate) struct Spot<'a> {
-    pub(crate) form: Form,
+    pub(crate) form: LineForm,
     pub(crate) begin: u64,
     pub(crate) word: Option<&'a [u8]>,
     pub(crate) before: &'a [u8],
@@ -26,7 +26,7 @@ pub(crate) struct Spot<'a> {
 }
 
 /// Where a word stands that does not fit, in a line of a form whose words after the first are these.
-pub(crate) fn spot_of<'a>(form: Form, line: &'a [u8], misfit: Misfit) -> Spot<'a> {
+pub(crate) fn spot_of<'a>(form: LineForm, line: &'a [u8], misfit: Misfit) -> Spot<'a> {
     let mut number = 1u64;
     let mut verb = (form.places.len() as u64).saturating_add(2);
     let mut found = (form, 1u64);
@@ -49,13 +49,13 @@ pub(crate) fn spot_of<'a>(form: Form, line: &'a [u8], misfit: Misfit) -> Spot<'a
 /// The form that has a place is that of an operation, with the number of its first word, but where an operation is due,
 /// and in lines that have none.
 fn at<'a>(
-    line: Form,
-    operation: (Form, u64),
+    line: LineForm,
+    operation: (LineForm, u64),
     expected: Expected,
     word: Option<&'a [u8]>,
     before: &'a [u8],
 ) -> Spot<'a> {
-    let is_of_operation = line.ending == Ending::Operations && expected != Expected::Operation;
+    let is_of_operation = line.ending == FormEnding::Operations && expected != Expected::Operation;
     let (form, begin) = if is_of_operation {
         operation
     } else {
@@ -71,7 +71,7 @@ fn at<'a>(
 }
 
 /// The form of the operation that a word begins.
-fn operation_form(word: &[u8]) -> Option<Form> {
+fn operation_form(word: &[u8]) -> Option<LineForm> {
     VERBS
         .iter()
         .map(|verb| verb.form())
@@ -183,13 +183,12 @@ fn text_fault(fault: LineFault) -> Option<TextFault> {
 
 /// What is told of the number of a user or a group: it may be a name that has one.
 fn id_told<'a>(above: Above<'_>, kind: Kind, word: &'a [u8]) -> Reasoned<'a> {
-    let told = number_told(word, 0, u64::from(u32::MAX));
-    if told.reason != Reason::Number(NumberReason::NoNumber) {
-        return told;
-    }
+    let told = number_told(word, 0, MAX_ID);
     match above.named(kind, word) {
-        Some(named) => Reasoned::of(Reason::Number(NumberReason::Named(named.number)), word),
-        None => told,
+        Some(named) if told.reason == Reason::NoNumber => {
+            Reasoned::of(Reason::Named, word).with(named.number)
+        }
+        _ => told,
     }
 }
 
@@ -197,7 +196,7 @@ fn id_told<'a>(above: Above<'_>, kind: Kind, word: &'a [u8]) -> Reasoned<'a> {
 fn may_be_shifted(misfit: Misfit, told: Reasoned<'_>) -> bool {
     match misfit.fault {
         LineFault::List(fault) => matches!(fault, TextFault::Syntax(_)),
-        LineFault::BadName => !matches!(told.reason, Reason::Word(WordReason::Length(_, _))),
+        LineFault::BadName => told.reason != Reason::Length,
         LineFault::Settings(_) => true,
         LineFault::Form => is_shifted_form(misfit.expected, told),
         LineFault::Order | LineFault::NameTwice | LineFault::Votes(_) => false,
@@ -206,9 +205,7 @@ fn may_be_shifted(misfit: Misfit, told: Reasoned<'_>) -> bool {
 
 fn is_shifted_form(expected: Expected, told: Reasoned<'_>) -> bool {
     match told.reason {
-        Reason::LineEnds
-        | Reason::OperationEnds
-        | Reason::Number(NumberReason::Gap | NumberReason::Many(_, _)) => false,
+        Reason::LineEnds | Reason::OperationEnds | Reason::Gap | Reason::Many => false,
         _ => match expected {
             Expected::Place(Place::Votes | Place::OpeningVotes) => !begins_as_votes(told.word),
             Expected::Place(Place::Init | Place::Lists) => false,

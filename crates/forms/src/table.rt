@@ -3,16 +3,23 @@
 use crate::places::{PLACES, meaning, name, push_limits, sample};
 use crate::reading::widest;
 use std::alloc::{AllocError, Global};
-use suite_script::{Ending, Form, Forms, PLAY_LINES, SERVE_LINES, TABLE_LINES, VERBS};
+use suite_script::{FormEnding, Forms, LineForm, PLAY_LINES, SERVE_LINES, TABLE_LINES, VERBS};
+
+/// The commands, with the lines of their scripts.
+pub(crate) const COMMANDS: [(&[u8], Forms); 3] = [
+    (b"play", PLAY_LINES),
+    (b"serve", SERVE_LINES),
+    (b"table", TABLE_LINES),
+];
 
 /// The lines of a command's scripts, by the command's name.
 pub(crate) fn lines_of(command: &[u8]) -> Option<Forms> {
-    match command {
-        b"play" => Some(PLAY_LINES),
-        b"serve" => Some(SERVE_LINES),
-        b"table" => Some(TABLE_LINES),
-        _ => None,
+    for (name, forms) in COMMANDS {
+        if command == name {
+            return Some(forms);
+        }
     }
+    None
 }
 
 /// The table.
@@ -48,7 +55,7 @@ fn push_part(
     text: &mut Vec<u8>,
     command: &[u8],
     part: &[u8],
-    forms: &[Form],
+    forms: &[LineForm],
 ) -> Result<(), AllocError> {
     for form in forms {
         push_fields(text, &[b"line", command, part])?;
@@ -59,7 +66,7 @@ fn push_part(
 }
 
 /// A form with what it does, as the last fields of a line.
-fn push_form(text: &mut Vec<u8>, form: Form) -> Result<(), AllocError> {
+fn push_form(text: &mut Vec<u8>, form: LineForm) -> Result<(), AllocError> {
     text.extend_from_slice(form.word)?;
     text.push(b'\t')?;
     push_places(text, form)?;
@@ -82,7 +89,7 @@ fn push_fields(text: &mut Vec<u8>, fields: &[&[u8]]) -> Result<(), AllocError> {
 }
 
 /// The places of a form, with spaces between them.
-pub(crate) fn push_places(text: &mut Vec<u8>, form: Form) -> Result<(), AllocError> {
+pub(crate) fn push_places(text: &mut Vec<u8>, form: LineForm) -> Result<(), AllocError> {
     let mut gap: &[u8] = b"";
     for place in form.places {
         text.extend_from_slice(gap)?;
@@ -90,14 +97,14 @@ pub(crate) fn push_places(text: &mut Vec<u8>, form: Form) -> Result<(), AllocErr
         gap = b" ";
     }
     match form.ending {
-        Ending::Whole => Ok(()),
-        Ending::Perhaps(place) => {
+        FormEnding::Whole => Ok(()),
+        FormEnding::Perhaps(place) => {
             text.extend_from_slice(gap)?;
             text.push(b'[')?;
             text.extend_from_slice(name(place))?;
             text.extend_from_slice(b"]")
         }
-        Ending::Operations => {
+        FormEnding::Operations => {
             text.extend_from_slice(gap)?;
             text.extend_from_slice(b"OPERATIONS")
         }

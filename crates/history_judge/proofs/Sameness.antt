@@ -1,23 +1,11 @@
 -- Calls that are alike come to the same, whatever their numbers are.
-use Rattle.std.proofs.Common.{◌≡◌, ⊎_elim, ℕ, suc, ◌+◌, ◌<◌, List, [], ◌∷◌, length, get_or, Result, Ok, Err, Some, refl, sym, ap, subst, ◌∙◌, arith}
-use Rattle.std.specs.Prelude.{◌==◌, nat_lt, ◌||◌, if◌then◌else◌, slice_get}
-use Rattle.std.proofs.lemmas.Option.{same_Some}
-use Rattle.acl_core.specs.Identity.{Identity}
-use Rattle.file_ops.specs.declared.operation.Action.{Action}
+use Rattle.history_judge.proofs.Vocabulary.{◌≡◌, ⊎_elim, ℕ, suc, ◌+◌, ◌<◌, List, [], ◌∷◌, length, get_or, Result, Ok, Err, Some, refl, sym, ap, subst, ◌∙◌}
+use Rattle.history_judge.proofs.Vocabulary.{arith, ◌==◌, nat_lt, ◌||◌, if◌then◌else◌, slice_get, same_Some, Identity, Action, Op, Refusal, Service, ◌>>=◌}
+use Rattle.history_judge.proofs.Vocabulary.{◌>>◌, found_or, Rows, names_of, act, operation, Played, play, transaction, max_operations, CallRequest, Ops, Test}
+use Rattle.history_judge.proofs.Vocabulary.{IsNoMake, DoSame, AreSameAt, AskSame, outcome_of}
+use Rattle.file_ops.specs.Transactions.{after}
 use Rattle.file_ops.specs.declared.operation.Action.TheVariants as action
-use Rattle.file_ops.specs.declared.operation.Op.{Op}
-use Rattle.file_ops.specs.declared.refusal.Refusal.{Refusal}
 use Rattle.file_ops.specs.declared.refusal.Why.TheVariants as why
-use Rattle.file_ops.specs.declared.service.Service.{Service}
-use Rattle.file_ops.specs.Steps.{◌>>=◌, ◌>>◌, found_or}
-use Rattle.file_ops.specs.Rows.{Rows}
-use Rattle.file_ops.specs.Paths.{names_of}
-use Rattle.file_ops.specs.Operations.{act, operation}
-use Rattle.file_ops.specs.Transactions.{Played, after, play, transaction, max_operations}
-use Rattle.history_judge.specs.declared.history.Asked.{Asked}
-use Rattle.history_judge.specs.declared.history.Asked.TheVariants.{Ops, Test}
-use Rattle.history_judge.specs.Alike.{IsNoMake, DoSame, AreSameAt, AskSame}
-use Rattle.history_judge.specs.Histories.{outcome_of}
 use Rattle.history_judge.proofs.Among.{below_or}
 use Rattle.history_judge.proofs.Places.{at_get}
 
@@ -80,7 +68,7 @@ module _ (service : Service) (t t' : ℕ) (caller : Identity) where
     same_ops ops others (record { long = let long = same.long in omega (arith, long); same = λ place one theirs. same.same (suc place) one theirs }),
   )
 
-  pub outcome_same : (rows : Rows) (asked other : Asked) → AskSame asked other → outcome_of service rows t caller asked ≡ outcome_of service rows t' caller other
+  pub outcome_same : (rows : Rows) (asked other : CallRequest) → AskSame asked other → outcome_of service rows t caller asked ≡ outcome_of service rows t' caller other
   outcome_same rows (Ops ops) (Ops others) same = transaction_same rows ops others (same_ops ops others same)
   outcome_same rows (Ops ops) (Test path wanted) same = absurd same
   outcome_same rows (Test path wanted) other same = absurd same

@@ -1,28 +1,14 @@
 -- A call that waits for another one need not be placed: what comes of it comes of the other.
-use Rattle.std.proofs.Common.{◌≡◌, inl, inr, ⊎_elim, ℕ, zero, suc, ◌≤◌, ◌<◌, List, [], ◌∷◌, ◌++◌, Option, Some, None, sym, ap, subst, ◌∙◌, arith}
-use Rattle.std.specs.Prelude.{slice_get, Contains}
-use Rattle.std.proofs.lemmas.Option.{same_Some}
-use Rattle.std.proofs.lemmas.List.Elements.{Contains-append_cases}
-use Rattle.acl_core.specs.Identity.{Identity}
-use Rattle.file_ops.specs.Rows.{Rows, PlainTable}
-use Rattle.file_ops.specs.Transactions.{replies}
-use Rattle.history_judge.specs.declared.history.Call.{Call}
-use Rattle.history_judge.specs.declared.history.Told.{Told}
-use Rattle.history_judge.specs.declared.placed.Placed.{Placed}
-use Rattle.history_judge.specs.declared.window.Due.{Due}
-use Rattle.history_judge.specs.Alike.{Waits}
-use Rattle.history_judge.specs.Events.{IsPassed, IsDone, IsGone, GoesOn}
-use Rattle.history_judge.specs.Histories.{FitsTold, WasToldBefore, outcome, outcome_of, left_by, after_call, calls_of}
-use Rattle.history_judge.specs.Orders.{Calls}
-use Rattle.history_judge.specs.Placing.{set_of}
-use Rattle.history_judge.specs.Searches.{LeadsTo}
-use Rattle.history_judge.specs.Windows.{IsDue}
+use Rattle.history_judge.proofs.Vocabulary.{◌≡◌, inl, inr, ⊎_elim, ℕ, zero, suc, ◌≤◌, ◌<◌, List, [], ◌∷◌, ◌++◌, Option, Some, None, sym, ap, subst, ◌∙◌, arith}
+use Rattle.history_judge.proofs.Vocabulary.{slice_get, Contains, same_Some, Contains-append_cases, Identity, Rows, PlainTable, replies, Call, CallReply}
+use Rattle.history_judge.proofs.Vocabulary.{Placed, Due, Waits, IsPassed, IsDone, IsGone, GoesOn, FitsTold, WasToldBefore, outcome, outcome_of, left_by}
+use Rattle.history_judge.proofs.Vocabulary.{after_call, calls_of, Calls, set_of, LeadsTo, IsDue}
 use Rattle.history_judge.proofs.Sameness.{outcome_same}
 use Rattle.history_judge.proofs.Searching.{StandsFor, stand_for}
 use Rattle.history_judge.proofs.Standing.{precede_told, untold_call}
 use Rattle.history_judge.proofs.Going.{into_then, comes_on}
 
-told_later : (told : Option Told) (called later : ℕ) → called ≤ later → WasToldBefore told called → WasToldBefore told later
+told_later : (told : Option CallReply) (called later : ℕ) → called ≤ later → WasToldBefore told called → WasToldBefore told later
 told_later None called later less before = before
 told_later (Some told) called later less before = omega (arith, less, before)
 

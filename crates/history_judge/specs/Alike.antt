@@ -4,8 +4,8 @@ use Rattle.file_ops.specs.declared.operation.Action.{Action}
 use Rattle.file_ops.specs.declared.operation.Action.TheVariants as action
 use Rattle.file_ops.specs.declared.operation.Op.{Op}
 use Rattle.file_ops.specs.Paths.{names_of}
-use Rattle.history_judge.specs.declared.history.Asked.{Asked}
-use Rattle.history_judge.specs.declared.history.Asked.TheVariants.{Ops}
+use Rattle.history_judge.specs.declared.history.CallRequest.{CallRequest}
+use Rattle.history_judge.specs.declared.history.CallRequest.TheVariants.{Ops}
 use Rattle.history_judge.specs.declared.history.Call.{Call}
 
 -- an operation that makes nothing does the same whatever the number of its transaction is
@@ -23,7 +23,7 @@ pub record AreSameAt (ops others : List Op) : Type 0 where
   pub long : length ops ≡ length others
   pub same : (place : ℕ) (op other : Op) → slice_get ops place ≡ Some op → slice_get others place ≡ Some other → DoSame op other
 
-abbrev pub AskSame : Asked → Asked → Type 0
+abbrev pub AskSame : CallRequest → CallRequest → Type 0
 AskSame (Ops ops) (Ops others) = AreSameAt ops others
 AskSame _ _ = ⊥
 

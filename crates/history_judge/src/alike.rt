@@ -4,7 +4,7 @@ ghost use Rattle.std.specs.Prelude.{◌≡◌, ◌<◌, IsTrue, length};
 ghost use Rattle.history_judge.specs.Alike.{AreAlike, AreSameAt, AskSame, DoSame, IsNoMake, Waits};
 ghost use Rattle.file_ops.specs.Paths.{names_of};
 
-use crate::history::{Asked, Call, call_at};
+use crate::history::{Call, CallRequest, call_at};
 use crate::placed::is_among;
 use acl_core::{Caller, Lists};
 use file_ops::{Action, Op, PathText};
@@ -91,11 +91,14 @@ fn same_ops(own: &[Op], theirs: &[Op]) -> bool
 }
 
 /// Whether the same is known to be asked for.
-fn same_asked(own: &Asked, theirs: &Asked) -> bool
+fn same_asked(own: &CallRequest, theirs: &CallRequest) -> bool
     ensures { IsTrue result → AskSame own.now theirs.now }
 {
     match (own, theirs) {
-        (Asked::Ops(ops), Asked::Ops(others)) => same_ops(ops.as_slice(), others.as_slice()),
+        (CallRequest::Ops(ops), CallRequest::Ops(others)) => same_ops(
+            ops.as_slice(),
+            others.as_slice(),
+        ),
         _ => false,
     }
 }

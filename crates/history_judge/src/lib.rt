@@ -50,6 +50,6 @@ mod trying;
 mod verdict;
 mod window;
 
-pub use history::{Asked, Call, Ops, Seen, Told};
+pub use history::{Call, CallOps, CallReply, CallRequest, Seen};
 pub use search::order_of;
-pub use verdict::{Verdict, judge};
+pub use verdict::{Judgement, judge};

@@ -2,7 +2,7 @@
 use Rattle.law_certified.proofs.Vocabulary.{◌≡◌, ⊎_elim, ℕ, Bool, true, false, cond, List, [], ◌∷◌, ◌++◌, Option, Some, None, refl, sym, ap, subst, ◌∙◌, nat_eq, Contains, Result, Ok, Err, cons_option, append-nil, IsAccepted, Opening}
 use Rattle.law_certified.proofs.Vocabulary.{Answer, Refusal, PlainTable, replies, Verdict, Has, has_from, contains_from, Fixed, fixed_of, Event, Served, World, opening, step, after, dones, done_in, run, Decided, decisions, played_on}
 use Rattle.law_certified.proofs.Vocabulary.{table_with, table_after_all, dones-append, Item, IsDecidedAs, IsMet, IsNotDecided, asks_for_itself, EndedSo, later_decisions, decisions_go_on, finish_is_after, finished_before}
-use Rattle.law_certified.proofs.Vocabulary.{append_has_left, Entry, items_of, weave, asker, item_by, items_from, served_as, CertifiedIsPromised, StandsFirst, FinishedBeforeInHistory, ChangesAreMetInHistory, TellsOfTime}
+use Rattle.law_certified.proofs.Vocabulary.{append_has_left, AgentEntry, items_of, weave, asker, item_by, items_from, served_as, CertifiedIsPromised, StandsFirst, FinishedBeforeInHistory, ChangesAreMetInHistory, TellsOfTime}
 use Rattle.file_ops.specs.Rows as rows
 use Rattle.rep_core.specs.declared.request.Request.TheVariants as request
 use Rattle.rep_core.specs.declared.reply.Verdict.TheVariants as verdict
@@ -181,7 +181,7 @@ changes_are_met_in_history given accepted histories transcripts promised ds is s
       answers = answer_at (rows.opening given) at.before second at.after' (subst (table.AnswersAreTheTables (rows.opening given)) at.parts so);
     }
 
-pub tells_of_time : (given : Opening) → IsAccepted given → (histories : List (List Item)) (transcripts : List (List Entry)) → CertifiedIsPromised given histories transcripts → TellsOfTime given histories transcripts
+pub tells_of_time : (given : Opening) → IsAccepted given → (histories : List (List Item)) (transcripts : List (List AgentEntry)) → CertifiedIsPromised given histories transcripts → TellsOfTime given histories transcripts
 tells_of_time given accepted histories transcripts promised = record {
   finished = finished_before_in_history given accepted histories transcripts;
   changes = changes_are_met_in_history given accepted histories transcripts promised;

@@ -17,7 +17,7 @@ pub use Rattle.run_certify.specs.Merges.{items_of}
 pub use Rattle.run_certify.specs.Promised.{CertifiedIsPromised}
 pub use Rattle.run_certify.specs.Shown.{asker, item_by, items_from, served_as}
 pub use Rattle.run_certify.specs.Weaves.{weave}
-pub use Rattle.run_certify.specs.declared.entry.Entry.{Entry}
+pub use Rattle.run_certify.specs.declared.entry.AgentEntry.{AgentEntry}
 pub use Rattle.run_core.proofs.Appending.{dones-append}
 pub use Rattle.run_core.specs.Decisions.{Decided, decisions}
 pub use Rattle.run_core.specs.Runs.{after, done_in, dones, run}

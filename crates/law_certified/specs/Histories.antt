@@ -11,7 +11,7 @@ use Rattle.server_lock.specs.declared.item.Item.{Item}
 use Rattle.law_runs.specs.Claims.{IsMet, IsNotDecided}
 use Rattle.law_runs.specs.Finishes.{asks_for_itself}
 use Rattle.law_headline.specs.Promises.{MeetsChange}
-use Rattle.run_certify.specs.declared.entry.Entry.{Entry}
+use Rattle.run_certify.specs.declared.entry.AgentEntry.{AgentEntry}
 use Rattle.run_certify.specs.Merges.{history_of}
 use Rattle.run_certify.specs.Certified.{IsCertifiedAs}
 use Rattle.run_certify.specs.Promised.{CertifiedIsPromised}
@@ -32,7 +32,7 @@ FinishedBeforeInHistoryAt histories ds =
 
 abbrev pub FinishedBeforeInHistory : Type 0
 FinishedBeforeInHistory =
-    (given : Opening) → IsAccepted given → (histories : List (List Item)) (transcripts : List (List Entry)) (ds : List Decided)
+    (given : Opening) → IsAccepted given → (histories : List (List Item)) (transcripts : List (List AgentEntry)) (ds : List Decided)
     → IsCertifiedAs given histories transcripts ds → FinishedBeforeInHistoryAt histories ds
 
 -- So a change whose Finish stands there, which says that it was answered, as one that takes a permission away, is met by each decided one that asked that server
@@ -46,10 +46,10 @@ ChangesAreMetInHistoryAt given histories ds =
 
 abbrev pub ChangesAreMetInHistory : Type 0
 ChangesAreMetInHistory =
-    (given : Opening) → IsAccepted given → (histories : List (List Item)) (transcripts : List (List Entry)) → CertifiedIsPromised given histories transcripts
+    (given : Opening) → IsAccepted given → (histories : List (List Item)) (transcripts : List (List AgentEntry)) → CertifiedIsPromised given histories transcripts
     → (ds : List Decided) → IsCertifiedAs given histories transcripts ds → ChangesAreMetInHistoryAt given histories ds
 
 -- of whatever decisions these histories and transcripts are certified with
-pub record TellsOfTime (given : Opening) (histories : List (List Item)) (transcripts : List (List Entry)) : Type 0 where
+pub record TellsOfTime (given : Opening) (histories : List (List Item)) (transcripts : List (List AgentEntry)) : Type 0 where
   pub finished : (ds : List Decided) → IsCertifiedAs given histories transcripts ds → FinishedBeforeInHistoryAt histories ds
   pub changes : (ds : List Decided) → IsCertifiedAs given histories transcripts ds → ChangesAreMetInHistoryAt given histories ds

@@ -1,7 +1,7 @@
 //! Lines and words at their edges, and each public call once.
 
 use crate::checks::{had, holds, same, shows};
-use script_text::{Lines, Parts, Phrases, Words, push_number, read_number};
+use script_text::{Lines, Phrases, WordParts, Words, push_number, read_number};
 use std::process::Abort;
 
 /// Appends a piece, and a byte after it.
@@ -74,7 +74,7 @@ fn words_are_read_in_turn(rt: HostRuntime) {
 /// A word has these parts between commas; a bar is put after each.
 fn has_parts(rt: &(impl Abort + AllocGlobal), word: &str, want: &str) {
     let mut told = Vec::new(rt.alloc());
-    for part in Parts::new(word.as_bytes(), b',') {
+    for part in WordParts::new(word.as_bytes(), b',') {
         add(rt, &mut told, part, b'|');
     }
     same(rt, &told, want, word);

@@ -2,7 +2,7 @@
 
 use crate::checks::{add, debug, holds, printed, tells};
 use std::process::Abort;
-use suite_args::{Request, read_words};
+use suite_args::{Invocation, read_words};
 
 /// The words of a line; `''` is a word with nothing in it.
 fn words_of<'a>(rt: &(impl Abort + AllocGlobal), line: &'a str) -> Vec<&'a str> {
@@ -16,7 +16,7 @@ fn words_of<'a>(rt: &(impl Abort + AllocGlobal), line: &'a str) -> Vec<&'a str> 
 /// What the words of a line ask for: of help its text.
 fn told(rt: &(impl Abort + AllocGlobal), line: &str) -> String {
     match read_words(rt.alloc(), &words_of(rt, line)) {
-        Ok(Request::Help(help)) => printed(rt, help.as_str()),
+        Ok(Invocation::Help(help)) => printed(rt, help.as_str()),
         other => debug(rt, other),
     }
 }
@@ -27,9 +27,9 @@ static LINES: &str = "
  -> Err(CommandLine)
 table -> Ok(Plays(Table))
 play -> Ok(Plays(Play))
-acl -> Ok(Acl(Names { words: [] }))
-acl user:lisa=1001 group:toolies=200 -> Ok(Acl(Names { words: [\"user:lisa=1001\", \"group:toolies=200\"] }))
-acl nonsense '' - -> Ok(Acl(Names { words: [\"nonsense\", \"\", \"-\"] }))
+acl -> Ok(Acl(NameWords { words: [] }))
+acl user:lisa=1001 group:toolies=200 -> Ok(Acl(NameWords { words: [\"user:lisa=1001\", \"group:toolies=200\"] }))
+acl nonsense '' - -> Ok(Acl(NameWords { words: [\"nonsense\", \"\", \"-\"] }))
 list -> Err(CommandLine)
 '' -> Err(CommandLine)
 Table -> Err(CommandLine)
@@ -51,7 +51,7 @@ help list -> Err(CommandLine)
 table -- -> Ok(Plays(Table))
 play -- -> Ok(Plays(Play))
 table -- more -> Err(CommandLine)
-acl a -- -x -- -> Ok(Acl(Names { words: [\"a\", \"-x\", \"--\"] }))";
+acl a -- -x -- -> Ok(Acl(NameWords { words: [\"a\", \"-x\", \"--\"] }))";
 
 #[test]
 fn reads_command_lines(rt: HostRuntime) {

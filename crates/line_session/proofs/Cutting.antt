@@ -1,9 +1,7 @@
 -- The lines of a text that is heard are its lines.
-use Rattle.std.proofs.Common.{◌≡◌, ◌∙◌, ℕ, suc, ◌==◌, Bool, true, false, cond, List, [], ◌∷◌, ◌++◌, length, refl, ap, sym, append_assoc, arith}
-use Rattle.std.proofs.lemmas.List.{append-nil}
-use Rattle.std.specs.List.{onto_first, slice_split}
-use Rattle.std.specs.Str.Lines.{lines, lines_of_parts, strip_carriage_return}
-use Rattle.line_session.specs.Lines.{Cut, LinesAreCut, all_lines, bytes_more, cut, last_line, one_byte}
+use Rattle.line_session.proofs.Vocabulary.{◌≡◌, ◌∙◌, ℕ, suc, ◌==◌, Bool, true, false, cond, List, [], ◌∷◌, ◌++◌, length, refl, ap, sym, append_assoc, arith}
+use Rattle.line_session.proofs.Vocabulary.{append-nil, onto_first, slice_split, lines, lines_of_parts, strip_carriage_return, Cut, LinesAreCut, all_lines}
+use Rattle.line_session.proofs.Vocabulary.{bytes_more, cut, last_line, one_byte}
 
 abbrev parts : List ℕ → List (List ℕ)
 parts text = slice_split (λ byte. byte == 10) text

@@ -1,10 +1,7 @@
 -- What is heard, kept and told by turns, and answered line by line, some more at the end.
-use Rattle.std.proofs.Common.{◌≡◌, ◌∙◌, ℕ, Bool, false, true, eqb, List, [], ◌∷◌, ◌++◌, map, refl, ap, sym, append_assoc}
-use Rattle.std.specs.Str.Lines.{strip_carriage_return}
-use Rattle.std.proofs.lemmas.List.{append-nil}
-use Rattle.line_session.specs.Answers.{AllFit, Going, Manner, after, answers, first_of, keeps, line_answer, line_keeps, one_line}
-use Rattle.line_session.specs.Lines.{Cut, all_lines, bytes_more, cut, last_line, one_byte}
-use Rattle.line_session.specs.Turns.{Turn, Heard, Kept, Told, heard, kept, told}
+use Rattle.line_session.proofs.Vocabulary.{◌≡◌, ◌∙◌, ℕ, Bool, false, true, eqb, List, [], ◌∷◌, ◌++◌, map, refl, ap, sym, append_assoc, strip_carriage_return}
+use Rattle.line_session.proofs.Vocabulary.{append-nil, AllFit, Going, Manner, after, answers, first_of, keeps, line_answer, line_keeps, one_line, Cut}
+use Rattle.line_session.proofs.Vocabulary.{all_lines, bytes_more, cut, last_line, one_byte, Turn, Heard, Kept, Told, heard, kept, told}
 
 -- ---- turns
 

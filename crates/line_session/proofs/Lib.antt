@@ -1,3 +1,4 @@
+mod Vocabulary
 pub mod Folds
 pub mod Proper
 pub mod Saying

@@ -1,17 +1,8 @@
 -- The loop of a session.
-use Rattle.std.proofs.Common.{◌≡◌, ◌∙◌, ℕ, Bool, eqb, true, false, List, [], ◌∷◌, ◌++◌, Option, Some, None, Result, Ok, Err, sym, subst}
-use Rattle.std.specs.Str.Lines.{strip_carriage_return}
+use Rattle.line_session.proofs.Vocabulary.{◌≡◌, ◌∙◌, ℕ, Bool, eqb, true, false, List, [], ◌∷◌, ◌++◌, Option, Some, None, Result, Ok, Err, sym, subst}
+use Rattle.line_session.proofs.Vocabulary.{strip_carriage_return, Manner, manner_of, Holds, IsEmptyIf, IsGiven, AnswersAll, Speaks, AnswersLine, Adds, Heard}
+use Rattle.line_session.proofs.Vocabulary.{Stays, Turn, BegunLine, Given, Course, LineKind, SessionError}
 use Rattle.line_session.proofs.Midway.{Midway, at_first, broke_off, broke_off_last, byte_kept, ends_after, ends_here, line_answered, piece_heard, speaks, stays_speaks}
-use Rattle.line_session.specs.Answers.{Manner, manner_of}
-use Rattle.line_session.specs.Begun.{Holds, IsEmptyIf, IsGiven}
-use Rattle.line_session.specs.InTime.{AnswersAll, Speaks}
-use Rattle.line_session.specs.Steps.{AnswersLine}
-use Rattle.line_session.specs.Turns.{Adds, Heard, Stays, Turn}
-use Rattle.line_session.specs.declared.begun_line.BegunLine.{BegunLine}
-use Rattle.line_session.specs.declared.begun_line.Given.{Given}
-use Rattle.line_session.specs.declared.course.Course.{Course}
-use Rattle.line_session.specs.declared.line_kind.LineKind.{LineKind}
-use Rattle.line_session.specs.declared.session_error.SessionError.{SessionError}
 
 -- a session on its way, with the line that was begun
 pub record OnWay {State : Type 0} (manner : Manner State) (Leaves : State → List ℕ → State → Type 0) (start : State) (before now : Option (List Turn)) (course : Course) (state : State) (begun : BegunLine) (left : List ℕ) (keeps : Bool) : Type 0 where

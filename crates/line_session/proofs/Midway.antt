@@ -1,16 +1,11 @@
 -- A session on its way.
-use Rattle.std.proofs.Common.{◌≡◌, ◌∙◌, ℕ, false, true, eqb, List, [], ◌∷◌, ◌++◌, map, Option, Some, None, Ok, Err, refl, ap, sym, subst, append_assoc}
-use Rattle.std.specs.Str.Lines.{strip_carriage_return}
-use Rattle.std.proofs.lemmas.List.{append-nil}
+use Rattle.line_session.proofs.Vocabulary.{◌≡◌, ◌∙◌, ℕ, false, true, eqb, List, [], ◌∷◌, ◌++◌, map, Option, Some, None, Ok, Err, refl, ap, sym, subst}
+use Rattle.line_session.proofs.Vocabulary.{append_assoc, strip_carriage_return, append-nil, AllFit, Came, Fits, Going, Manner, after, answers, begin, keeps}
+use Rattle.line_session.proofs.Vocabulary.{line_answer, line_keeps, one_line, AnswersAfter, AnswersAll, Speaks, SpeaksAfter, kept_for, told_for, Cut}
+use Rattle.line_session.proofs.Vocabulary.{all_lines, cut, last_line, AnswersLine, Course, SessionError, Adds, Says, SaysAfter, Stays, Turn, Heard, Kept, Told}
+use Rattle.line_session.proofs.Vocabulary.{heard, kept, told}
 use Rattle.line_session.proofs.Folds.{after-append, answers-append, cut_feed, cut_other, done_fits, fits-append, heard-append, heard_one, heard_says, keeps-append, kept-append, kept_not, kept_says, lines_grow, told-append, told_not, told_says}
 use Rattle.line_session.proofs.Proper.{Proper, is_ahead, is_in_time, proper_more, proper_says}
-use Rattle.line_session.specs.Answers.{AllFit, Came, Fits, Going, Manner, after, answers, begin, keeps, line_answer, line_keeps, one_line}
-use Rattle.line_session.specs.InTime.{AnswersAfter, AnswersAll, Speaks, SpeaksAfter, kept_for, told_for}
-use Rattle.line_session.specs.Lines.{Cut, all_lines, cut, last_line}
-use Rattle.line_session.specs.Steps.{AnswersLine}
-use Rattle.line_session.specs.declared.course.Course.{Course}
-use Rattle.line_session.specs.declared.session_error.SessionError.{SessionError}
-use Rattle.line_session.specs.Turns.{Adds, Says, SaysAfter, Stays, Turn, Heard, Kept, Told, heard, kept, told}
 
 -- where a session stands, and what comes of the lines from here on
 abbrev going_at : {State : Type 0} → ℕ → ℕ → State → List (Came State) → Going State

@@ -1,10 +1,6 @@
 -- In time and ahead, turn by turn.
-use Rattle.std.proofs.Common.{◌≡◌, ◌∙◌, ℕ, List, [], ◌∷◌, ◌++◌, map, ap, sym, subst, append_assoc}
-use Rattle.std.proofs.lemmas.List.{append-nil}
-use Rattle.line_session.specs.Answers.{Going, Manner, answers, keeps}
-use Rattle.line_session.specs.InTime.{IsAhead, IsInTime, IsKeptFirst, told_for}
-use Rattle.line_session.specs.Lines.{all_lines}
-use Rattle.line_session.specs.Turns.{Turn, Heard, Kept, Told, heard, kept, told}
+use Rattle.line_session.proofs.Vocabulary.{◌≡◌, ◌∙◌, ℕ, List, [], ◌∷◌, ◌++◌, map, ap, sym, subst, append_assoc, append-nil, Going, Manner, answers, keeps}
+use Rattle.line_session.proofs.Vocabulary.{IsAhead, IsInTime, IsKeptFirst, told_for, all_lines, Turn, Heard, Kept, Told, heard, kept, told}
 
 -- the same as `IsInTime` and `IsAhead`, where so much was heard, told and kept before
 abbrev pub Proper : {State : Type 0} → Manner State → Going State → List ℕ → List ℕ → List (List ℕ) → List Turn → Type 0

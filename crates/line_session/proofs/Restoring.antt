@@ -1,13 +1,10 @@
 -- What a journal restores.
-use Rattle.std.proofs.Common.{◌≡◌, ◌∙◌, ◌⊎◌, ℕ, ◌+◌, inl, inr, Bool, false, true, eqb, List, [], ◌∷◌, ◌++◌, refl, ap, arith, sym, subst, append_assoc}
-use Rattle.std.specs.Str.Lines.{strip_carriage_return}
-use Rattle.std.proofs.lemmas.Bool.{false≢true}
-use Rattle.std.proofs.lemmas.List.{append-nil}
+use Rattle.line_session.proofs.Vocabulary.{◌≡◌, ◌∙◌, ◌⊎◌, ℕ, ◌+◌, inl, inr, Bool, false, true, eqb, List, [], ◌∷◌, ◌++◌, refl, ap, arith, sym, subst}
+use Rattle.line_session.proofs.Vocabulary.{append_assoc, strip_carriage_return, false≢true, append-nil, Came, Done, Going, Left, Lost, Manner, Unkept, after}
+use Rattle.line_session.proofs.Vocabulary.{begin, first_of, is_long, is_to_keep, keeps, keeps_line, kept_if, later_of, line_keeps, line_next, line_status}
+use Rattle.line_session.proofs.Vocabulary.{manner_of, one_line, worse, Cut, bytes_more, cut, one_byte, AreReadBack, DoneIsRun, HasNoFeed, JournalRestores}
+use Rattle.line_session.proofs.Vocabulary.{NoneLeft, WasIn, journal_of, run, LineKind}
 use Rattle.line_session.proofs.Folds.{after-append, keeps-append}
-use Rattle.line_session.specs.Answers.{Came, Done, Going, Left, Lost, Manner, Unkept, after, begin, first_of, is_long, is_to_keep, keeps, keeps_line, kept_if, later_of, line_keeps, line_next, line_status, manner_of, one_line, worse}
-use Rattle.line_session.specs.Lines.{Cut, bytes_more, cut, one_byte}
-use Rattle.line_session.specs.Restored.{AreReadBack, DoneIsRun, HasNoFeed, JournalRestores, NoneLeft, WasIn, journal_of, run}
-use Rattle.line_session.specs.declared.line_kind.LineKind.{LineKind}
 use Rattle.line_session.specs.declared.line_kind.LineKind.TheVariants as kinds
 
 -- ---- the kept lines make the state of all lines

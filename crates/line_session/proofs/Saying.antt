@@ -1,18 +1,12 @@
 -- What the answering of one line comes to, step by step.
-use Rattle.std.proofs.Common.{◌≡◌, ◌∙◌, ℕ, ◌≤◌, ◌<◌, ◌⊎◌, inl, inr, Bool, false, true, ◌&&◌, List, [], ◌∷◌, ◌++◌, length, map, Option, Some, None, Result, Ok, Err, IfOk, OnErr, refl, ap, sym, subst, append_assoc}
-use Rattle.byte_streams.specs.Endings.{faulty, no_memory, no_stream}
-use Rattle.byte_streams.specs.Streams.{one_more}
-use Rattle.byte_streams.specs.declared.traits.WriteFailed.{WriteFailed}
-use Rattle.std.specs.Result.{IsErr}
-use Rattle.std.specs.declared.alloc.AllocError.{AllocError}
-use Rattle.std.proofs.lemmas.Bool.{false≢true, le-ltb, lt-ltb}
-use Rattle.std.proofs.lemmas.List.{append-nil, map-append}
+use Rattle.line_session.proofs.Vocabulary.{◌≡◌, ◌∙◌, ℕ, ◌≤◌, ◌<◌, ◌⊎◌, inl, inr, Bool, false, true, ◌&&◌, List, [], ◌∷◌, ◌++◌, length, map, Option, Some, None}
+use Rattle.line_session.proofs.Vocabulary.{Result, Ok, Err, IfOk, OnErr, refl, ap, sym, subst, append_assoc, faulty, no_memory, no_stream, one_more}
+use Rattle.line_session.proofs.Vocabulary.{WriteFailed, IsErr, AllocError, false≢true, le-ltb, lt-ltb, append-nil, map-append, Came, Done, Left, Lost, Manner}
+use Rattle.line_session.proofs.Vocabulary.{Unkept, is_long, journal_line, keeps_line, kept_if, line_answer, line_keeps, line_next, line_status, long_line}
+use Rattle.line_session.proofs.Vocabulary.{mark_if, max_line, worse, AnswersLine, HasAnswer, IsCarriedOut, IsCourse, IsMemory, RanOut, SaysLine, SaysThen}
+use Rattle.line_session.proofs.Vocabulary.{StandsAfter, StandsIf, memory_answer, Adds, BreaksOff, Kept, Says, SaysAfter, Stays, Told, Turn, told, Course}
+use Rattle.line_session.proofs.Vocabulary.{SessionError}
 use Rattle.line_session.proofs.Folds.{told-append}
-use Rattle.line_session.specs.Answers.{Came, Done, Left, Lost, Manner, Unkept, is_long, journal_line, keeps_line, kept_if, line_answer, line_keeps, line_next, line_status, long_line, mark_if, max_line, worse}
-use Rattle.line_session.specs.Steps.{AnswersLine, HasAnswer, IsCarriedOut, IsCourse, IsMemory, RanOut, SaysLine, SaysThen, StandsAfter, StandsIf, memory_answer}
-use Rattle.line_session.specs.Turns.{Adds, BreaksOff, Kept, Says, SaysAfter, Stays, Told, Turn, told}
-use Rattle.line_session.specs.declared.course.Course.{Course}
-use Rattle.line_session.specs.declared.session_error.SessionError.{SessionError}
 
 -- ---- what is said
 

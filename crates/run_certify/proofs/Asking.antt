@@ -1,6 +1,6 @@
 -- A step of an agent is played, of which it put down what it was told.
 use Rattle.run_certify.proofs.Vocabulary.{◌≡◌, ℕ, true, List, [], ◌∷◌, ◌++◌, slice_set, subst, refl, ap, ◌∙◌, sym, Option, Some, None, cons_option, none-some, same_Some, Fixed, fixed_of, asked_by, Done, EndedJob, Served, Step, decided}
-use Rattle.run_certify.proofs.Vocabulary.{has_sense, Stepped, World, actor_at, step, Entry, Asked, decision_by, job_at, ItemAt, asked, ended, entries_by, item_by, served_as, EndsOtherwise, HasEnded, AskedFails, AskedGoes, Fails, IsEnd}
+use Rattle.run_certify.proofs.Vocabulary.{has_sense, Stepped, World, actor_at, step, AgentEntry, Asked, decision_by, job_at, ItemAt, asked, ended, entries_by, item_by, served_as, EndsOtherwise, HasEnded, AskedFails, AskedGoes, Fails, IsEnd}
 use Rattle.run_certify.proofs.Vocabulary.{IsEvent, IsSound, IsUse, Walked}
 use Rattle.run_certify.proofs.Deciding.{decided_is}
 use Rattle.run_certify.proofs.Events.{end_after, ended_by, otherwise_by}
@@ -10,18 +10,18 @@ use Rattle.run_certify.proofs.Playing.{after_use, ends, otherwise}
 use Rattle.run_certify.proofs.Walking.{IsAfter, asked_fails, asked_goes}
 
 -- what was told of a step in which an item was served, and what was put down after it
-pub record IsAnswered (fixed : Fixed) (world : World) (agent server stamp : ℕ) (one : ItemAt) (ys : List Entry) : Type 0 where
+pub record IsAnswered (fixed : Fixed) (world : World) (agent server stamp : ℕ) (one : ItemAt) (ys : List AgentEntry) : Type 0 where
   pub at : server ≡ one.server
   pub told : stamp ≡ one.item.stamp
   pub served : served_as (Some agent) (step fixed world (Step agent)).done.served ≡ Some one
-  pub rest : List Entry
+  pub rest : List AgentEntry
   pub past : ys ≡ ended (step fixed world (Step agent)).done.outcome ++ rest
 
-abbrev server_in : Entry → ℕ
+abbrev server_in : AgentEntry → ℕ
 server_in (Asked server stamp) = server
 server_in other = 0
 
-abbrev stamp_in : Entry → ℕ
+abbrev stamp_in : AgentEntry → ℕ
 stamp_in (Asked server stamp) = stamp
 stamp_in other = 0
 
@@ -29,7 +29,7 @@ module _ (fixed : Fixed) (world : World) (agent : ℕ) where
   abbrev done : Done
   done = (step fixed world (Step agent)).done
 
-  answered_by : (server stamp : ℕ) (one : ItemAt) (ys rest : List Entry) (what : Served) → done.served ≡ Some what → Asked server stamp ∷ ys ≡ entries_by fixed world (Step agent) done ++ rest
+  answered_by : (server stamp : ℕ) (one : ItemAt) (ys rest : List AgentEntry) (what : Served) → done.served ≡ Some what → Asked server stamp ∷ ys ≡ entries_by fixed world (Step agent) done ++ rest
       → ((it : ItemAt) → served_as (Some agent) done.served ≡ Some it → one ≡ it) → IsAnswered fixed world agent server stamp one ys
   answered_by server stamp one ys rest what is told same =
       let first : Asked server stamp ∷ ys ≡ Asked what.server what.reply.stamp ∷ (ended done.outcome ++ rest) = told ∙ ap (λ o. (asked (asked_by fixed (actor_at world agent)) o ++ ended done.outcome) ++ rest) is in
@@ -44,7 +44,7 @@ module _ (fixed : Fixed) (world : World) (agent : ℕ) where
         past = same_tail (Asked server stamp) (Asked what.server what.reply.stamp) ys (ended done.outcome ++ rest) first;
       }
 
-  answered : (server stamp : ℕ) (one : ItemAt) (ys rest : List Entry) → has_sense fixed world (Step agent) ≡ true → Asked server stamp ∷ ys ≡ entries_by fixed world (Step agent) done ++ rest
+  answered : (server stamp : ℕ) (one : ItemAt) (ys rest : List AgentEntry) → has_sense fixed world (Step agent) ≡ true → Asked server stamp ∷ ys ≡ entries_by fixed world (Step agent) done ++ rest
       → ((it : ItemAt) → served_as (Some agent) done.served ≡ Some it → one ≡ it) → IsAnswered fixed world agent server stamp one ys
   answered server stamp one ys rest sense told same = by_served done.served refl
     where
@@ -87,7 +87,7 @@ some_what who (Some what) one is = (what, refl)
 some_what who None one is = absurd (none-some one is)
 
 -- what was decided in it
-decided_so : (was old mid : Walked) (agent : ℕ) (entry : Entry) (done : Done) → IsUse was agent entry old → IsEvent old (Step agent) done mid
+decided_so : (was old mid : Walked) (agent : ℕ) (entry : AgentEntry) (done : Done) → IsUse was agent entry old → IsEvent old (Step agent) done mid
     → step (fixed_of was.given) was.world (Step agent) ≡ record { world = mid.world; done = done } → IsSound was
     → decided (fixed_of was.given) was.world (Step agent) ≡ decision_by (job_at mid.begun.jobs agent) done.served
 decided_so was old mid agent entry done it played stepped sound =

@@ -1,5 +1,5 @@
 -- The run of a world, as the walk speaks of it.
-use Rattle.run_certify.proofs.Vocabulary.{◌≡◌, ℕ, Bool, List, [], ◌∷◌, ◌++◌, refl, ap, ◌∙◌, sym, Option, cons_option, Fixed, Event, World, step, Decided, decisions_from, Entry, ItemAt, has_sense, HaveSense, agent_of, asker, entries_by}
+use Rattle.run_certify.proofs.Vocabulary.{◌≡◌, ℕ, Bool, List, [], ◌∷◌, ◌++◌, refl, ap, ◌∙◌, sym, Option, cons_option, Fixed, Event, World, step, Decided, decisions_from, AgentEntry, ItemAt, has_sense, HaveSense, agent_of, asker, entries_by}
 use Rattle.run_certify.proofs.Vocabulary.{if_of, items_from, served_as, transcript_from, AreOfRun}
 use Rattle.run_core.specs.Decisions as decisions
 use Rattle.run_certify.proofs.Steps.{AreOf, decided_in, have_sense, items_in, told_in}
@@ -14,7 +14,7 @@ module _ (fixed : Fixed) where
   abbrev pub serves : World → Event → Option ItemAt
   serves w event = served_as (asker event) (step fixed w event).done.served
 
-  abbrev pub puts : World → Event → List Entry
+  abbrev pub puts : World → Event → List AgentEntry
   puts w event = entries_by fixed w event (step fixed w event).done
 
   abbrev pub decides : World → Event → Option Decided
@@ -40,14 +40,14 @@ module _ (fixed : Fixed) where
   decided_same w [] = refl
   decided_same w (event ∷ events) = ap (λ xs. cons_option (decides w event) xs) (decided_same (next w event) events)
 
-  pub to_run : (w : World) (events : List Event) (items : List ItemAt) (unused : List (List Entry)) → AreOf next sense serves puts decides w events items unused → AreOfRun fixed w events items unused
+  pub to_run : (w : World) (events : List Event) (items : List ItemAt) (unused : List (List AgentEntry)) → AreOf next sense serves puts decides w events items unused → AreOfRun fixed w events items unused
   to_run w events items unused is = record {
     sense = sense_to w events is.sense_is;
     served = sym (items_same w events) ∙ is.served;
     told = λ agent. sym (told_same agent w events) ∙ is.told agent;
   }
 
-  pub from_run : (w : World) (events : List Event) (items : List ItemAt) (unused : List (List Entry)) → AreOfRun fixed w events items unused → AreOf next sense serves puts decides w events items unused
+  pub from_run : (w : World) (events : List Event) (items : List ItemAt) (unused : List (List AgentEntry)) → AreOfRun fixed w events items unused → AreOf next sense serves puts decides w events items unused
   from_run w events items unused is = record {
     sense_is = sense_from w events is.sense;
     served = items_same w events ∙ is.served;

@@ -1,6 +1,6 @@
 -- When what was served is an item, and when an entry is the end of a job: where all their parts are the same.
 use Rattle.run_certify.proofs.Vocabulary.{◌≡◌, ℕ, Bool, ap, ◌==◌, ◌&&◌, Decides, Decides-and, Decides-eqb, Decides-like, same_reply, same_reply_decides, same_request, same_request_decides, same_stamped, same_stamped_decides}
-use Rattle.run_certify.proofs.Vocabulary.{same_outcome, same_outcome_decides, EndedJob, Served, Item, Entry, Ended, ItemAt, item_by, at_server}
+use Rattle.run_certify.proofs.Vocabulary.{same_outcome, same_outcome_decides, EndedJob, Served, Item, AgentEntry, Ended, ItemAt, item_by, at_server}
 
 abbrev pub same_item : Served → ℕ → Item → Bool
 same_item served server item =
@@ -15,11 +15,11 @@ same_item_decides served server item =
     (Decides-and _ _ (Decides-and _ _ (Decides-eqb served.server server) (Decides-eqb served.reply.stamp item.stamp)) (same_stamped_decides same_request_decides served.request item.request))
     (same_reply_decides served.reply.value item.reply))
 
-outcome_in : EndedJob → Entry → EndedJob
+outcome_in : EndedJob → AgentEntry → EndedJob
 outcome_in other (Ended outcome) = outcome
 outcome_in other entry = other
 
-pub same_end_decides : (told outcome : EndedJob) → Decides (same_outcome told outcome) (◌≡◌ {A = Entry} (Ended told) (Ended outcome))
+pub same_end_decides : (told outcome : EndedJob) → Decides (same_outcome told outcome) (◌≡◌ {A = AgentEntry} (Ended told) (Ended outcome))
 unfolding outcome_in
 same_end_decides told outcome =
     let decides = same_outcome_decides told outcome in

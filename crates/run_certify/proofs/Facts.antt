@@ -2,7 +2,7 @@
 use Rattle.run_certify.proofs.Vocabulary.{◌≡◌, ◌≢◌, ℕ, zero, suc, ◌<◌, ◌≤◌, Bool, true, false, cond, List, [], ◌∷◌, ◌++◌, length, Option, Some, None, refl, sym, ap, ◌∙◌, arith, nat_lt, is_some, option_map, slice_get, false≢true}
 use Rattle.run_certify.proofs.Vocabulary.{nat_tests, none-some, same_Some, Request, Full, Stamped, State, answer_of, is_full, Job, Response, Fixed, Agent, begin, forget, next_of, asked_at, asked_by, Done, EndedJob, Served, Event, Begin}
 use Rattle.run_certify.proofs.Vocabulary.{Step, Crash, Return, Forget, Lack, asks_one, can_begin, can_forget, has_sense, Actor, World, actor_at, asks, asks_at, becomes, lacks, lacks_for, operates, serve, server_at, step, steps_once}
-use Rattle.run_certify.proofs.Vocabulary.{Entry, Asked, Begun, Ended, Forgot, Lacked, ItemAt, asked, asker, ended, entries_by, item_by, lacked, served_as, event_of, operated}
+use Rattle.run_certify.proofs.Vocabulary.{AgentEntry, Asked, Begun, Ended, Forgot, Lacked, ItemAt, asked, asker, ended, entries_by, item_by, lacked, served_as, event_of, operated}
 use Rattle.rep_core.specs.declared.request.Request.TheVariants as request
 use Rattle.rep_core.specs.declared.stamped.Lack.{Lack as Why}
 use Rattle.txn_core.specs.declared.response.Response.TheVariants.{Lacked as LackedResponse}
@@ -28,26 +28,26 @@ is_no_less a b more = grind (arith, nat_tests)
 
 -- ---- what stands first in a list of entries
 
-abbrev first : Entry → List Entry → Entry
+abbrev first : AgentEntry → List AgentEntry → AgentEntry
 first other [] = other
 first other (entry ∷ entries) = entry
 
-abbrev kind : Entry → ℕ
+abbrev kind : AgentEntry → ℕ
 kind (Begun job) = 0
 kind (Asked server stamp) = 1
 kind (Lacked server why) = 2
 kind (Forgot site) = 3
 kind (Ended outcome) = 4
 
-abbrev lacked_at : Entry → ℕ
+abbrev lacked_at : AgentEntry → ℕ
 lacked_at (Lacked server why) = server
 lacked_at other = 0
 
 -- two entries of one kind, and no entries at all
-same_kind : (a b : Entry) (xs ys : List Entry) → a ∷ xs ≡ b ∷ ys → kind a ≡ kind b
+same_kind : (a b : AgentEntry) (xs ys : List AgentEntry) → a ∷ xs ≡ b ∷ ys → kind a ≡ kind b
 same_kind a b xs ys same = ap (λ entries. kind (first a entries)) same
 
-nothing_first : (b : Entry) (ys : List Entry) → [] ≡ b ∷ ys → ⊥
+nothing_first : (b : AgentEntry) (ys : List AgentEntry) → [] ≡ b ∷ ys → ⊥
 nothing_first b ys same = let long = ap length same in omega arith
 
 module _ (fixed : Fixed) (world : World) where
@@ -109,11 +109,11 @@ module _ (fixed : Fixed) (world : World) where
   lack_puts agent server why at = puts_lacked server why (asked_by fixed (actor_at world agent)) at
 
   puts_other : (server : ℕ) (why told : Why) (next : Option (ℕ × Request)) → option_map (λ (one : ℕ × Request). one.0) next ≢ Some server → is_some next ≡ true
-      → (rest entries : List Entry) → lacked why next ++ rest ≡ Lacked server told ∷ entries → ⊥
+      → (rest entries : List AgentEntry) → lacked why next ++ rest ≡ Lacked server told ∷ entries → ⊥
   puts_other server why told (Some one) other asks rest entries same = other (ap Some (ap (λ es. lacked_at (first (Lacked one.0 why) es)) same))
   puts_other server why told None other asks rest entries same = false≢true asks
 
-  pub lack_other : (agent server : ℕ) (why told : Why) → asked_at fixed world agent ≢ Some server → has_sense fixed world (Lack agent why) ≡ true → (rest entries : List Entry)
+  pub lack_other : (agent server : ℕ) (why told : Why) → asked_at fixed world agent ≢ Some server → has_sense fixed world (Lack agent why) ≡ true → (rest entries : List AgentEntry)
       → lacked why (asked_by fixed (actor_at world agent)) ++ rest ≡ Lacked server told ∷ entries → ⊥
   lack_other agent server why told other sense rest entries same = puts_other server why told (asked_by fixed (actor_at world agent)) other sense rest entries same
 
@@ -135,12 +135,12 @@ module _ (fixed : Fixed) (world : World) where
   served_sense agent what is = actor_serves agent what (actor_at world agent) is
 
   -- an agent that asks, and is not served, puts down no stamp
-  puts_no_stamp : (next : Option (ℕ × Request)) (what : Option Served) (server stamp : ℕ) (more rest entries : List Entry) → what ≡ None → asks_one world next ≡ true → (asked next what ++ more) ++ rest ≡ Asked server stamp ∷ entries → ⊥
+  puts_no_stamp : (next : Option (ℕ × Request)) (what : Option Served) (server stamp : ℕ) (more rest entries : List AgentEntry) → what ≡ None → asks_one world next ≡ true → (asked next what ++ more) ++ rest ≡ Asked server stamp ∷ entries → ⊥
   puts_no_stamp next (Some what) server stamp more rest entries none asks same = none-some what (sym none)
   puts_no_stamp (Some one) None server stamp more rest entries none asks same = let kinds = same_kind (Lacked one.0 Full) (Asked server stamp) (more ++ rest) entries same in omega arith
   puts_no_stamp None None server stamp more rest entries none asks same = false≢true asks
 
-  pub unserved : (agent : ℕ) → (step fixed world (Step agent)).done.served ≡ None → (server stamp : ℕ) (rest entries : List Entry) → has_sense fixed world (Step agent) ≡ true
+  pub unserved : (agent : ℕ) → (step fixed world (Step agent)).done.served ≡ None → (server stamp : ℕ) (rest entries : List AgentEntry) → has_sense fixed world (Step agent) ≡ true
       → entries_by fixed world (Step agent) (step fixed world (Step agent)).done ++ rest ≡ Asked server stamp ∷ entries → ⊥
   unserved agent none server stamp rest entries sense same =
       puts_no_stamp (asked_by fixed (actor_at world agent)) (step fixed world (Step agent)).done.served server stamp (ended (step fixed world (Step agent)).done.outcome) rest entries none sense same
@@ -167,13 +167,13 @@ module _ (fixed : Fixed) (world : World) where
 
   -- ---- agents and servers that are not there
 
-  pub no_agent : (agent : ℕ) (entry : Entry) (event : Event) → length world.agents ≤ agent → event_of agent entry ≡ Some event → has_sense fixed world event ≡ false
+  pub no_agent : (agent : ℕ) (entry : AgentEntry) (event : Event) → length world.agents ≤ agent → event_of agent entry ≡ Some event → has_sense fixed world event ≡ false
   no_agent agent entry event past spells = of entry spells
     where
       none : actor_at world agent ≡ None
       none = get_past world.agents agent past
 
-      of : (entry : Entry) → event_of agent entry ≡ Some event → has_sense fixed world event ≡ false
+      of : (entry : AgentEntry) → event_of agent entry ≡ Some event → has_sense fixed world event ≡ false
       of (Begun job) spells = ap (has_sense fixed world) (sym (same_Some (Begin agent job) event spells)) ∙ ap (can_begin fixed job) none
       of (Asked server stamp) spells = ap (has_sense fixed world) (sym (same_Some (Step agent) event spells)) ∙ ap (λ found. asks_one world (asked_by fixed found)) none
       of (Lacked server why) spells = ap (has_sense fixed world) (sym (same_Some (Lack agent why) event spells)) ∙ ap (λ found. is_some (asked_by fixed found)) none
@@ -199,32 +199,32 @@ module _ (fixed : Fixed) (world : World) where
   asks_as event what is = asked_it (asker event) (step fixed world event).done.served what is
 
   -- what is put down begins with no end
-  asked_no_end : (one : ℕ × Request) (what : Option Served) (more : List Entry) (outcome : EndedJob) (rest : List Entry) → asked (Some one) what ++ more ≡ Ended outcome ∷ rest → ⊥
+  asked_no_end : (one : ℕ × Request) (what : Option Served) (more : List AgentEntry) (outcome : EndedJob) (rest : List AgentEntry) → asked (Some one) what ++ more ≡ Ended outcome ∷ rest → ⊥
   asked_no_end one (Some what) more outcome rest same = let kinds = same_kind (Asked what.server what.reply.stamp) (Ended outcome) more rest same in omega arith
   asked_no_end one None more outcome rest same = let kinds = same_kind (Lacked one.0 Full) (Ended outcome) more rest same in omega arith
 
-  next_no_end : (number : ℕ) (actor : Actor) (next : Option (ℕ × Request)) (outcome : EndedJob) (rest : List Entry)
+  next_no_end : (number : ℕ) (actor : Actor) (next : Option (ℕ × Request)) (outcome : EndedJob) (rest : List AgentEntry)
       → asked next (asks fixed world number actor next).done.served ++ ended (asks fixed world number actor next).done.outcome ≡ Ended outcome ∷ rest → ⊥
   next_no_end number actor (Some one) outcome rest same = asked_no_end one (asks fixed world number actor (Some one)).done.served (ended (asks fixed world number actor (Some one)).done.outcome) outcome rest same
   next_no_end number actor None outcome rest same = nothing_first (Ended outcome) rest same
 
-  step_no_end : (number : ℕ) (found : Option Actor) (outcome : EndedJob) (rest : List Entry)
+  step_no_end : (number : ℕ) (found : Option Actor) (outcome : EndedJob) (rest : List AgentEntry)
       → asked (asked_by fixed found) (steps_once fixed world number found).done.served ++ ended (steps_once fixed world number found).done.outcome ≡ Ended outcome ∷ rest → ⊥
   step_no_end number (Some actor) outcome rest same = next_no_end number actor (next_of fixed actor.agent) outcome rest same
   step_no_end number None outcome rest same = nothing_first (Ended outcome) rest same
 
-  lacking_no_end : (number : ℕ) (actor : Actor) (why : Why) (next : Option (ℕ × Request)) (outcome : EndedJob) (rest : List Entry)
+  lacking_no_end : (number : ℕ) (actor : Actor) (why : Why) (next : Option (ℕ × Request)) (outcome : EndedJob) (rest : List AgentEntry)
       → lacked why next ++ ended (lacks_for fixed world number actor (LackedResponse why) next).done.outcome ≡ Ended outcome ∷ rest → ⊥
   lacking_no_end number actor why (Some one) outcome rest same =
       let kinds = same_kind (Lacked one.0 why) (Ended outcome) (ended (lacks_for fixed world number actor (LackedResponse why) (Some one)).done.outcome) rest same in omega arith
   lacking_no_end number actor why None outcome rest same = nothing_first (Ended outcome) rest same
 
-  lack_no_end : (number : ℕ) (why : Why) (found : Option Actor) (outcome : EndedJob) (rest : List Entry)
+  lack_no_end : (number : ℕ) (why : Why) (found : Option Actor) (outcome : EndedJob) (rest : List AgentEntry)
       → lacked why (asked_by fixed found) ++ ended (lacks fixed world number (LackedResponse why) found).done.outcome ≡ Ended outcome ∷ rest → ⊥
   lack_no_end number why (Some actor) outcome rest same = lacking_no_end number actor why (next_of fixed actor.agent) outcome rest same
   lack_no_end number why None outcome rest same = nothing_first (Ended outcome) rest same
 
-  pub no_end : (event : Event) (outcome : EndedJob) (rest : List Entry) → entries_by fixed world event (step fixed world event).done ≡ Ended outcome ∷ rest → ⊥
+  pub no_end : (event : Event) (outcome : EndedJob) (rest : List AgentEntry) → entries_by fixed world event (step fixed world event).done ≡ Ended outcome ∷ rest → ⊥
   no_end (Begin number job) outcome rest same = let kinds = same_kind (Begun job) (Ended outcome) [] rest same in omega arith
   no_end (Step number) outcome rest same = step_no_end number (actor_at world number) outcome rest same
   no_end (Lack number why) outcome rest same = lack_no_end number why (actor_at world number) outcome rest same

@@ -1,6 +1,6 @@
 -- What can be told of servers, by what is known of each; and how many suites a history asks for.
 use Rattle.run_certify.proofs.Vocabulary.{◌≡◌, ◌∙◌, ℕ, zero, suc, ◌+◌, ◌<◌, ◌≤◌, nat_le, Bool, true, false, List, [], ◌∷◌, length, map, take, refl, ap, arith, slice_index_or, list_all, ◌||◌, nat_tests, sum_by_more_le, Full, Memory}
-use Rattle.run_certify.proofs.Vocabulary.{max_suites, Item, max_items, Entry, Asked, Begun, Ended, Forgot, Lacked, can_all_be_told, can_be_full, can_be_told, parts_in, parts_of, can_be_told_by}
+use Rattle.run_certify.proofs.Vocabulary.{max_suites, Item, max_items, AgentEntry, Asked, Begun, Ended, Forgot, Lacked, can_all_be_told, can_be_full, can_be_told, parts_in, parts_of, can_be_told_by}
 
 -- ---- what is told
 
@@ -9,7 +9,7 @@ at_server [] server = refl
 at_server (history ∷ histories) zero = refl
 at_server (history ∷ histories) (suc server) = at_server histories server
 
-told_by : (histories : List (List Item)) (entry : Entry) → can_be_told_by (map can_be_full histories) entry ≡ can_be_told histories entry
+told_by : (histories : List (List Item)) (entry : AgentEntry) → can_be_told_by (map can_be_full histories) entry ≡ can_be_told histories entry
 told_by histories (Begun job) = refl
 told_by histories (Asked server stamp) = refl
 told_by histories (Lacked server Full) = at_server histories server
@@ -17,7 +17,7 @@ told_by histories (Lacked server Memory) = refl
 told_by histories (Forgot site) = refl
 told_by histories (Ended outcome) = refl
 
-pub all_told : (full : List Bool) (histories : List (List Item)) (transcripts : List (List Entry)) → full ≡ map can_be_full histories
+pub all_told : (full : List Bool) (histories : List (List Item)) (transcripts : List (List AgentEntry)) → full ≡ map can_be_full histories
     → list_all (λ entries. list_all (λ entry. can_be_told_by full entry) entries) transcripts ≡ can_all_be_told histories transcripts
 all_told full histories transcripts same =
     ap (λ (fs : List Bool). list_all (λ entries. list_all (λ entry. can_be_told_by fs entry) entries) transcripts) same

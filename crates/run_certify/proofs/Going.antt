@@ -1,6 +1,6 @@
 -- One item after another, one entry after another, to the end.
 use Rattle.run_certify.proofs.Vocabulary.{◌≡◌, ◌≢◌, ◌⊎◌, ⊎_elim, inl, inr, ℕ, zero, suc, ◌+◌, ◌<◌, ◌≤◌, true, false, true≢false, List, [], ◌∷◌, ◌++◌, length, slice_set, subst, refl, ap, ◌∙◌, sym, arith, slice_index_or, Option, Some}
-use Rattle.run_certify.proofs.Vocabulary.{None, Result, Err, Opening, IsAccepted, Fixed, fixed_of, EndedJob, Served, Begin, Step, Forget, Lack, Decided, decisions, World, opening, step, Item, CertifyFault, Entry, Asked, Begun, Ended}
+use Rattle.run_certify.proofs.Vocabulary.{None, Result, Err, Opening, IsAccepted, Fixed, fixed_of, EndedJob, Served, Begin, Step, Forget, Lack, Decided, decisions, World, opening, step, Item, CertifyFault, AgentEntry, Asked, Begun, Ended}
 use Rattle.run_certify.proofs.Vocabulary.{Forgot, Lacked, IsCertified, IsCertifiedAs, AreCounted, IsPlayed, can_all_be_told, ItemAt, IsMerge, item_by, served_as, transcript_of, weave, AreAllPlayed, IsTaken, at_server, IsTurn, is_asked}
 use Rattle.run_certify.proofs.Vocabulary.{AskedFails, AskedGoes, EntryFails, EntryGoes, Fails, Goes, IsItemTaken, IsLeft, IsOfRun, IsShorter, IsSound, IsStart, IsUse, Walked}
 use Rattle.run_certify.proofs.Counted.{count_opens}
@@ -45,7 +45,7 @@ unmerged_fails init cur goes none = fails_further init cur [] [] goes (λ sound 
 
 -- ---- an agent's entries
 
-module _ (cur mid new : Walked) (agent : ℕ) (entry : Entry) (it : IsUse cur agent entry mid) (shorter : IsShorter mid agent new) where
+module _ (cur mid new : Walked) (agent : ℕ) (entry : AgentEntry) (it : IsUse cur agent entry mid) (shorter : IsShorter mid agent new) where
   unused_is : new.unused ≡ slice_set (slice_set cur.unused agent it.used.rest) agent shorter.rest
   unused_is = shorter.set ∙ ap (λ us. slice_set us agent shorter.rest) it.used.set
 
@@ -66,7 +66,7 @@ module _ (cur mid new : Walked) (agent : ℕ) (entry : Entry) (it : IsUse cur ag
   others_as_before i apart =
       ap (λ us. transcript_of us i) unused_is ∙ set_apart (slice_set cur.unused agent it.used.rest) agent i shorter.rest [] apart ∙ set_apart cur.unused agent i it.used.rest [] apart
 
-pub other_than_asked : (entry : Entry) → ((server stamp : ℕ) → entry ≡ Asked server stamp → ⊥) → is_asked entry ≡ false
+pub other_than_asked : (entry : AgentEntry) → ((server stamp : ℕ) → entry ≡ Asked server stamp → ⊥) → is_asked entry ≡ false
 other_than_asked (Begun job) other = refl
 other_than_asked (Asked server stamp) other = absurd (other server stamp refl)
 other_than_asked (Lacked server why) other = refl
@@ -74,7 +74,7 @@ other_than_asked (Forgot site) other = refl
 other_than_asked (Ended outcome) other = refl
 
 -- an end is no entry to be played
-pub no_play : (old : Walked) (agent : ℕ) (entry : Entry) → is_asked entry ≡ false → ((server : ℕ) × (stamp : ℕ) × (entry ≡ Asked server stamp)) ⊎ ((outcome : EndedJob) × (entry ≡ Ended outcome)) → EntryFails agent entry old
+pub no_play : (old : Walked) (agent : ℕ) (entry : AgentEntry) → is_asked entry ≡ false → ((server : ℕ) × (stamp : ℕ) × (entry ≡ Asked server stamp)) ⊎ ((outcome : EndedJob) × (entry ≡ Ended outcome)) → EntryFails agent entry old
 no_play old agent entry other is was taken it turn = ⊎_elim
     (λ (h : (server : ℕ) × (stamp : ℕ) × (entry ≡ Asked server stamp)). absurd (true≢false (sym (ap is_asked h.2) ∙ other)))
     (λ (h : (outcome : EndedJob) × (entry ≡ Ended outcome)). ended_fails was old agent h.0 taken (subst (λ e. IsUse was agent e old) h.1 it))
@@ -85,7 +85,7 @@ module _ (init cur : Walked) (agent : ℕ) (one : ItemAt) (of : one.item.agent �
   pub serve_none : transcript_of cur.unused agent ≡ [] → Fails init (one ∷ [])
   serve_none none = fails_further init cur (one ∷ []) (one ∷ []) goes (nothing_fails cur one agent of none)
 
-  module _ (mid : Walked) (entry : Entry) (it : IsUse cur agent entry mid) where
+  module _ (mid : Walked) (entry : AgentEntry) (it : IsUse cur agent entry mid) where
     pub serve_on : (new : Walked) → EntryGoes agent entry mid new → Goes init (one ∷ []) new (one ∷ [])
     serve_on new more = goes_further init cur new (one ∷ []) (one ∷ []) (one ∷ []) goes (more cur (one ∷ []) it (turn_of_item one cur.histories cur.unused agent of it.used.there))
 
@@ -102,7 +102,7 @@ module _ (init cur : Walked) (agent : ℕ) (one : ItemAt) (of : one.item.agent �
 -- ---- once no items are left
 
 -- nothing is left of those before an agent
-abbrev pub NoneBefore : ℕ → List (List Entry) → Type 0
+abbrev pub NoneBefore : ℕ → List (List AgentEntry) → Type 0
 NoneBefore agent unused = (i : ℕ) → i < agent → transcript_of unused i ≡ []
 
 -- the walk came so far: nothing is left of the transcripts before an agent's
@@ -113,13 +113,13 @@ pub record IsAsFar (init cur : Walked) (agent : ℕ) : Type 0 where
   pub long : length cur.unused ≡ length init.unused
 
 -- the numbers of agents fit a byte
-far_fails : (was old : Walked) (agent : ℕ) (entry : Entry) (taken : List ItemAt) → IsUse was agent entry old → IsTurn taken was.histories was.unused agent → 256 ≤ agent → is_asked entry ≡ false → Fails was taken
+far_fails : (was old : Walked) (agent : ℕ) (entry : AgentEntry) (taken : List ItemAt) → IsUse was agent entry old → IsTurn taken was.histories was.unused agent → 256 ≤ agent → is_asked entry ≡ false → Fails was taken
 far_fails was old agent entry taken it turn far other = by_entry entry it other
   where
     past : IsSound was → length was.world.agents ≤ agent
     past sound = let many = (counts was.given was.world was.begun.jobs sound.played).1 in let few = sound.accepted.some_agents.1 in omega (arith, many, few, far)
 
-    by_entry : (entry : Entry) → IsUse was agent entry old → is_asked entry ≡ false → Fails was taken
+    by_entry : (entry : AgentEntry) → IsUse was agent entry old → is_asked entry ≡ false → Fails was taken
     by_entry (Begun job) it other = entry_senseless was old agent (Begun job) (Begin agent job) taken it turn refl refl (λ sound. no_agent (fixed_of was.given) was.world agent (Begun job) (Begin agent job) (past sound) refl)
     by_entry (Asked server stamp) it other = absurd (true≢false other)
     by_entry (Lacked server why) it other = entry_senseless was old agent (Lacked server why) (Lack agent why) taken it turn refl refl
@@ -140,7 +140,7 @@ module _ (init cur : Walked) (agent : ℕ) (goes : Goes init [] cur []) (played 
   pub rest_asked : (server stamp : ℕ) → IsUse cur agent (Asked server stamp) mid → Fails init []
   rest_asked server stamp it = fails_further init cur [] [] goes (asked_last cur mid agent server stamp played before it)
 
-  module _ (entry : Entry) (it : IsUse cur agent entry mid) where
+  module _ (entry : AgentEntry) (it : IsUse cur agent entry mid) where
     turn : IsTurn [] cur.histories cur.unused agent
     turn = turn_of_rest cur.histories cur.unused agent played before it.used.there
 
@@ -160,7 +160,7 @@ pub start_far : (init : Walked) (agent : ℕ) → NoneBefore agent init.unused �
 start_far init agent before = record { goes = goes_nowhere init []; histories = refl; before = before; long = refl }
 
 -- an entry was played
-pub far_on : (init cur mid new : Walked) (agent : ℕ) (entry : Entry) → IsAsFar init cur agent → AreAllPlayed init.histories → IsUse cur agent entry mid → EntryGoes agent entry mid new → IsShorter mid agent new → IsAsFar init new agent
+pub far_on : (init cur mid new : Walked) (agent : ℕ) (entry : AgentEntry) → IsAsFar init cur agent → AreAllPlayed init.histories → IsUse cur agent entry mid → EntryGoes agent entry mid new → IsShorter mid agent new → IsAsFar init new agent
 far_on init cur mid new agent entry far played it more shorter = record {
   goes = rest_on init cur agent far.goes (subst (λ hs. AreAllPlayed hs) (sym far.histories) played) far.before mid entry it new more;
   histories = same_histories cur mid new agent entry it shorter ∙ far.histories;
@@ -169,16 +169,16 @@ far_on init cur mid new agent entry far played it more shorter = record {
 }
 
 -- nothing is left of this one too
-pub none_up_to : (agent : ℕ) (unused : List (List Entry)) → NoneBefore agent unused → transcript_of unused agent ≡ [] → NoneBefore (agent + 1) unused
+pub none_up_to : (agent : ℕ) (unused : List (List AgentEntry)) → NoneBefore agent unused → transcript_of unused agent ≡ [] → NoneBefore (agent + 1) unused
 none_up_to agent unused before here i low = ⊎_elim (λ (same : i ≡ agent). ap (λ n. transcript_of unused n) same ∙ here) (λ (apart : i ≢ agent). before i (omega arith)) (same_or i agent)
 
-nothing_past : (unused : List (List Entry)) (i : ℕ) → length unused ≤ i → transcript_of unused i ≡ []
+nothing_past : (unused : List (List AgentEntry)) (i : ℕ) → length unused ≤ i → transcript_of unused i ≡ []
 nothing_past [] i past = refl
 nothing_past (es ∷ unused) zero past = absurd (omega arith)
 nothing_past (es ∷ unused) (suc i) past = nothing_past unused i (omega arith)
 
 -- nothing is left of any
-pub none_at_all : (unused : List (List Entry)) (agents : ℕ) → length unused ≤ agents → NoneBefore agents unused → (agent : ℕ) → transcript_of unused agent ≡ []
+pub none_at_all : (unused : List (List AgentEntry)) (agents : ℕ) → length unused ≤ agents → NoneBefore agents unused → (agent : ℕ) → transcript_of unused agent ≡ []
 none_at_all unused agents long before agent = ⊎_elim (λ (l : agent < agents). before agent l) (λ (l : agents ≤ agent). nothing_past unused agent (omega arith)) (lt_or agent agents)
   where
     lt_or : (a b : ℕ) → (a < b) ⊎ (b ≤ a)
@@ -188,7 +188,7 @@ none_at_all unused agents long before agent = ⊎_elim (λ (l : agent < agents).
 
 -- ---- from the start to the end
 
-module _ (given : Opening) (histories : List (List Item)) (transcripts : List (List Entry)) (start : Walked) (is : IsStart given histories transcripts start) where
+module _ (given : Opening) (histories : List (List Item)) (transcripts : List (List AgentEntry)) (start : Walked) (is : IsStart given histories transcripts start) where
   start_sound : IsAccepted given → IsSound start
   start_sound accepted = record {
     accepted = subst (λ g. IsAccepted g) (sym is.given_is) accepted;

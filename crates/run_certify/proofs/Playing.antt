@@ -1,6 +1,6 @@
 -- An entry that was used is played.
 use Rattle.run_certify.proofs.Vocabulary.{◌≡◌, ◌≢◌, ◌⊎◌, ⊎_elim, inl, inr, ℕ, zero, suc, ◌<◌, ◌≤◌, Bool, true, false, List, [], ◌∷◌, ◌++◌, length, slice_set, subst, refl, ap, ◌∙◌, sym, arith, append_assoc, ◌&&◌, nat_lt, slice_index_or}
-use Rattle.run_certify.proofs.Vocabulary.{Option, Some, None, Opening, Job, fixed_of, max_jobs, asked_at, asked_by, Done, EndedJob, Event, Begin, Lack, Forget, Decided, has_sense, actor_at, has_no_job, step, Entry, Begun, Ended, Forgot}
+use Rattle.run_certify.proofs.Vocabulary.{Option, Some, None, Opening, Job, fixed_of, max_jobs, asked_at, asked_by, Done, EndedJob, Event, Begin, Lack, Forget, Decided, has_sense, actor_at, has_no_job, step, AgentEntry, Begun, Ended, Forgot}
 use Rattle.run_certify.proofs.Vocabulary.{Lacked, count_at, ended, lacked, served_as, transcript_of, EndsOtherwise, HasEnded, EntryFails, EntryGoes, IsBegin, IsEnd, IsEvent, IsShorter, IsSound, IsUse, Walked}
 use Rattle.std.proofs.lemmas.List.{append-nil}
 use Rattle.rep_core.specs.declared.stamped.Lack.{Lack as Why}
@@ -15,7 +15,7 @@ use Rattle.run_certify.proofs.Walking.{IsAfter, entry_goes, entry_senseless, ent
 
 -- ---- where an entry was used
 
-pub use_sound : (was old : Walked) (agent : ℕ) (entry : Entry) → IsUse was agent entry old → IsSound was → IsSound old
+pub use_sound : (was old : Walked) (agent : ℕ) (entry : AgentEntry) → IsUse was agent entry old → IsSound was → IsSound old
 use_sound was old agent entry it sound =
     subst IsSound (sym it.kept) (record {
       accepted = sound.accepted;
@@ -26,11 +26,11 @@ use_sound was old agent entry it sound =
       counts_there = sound.counts_there ∙ sym (ap length it.used.set ∙ long_set was.unused agent it.used.rest);
     })
 
-use_sense : (was old : Walked) (agent : ℕ) (entry : Entry) (event : Event) (b : Bool) → IsUse was agent entry old
+use_sense : (was old : Walked) (agent : ℕ) (entry : AgentEntry) (event : Event) (b : Bool) → IsUse was agent entry old
     → (IsSound old → has_sense (fixed_of old.given) old.world event ≡ b) → IsSound was → has_sense (fixed_of was.given) was.world event ≡ b
 use_sense was old agent entry event b it so sound = sym (ap (λ (w : Walked). has_sense (fixed_of w.given) w.world event) it.kept) ∙ so (use_sound was old agent entry it sound)
 
-pub after_use : (was old now : Walked) (agent : ℕ) (entry : Entry) (event : Event) (left : List (List Entry)) (ds : List Decided) → IsUse was agent entry old → IsAfter old event left ds now → IsAfter was event left ds now
+pub after_use : (was old now : Walked) (agent : ℕ) (entry : AgentEntry) (event : Event) (left : List (List AgentEntry)) (ds : List Decided) → IsUse was agent entry old → IsAfter old event left ds now → IsAfter was event left ds now
 after_use was old now agent entry event left ds it after =
     let so : IsAfter (record was { unused = old.unused }) event left ds now = subst (λ o. IsAfter o event left ds now) it.kept after in
     record { settings = so.settings; given = so.given; world = so.world; histories = so.histories; unused = so.unused; jobs = so.jobs; counts = so.counts; made = so.made }
@@ -98,13 +98,13 @@ forget_fails old agent site why was taken it turn =
 -- ---- what is not served
 
 -- what was put down next, and what is left once the end of the job was used, if it ended
-pub record Ends (was : List (List Entry)) (agent : ℕ) (ys : List Entry) (outcome : Option EndedJob) (now : List (List Entry)) : Type 0 where
-  pub rest : List Entry
+pub record Ends (was : List (List AgentEntry)) (agent : ℕ) (ys : List AgentEntry) (outcome : Option EndedJob) (now : List (List AgentEntry)) : Type 0 where
+  pub rest : List AgentEntry
   pub past : (ys ≡ rest) ⊎ ((one : EndedJob) × (ys ≡ Ended one ∷ rest))
   pub parts : ys ≡ ended outcome ++ rest
   pub set : now ≡ slice_set was agent rest
 
-pub ends : (was old now : List (List Entry)) (agent : ℕ) (ys : List Entry) (outcome : Option EndedJob) → agent < length was → old ≡ slice_set was agent ys → HasEnded old agent outcome now → Ends was agent ys outcome now
+pub ends : (was old now : List (List AgentEntry)) (agent : ℕ) (ys : List AgentEntry) (outcome : Option EndedJob) → agent < length was → old ≡ slice_set was agent ys → HasEnded old agent outcome now → Ends was agent ys outcome now
 ends was old now agent ys None low set so = record { rest = ys; past = inl refl; parts = refl; set = so ∙ set }
 ends was old now agent ys (Some outcome) low set so =
     let at : ys ≡ Ended outcome ∷ so.rest = sym (set_here was agent ys [] low) ∙ sym (ap (λ us. transcript_of us agent) set) ∙ so.first in
@@ -146,7 +146,7 @@ lack_fails old agent server why other was taken it turn =
     (λ rest sense told. lack_other fixed was.world agent server why why other' sense (ended (step fixed was.world event).done.outcome ++ rest) it.used.rest
     (sym (append_assoc (lacked why (asked_by fixed (actor_at was.world agent))) (ended (step fixed was.world event).done.outcome) rest) ∙ sym told ∙ it.used.first))
 
-pub otherwise : (was old : List (List Entry)) (agent : ℕ) (ys rest : List Entry) (outcome : Option EndedJob) → agent < length was → old ≡ slice_set was agent ys → EndsOtherwise old agent outcome → ys ≡ ended outcome ++ rest → ⊥
+pub otherwise : (was old : List (List AgentEntry)) (agent : ℕ) (ys rest : List AgentEntry) (outcome : Option EndedJob) → agent < length was → old ≡ slice_set was agent ys → EndsOtherwise old agent outcome → ys ≡ ended outcome ++ rest → ⊥
 otherwise was old agent ys rest None low set not parts = not
 otherwise was old agent ys rest (Some outcome) low set not parts = not rest (ap (λ us. transcript_of us agent) set ∙ set_here was agent ys [] low ∙ parts)
 
@@ -184,7 +184,7 @@ lacked_otherwise old mid agent server why done asks played not = lack_ends_other
 
 -- ---- entries are used, and no items
 
-set_same : (xs : List (List Entry)) (i : ℕ) → slice_set xs i (slice_index_or xs i []) ≡ xs
+set_same : (xs : List (List AgentEntry)) (i : ℕ) → slice_set xs i (slice_index_or xs i []) ≡ xs
 set_same [] i = refl
 set_same (x ∷ xs) zero = refl
 set_same (x ∷ xs) (suc i) = ap (λ ys. x ∷ ys) (set_same xs i)

@@ -1,21 +1,21 @@
 -- The jobs that a woven run begins are those that agents put down; so it can be, and is promised.
-use Rattle.run_certify.proofs.Vocabulary.{ℕ, zero, suc, ◌+◌, List, [], ◌∷◌, slice_set, Option, Some, None, subst, IsValid, IsAccepted, Opening, Request, Item, CanBe, VotesAreValid, both, front, promised, Entry, Asked, Begun, Ended}
+use Rattle.run_certify.proofs.Vocabulary.{ℕ, zero, suc, ◌+◌, List, [], ◌∷◌, slice_set, Option, Some, None, subst, IsValid, IsAccepted, Opening, Request, Item, CanBe, VotesAreValid, both, front, promised, AgentEntry, Asked, Begun, Ended}
 use Rattle.run_certify.proofs.Vocabulary.{Forgot, Lacked, ItemAt, CertifiedIsPromised, events_at, events_of, operated, past_stamp, rest_from, transcript_of, unused_at, up_to_stamp, weave, AllBegunAreValid, EntriesGiveValidVotes}
 use Rattle.rep_core.specs.declared.request.Request.TheVariants as request
 
 -- ---- a transcript
 
-transcript_valid : (transcripts : List (List Entry)) → AllBegunAreValid transcripts → (agent : ℕ) → EntriesGiveValidVotes (transcript_of transcripts agent)
+transcript_valid : (transcripts : List (List AgentEntry)) → AllBegunAreValid transcripts → (agent : ℕ) → EntriesGiveValidVotes (transcript_of transcripts agent)
 transcript_valid [] valid agent = tt
 transcript_valid (entries ∷ later) valid zero = valid.0
 transcript_valid (entries ∷ later) valid (suc agent) = transcript_valid later valid.1 agent
 
-set_valid : (transcripts : List (List Entry)) → AllBegunAreValid transcripts → (agent : ℕ) (entries : List Entry) → EntriesGiveValidVotes entries → AllBegunAreValid (slice_set transcripts agent entries)
+set_valid : (transcripts : List (List AgentEntry)) → AllBegunAreValid transcripts → (agent : ℕ) (entries : List AgentEntry) → EntriesGiveValidVotes entries → AllBegunAreValid (slice_set transcripts agent entries)
 set_valid [] valid agent entries here = tt
 set_valid (other ∷ later) valid zero entries here = (here, valid.1)
 set_valid (other ∷ later) valid (suc agent) entries here = (valid.0, set_valid later valid.1 agent entries here)
 
-up_to_valid : (entries : List Entry) → EntriesGiveValidVotes entries → EntriesGiveValidVotes (up_to_stamp entries)
+up_to_valid : (entries : List AgentEntry) → EntriesGiveValidVotes entries → EntriesGiveValidVotes (up_to_stamp entries)
 up_to_valid [] valid = tt
 up_to_valid (Begun job ∷ entries) valid = (valid.0, up_to_valid entries valid.1)
 up_to_valid (Asked server stamp ∷ entries) valid = (tt, tt)
@@ -23,7 +23,7 @@ up_to_valid (Lacked server lack ∷ entries) valid = (tt, up_to_valid entries va
 up_to_valid (Forgot site ∷ entries) valid = (tt, up_to_valid entries valid.1)
 up_to_valid (Ended outcome ∷ entries) valid = (tt, up_to_valid entries valid.1)
 
-past_valid : (entries : List Entry) → EntriesGiveValidVotes entries → EntriesGiveValidVotes (past_stamp entries)
+past_valid : (entries : List AgentEntry) → EntriesGiveValidVotes entries → EntriesGiveValidVotes (past_stamp entries)
 past_valid [] valid = tt
 past_valid (Begun job ∷ entries) valid = past_valid entries valid.1
 past_valid (Asked server stamp ∷ entries) valid = valid.1
@@ -33,7 +33,7 @@ past_valid (Ended outcome ∷ entries) valid = past_valid entries valid.1
 
 -- ---- its events
 
-events_valid : (agent : ℕ) (entries : List Entry) → EntriesGiveValidVotes entries → VotesAreValid (events_of agent entries)
+events_valid : (agent : ℕ) (entries : List AgentEntry) → EntriesGiveValidVotes entries → VotesAreValid (events_of agent entries)
 events_valid agent [] valid = tt
 events_valid agent (Begun job ∷ entries) valid = (valid.0, events_valid agent entries valid.1)
 events_valid agent (Asked server stamp ∷ entries) valid = (tt, events_valid agent entries valid.1)
@@ -46,19 +46,19 @@ operated_valid server request.Crash = (tt, tt)
 operated_valid server request.Return = (tt, tt)
 operated_valid server _ = tt
 
-at_valid : (unused : List (List Entry)) → AllBegunAreValid unused → (one : ItemAt) (who : Option ℕ) → VotesAreValid (events_at unused one who)
+at_valid : (unused : List (List AgentEntry)) → AllBegunAreValid unused → (one : ItemAt) (who : Option ℕ) → VotesAreValid (events_at unused one who)
 at_valid unused valid one None = operated_valid one.server one.item.request.value
 at_valid unused valid one (Some agent) = events_valid agent (up_to_stamp (transcript_of unused agent)) (up_to_valid (transcript_of unused agent) (transcript_valid unused valid agent))
 
-unused_valid : (unused : List (List Entry)) → AllBegunAreValid unused → (who : Option ℕ) → AllBegunAreValid (unused_at unused who)
+unused_valid : (unused : List (List AgentEntry)) → AllBegunAreValid unused → (who : Option ℕ) → AllBegunAreValid (unused_at unused who)
 unused_valid unused valid None = valid
 unused_valid unused valid (Some agent) = set_valid unused valid agent (past_stamp (transcript_of unused agent)) (past_valid (transcript_of unused agent) (transcript_valid unused valid agent))
 
-rest_valid : (agent : ℕ) (unused : List (List Entry)) → AllBegunAreValid unused → VotesAreValid (rest_from agent unused)
+rest_valid : (agent : ℕ) (unused : List (List AgentEntry)) → AllBegunAreValid unused → VotesAreValid (rest_from agent unused)
 rest_valid agent [] valid = tt
 rest_valid agent (entries ∷ later) valid = both (events_of agent entries) (rest_from (agent + 1) later) (events_valid agent entries valid.0) (rest_valid (agent + 1) later valid.1)
 
-weave_valid : (items : List ItemAt) (unused : List (List Entry)) → AllBegunAreValid unused → VotesAreValid (weave items unused)
+weave_valid : (items : List ItemAt) (unused : List (List AgentEntry)) → AllBegunAreValid unused → VotesAreValid (weave items unused)
 weave_valid [] unused valid = rest_valid 0 unused valid
 weave_valid (one ∷ items) unused valid =
     both (events_at unused one one.item.agent) (weave items (unused_at unused one.item.agent))
@@ -67,7 +67,7 @@ weave_valid (one ∷ items) unused valid =
 
 -- ---- what is certified
 
-pub certified_is_promised : (given : Opening) → IsAccepted given → IsValid given.c0 → (histories : List (List Item)) (transcripts : List (List Entry)) → AllBegunAreValid transcripts → CertifiedIsPromised given histories transcripts
+pub certified_is_promised : (given : Opening) → IsAccepted given → IsValid given.c0 → (histories : List (List Item)) (transcripts : List (List AgentEntry)) → AllBegunAreValid transcripts → CertifiedIsPromised given histories transcripts
 certified_is_promised given accepted c0 histories transcripts valid certified before later is =
     let can : CanBe given before = front given before later (record { accepted = accepted; c0 = c0; votes = subst VotesAreValid is (weave_valid certified.items transcripts valid) }) in
     (can, promised given before can)

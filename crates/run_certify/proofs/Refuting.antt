@@ -1,13 +1,13 @@
 -- What refutes that events are of a run.
-use Rattle.run_certify.proofs.Vocabulary.{◌≡◌, ◌≢◌, ℕ, Bool, true, false, List, [], ◌∷◌, ◌++◌, length, subst, refl, ap, ◌∙◌, sym, arith, nat_eq, if◌then◌else◌, Option, Some, None, cons_option, Event, Entry, Ended, EndedJob, ItemAt}
+use Rattle.run_certify.proofs.Vocabulary.{◌≡◌, ◌≢◌, ℕ, Bool, true, false, List, [], ◌∷◌, ◌++◌, length, subst, refl, ap, ◌∙◌, sym, arith, nat_eq, if◌then◌else◌, Option, Some, None, cons_option, Event, AgentEntry, Ended, EndedJob, ItemAt}
 use Rattle.run_certify.proofs.Vocabulary.{transcript_of, weave, agent_of, asker, if_of}
 use Rattle.run_certify.proofs.Lists.{head_or}
 use Rattle.run_certify.proofs.Steps.{AreOf, items_in, told_in}
 use Rattle.run_certify.proofs.Weaving.{NoSteps, no_steps}
 
-module _ {W D : Type 0} (next : W → Event → W) (sense : W → Event → Bool) (serves : W → Event → Option ItemAt) (puts : W → Event → List Entry) (decides : W → Event → Option D)
+module _ {W D : Type 0} (next : W → Event → W) (sense : W → Event → Bool) (serves : W → Event → Option ItemAt) (puts : W → Event → List AgentEntry) (decides : W → Event → Option D)
     (asks : (w : W) (event : Event) (what : ItemAt) → serves w event ≡ Some what → what.item.agent ≡ asker event) where
-  abbrev Of : W → List Event → List ItemAt → List (List Entry) → Type 0
+  abbrev Of : W → List Event → List ItemAt → List (List AgentEntry) → Type 0
   Of = AreOf next sense serves puts decides
 
   -- all of the items
@@ -25,7 +25,7 @@ module _ {W D : Type 0} (next : W → Event → W) (sense : W → Event → Bool
       by_served (Some what) is later more = ((λ e. steps.0 (sym (is what refl) ∙ e)), more)
 
   -- an item of an agent of which nothing is left
-  pub none_left : (w : W) (one : ItemAt) (items : List ItemAt) (unused : List (List Entry)) (agent : ℕ) → one.item.agent ≡ Some agent → transcript_of unused agent ≡ [] → ¬ (Of w (weave (one ∷ items) unused) (one ∷ items) unused)
+  pub none_left : (w : W) (one : ItemAt) (items : List ItemAt) (unused : List (List AgentEntry)) (agent : ℕ) → one.item.agent ≡ Some agent → transcript_of unused agent ≡ [] → ¬ (Of w (weave (one ∷ items) unused) (one ∷ items) unused)
   none_left w one items unused agent of none is =
       (subst (λ xs. All (λ other. other.item.agent ≢ Some agent) xs) is.served (none_of agent w (weave (one ∷ items) unused) (no_steps (one ∷ items) unused agent none))).0 of
 
@@ -39,18 +39,18 @@ module _ {W D : Type 0} (next : W → Event → W) (sense : W → Event → Bool
       by_served (Some what) is later more = (is what refl, more)
 
   pub never_served : (P : ItemAt → Type 0) → ((w : W) (event : Event) (what : ItemAt) → serves w event ≡ Some what → P what)
-      → (w : W) (events : List Event) (one : ItemAt) (items : List ItemAt) (unused : List (List Entry)) → ¬ (P one) → ¬ (Of w events (one ∷ items) unused)
+      → (w : W) (events : List Event) (one : ItemAt) (items : List ItemAt) (unused : List (List AgentEntry)) → ¬ (P one) → ¬ (Of w events (one ∷ items) unused)
   never_served P each w events one items unused not is = not (subst (λ xs. All P xs) is.served (all_served P each w events)).0
 
   -- what an event puts down does not begin with an end: so no transcript does
-  abbrev NoEnd : List Entry → Type 0
-  NoEnd entries = (outcome : EndedJob) (rest : List Entry) → entries ≢ Ended outcome ∷ rest
+  abbrev NoEnd : List AgentEntry → Type 0
+  NoEnd entries = (outcome : EndedJob) (rest : List AgentEntry) → entries ≢ Ended outcome ∷ rest
 
   no_end : ((w : W) (event : Event) → NoEnd (puts w event)) → (agent : ℕ) (w : W) (events : List Event) → NoEnd (told_in next sense serves puts decides agent w events)
   no_end each agent w [] = λ outcome rest e. let h = ap length e in omega arith
   no_end each agent w (event ∷ events) = by_agent (agent_of event) (told_in next sense serves puts decides agent (next w event) events) (no_end each agent (next w event) events)
     where
-      first : (xs ys : List Entry) → NoEnd xs → NoEnd ys → NoEnd (xs ++ ys)
+      first : (xs ys : List AgentEntry) → NoEnd xs → NoEnd ys → NoEnd (xs ++ ys)
       first [] ys x y = y
       first (z ∷ xs) ys x y = λ outcome rest e. x outcome xs (ap (λ o. o ∷ xs) (ap (λ zs. head_or z zs) e))
 
@@ -58,11 +58,11 @@ module _ {W D : Type 0} (next : W → Event → W) (sense : W → Event → Bool
       by_test true = each w event
       by_test false = λ outcome rest e. let h = ap length e in omega arith
 
-      by_agent : (o : Option ℕ) → (later : List Entry) → NoEnd later → NoEnd (if_of o agent (puts w event) ++ later)
+      by_agent : (o : Option ℕ) → (later : List AgentEntry) → NoEnd later → NoEnd (if_of o agent (puts w event) ++ later)
       by_agent None later more = more
       by_agent (Some other) later more = first (if_of (Some other) agent (puts w event)) later (by_test (nat_eq other agent)) more
 
-  pub no_end_first : ((w : W) (event : Event) → NoEnd (puts w event)) → (w : W) (events : List Event) (items : List ItemAt) (unused : List (List Entry)) (agent : ℕ)
-      (outcome : EndedJob) (rest : List Entry) → transcript_of unused agent ≡ Ended outcome ∷ rest
+  pub no_end_first : ((w : W) (event : Event) → NoEnd (puts w event)) → (w : W) (events : List Event) (items : List ItemAt) (unused : List (List AgentEntry)) (agent : ℕ)
+      (outcome : EndedJob) (rest : List AgentEntry) → transcript_of unused agent ≡ Ended outcome ∷ rest
       → ¬ (Of w events items unused)
   no_end_first each w events items unused agent outcome rest at is = no_end each agent w events outcome rest (is.told agent ∙ at)

@@ -1,9 +1,9 @@
 -- One event of a run, and what is left after it: of any machine.
 use Rattle.run_certify.proofs.Vocabulary.{◌≡◌, ◌≢◌, ⊎_elim, ℕ, ◌<◌, Bool, true, false, true≢false, List, [], ◌∷◌, ◌++◌, length, slice_set, subst, ap, ◌∙◌, sym, if◌then◌else◌, Option, Some, None, cons_option, append_cancel_left, Event}
-use Rattle.run_certify.proofs.Vocabulary.{Entry, ItemAt, transcript_of, agent_of, if_of}
+use Rattle.run_certify.proofs.Vocabulary.{AgentEntry, ItemAt, transcript_of, agent_of, if_of}
 use Rattle.run_certify.proofs.Lists.{cons_cancel, eq_apart, eq_same, same_or, set_apart, set_here}
 
-module _ {W D : Type 0} (next : W → Event → W) (sense : W → Event → Bool) (serves : W → Event → Option ItemAt) (puts : W → Event → List Entry) (decides : W → Event → Option D) where
+module _ {W D : Type 0} (next : W → Event → W) (sense : W → Event → Bool) (serves : W → Event → Option ItemAt) (puts : W → Event → List AgentEntry) (decides : W → Event → Option D) where
   abbrev pub have_sense : W → List Event → Type 0
   have_sense w [] = Unit {0}
   have_sense w (event ∷ events) = (sense w event ≡ true) × have_sense (next w event) events
@@ -12,7 +12,7 @@ module _ {W D : Type 0} (next : W → Event → W) (sense : W → Event → Bool
   items_in w [] = []
   items_in w (event ∷ events) = cons_option (serves w event) (items_in (next w event) events)
 
-  abbrev pub told_in : ℕ → W → List Event → List Entry
+  abbrev pub told_in : ℕ → W → List Event → List AgentEntry
   told_in agent w [] = []
   told_in agent w (event ∷ events) = if_of (agent_of event) agent (puts w event) ++ told_in agent (next w event) events
 
@@ -20,38 +20,38 @@ module _ {W D : Type 0} (next : W → Event → W) (sense : W → Event → Bool
   decided_in w [] = []
   decided_in w (event ∷ events) = cons_option (decides w event) (decided_in (next w event) events)
 
-  pub record AreOf (w : W) (events : List Event) (items : List ItemAt) (unused : List (List Entry)) : Type 0 where
+  pub record AreOf (w : W) (events : List Event) (items : List ItemAt) (unused : List (List AgentEntry)) : Type 0 where
     pub sense_is : have_sense w events
     pub served : items_in w events ≡ items
     pub told : (agent : ℕ) → told_in agent w events ≡ transcript_of unused agent
 
-if_same : (agent : ℕ) (o : Option ℕ) (xs : List Entry) → o ≡ Some agent → if_of o agent xs ≡ xs
+if_same : (agent : ℕ) (o : Option ℕ) (xs : List AgentEntry) → o ≡ Some agent → if_of o agent xs ≡ xs
 if_same agent o xs is = ap (λ p. if_of p agent xs) is ∙ ap (λ b. if b then xs else []) (eq_same agent)
 
-if_apart : (agent other : ℕ) (o : Option ℕ) (xs : List Entry) → o ≡ Some agent → other ≢ agent → if_of o other xs ≡ []
+if_apart : (agent other : ℕ) (o : Option ℕ) (xs : List AgentEntry) → o ≡ Some agent → other ≢ agent → if_of o other xs ≡ []
 if_apart agent other o xs is apart = ap (λ p. if_of p other xs) is ∙ ap (λ b. if b then xs else []) (eq_apart agent other apart)
 
-if_none : (other : ℕ) (o : Option ℕ) (xs : List Entry) → o ≡ None → if_of o other xs ≡ []
+if_none : (other : ℕ) (o : Option ℕ) (xs : List AgentEntry) → o ≡ None → if_of o other xs ≡ []
 if_none other o xs is = ap (λ p. if_of p other xs) is
 
 -- ---- an event of an agent
 
-module _ {W D : Type 0} (next : W → Event → W) (sense : W → Event → Bool) (serves : W → Event → Option ItemAt) (puts : W → Event → List Entry) (decides : W → Event → Option D) where
-  abbrev Of : W → List Event → List ItemAt → List (List Entry) → Type 0
+module _ {W D : Type 0} (next : W → Event → W) (sense : W → Event → Bool) (serves : W → Event → Option ItemAt) (puts : W → Event → List AgentEntry) (decides : W → Event → Option D) where
+  abbrev Of : W → List Event → List ItemAt → List (List AgentEntry) → Type 0
   Of = AreOf next sense serves puts decides
 
-  abbrev told : ℕ → W → List Event → List Entry
+  abbrev told : ℕ → W → List Event → List AgentEntry
   told = told_in next sense serves puts decides
 
   -- what has to be so of the event, for what is left of the agent's entries to be these
-  pub record Fits (w : W) (event : Event) (agent : ℕ) (items later : List ItemAt) (unused : List (List Entry)) (entries : List Entry) : Type 0 where
+  pub record Fits (w : W) (event : Event) (agent : ℕ) (items later : List ItemAt) (unused : List (List AgentEntry)) (entries : List AgentEntry) : Type 0 where
     pub of : agent_of event ≡ Some agent
     pub there : agent < length unused
     pub sense_is : sense w event ≡ true
     pub served : items ≡ cons_option (serves w event) later
     pub told : transcript_of unused agent ≡ puts w event ++ entries
 
-  pub goes_back : (w : W) (event : Event) (agent : ℕ) (events : List Event) (items later : List ItemAt) (unused : List (List Entry)) (entries : List Entry)
+  pub goes_back : (w : W) (event : Event) (agent : ℕ) (events : List Event) (items later : List ItemAt) (unused : List (List AgentEntry)) (entries : List AgentEntry)
       → Fits w event agent items later unused entries → Of (next w event) events later (slice_set unused agent entries) → Of w (event ∷ events) items unused
   goes_back w event agent events items later unused entries fits is = record {
     sense_is = (fits.sense_is, is.sense_is);
@@ -65,7 +65,7 @@ module _ {W D : Type 0} (next : W → Event → W) (sense : W → Event → Bool
         (same_or other agent);
   }
 
-  pub goes_on : (w : W) (event : Event) (agent : ℕ) (events : List Event) (items later : List ItemAt) (unused : List (List Entry)) (entries : List Entry)
+  pub goes_on : (w : W) (event : Event) (agent : ℕ) (events : List Event) (items later : List ItemAt) (unused : List (List AgentEntry)) (entries : List AgentEntry)
       → Fits w event agent items later unused entries → Of w (event ∷ events) items unused → Of (next w event) events later (slice_set unused agent entries)
   goes_on w event agent events items later unused entries fits is = record {
     sense_is = is.sense_is.1;
@@ -86,7 +86,7 @@ module _ {W D : Type 0} (next : W → Event → W) (sense : W → Event → Bool
     pub sense_is : sense w event ≡ true
     pub served : items ≡ cons_option (serves w event) later
 
-  pub operator_back : (w : W) (event : Event) (events : List Event) (items later : List ItemAt) (unused : List (List Entry))
+  pub operator_back : (w : W) (event : Event) (events : List Event) (items later : List ItemAt) (unused : List (List AgentEntry))
       → FitsOperator w event items later → Of (next w event) events later unused → Of w (event ∷ events) items unused
   operator_back w event events items later unused fits is = record {
     sense_is = (fits.sense_is, is.sense_is);
@@ -94,7 +94,7 @@ module _ {W D : Type 0} (next : W → Event → W) (sense : W → Event → Bool
     told = λ other. ap (λ xs. xs ++ told other (next w event) events) (if_none other (agent_of event) (puts w event) fits.of) ∙ is.told other;
   }
 
-  pub operator_on : (w : W) (event : Event) (events : List Event) (items later : List ItemAt) (unused : List (List Entry))
+  pub operator_on : (w : W) (event : Event) (events : List Event) (items later : List ItemAt) (unused : List (List AgentEntry))
       → FitsOperator w event items later → Of w (event ∷ events) items unused → Of (next w event) events later unused
   operator_on w event events items later unused fits is = record {
     sense_is = is.sense_is.1;
@@ -104,18 +104,18 @@ module _ {W D : Type 0} (next : W → Event → W) (sense : W → Event → Bool
 
   -- ---- what refutes
 
-  pub no_sense : (w : W) (event : Event) (events : List Event) (items : List ItemAt) (unused : List (List Entry)) → sense w event ≡ false → ¬ (Of w (event ∷ events) items unused)
+  pub no_sense : (w : W) (event : Event) (events : List Event) (items : List ItemAt) (unused : List (List AgentEntry)) → sense w event ≡ false → ¬ (Of w (event ∷ events) items unused)
   no_sense w event events items unused none is = true≢false (sym is.sense_is.0 ∙ none)
 
   -- what an event of an agent puts down begins what is left of its transcript
-  pub puts_first : (w : W) (event : Event) (agent : ℕ) (events : List Event) (items : List ItemAt) (unused : List (List Entry)) → agent_of event ≡ Some agent → Of w (event ∷ events) items unused
-      → (rest : List Entry) × (transcript_of unused agent ≡ puts w event ++ rest)
+  pub puts_first : (w : W) (event : Event) (agent : ℕ) (events : List Event) (items : List ItemAt) (unused : List (List AgentEntry)) → agent_of event ≡ Some agent → Of w (event ∷ events) items unused
+      → (rest : List AgentEntry) × (transcript_of unused agent ≡ puts w event ++ rest)
   puts_first w event agent events items unused of is = (
     told agent (next w event) events,
     sym (is.told agent) ∙ ap (λ xs. xs ++ told agent (next w event) events) (if_same agent (agent_of event) (puts w event) of),
   )
 
   -- what is served is the first item
-  pub serves_first : (w : W) (event : Event) (events : List Event) (items : List ItemAt) (unused : List (List Entry)) (what : ItemAt) → serves w event ≡ Some what → Of w (event ∷ events) items unused
+  pub serves_first : (w : W) (event : Event) (events : List Event) (items : List ItemAt) (unused : List (List AgentEntry)) (what : ItemAt) → serves w event ≡ Some what → Of w (event ∷ events) items unused
       → (rest : List ItemAt) × (items ≡ what ∷ rest)
   serves_first w event events items unused what some is = (_, sym is.served ∙ ap (λ o. cons_option o (items_in next sense serves puts decides (next w event) events)) some)

@@ -77,8 +77,8 @@ pub use Rattle.run_certify.specs.code.Turns.{IsTurn, is_asked}
 pub use Rattle.run_certify.specs.code.Uses.{EndsOtherwise, HasEnded}
 pub use Rattle.run_certify.specs.code.ValidVotes.{AllBegunAreValid, EntriesGiveValidVotes, EntryGivesValidVotes}
 pub use Rattle.run_certify.specs.code.Walks.{AskedFails, AskedGoes, EntryFails, EntryGoes, Fails, Goes, IsBegin, IsEnd, IsEvent, IsItemTaken, IsLeft, IsOfRun, IsShorter, IsSound, IsStart, IsUse, Walked, what_was_done, with_decision}
-pub use Rattle.run_certify.specs.declared.entry.Entry.{Entry}
-pub use Rattle.run_certify.specs.declared.entry.Entry.TheVariants.{Asked, Begun, Ended, Forgot, Lacked}
+pub use Rattle.run_certify.specs.declared.entry.AgentEntry.{AgentEntry}
+pub use Rattle.run_certify.specs.declared.entry.AgentEntry.TheVariants.{Asked, Begun, Ended, Forgot, Lacked}
 pub use Rattle.run_certify.specs.declared.fault.CertifyFault.{CertifyFault}
 pub use Rattle.run_certify.specs.declared.fault.CertifyFault.TheVariants.{Mismatch}
 pub use Rattle.run_certify.specs.declared.heads.Head.{Head}

@@ -1,6 +1,6 @@
 -- One step of the walk after another.
 use Rattle.run_certify.proofs.Vocabulary.{◌≡◌, ◌⊎◌, ℕ, ◌<◌, true, false, List, [], ◌∷◌, ◌++◌, length, slice_set, subst, refl, ap, ◌∙◌, sym, arith, append_assoc, append-nil, Option, Some, None, cons_option, same_Some, IsAccepted, Fixed}
-use Rattle.run_certify.proofs.Vocabulary.{fixed_of, Job, EndedJob, Event, Begin, Step, Crash, Return, Forget, Lack, Decided, decided, has_sense, World, step, Item, Entry, Asked, Ended, AreCounted, HasPlace, IsCounted, IsPlayed}
+use Rattle.run_certify.proofs.Vocabulary.{fixed_of, Job, EndedJob, Event, Begin, Step, Crash, Return, Forget, Lack, Decided, decided, has_sense, World, step, Item, AgentEntry, Asked, Ended, AreCounted, HasPlace, IsCounted, IsPlayed}
 use Rattle.run_certify.proofs.Vocabulary.{counts_after, jobs_after, ItemAt, agent_of, asker, entries_by, served_as, event_of, operated, transcript_of, AreAllPlayed, IsLeast, IsTaken, at_server, IsTurn, is_asked, Fails, Goes, IsLeft}
 use Rattle.run_certify.proofs.Vocabulary.{IsOfRun, IsSound, IsUse, Walked}
 use Rattle.run_certify.proofs.Bridge.{decided_same, decides, from_run, next, puts, sense, serves, to_run}
@@ -13,10 +13,10 @@ use Rattle.run_certify.proofs.Moves as moves
 -- ---- of the run
 
 module _ (fixed : Fixed) where
-  abbrev pub Left : World → List ItemAt → List (List Item) → List (List Entry) → List Decided → Type 0
+  abbrev pub Left : World → List ItemAt → List (List Item) → List (List AgentEntry) → List Decided → Type 0
   Left = moves.IsLeft (next fixed) (sense fixed) (serves fixed) (puts fixed) (decides fixed)
 
-  pub to_left : (w : World) (taken : List ItemAt) (histories : List (List Item)) (unused : List (List Entry)) (ds : List Decided) → Left w taken histories unused ds → IsLeft fixed w taken histories unused ds
+  pub to_left : (w : World) (taken : List ItemAt) (histories : List (List Item)) (unused : List (List AgentEntry)) (ds : List Decided) → Left w taken histories unused ds → IsLeft fixed w taken histories unused ds
   to_left w taken histories unused ds left = record {
     items = left.items;
     merge = left.merge;
@@ -24,7 +24,7 @@ module _ (fixed : Fixed) where
     is = left.is ∙ decided_same fixed w _;
   }
 
-  pub from_left : (w : World) (taken : List ItemAt) (histories : List (List Item)) (unused : List (List Entry)) (ds : List Decided) → IsLeft fixed w taken histories unused ds → Left w taken histories unused ds
+  pub from_left : (w : World) (taken : List ItemAt) (histories : List (List Item)) (unused : List (List AgentEntry)) (ds : List Decided) → IsLeft fixed w taken histories unused ds → Left w taken histories unused ds
   from_left w taken histories unused ds left = record {
     items = left.items;
     merge = left.merge;
@@ -50,7 +50,7 @@ fails_further a b x y one fails = λ s total run. fails (one.sound s) total (one
 -- ---- an event
 
 -- the event was played, and this was decided in it; these entries are then unused
-pub record IsAfter (was : Walked) (event : Event) (left : List (List Entry)) (ds : List Decided) (now : Walked) : Type 0 where
+pub record IsAfter (was : Walked) (event : Event) (left : List (List AgentEntry)) (ds : List Decided) (now : Walked) : Type 0 where
   pub settings : now.settings ≡ was.settings
   pub given : now.given ≡ was.given
   pub world : now.world ≡ (step (fixed_of was.given) was.world event).world
@@ -96,7 +96,7 @@ counts_long counts (Return server) = refl
 counts_long counts (Forget agent site) = refl
 counts_long counts (Lack agent why) = refl
 
-pub sound_after : (was now : Walked) (event : Event) (left : List (List Entry)) (ds : List Decided) → IsAfter was event left ds now → length left ≡ length was.unused → HasSeat (length was.unused) event
+pub sound_after : (was now : Walked) (event : Event) (left : List (List AgentEntry)) (ds : List Decided) → IsAfter was event left ds now → length left ≡ length was.unused → HasSeat (length was.unused) event
     → has_sense (fixed_of was.given) was.world event ≡ true → IsSound was → IsSound now
 sound_after was now event left ds after long seat has sound = record {
   accepted = subst (λ g. IsAccepted g) (sym after.given) sound.accepted;
@@ -110,7 +110,7 @@ sound_after was now event left ds after long seat has sound = record {
   counts_there = ap (λ cs. length cs) after.counts ∙ counts_long was.begun.counts event ∙ sound.counts_there ∙ sym long ∙ sym (ap (λ us. length us) after.unused);
 }
 
-module _ (was now : Walked) (event : Event) (left : List (List Entry)) (ds : List Decided) (taken later : List ItemAt) (after : IsAfter was event left ds now) where
+module _ (was now : Walked) (event : Event) (left : List (List AgentEntry)) (ds : List Decided) (taken later : List ItemAt) (after : IsAfter was event left ds now) where
   abbrev world : World
   world = (step (fixed_of was.given) was.world event).world
 
@@ -148,7 +148,7 @@ none_some agent e = cc
 -- ---- an entry
 
 -- the event of an entry without a stamp was played, and these entries are left of the agent's
-pub record IsEntryPlayed (was : Walked) (agent : ℕ) (entry : Entry) (event : Event) (rest : List Entry) : Type 0 where
+pub record IsEntryPlayed (was : Walked) (agent : ℕ) (entry : AgentEntry) (event : Event) (rest : List AgentEntry) : Type 0 where
   pub other : is_asked entry ≡ false
   pub spells : event_of agent entry ≡ Some event
   pub of : agent_of event ≡ Some agent
@@ -160,7 +160,7 @@ pub record IsEntryPlayed (was : Walked) (agent : ℕ) (entry : Entry) (event : E
 seat_of : (seats agent : ℕ) (event : Event) → agent_of event ≡ Some agent → agent < seats → HasSeat seats event
 seat_of seats agent event of low other is = let e : agent ≡ other = same_Some agent other (sym of ∙ is) in omega arith
 
-pub entry_goes : (was old now : Walked) (agent : ℕ) (entry : Entry) (event : Event) (ys rest : List Entry) (taken : List ItemAt) → IsUse was agent entry old → IsTurn taken was.histories was.unused agent
+pub entry_goes : (was old now : Walked) (agent : ℕ) (entry : AgentEntry) (event : Event) (ys rest : List AgentEntry) (taken : List ItemAt) → IsUse was agent entry old → IsTurn taken was.histories was.unused agent
     → transcript_of was.unused agent ≡ entry ∷ ys → (ys ≡ rest) ⊎ ((outcome : EndedJob) × (ys ≡ Ended outcome ∷ rest)) → IsEntryPlayed was agent entry event rest
     → IsAfter was event (slice_set was.unused agent rest) [] now → Goes was taken now taken
 entry_goes was old now agent entry event ys rest taken it turn at past played after =
@@ -194,7 +194,7 @@ entry_goes was old now agent entry event ys rest taken it turn at past played af
     }
 
 -- the next entry of the agent spells an event without sense
-pub entry_senseless : (was old : Walked) (agent : ℕ) (entry : Entry) (event : Event) (taken : List ItemAt) → IsUse was agent entry old
+pub entry_senseless : (was old : Walked) (agent : ℕ) (entry : AgentEntry) (event : Event) (taken : List ItemAt) → IsUse was agent entry old
     → IsTurn taken was.histories was.unused agent → is_asked entry ≡ false → event_of agent entry ≡ Some event
     → (IsSound was → has_sense (fixed_of was.given) was.world event ≡ false) → Fails was taken
 entry_senseless was old agent entry event taken it turn other spells none = λ sound total run.
@@ -203,9 +203,9 @@ entry_senseless was old agent entry event taken it turn other spells none = λ s
     (from_left fixed was.world taken was.histories was.unused run.later run.left)
 
 -- it has sense, and what is put down of it begins the agent's transcript
-pub entry_so : (was old : Walked) (agent : ℕ) (entry : Entry) (event : Event) (taken : List ItemAt) → IsUse was agent entry old → IsTurn taken was.histories was.unused agent → is_asked entry ≡ false → event_of agent entry ≡ Some event
+pub entry_so : (was old : Walked) (agent : ℕ) (entry : AgentEntry) (event : Event) (taken : List ItemAt) → IsUse was agent entry old → IsTurn taken was.histories was.unused agent → is_asked entry ≡ false → event_of agent entry ≡ Some event
     → agent_of event ≡ Some agent
-    → ((rest : List Entry) → has_sense (fixed_of was.given) was.world event ≡ true → transcript_of was.unused agent ≡ entries_by (fixed_of was.given) was.world event (step (fixed_of was.given) was.world event).done ++ rest → ⊥)
+    → ((rest : List AgentEntry) → has_sense (fixed_of was.given) was.world event ≡ true → transcript_of was.unused agent ≡ entries_by (fixed_of was.given) was.world event (step (fixed_of was.given) was.world event).done ++ rest → ⊥)
     → Fails was taken
 entry_so was old agent entry event taken it turn other spells of none = λ sound total run.
     let fixed : Fixed = fixed_of was.given in
@@ -303,14 +303,14 @@ nothing_fails was one agent of none = λ sound total run.
     (from_left fixed was.world (one ∷ []) was.histories was.unused run.later run.left)
 
 -- an agent's item is served
-pub asked_goes : (was now : Walked) (one : ItemAt) (agent server stamp : ℕ) (ys rest : List Entry) → one.item.agent ≡ Some agent → agent < length was.unused → transcript_of was.unused agent ≡ Asked server stamp ∷ ys
+pub asked_goes : (was now : Walked) (one : ItemAt) (agent server stamp : ℕ) (ys rest : List AgentEntry) → one.item.agent ≡ Some agent → agent < length was.unused → transcript_of was.unused agent ≡ Asked server stamp ∷ ys
     → has_sense (fixed_of was.given) was.world (Step agent) ≡ true → served_as (Some agent) (step (fixed_of was.given) was.world (Step agent)).done.served ≡ Some one
     → transcript_of was.unused agent ≡ entries_by (fixed_of was.given) was.world (Step agent) (step (fixed_of was.given) was.world (Step agent)).done ++ rest → (ys ≡ rest) ⊎ ((outcome : EndedJob) × (ys ≡ Ended outcome ∷ rest))
     → (new : IsSound was → IsAfter was (Step agent) (slice_set was.unused agent rest) (cons_option (decided (fixed_of was.given) was.world (Step agent)) []) now) → Goes was (one ∷ []) now []
 asked_goes was now one agent server stamp ys rest of low at has served told past after =
     let fixed : Fixed = fixed_of was.given in
     let d : Option Decided = decided fixed was.world (Step agent) in
-    let left : List (List Entry) = slice_set was.unused agent rest in
+    let left : List (List AgentEntry) = slice_set was.unused agent rest in
     record {
       sound = λ sound. sound_after was now (Step agent) left (cons_option d []) (after sound) (long_set was.unused agent rest) (seat_of (length was.unused) agent (Step agent) refl low) has sound;
       on = λ sound. after_on was now (Step agent) left (cons_option d []) (one ∷ []) [] (after sound)
@@ -325,9 +325,9 @@ asked_goes was now one agent server stamp ys rest of low at has served told past
           (from_left fixed _ [] was.histories left more is))));
     }
 
-pub asked_fails : (was : Walked) (one : ItemAt) (agent server stamp : ℕ) (ys : List Entry) → one.item.agent ≡ Some agent → transcript_of was.unused agent ≡ Asked server stamp ∷ ys
+pub asked_fails : (was : Walked) (one : ItemAt) (agent server stamp : ℕ) (ys : List AgentEntry) → one.item.agent ≡ Some agent → transcript_of was.unused agent ≡ Asked server stamp ∷ ys
     → (has_sense (fixed_of was.given) was.world (Step agent) ≡ true
-    → (rest : List Entry) → transcript_of was.unused agent ≡ entries_by (fixed_of was.given) was.world (Step agent) (step (fixed_of was.given) was.world (Step agent)).done ++ rest
+    → (rest : List AgentEntry) → transcript_of was.unused agent ≡ entries_by (fixed_of was.given) was.world (Step agent) (step (fixed_of was.given) was.world (Step agent)).done ++ rest
     → ((what : ItemAt) → served_as (Some agent) (step (fixed_of was.given) was.world (Step agent)).done.served ≡ Some what → one ≡ what) → ⊥)
     → Fails was (one ∷ [])
 asked_fails was one agent server stamp ys of at none = λ sound total run.
@@ -336,10 +336,10 @@ asked_fails was one agent server stamp ys of at none = λ sound total run.
     (from_left fixed was.world (one ∷ []) was.histories was.unused run.later run.left) in
     none h.0 h.1.0 h.1.1 h.2
 
-pub rest_fails : (was : Walked) (agent server stamp : ℕ) (ys : List Entry) → AreAllPlayed was.histories → ((i : ℕ) → i < agent → transcript_of was.unused i ≡ [])
+pub rest_fails : (was : Walked) (agent server stamp : ℕ) (ys : List AgentEntry) → AreAllPlayed was.histories → ((i : ℕ) → i < agent → transcript_of was.unused i ≡ [])
     → agent < length was.unused → transcript_of was.unused agent ≡ Asked server stamp ∷ ys
     → (has_sense (fixed_of was.given) was.world (Step agent) ≡ true
-    → (rest : List Entry) → transcript_of was.unused agent ≡ entries_by (fixed_of was.given) was.world (Step agent) (step (fixed_of was.given) was.world (Step agent)).done ++ rest
+    → (rest : List AgentEntry) → transcript_of was.unused agent ≡ entries_by (fixed_of was.given) was.world (Step agent) (step (fixed_of was.given) was.world (Step agent)).done ++ rest
     → ((what : ItemAt) → served_as (Some agent) (step (fixed_of was.given) was.world (Step agent)).done.served ≡ Some what → ⊥) → ⊥)
     → Fails was []
 rest_fails was agent server stamp ys empty before low at none = λ sound total run.

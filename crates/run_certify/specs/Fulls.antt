@@ -8,8 +8,8 @@ use Rattle.rep_core.specs.declared.stamped.Lack.TheVariants.{Full, Memory}
 use Rattle.rep_core.specs.Store.{max_suites}
 use Rattle.server_lock.specs.declared.item.Item.{Item}
 use Rattle.server_lock.specs.Histories.{max_items}
-use Rattle.run_certify.specs.declared.entry.Entry.{Entry}
-use Rattle.run_certify.specs.declared.entry.Entry.TheVariants.{Lacked}
+use Rattle.run_certify.specs.declared.entry.AgentEntry.{AgentEntry}
+use Rattle.run_certify.specs.declared.entry.AgentEntry.TheVariants.{Lacked}
 use Rattle.run_certify.specs.Merges.{history_of}
 
 -- how many suites a request asks a server to keep something of
@@ -34,9 +34,9 @@ can_lack history Full = can_be_full history
 can_lack history Memory = true
 
 -- an agent was told of a server that it is full only where that can be
-abbrev pub can_be_told : List (List Item) → Entry → Bool
+abbrev pub can_be_told : List (List Item) → AgentEntry → Bool
 can_be_told histories (Lacked server why) = can_lack (history_of histories server) why
 can_be_told histories other = true
 
-abbrev pub can_all_be_told : List (List Item) → List (List Entry) → Bool
+abbrev pub can_all_be_told : List (List Item) → List (List AgentEntry) → Bool
 can_all_be_told histories transcripts = list_all (λ entries. list_all (λ entry. can_be_told histories entry) entries) transcripts

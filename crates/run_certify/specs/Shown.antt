@@ -11,8 +11,8 @@ use Rattle.run_core.specs.declared.done.Served.{Served}
 use Rattle.run_core.specs.declared.event.Event.{Event}
 use Rattle.run_core.specs.declared.event.Event.TheVariants as event
 use Rattle.run_core.specs.Worlds.{World, actor_at, step}
-use Rattle.run_certify.specs.declared.entry.Entry.{Entry}
-use Rattle.run_certify.specs.declared.entry.Entry.TheVariants.{Begun, Asked, Lacked, Forgot, Ended}
+use Rattle.run_certify.specs.declared.entry.AgentEntry.{AgentEntry}
+use Rattle.run_certify.specs.declared.entry.AgentEntry.TheVariants.{Begun, Asked, Lacked, Forgot, Ended}
 use Rattle.run_certify.specs.Merges.{ItemAt}
 use Rattle.run_core.specs.Asking.{asked_by}
 
@@ -40,22 +40,22 @@ items_from fixed world (event ∷ events) =
 -- ---- what an agent puts down
 
 -- that its job ended, if it did
-abbrev pub ended : Option EndedJob → List Entry
+abbrev pub ended : Option EndedJob → List AgentEntry
 ended (Some outcome) = Ended outcome ∷ []
 ended None = []
 
 -- that it was not served
-abbrev pub lacked : Lack → Option (ℕ × Request) → List Entry
+abbrev pub lacked : Lack → Option (ℕ × Request) → List AgentEntry
 lacked why (Some asked) = Lacked asked.0 why ∷ []
 lacked why None = []
 
 -- that it asked: the stamp of the reply, or that the server was full
-abbrev pub asked : Option (ℕ × Request) → Option Served → List Entry
+abbrev pub asked : Option (ℕ × Request) → Option Served → List AgentEntry
 asked next (Some what) = Asked what.server what.reply.stamp ∷ []
 asked next None = lacked Full next
 
 -- what the agent of an event puts down
-abbrev pub entries_by : Fixed → World → Event → Done → List Entry
+abbrev pub entries_by : Fixed → World → Event → Done → List AgentEntry
 entries_by fixed world (event.Begin agent job) done = Begun job ∷ []
 entries_by fixed world (event.Step agent) done = asked (asked_by fixed (actor_at world agent)) done.served ++ ended done.outcome
 entries_by fixed world (event.Lack agent why) done = lacked why (asked_by fixed (actor_at world agent)) ++ ended done.outcome
@@ -72,12 +72,12 @@ agent_of (event.Forget agent site) = Some agent
 agent_of (event.Crash server) = None
 agent_of (event.Return server) = None
 
-abbrev pub if_of : Option ℕ → ℕ → List Entry → List Entry
+abbrev pub if_of : Option ℕ → ℕ → List AgentEntry → List AgentEntry
 if_of (Some agent) number entries = if nat_eq agent number then entries else []
 if_of None number entries = []
 
 -- the transcript of an agent in a run
-abbrev pub transcript_from : ℕ → Fixed → World → List Event → List Entry
+abbrev pub transcript_from : ℕ → Fixed → World → List Event → List AgentEntry
 transcript_from agent fixed world [] = []
 transcript_from agent fixed world (event ∷ events) =
     if_of (agent_of event) agent (entries_by fixed world event (step fixed world event).done) ++ transcript_from agent fixed (step fixed world event).world events

@@ -8,14 +8,14 @@ use txn_core::{Ops, SharedCaller};
 
 /// A transaction that was decided: its number, who asked for what, and the replies or the refusal.
 #[derive(Debug, Drop)]
-pub struct Decision {
+pub struct DecidedTransaction {
     pub t: u64,
     pub caller: SharedCaller,
     pub ops: Ops,
     pub answer: Result<Answers, Refusal>,
 }
 
-impl Model for Decision {
+impl Model for DecidedTransaction {
     ghost use Rattle.run_core.specs.Decisions.{Decided};
 
     ghost Value = { Decided };
@@ -26,7 +26,7 @@ impl Model for Decision {
 /// All that was decided in a run, in the order in which it was recorded.
 #[derive(Debug, Drop)]
 pub struct Decided {
-    decisions: Vec<Decision>,
+    decisions: Vec<DecidedTransaction>,
 }
 
 impl Model for Decided {
@@ -40,14 +40,14 @@ impl Model for Decided {
 
 impl Decided {
     /// The decisions of a vector, which is not copied.
-    pub(crate) fn from_vec(decisions: Vec<Decision>) -> Decided
+    pub(crate) fn from_vec(decisions: Vec<DecidedTransaction>) -> Decided
         ensures { result ≡ decisions.items }
     {
         Decided { decisions }
     }
 
     /// The vector.
-    pub fn into_vec(self) -> Vec<Decision>
+    pub fn into_vec(self) -> Vec<DecidedTransaction>
         ensures { result.items ≡ self }
     {
         let Decided { decisions } = self;
@@ -55,7 +55,7 @@ impl Decided {
     }
 
     /// The decisions.
-    pub fn as_slice(&self) -> &[Decision]
+    pub fn as_slice(&self) -> &[DecidedTransaction]
         ensures { result.now ≡ self.now }
     {
         &self.decisions

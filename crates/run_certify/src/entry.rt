@@ -105,7 +105,7 @@ impl KeptEnd {
 
 /// One thing that an agent did.
 #[derive(Debug, Drop)]
-pub enum Entry {
+pub enum AgentEntry {
     /// It began a job.
     Begun(KeptJob),
     /// It asked a server, whose reply has this stamp.
@@ -121,28 +121,28 @@ pub enum Entry {
 /// What an agent did, in its order.
 #[derive(Debug, Drop)]
 pub struct Transcript {
-    entries: Vec<Entry>,
+    entries: Vec<AgentEntry>,
 }
 
 impl Model for Transcript {
     ghost use Rattle.std.specs.Prelude.{List};
-    ghost use Rattle.run_certify.specs.declared.entry.Entry.{Entry};
+    ghost use Rattle.run_certify.specs.declared.entry.AgentEntry.{AgentEntry};
 
-    ghost Value = { List Entry };
+    ghost Value = { List AgentEntry };
 
     ghost view = { λ transcript. transcript.entries.items };
 }
 
 impl Transcript {
     /// The transcript of a vector, which is not copied.
-    pub fn from_vec(entries: Vec<Entry>) -> Transcript
+    pub fn from_vec(entries: Vec<AgentEntry>) -> Transcript
         ensures { result ≡ entries.items }
     {
         Transcript { entries }
     }
 
     /// The vector.
-    pub fn into_vec(self) -> Vec<Entry>
+    pub fn into_vec(self) -> Vec<AgentEntry>
         ensures { result.items ≡ self }
     {
         let Transcript { entries } = self;
@@ -150,7 +150,7 @@ impl Transcript {
     }
 
     /// The entries.
-    pub fn as_slice(&self) -> &[Entry]
+    pub fn as_slice(&self) -> &[AgentEntry]
         ensures { result.now ≡ self.now }
     {
         &self.entries
@@ -165,9 +165,9 @@ pub struct Transcripts {
 
 impl Model for Transcripts {
     ghost use Rattle.std.specs.Prelude.{List};
-    ghost use Rattle.run_certify.specs.declared.entry.Entry.{Entry};
+    ghost use Rattle.run_certify.specs.declared.entry.AgentEntry.{AgentEntry};
 
-    ghost Value = { List (List Entry) };
+    ghost Value = { List (List AgentEntry) };
 
     ghost view = { λ transcripts. transcripts.transcripts.items };
 }

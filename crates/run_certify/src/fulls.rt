@@ -5,7 +5,7 @@ ghost use Rattle.std.specs.List.{list_all};
 ghost use Rattle.run_certify.specs.Fulls.{can_all_be_told, can_be_full, parts_of};
 ghost use Rattle.run_certify.specs.code.Lacking.{can_be_told_by, can_lack_by};
 
-use crate::entry::{Entry, Transcript};
+use crate::entry::{AgentEntry, Transcript};
 use rep_core::{Lack, MAX_SUITES, Request};
 use server_lock::{History, Item, MAX_ITEMS};
 use std::alloc::{AllocError, Global};
@@ -75,18 +75,18 @@ fn parts_of(request: &Request) -> usize
 }
 
 /// Whether an agent can have been told all this, where these servers can be full.
-fn can_be_told(full: &[bool], entries: &[Entry]) -> bool
+fn can_be_told(full: &[bool], entries: &[AgentEntry]) -> bool
     ensures { result ≡ list_all (λ entry. can_be_told_by full.now entry) entries.now }
 {
     entries.iter().all(|entry| can_tell(full, entry))
 }
 
 /// Whether an agent can have been told this.
-fn can_tell(full: &[bool], entry: &Entry) -> bool
+fn can_tell(full: &[bool], entry: &AgentEntry) -> bool
     ensures { result ≡ can_be_told_by full.now entry.now }
 {
     match entry {
-        Entry::Lacked { server, lack } => can_lack(full, *server, *lack),
+        AgentEntry::Lacked { server, lack } => can_lack(full, *server, *lack),
         _ => true,
     }
 }

@@ -39,7 +39,7 @@ mod verdicts;
 mod votes;
 mod walk;
 
-pub use decided::{Decided, Decision};
-pub use entry::{Entry, KeptEnd, KeptJob, Transcript, Transcripts};
+pub use decided::{Decided, DecidedTransaction};
+pub use entry::{AgentEntry, KeptEnd, KeptJob, Transcript, Transcripts};
 pub use fault::CertifyFault;
 pub use judging::certify;

@@ -3,10 +3,10 @@
 ghost use Rattle.std.specs.Prelude.{◌≡◌, ◌≢◌, ◌↔◌, [], ◌∷◌, length, IfOk, IfNone, IfSome, IsTrue, MatchOption, OnErr, OnOk, Err};
 ghost use Rattle.run_certify.specs.Weaves.{transcript_of};
 ghost use Rattle.run_certify.specs.code.Uses.{AreUsed, EndsOtherwise, HasEnded};
-ghost use Rattle.run_certify.specs.declared.entry.Entry.TheVariants.{Ended};
+ghost use Rattle.run_certify.specs.declared.entry.AgentEntry.TheVariants.{Ended};
 ghost use Rattle.run_certify.specs.declared.fault.CertifyFault.TheVariants.{Memory};
 
-use crate::entry::{Entry, Transcript};
+use crate::entry::{AgentEntry, Transcript};
 use crate::fault::CertifyFault;
 use run_core::EndedJob;
 use std::alloc::{AllocError, Global};
@@ -15,14 +15,14 @@ use std::marker::Model;
 /// What is left of the transcripts: of each agent the entries that were not yet used.
 #[derive(Drop)]
 pub(crate) struct Unused<'a> {
-    transcripts: Vec<&'a [Entry]>,
+    transcripts: Vec<&'a [AgentEntry]>,
 }
 
 impl<'a> Model for Unused<'a> {
     ghost use Rattle.std.specs.Prelude.{List, map};
-    ghost use Rattle.run_certify.specs.declared.entry.Entry.{Entry};
+    ghost use Rattle.run_certify.specs.declared.entry.AgentEntry.{AgentEntry};
 
-    ghost Value = { List (List Entry) };
+    ghost Value = { List (List AgentEntry) };
 
     ghost view = { λ unused. map (λ transcript. transcript.now) unused.transcripts.items };
 }
@@ -52,7 +52,7 @@ impl<'a> Unused<'a> {
     }
 
     /// The next entry of an agent, which is used; none where none is left.
-    pub(crate) fn next(&mut self, agent: usize) -> Option<&'a Entry>
+    pub(crate) fn next(&mut self, agent: usize) -> Option<&'a AgentEntry>
         ensures none { IfNone result (transcript_of self.old agent ≡ []) }
         ensures same { IfNone result (self.new ≡ self.old) }
         ensures used { IfSome result (λ entry. AreUsed self.old agent (entry.now ∷ []) self.new) }
@@ -86,11 +86,11 @@ impl<'a> Unused<'a> {
 }
 
 /// Whether an entry says that a job ended so.
-fn is_end(entry: &Entry, outcome: &EndedJob) -> bool
+fn is_end(entry: &AgentEntry, outcome: &EndedJob) -> bool
     ensures { IsTrue result ↔ (entry.now ≡ Ended outcome.now) }
 {
     match entry {
-        Entry::Ended(told) => **told == *outcome,
+        AgentEntry::Ended(told) => **told == *outcome,
         _ => false,
     }
 }

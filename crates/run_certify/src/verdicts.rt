@@ -4,7 +4,7 @@ ghost use Rattle.std.specs.Prelude.{◌≡◌, option_copied, IfOk, Some};
 ghost use Rattle.run_core.specs.Decisions.{answer_in, to_decide};
 ghost use Rattle.run_certify.specs.Deciding.{decision_by};
 
-use crate::decided::Decision;
+use crate::decided::DecidedTransaction;
 use file_ops::{Answers, Refusal};
 use rep_core::{Reply, Request, Verdict};
 use run_core::Served;
@@ -15,7 +15,7 @@ use txn_core::Job;
 pub(crate) fn decision_of(
     job: Option<&Job>,
     served: &Served,
-) -> Result<Option<Decision>, AllocError>
+) -> Result<Option<DecidedTransaction>, AllocError>
     ensures { IfOk result (λ one. one ≡ decision_by (option_copied job.entry) (Some served.now)) }
 {
     let Some(t) = decides(&served.request.value) else {
@@ -27,7 +27,7 @@ pub(crate) fn decision_of(
     let Some(Job::Transaction { caller, ops, .. }) = job else {
         return Ok(None);
     };
-    Ok(Some(Decision {
+    Ok(Some(DecidedTransaction {
         t,
         caller: caller.clone()?,
         ops: ops.clone()?,

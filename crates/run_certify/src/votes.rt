@@ -2,7 +2,7 @@
 
 ghost use Rattle.run_certify.specs.code.ValidVotes.{AllBegunAreValid, EntriesGiveValidVotes, EntryGivesValidVotes};
 
-use crate::entry::{Entry, Transcript};
+use crate::entry::{AgentEntry, Transcript};
 use law_headline::job_is_valid;
 
 /// A law: the votes of all jobs that were begun are valid. It does nothing.
@@ -14,7 +14,7 @@ pub(crate) fn begun_are_valid(transcripts: &[Transcript])
     }
 }
 
-fn entries_are_valid(entries: &[Entry])
+fn entries_are_valid(entries: &[AgentEntry])
     ensures { EntriesGiveValidVotes entries.now }
 {
     for entry in entries {
@@ -22,10 +22,10 @@ fn entries_are_valid(entries: &[Entry])
     }
 }
 
-fn entry_is_valid(entry: &Entry)
+fn entry_is_valid(entry: &AgentEntry)
     ensures { EntryGivesValidVotes entry.now }
 {
-    if let Entry::Begun(job) = entry {
+    if let AgentEntry::Begun(job) = entry {
         job_is_valid(job);
     }
 }

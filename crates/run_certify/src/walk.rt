@@ -6,7 +6,7 @@ ghost use Rattle.txn_core.specs.Agents.{fixed_of};
 ghost use Rattle.run_core.specs.declared.event.Event.TheVariants.{Begin};
 ghost use Rattle.run_core.specs.Asking.{asked_at};
 ghost use Rattle.run_core.specs.Senses as senses;
-ghost use Rattle.run_certify.specs.declared.entry.Entry.TheVariants as entries;
+ghost use Rattle.run_certify.specs.declared.entry.AgentEntry.TheVariants as entries;
 ghost use Rattle.run_certify.specs.declared.fault.CertifyFault.TheVariants.{Mismatch};
 ghost use Rattle.run_certify.specs.Deciding.{count_at, decision_by, job_at};
 ghost use Rattle.std.specs.List.{cons_option};
@@ -18,8 +18,8 @@ ghost use Rattle.run_certify.specs.code.Walks.{AskedFails, AskedGoes, EntryFails
 ghost use Rattle.run_certify.specs.Merges.{ItemAt, IsMerge};
 
 use crate::begun::Begun;
-use crate::decided::{Decided, Decision};
-use crate::entry::{Entry, Transcript};
+use crate::decided::{Decided, DecidedTransaction};
+use crate::entry::{AgentEntry, Transcript};
 use crate::fault::CertifyFault;
 use crate::heads::Heads;
 use crate::operator::operator_event;
@@ -44,7 +44,7 @@ pub(crate) struct Walk<'a> {
     heads: Heads<'a>,
     unused: Unused<'a>,
     begun: Begun<'a>,
-    decisions: Vec<Decision>,
+    decisions: Vec<DecidedTransaction>,
 }
 
 impl<'a> Model for Walk<'a> {
@@ -148,7 +148,7 @@ impl<'a> Walk<'a> {
             let Some(entry) = self.next_entry(usize::from(agent)) else {
                 return Err(CertifyFault::Mismatch);
             };
-            if let Entry::Asked {
+            if let AgentEntry::Asked {
                 server: asked,
                 stamp,
             } = entry
@@ -210,7 +210,7 @@ impl<'a> Walk<'a> {
         ensures mismatch { result ≡ Err Mismatch → Fails self.old [] }
     {
         while let Some(entry) = self.next_entry(agent) {
-            if let Entry::Asked { .. } = entry {
+            if let AgentEntry::Asked { .. } = entry {
                 return Err(CertifyFault::Mismatch);
             }
             let Ok(number) = u8::try_from(agent) else {
@@ -223,16 +223,16 @@ impl<'a> Walk<'a> {
 
     /// Plays an entry that was used, and the end of the agent's job after it, if that ended. One that has a stamp and
     /// one that is an end is no entry to be played.
-    fn replay(&mut self, agent: u8, entry: &'a Entry) -> Result<(), CertifyFault>
+    fn replay(&mut self, agent: u8, entry: &'a AgentEntry) -> Result<(), CertifyFault>
         ensures ok { OnOk result (EntryGoes agent entry.now self.old self.new) }
         ensures shorter { OnOk result (IsShorter self.old agent self.new) }
         ensures mismatch { result ≡ Err Mismatch → is_asked entry.now ≡ false → EntryFails agent entry.now self.old }
     {
         match entry {
-            Entry::Begun(job) => self.begin(agent, job),
-            Entry::Lacked { server, lack } => self.lack(agent, *server, *lack),
-            Entry::Forgot { site } => self.forget(agent, *site),
-            Entry::Asked { .. } | Entry::Ended(_) => Err(CertifyFault::Mismatch),
+            AgentEntry::Begun(job) => self.begin(agent, job),
+            AgentEntry::Lacked { server, lack } => self.lack(agent, *server, *lack),
+            AgentEntry::Forgot { site } => self.forget(agent, *site),
+            AgentEntry::Asked { .. } | AgentEntry::Ended(_) => Err(CertifyFault::Mismatch),
         }
     }
 
@@ -316,7 +316,7 @@ impl<'a> Walk<'a> {
     }
 
     /// The next entry of an agent, which is used; none where none is left.
-    fn next_entry(&mut self, agent: usize) -> Option<&'a Entry>
+    fn next_entry(&mut self, agent: usize) -> Option<&'a AgentEntry>
         ensures none { IfNone result (transcript_of self.old.unused agent ≡ []) }
         ensures same { IfNone result (self.new ≡ self.old) }
         ensures used { IfSome result (λ entry. IsUse self.old agent entry.now self.new) }
@@ -379,7 +379,7 @@ impl<'a> Walk<'a> {
     }
 
     /// What was decided, if what was served decided the transaction of an agent.
-    fn decision(&self, agent: u8, served: &Served) -> Result<Option<Decision>, AllocError>
+    fn decision(&self, agent: u8, served: &Served) -> Result<Option<DecidedTransaction>, AllocError>
         ensures { IfOk result (λ one. one ≡ decision_by (job_at self.now.begun.jobs agent) (Some served.now)) }
     {
         decision_of(self.begun.job(agent), served)

@@ -4,7 +4,7 @@
 
 use file_ops::{Refusal, Why};
 use rep_core::{Decision, Lack, Request};
-use server_lock::{Answer, CloseFault, Gate, Histories, Miss, Pass, Servers};
+use server_lock::{CloseFault, Gate, Histories, Miss, Pass, ServerAnswer, Servers};
 use std::alloc::AllocError;
 use std::process::Abort;
 use std::sync::Wait;
@@ -96,7 +96,7 @@ pub(crate) fn ask_once<R: Abort + Wait, G: Gate>(
     servers: &Servers,
     pass: Pass,
     question: Question,
-) -> (Pass, Answer) {
+) -> (Pass, ServerAnswer) {
     assert!(rt; usize::from(question.server) < servers.settings().servers());
     let told = servers.ask(rt, gate, pass, question.server, request(question.ask));
     assert!(rt; told.1.server() == question.server);
@@ -111,7 +111,7 @@ pub(crate) fn asked<R: Abort + Wait, G: Gate>(
     servers: &Servers,
     pass: Pass,
     question: Question,
-) -> (Pass, Answer) {
+) -> (Pass, ServerAnswer) {
     let told = ask_once(rt, gate, servers, pass, question);
     if lacks_memory(&told.1) {
         return ask_once(rt, gate, servers, told.0, question);
@@ -119,6 +119,6 @@ pub(crate) fn asked<R: Abort + Wait, G: Gate>(
     told
 }
 
-fn lacks_memory(answer: &Answer) -> bool {
+fn lacks_memory(answer: &ServerAnswer) -> bool {
     matches!(answer.reply(), Err(Miss::Lack(Lack::Memory)))
 }

@@ -9,7 +9,9 @@ use crate::fixtures::push;
 use byte_streams::MemoryOut;
 use file_ops::{Answers, Refusal};
 use law_certified::promise;
-use run_certify::{CertifyFault, Decided, Decision, Entry, Transcript, Transcripts, certify};
+use run_certify::{
+    AgentEntry, CertifyFault, Decided, DecidedTransaction, Transcript, Transcripts, certify,
+};
 use server_lock::{Histories, History, Item};
 use std::alloc::{AllocError, Global};
 use std::process::Abort;
@@ -28,7 +30,7 @@ pub(crate) fn histories(rt: &(impl Abort + AllocGlobal), items: Vec<Vec<Item>>) 
 /// The transcripts of agents that put down these entries.
 pub(crate) fn transcripts(
     rt: &(impl Abort + AllocGlobal),
-    entries: Vec<Vec<Entry>>,
+    entries: Vec<Vec<AgentEntry>>,
 ) -> Transcripts {
     let mut transcripts = Vec::new(rt.alloc());
     for list in entries {
@@ -124,7 +126,7 @@ fn text(rt: &(impl Abort + AllocGlobal), text: &str) -> String {
     again!(rt, String::from_str(rt.alloc(), text))
 }
 
-fn words(rt: &(impl Abort + AllocGlobal), decisions: &[Decision]) -> String {
+fn words(rt: &(impl Abort + AllocGlobal), decisions: &[DecidedTransaction]) -> String {
     let mut text = String::new(rt.alloc());
     for decision in decisions {
         let one = again!(rt, decision_words(rt, decision));
@@ -147,7 +149,10 @@ fn answer_words(answer: &Result<Answers, Refusal>) -> (usize, &'static str) {
     }
 }
 
-fn decision_words(rt: &impl AllocGlobal, decision: &Decision) -> Result<String, AllocError> {
+fn decision_words(
+    rt: &impl AllocGlobal,
+    decision: &DecidedTransaction,
+) -> Result<String, AllocError> {
     let (t, uid) = (decision.t, decision.caller.uid());
     let asked = decision.ops.as_slice().len();
     let (count, how) = answer_words(&decision.answer);

@@ -3,7 +3,7 @@
 use crate::fixtures::{had, insert, kept_end, kept_job, push, same, settings};
 use crate::test_cluster::{TestCluster, adds, count, judged, opened, play};
 use rep_core::{Lack, Reply, Request, Stamped};
-use run_certify::Entry;
+use run_certify::AgentEntry;
 use run_core::EndedJob;
 use server_lock::Item;
 use std::process::Abort;
@@ -45,7 +45,7 @@ fn entries_of<'a>(
     rt: &impl Abort,
     test_cluster: &'a mut TestCluster,
     agent: usize,
-) -> &'a mut Vec<Entry> {
+) -> &'a mut Vec<AgentEntry> {
     test_cluster.entries.get_mut(agent).expect(rt, "an agent")
 }
 
@@ -215,8 +215,8 @@ fn a_last_step_was_not_taken(rt: HostRuntime) {
 }
 
 /// Changes the last entry of an agent, which has to be the end of a job that was answered: another number of steps.
-fn miscount(rt: &(impl Abort + AllocGlobal), entries: &mut Vec<Entry>) {
-    if let Some(Entry::Ended(kept)) = entries.pop() {
+fn miscount(rt: &(impl Abort + AllocGlobal), entries: &mut Vec<AgentEntry>) {
+    if let Some(AgentEntry::Ended(kept)) = entries.pop() {
         let Ending::Answered(answers) = &kept.ending else {
             return;
         };
@@ -226,7 +226,7 @@ fn miscount(rt: &(impl Abort + AllocGlobal), entries: &mut Vec<Entry>) {
             steps: kept.steps.wrapping_add(1),
             ending: Ending::Answered(had(rt, answers.clone())),
         };
-        push(rt, entries, Entry::Ended(kept_end(rt, outcome)));
+        push(rt, entries, AgentEntry::Ended(kept_end(rt, outcome)));
     }
 }
 
@@ -244,18 +244,18 @@ fn operate(items: &mut Vec<Item>) {
 }
 
 /// Something that an agent did not do.
-fn invented(rt: &(impl Abort + AllocGlobal), which: usize) -> Entry {
+fn invented(rt: &(impl Abort + AllocGlobal), which: usize) -> AgentEntry {
     match which {
-        4 => Entry::Asked {
+        4 => AgentEntry::Asked {
             server: 0,
             stamp: 9,
         },
-        5 => Entry::Forgot { site: 16 },
-        6 => Entry::Lacked {
+        5 => AgentEntry::Forgot { site: 16 },
+        6 => AgentEntry::Lacked {
             server: 0,
             lack: Lack::Memory,
         },
-        _ => Entry::Begun(kept_job(rt, &Job::Sweep { server: 3 })),
+        _ => AgentEntry::Begun(kept_job(rt, &Job::Sweep { server: 3 })),
     }
 }
 

@@ -5,7 +5,7 @@
 use crate::asking::{Ask, Question, asked, close, started, take};
 use crate::fixtures::{had, push, same, settings};
 use rep_core::{LockList, Reply, Stamped};
-use server_lock::{Answer, CloseFault, Gate, History, OpenGate, Pass, Servers};
+use server_lock::{CloseFault, Gate, History, OpenGate, Pass, ServerAnswer, Servers};
 use std::alloc::AllocError;
 use std::process::Abort;
 use std::sync::Wait;
@@ -60,7 +60,7 @@ fn reply_words(
 fn answer_words(
     rt: &(impl Abort + AllocGlobal),
     servers: &Servers,
-    answer: &Answer,
+    answer: &ServerAnswer,
 ) -> Result<String, AllocError> {
     match answer.reply() {
         Ok(reply) => reply_words(rt, servers.settings(), reply),
@@ -68,7 +68,7 @@ fn answer_words(
     }
 }
 
-fn words(rt: &(impl Abort + AllocGlobal), servers: &Servers, answer: &Answer) -> String {
+fn words(rt: &(impl Abort + AllocGlobal), servers: &Servers, answer: &ServerAnswer) -> String {
     again!(rt, answer_words(rt, servers, answer))
 }
 
@@ -76,7 +76,7 @@ fn words(rt: &(impl Abort + AllocGlobal), servers: &Servers, answer: &Answer) ->
 fn answered(
     rt: &(impl Abort + AllocGlobal),
     servers: &Servers,
-    answer: &Answer,
+    answer: &ServerAnswer,
     server: u8,
     want: &str,
 ) {

@@ -5,7 +5,7 @@ use crate::events::job;
 use crate::fixtures::{same, settings, settings_of, three_votes};
 use crate::test_cluster::{TestCluster, count, happens, judged, opened, play, put_together};
 use rep_core::Lack;
-use run_certify::Entry;
+use run_certify::AgentEntry;
 use run_core::Event;
 use std::process::Abort;
 use suite_prefix::Settings;
@@ -137,7 +137,7 @@ fn long_run(rt: &(impl Abort + AllocGlobal), settings: &Settings) -> TestCluster
 }
 
 /// How many jobs of an agent were answered or refused.
-fn answered(entries: &[Entry]) -> usize {
+fn answered(entries: &[AgentEntry]) -> usize {
     let mut answered = 0usize;
     for entry in entries {
         if is_answered(entry) {
@@ -147,9 +147,9 @@ fn answered(entries: &[Entry]) -> usize {
     answered
 }
 
-fn is_answered(entry: &Entry) -> bool {
+fn is_answered(entry: &AgentEntry) -> bool {
     match entry {
-        Entry::Ended(outcome) => {
+        AgentEntry::Ended(outcome) => {
             matches!(outcome.ending, Ending::Answered(_) | Ending::Refused(_))
         }
         _ => false,

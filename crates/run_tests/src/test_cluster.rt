@@ -6,7 +6,7 @@ use crate::certified::{histories, transcripts, verdict};
 use crate::events::event;
 use crate::fixtures::{kept_end, kept_job, opening, push, small, step};
 use rep_core::{Lack, Stamped};
-use run_certify::{Entry, Transcripts};
+use run_certify::{AgentEntry, Transcripts};
 use run_core::{Done, EndedJob, Event, Served, World};
 use server_lock::{Histories, Item};
 use std::process::Abort;
@@ -17,7 +17,7 @@ use suite_prefix::Settings;
 pub(crate) struct TestCluster {
     pub(crate) world: World,
     pub(crate) items: Vec<Vec<Item>>,
-    pub(crate) entries: Vec<Vec<Entry>>,
+    pub(crate) entries: Vec<Vec<AgentEntry>>,
 }
 
 /// As many empty lists.
@@ -142,32 +142,32 @@ fn entry_of(
     event: &Event,
     server: u8,
     told: Option<u64>,
-) -> Option<Entry> {
+) -> Option<AgentEntry> {
     match event {
-        Event::Begin { job, .. } => Some(Entry::Begun(kept_job(rt, job))),
+        Event::Begin { job, .. } => Some(AgentEntry::Begun(kept_job(rt, job))),
         Event::Step { .. } => Some(asked(server, told)),
-        Event::Lack { lack, .. } => Some(Entry::Lacked {
+        Event::Lack { lack, .. } => Some(AgentEntry::Lacked {
             server,
             lack: *lack,
         }),
-        Event::Forget { site, .. } => Some(Entry::Forgot { site: *site }),
+        Event::Forget { site, .. } => Some(AgentEntry::Forgot { site: *site }),
         Event::Crash { .. } | Event::Return { .. } => None,
     }
 }
 
-fn asked(server: u8, told: Option<u64>) -> Entry {
+fn asked(server: u8, told: Option<u64>) -> AgentEntry {
     match told {
-        Some(stamp) => Entry::Asked { server, stamp },
-        None => Entry::Lacked {
+        Some(stamp) => AgentEntry::Asked { server, stamp },
+        None => AgentEntry::Lacked {
             server,
             lack: Lack::Full,
         },
     }
 }
 
-fn end_of(rt: &(impl Abort + AllocGlobal), outcome: Option<EndedJob>) -> Option<Entry> {
+fn end_of(rt: &(impl Abort + AllocGlobal), outcome: Option<EndedJob>) -> Option<AgentEntry> {
     match outcome {
-        Some(outcome) => Some(Entry::Ended(kept_end(rt, outcome))),
+        Some(outcome) => Some(AgentEntry::Ended(kept_end(rt, outcome))),
         None => None,
     }
 }
@@ -177,7 +177,7 @@ fn put_down(
     rt: &impl Abort,
     test_cluster: &mut TestCluster,
     agent: Option<u8>,
-    entry: Option<Entry>,
+    entry: Option<AgentEntry>,
 ) {
     if let Some(entry) = entry {
         adds(rt, test_cluster, agent.expect(rt, "an agent"), entry);
@@ -185,7 +185,7 @@ fn put_down(
 }
 
 /// Puts an entry at the end of an agent's transcript.
-pub(crate) fn adds(rt: &impl Abort, test_cluster: &mut TestCluster, agent: u8, entry: Entry) {
+pub(crate) fn adds(rt: &impl Abort, test_cluster: &mut TestCluster, agent: u8, entry: AgentEntry) {
     let list = test_cluster.entries.get_mut(usize::from(agent));
     push(rt, list.expect(rt, "an agent"), entry);
 }

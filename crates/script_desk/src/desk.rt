@@ -7,7 +7,7 @@ ghost use Rattle.script_desk.specs.Outcomes.{CarriesOut, Judges};
 ghost use Rattle.suite_script.specs.Faults.{fault_line};
 ghost use Rattle.suite_script.specs.Scripts.{is_skipped};
 
-use crate::service::Service;
+use crate::service::ScriptService;
 use acl_text::Names;
 use line_session::{Desk, LineKind};
 use script_text::Words;
@@ -43,7 +43,7 @@ fn tell_fault(
     Ok(LineKind::Faulty)
 }
 
-impl<S: Service> ScriptDesk<S> {
+impl<S: ScriptService> ScriptDesk<S> {
     /// Carries out a line that says something, and says what it was.
     fn carry_out(
         &mut self,
@@ -101,7 +101,7 @@ impl<S: Service> ScriptDesk<S> {
     }
 }
 
-impl<S: Service> Desk for ScriptDesk<S> {
+impl<S: ScriptService> Desk for ScriptDesk<S> {
     ghost use Rattle.script_desk.specs.Doing.{after_line, kind_of_line, leaves_in, quiet_line, text_of, ways_of};
 
     ghost kind = { kind_of_line (ways_of S.is_known S.begins S.own S.heads S.head S.asks S.told S.line S.after S.settled) };

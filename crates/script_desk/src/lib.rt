@@ -2,7 +2,7 @@
 //!
 //! A session begins with no header. The lines of the header are given one after the other, and then, in any order,
 //! names of users and groups, and the lines of the command's own. Beside these there are lines that ask: they change
-//! nothing. What the command has of its own is a `Service`.
+//! nothing. What the command has of its own is a `ScriptService`.
 //!
 //! **Promises.** `ScriptDesk` is the `Desk` of a session: it tells for each line, and is after it, what the definition
 //! says (`specs/Doing.antt`). A faulty line is told by its number and its code, has done nothing, and may be given
@@ -18,4 +18,4 @@ mod desk;
 mod service;
 
 pub use desk::ScriptDesk;
-pub use service::Service;
+pub use service::ScriptService;

@@ -11,7 +11,7 @@ use std::alloc::{AllocError, Global};
 use suite_script::{Language, LineError};
 
 /// What the lines of a script are carried out on: first those of its header, then those of the command's own.
-pub trait Service: Language {
+pub trait ScriptService: Language {
     // Whether a line that begins so is still one of the header.
     ghost heads: { Self → List ℕ → Bool };
 

@@ -10,30 +10,30 @@ use std::marker::Model;
 /// What is left of a word, as the parts between its separators, empty ones too. An empty word is one
 /// empty part.
 #[derive(Drop)]
-pub struct Parts<'a> {
+pub struct WordParts<'a> {
     rest: Option<&'a [u8]>,
     separator: u8,
 }
 
-impl<'a> Model for Parts<'a> {
+impl<'a> Model for WordParts<'a> {
     ghost Value = { List (List ℕ) };
 
     ghost view = { λ left. parts_left left.separator left.rest };
 }
 
-impl<'a> Parts<'a> {
+impl<'a> WordParts<'a> {
     /// The parts of a word.
-    pub fn new(word: &'a [u8], separator: u8) -> Parts<'a>
+    pub fn new(word: &'a [u8], separator: u8) -> WordParts<'a>
         ensures { result ≡ slice_split (λ byte. byte == separator) word.now }
     {
-        Parts {
+        WordParts {
             rest: Some(word),
             separator,
         }
     }
 }
 
-impl<'a> Iterator for Parts<'a> {
+impl<'a> Iterator for WordParts<'a> {
     type Item = &'a [u8];
 
     ghost next_gives = { YieldsFirstRef (λ left. left) };

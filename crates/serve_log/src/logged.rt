@@ -9,12 +9,12 @@ use run_certify::CertifyFault;
 use std::alloc::Global;
 use std::sync::Wait;
 use std::thread::Threads;
-use suite_serve::{JobScript, Served, serve_through};
+use suite_serve::{JobScript, ServedScript, serve_through};
 
 /// What the jobs of a script came to, and the history of what their callers saw.
 #[derive(Drop)]
 pub(crate) struct Logged {
-    pub(crate) served: Served,
+    pub(crate) served: ServedScript,
     pub(crate) history: Vec<u8>,
 }
 

@@ -9,7 +9,7 @@
 //! - `Locked::serve` is the one step: it evaluates the request, makes room for the item, and applies. Without a
 //!   reply nothing has changed.
 //! - `Servers::ask` takes that step under the lock of the server that it is asked for. It waits for the lock and the
-//!   caller's `Gate`. An `Answer` names that server, and has the request. Its reply is the server's own, and Full and
+//!   caller's `Gate`. A `ServerAnswer` names that server, and has the request. Its reply is the server's own, and Full and
 //!   Stale are exact, of what lay under the lock (`IsTold`, which clauses see and no code).
 //! - A `Pass` says how much an asker has seen of each history. Where a history is shorter, the answer is Stale, with
 //!   its length; so what an asker reads never goes back.
@@ -42,7 +42,7 @@ mod miss;
 mod pass;
 mod servers;
 
-pub use answer::Answer;
+pub use answer::ServerAnswer;
 pub use close_fault::{CloseFault, CloseReason};
 pub use closing::close_locked;
 pub use gate::{Gate, OpenGate};

@@ -8,7 +8,7 @@ ghost use Rattle.server_lock.specs.Histories.{IsLegal, given_to, item_of, max_it
 ghost use Rattle.server_lock.specs.Kept.{end_of, is_spent, opened, with_item};
 ghost use Rattle.server_lock.specs.Told.{IsGiven};
 
-use crate::answer::Answer;
+use crate::answer::ServerAnswer;
 use crate::history::History;
 use crate::item::Item;
 use crate::miss::Miss;
@@ -85,7 +85,12 @@ impl Locked {
 
     /// Serves a request of an agent, or of the operator, who has seen so much of the history. Where the
     /// history is shorter, that is answered before all else. Where there is no reply nothing has changed.
-    pub fn serve(&mut self, agent: Option<u8>, front: usize, request: Stamped<Request>) -> Answer
+    pub fn serve(
+        &mut self,
+        agent: Option<u8>,
+        front: usize,
+        request: Stamped<Request>,
+    ) -> ServerAnswer
         ensures server { result.server ≡ self.old.number }
         ensures before { result.before ≡ length self.old.history }
         ensures lay { result.lay ≡ self.old }
@@ -102,7 +107,7 @@ impl Locked {
         let before = self.items.len();
         let lay = Snapshot::of(&*self);
         let reply = self.reply_to(agent, front, &request);
-        Answer {
+        ServerAnswer {
             server,
             before,
             request,

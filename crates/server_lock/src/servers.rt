@@ -11,7 +11,7 @@ ghost use Rattle.server_lock.specs.Kept.{HoldsLegal, is_spent, opened_from};
 ghost use Rattle.server_lock.specs.Told.{IsTold};
 ghost use Rattle.server_lock.specs.Passes.{after_answer, front_at, passes_of, sent_stamp};
 
-use crate::answer::Answer;
+use crate::answer::ServerAnswer;
 use crate::close_fault::CloseFault;
 use crate::closing::close_locked;
 use crate::gate::Gate;
@@ -92,7 +92,7 @@ impl Servers {
         pass: Pass,
         server: u8,
         request: Request,
-    ) -> (Pass, Answer)
+    ) -> (Pass, ServerAnswer)
         requires { server < self.now.servers }
         ensures server { result.1.server ≡ server }
         ensures request { result.1.request ≡ record { stamp = sent_stamp pass; value = request } }

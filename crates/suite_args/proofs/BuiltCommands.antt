@@ -1,13 +1,8 @@
 -- The commands as `clap` builds them: each with the flag for help.
-use Rattle.std.proofs.Common.{◌≡◌, ◌∙◌, ap, refl, codes, Bool, true, false, ◌==◌, ◌||◌, [], Some, None}
-use Rattle.std.specs.Prelude.{if◌then◌else◌}
-use Rattle.std.specs.List.{slice_index_or}
-use Rattle.std.specs.Str.{bytes_eq}
-use Rattle.clap.specs.Simple.{App, Shape, built, filled, new_shape}
-use Rattle.clap.specs.Walk.{Rule, Text, arg_by_long}
-use Rattle.suite_args.specs.code.Commands.{agents_rule, suites}
-use Rattle.suite_args.specs.declared.script.Script.{Script}
-use Rattle.suite_args.specs.declared.script.Script.TheVariants.{Play, Table}
+use Rattle.suite_args.proofs.Vocabulary.{◌≡◌, ◌∙◌, ap, refl, codes, Bool, true, false, ◌==◌, ◌||◌, [], Some, None, if◌then◌else◌, slice_index_or, bytes_eq}
+use Rattle.suite_args.proofs.Vocabulary.{Shape, built, filled, new_shape, Rule, arg_by_long, agents_rule, suites, Script, Play, Table}
+use Rattle.clap.specs.Simple.{App}
+use Rattle.clap.specs.Walk.{Text}
 use Rattle.suite_args.proofs.OptionWords.{KnowsHelp, help_flag}
 
 abbrev pub commands : App

@@ -1,14 +1,11 @@
 -- What `clap` makes of the first word where a command takes no operand.
-use Rattle.std.proofs.Common.{◌≡◌, ◌∙◌, ap, ap₂, refl, Bool, true, false, List, [], ◌∷◌, None}
-use Rattle.std.specs.Prelude.{if◌then◌else◌}
-use Rattle.std.specs.Option.{option_map_or}
-use Rattle.clap.specs.Lexer.{long_of}
-use Rattle.clap.specs.Kinds.{Kinds, or_else}
-use Rattle.clap.specs.Faults.{flag_word_fault, other_fault, positional_fault, step_fault, stray_fault, turn_fault, walk_fault, word_fault}
-use Rattle.clap.specs.Simple.{Shape}
-use Rattle.clap.specs.Walk.{Held, Names, Step, Text, Walk, after_step, arg_by_index, idle, long_or_other, nothing_held, subcommand_met, subcommand_or_other, trailing, value, walk_from, walked, word_met}
-use Rattle.clap.specs.declared.error.kind.ErrorKind.TheVariants.{DisplayHelp, InvalidSubcommand, UnknownArgument}
-use Rattle.suite_args.specs.CommandLine.{ends_options, is_help_option, is_option}
+use Rattle.suite_args.proofs.Vocabulary.{◌≡◌, ◌∙◌, ap, ap₂, refl, Bool, true, false, List, [], ◌∷◌, None, if◌then◌else◌, option_map_or, long_of, Kinds}
+use Rattle.suite_args.proofs.Vocabulary.{or_else, flag_word_fault, other_fault, positional_fault, step_fault, stray_fault, turn_fault, word_fault, Shape, Held}
+use Rattle.suite_args.proofs.Vocabulary.{Names, Step, Walk, after_step, arg_by_index, idle, long_or_other, nothing_held, subcommand_met, subcommand_or_other}
+use Rattle.suite_args.proofs.Vocabulary.{trailing, value, walk_from, word_met, DisplayHelp, InvalidSubcommand, UnknownArgument, ends_options, is_help_option}
+use Rattle.suite_args.proofs.Vocabulary.{is_option}
+use Rattle.clap.specs.Faults.{walk_fault}
+use Rattle.clap.specs.Walk.{Text, walked}
 use Rattle.suite_args.proofs.Meanings.{are_mistakes, mistakes_first}
 use Rattle.suite_args.proofs.OptionWords.{KnowsHelp, help_faults, plain_faults, plain_met, wrong_faults}
 

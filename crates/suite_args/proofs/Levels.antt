@@ -1,16 +1,10 @@
 -- What a parse comes to at each of the commands.
-use Rattle.std.proofs.Common.{◌≡◌, ◌∙◌, ap, ap₂, sym, subst, refl, arith, Bool, true, false, ◌≤◌, List, [], ◌∷◌, Some, length}
-use Rattle.std.specs.Prelude.{if◌then◌else◌}
-use Rattle.clap.specs.Lexer.{usize_max}
-use Rattle.clap.specs.Kinds.{Kinds, or_else}
-use Rattle.clap.specs.Faults.{check_fault, defaults_fault, level_fault, settle_fault, walk_fault}
-use Rattle.clap.specs.Simple.{rows_at}
-use Rattle.clap.specs.Walk.{Held, Text, Walk, finished, nothing_held, settled, walk, walk_from}
-use Rattle.suite_args.specs.Answering.{asked_in}
-use Rattle.suite_args.specs.CommandLine.{Asked, acl, help, nothing, plays, serves, topic, asked_by_option, asked_of_acl, asked_of_script, ends_options, is_help_option, nothing_more}
-use Rattle.clap.specs.declared.error.kind.ErrorKind.TheVariants.{DisplayHelp}
-use Rattle.suite_args.specs.declared.script.Script.{Script}
-use Rattle.suite_args.specs.declared.script.Script.TheVariants.{Play, Table}
+use Rattle.suite_args.proofs.Vocabulary.{◌≡◌, ◌∙◌, ap, ap₂, sym, subst, refl, arith, Bool, true, false, ◌≤◌, List, [], ◌∷◌, Some, length, if◌then◌else◌}
+use Rattle.suite_args.proofs.Vocabulary.{usize_max, Kinds, or_else, check_fault, level_fault, settle_fault, rows_at, Held, Walk, finished, nothing_held}
+use Rattle.suite_args.proofs.Vocabulary.{settled, walk, walk_from, asked_in, Asked, acl, help, nothing, plays, serves, topic, asked_by_option, asked_of_acl}
+use Rattle.suite_args.proofs.Vocabulary.{asked_of_script, ends_options, is_help_option, nothing_more, DisplayHelp, Script, Play, Table}
+use Rattle.clap.specs.Faults.{defaults_fault, walk_fault}
+use Rattle.clap.specs.Walk.{Text}
 use Rattle.suite_args.proofs.Meanings.{Meets, are_mistakes, mistakes_first}
 use Rattle.suite_args.proofs.BuiltCommands.{acl_shape, script_shape, script_knows}
 use Rattle.suite_args.proofs.FirstWords.{start, end_alone, end_and_more, end_walked, help_first, other_first}

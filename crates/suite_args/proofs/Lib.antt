@@ -1,3 +1,4 @@
+mod Vocabulary
 mod RequestLemmas
 mod Meanings
 mod WordShapes

@@ -1,10 +1,7 @@
 -- What a parse comes to for each thing that words may ask for.
-use Rattle.std.proofs.Common.{◌≡◌, true, false, Bool, [], ◌∷◌}
-use Rattle.std.specs.List.{list_all}
-use Rattle.clap.specs.Kinds.{Kinds, or_else}
-use Rattle.clap.specs.declared.error.kind.ErrorKind.{ErrorKind}
-use Rattle.clap.specs.declared.error.kind.ErrorKind.TheVariants.{ArgumentConflict, DisplayHelp, InvalidSubcommand, InvalidValue, MissingRequiredArgument, MissingSubcommand, TooManyValues, UnknownArgument}
-use Rattle.suite_args.specs.CommandLine.{Asked, acl, help, nothing, plays, serves, topic}
+use Rattle.suite_args.proofs.Vocabulary.{◌≡◌, true, false, Bool, [], ◌∷◌, list_all, Kinds, or_else, ErrorKind, ArgumentConflict, DisplayHelp}
+use Rattle.suite_args.proofs.Vocabulary.{InvalidSubcommand, InvalidValue, MissingRequiredArgument, MissingSubcommand, TooManyValues, UnknownArgument, Asked}
+use Rattle.suite_args.proofs.Vocabulary.{acl, help, nothing, plays, serves, topic}
 
 -- the kinds of error that a wrong command line may give
 abbrev pub is_mistake : ErrorKind → Bool

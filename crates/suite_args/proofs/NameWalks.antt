@@ -1,15 +1,13 @@
 -- How `clap` walks over the words after `acl`.
-use Rattle.std.proofs.Common.{◌≡◌, ◌∙◌, ap, ap₂, sym, subst, refl, codes, arith, ℕ, Bool, true, false, ◌+◌, ◌≤◌, List, [], ◌∷◌, ◌++◌, Option, Some, None, length}
-use Rattle.std.proofs.lemmas.List.{append-nil, append_assoc, length-append}
-use Rattle.std.proofs.lemmas.Bool.Decides.{nat_tests}
-use Rattle.std.specs.Prelude.{if◌then◌else◌, fold}
-use Rattle.clap.specs.Lexer.{long_of, usize_max}
-use Rattle.clap.specs.Kinds.{Kinds, or_else, values_kinds, range_kinds}
-use Rattle.clap.specs.Faults.{flag_word_fault, other_fault, settle_fault, step_fault, turn_fault, walk_fault, word_fault}
-use Rattle.clap.specs.Walk.{Held, Step, Text, Waiting, Walk, after_step, idle, long_or_other, plain_word, positional, subcommand_met, subcommand_or_other, trailing, value, walked, word_met}
+use Rattle.suite_args.proofs.Vocabulary.{◌≡◌, ◌∙◌, ap, ap₂, sym, subst, refl, codes, arith, ℕ, Bool, true, false, ◌+◌, ◌≤◌, List, [], ◌∷◌, ◌++◌, Option, Some}
+use Rattle.suite_args.proofs.Vocabulary.{None, length, append-nil, append_assoc, length-append, nat_tests, if◌then◌else◌, fold, long_of, usize_max, Kinds}
+use Rattle.suite_args.proofs.Vocabulary.{or_else, values_kinds, range_kinds, flag_word_fault, other_fault, settle_fault, step_fault, turn_fault, word_fault}
+use Rattle.suite_args.proofs.Vocabulary.{Held, Step, Waiting, Walk, after_step, idle, long_or_other, plain_word, positional, subcommand_met}
+use Rattle.suite_args.proofs.Vocabulary.{subcommand_or_other, trailing, value, word_met, DisplayHelp, Asked, acl, help, nothing, plays, serves, topic}
+use Rattle.suite_args.proofs.Vocabulary.{asked_by_option, asked_of_acl, ends_options, is_help_option, is_option, with_name}
+use Rattle.clap.specs.Faults.{walk_fault}
+use Rattle.clap.specs.Walk.{Text, walked}
 use Rattle.clap.specs.declared.builder.value_parser.ValueParser.TheVariants as vp
-use Rattle.clap.specs.declared.error.kind.ErrorKind.TheVariants.{DisplayHelp}
-use Rattle.suite_args.specs.CommandLine.{Asked, acl, help, nothing, plays, serves, topic, asked_by_option, asked_of_acl, ends_options, is_help_option, is_option, with_name}
 use Rattle.suite_args.proofs.Meanings.{are_mistakes, mistakes_first}
 use Rattle.suite_args.proofs.OptionWords.{held_so_far, help_faults, plain_faults, plain_met, wrong_faults}
 use Rattle.suite_args.proofs.BuiltCommands.{acl_shape, acl_knows}

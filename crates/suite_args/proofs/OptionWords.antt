@@ -1,17 +1,14 @@
 -- What `clap` makes of a word that may be an option, where it knows help, and perhaps options of the command's own.
-use Rattle.std.proofs.Common.{◌≡◌, ◌∙◌, ap, sym, refl, codes, true≢false, ℕ, Bool, true, false, ◌==◌, ◌&&◌, ◌||◌, List, [], ◌∷◌, Option, Some, None, is_some, length, drop}
-use Rattle.std.specs.Prelude.{encode_utf8, if◌then◌else◌, slice_get}
-use Rattle.std.specs.List.{after_first, before_first}
-use Rattle.std.specs.Option.{option_map_or}
-use Rattle.std.specs.Str.{bytes_eq, chars}
-use Rattle.std.proofs.lemmas.Slice.Eq.{bytes_eq-Decides}
-use Rattle.clap.specs.Lexer.{has_byte, long_of, short_of}
-use Rattle.clap.specs.Simple.{filled, help_rule}
-use Rattle.clap.specs.Kinds.{Kinds, or_else}
-use Rattle.clap.specs.Faults.{bundle_fault, bundle_step_fault, flag_word_fault, flags_fault, long_fault, option_fault, react_fault, settle_fault, short_fault, use_fault}
-use Rattle.clap.specs.Walk.{Held, Outcome, Row, Rule, Text, Waiting, after_flag, arg_by_long, arg_by_short, attached_value, bundle, bundle_met, bundle_step, long_or_other, plain, plain_word, reacted, settled, short_or_plain, takes_values}
-use Rattle.clap.specs.declared.error.kind.ErrorKind.TheVariants.{DisplayHelp, TooManyValues}
-use Rattle.suite_args.specs.CommandLine.{ends_options, flag_of, is_help_option, is_option}
+use Rattle.suite_args.proofs.Vocabulary.{◌≡◌, ◌∙◌, ap, sym, refl, codes, true≢false, ℕ, Bool, true, false, ◌==◌, ◌&&◌, ◌||◌, List, [], ◌∷◌, Option, Some, None}
+use Rattle.suite_args.proofs.Vocabulary.{is_some, length, drop, encode_utf8, if◌then◌else◌, slice_get, after_first, before_first, option_map_or, bytes_eq}
+use Rattle.suite_args.proofs.Vocabulary.{bytes_eq-Decides, has_byte, long_of, short_of, filled, help_rule, Kinds, or_else, bundle_fault, bundle_step_fault}
+use Rattle.suite_args.proofs.Vocabulary.{flag_word_fault, long_fault, option_fault, react_fault, settle_fault, short_fault, use_fault, Held, Outcome, Rule}
+use Rattle.suite_args.proofs.Vocabulary.{Waiting, after_flag, arg_by_long, arg_by_short, attached_value, bundle, bundle_step, long_or_other, plain, plain_word}
+use Rattle.suite_args.proofs.Vocabulary.{reacted, settled, short_or_plain, takes_values, DisplayHelp, TooManyValues, ends_options, flag_of, is_help_option}
+use Rattle.suite_args.proofs.Vocabulary.{is_option}
+use Rattle.std.specs.Str.{chars}
+use Rattle.clap.specs.Faults.{flags_fault}
+use Rattle.clap.specs.Walk.{Row, Text, bundle_met}
 use Rattle.suite_args.proofs.Meanings.{are_mistakes, mistakes_first}
 use Rattle.suite_args.proofs.WordShapes.{Shaped, bare, lone, other, flags, dashes, shape_of_word, other_long, other_short, other_flag, flags_long, flags_short, dashes_flag, lone_flag, before_none}
 

@@ -1,13 +1,7 @@
 -- What the matches of a parse say of the command that it found.
-use Rattle.std.proofs.Common.{◌≡◌, ap, codes, true, List, [], Option, Some, None, Ok, option_map}
-use Rattle.std.specs.Prelude.{Box, unwrap_or}
-use Rattle.std.specs.Box.{box_value}
-use Rattle.std.specs.Str.{bytes_eq}
-use Rattle.clap.specs.Words.{Row, Text, all_of, rows_of, found_of, subcommand_rows}
-use Rattle.clap.specs.declared.parser.matches.SubCommand.{SubCommand}
-use Rattle.clap.specs.declared.parser.matches.ArgMatches.TheViews.{out-SubCommand}
-use Rattle.suite_args.specs.Answering.{Answers, asked_in}
-use Rattle.suite_args.specs.declared.request.Request.TheVariants.{Acl}
+use Rattle.suite_args.proofs.Vocabulary.{◌≡◌, ap, codes, true, List, [], Option, Some, None, Ok, option_map, Box, unwrap_or, box_value, bytes_eq, all_of}
+use Rattle.suite_args.proofs.Vocabulary.{rows_of, found_of, subcommand_rows, SubCommand, out-SubCommand, Answers, asked_in, Acl}
+use Rattle.clap.specs.Words.{Row, Text}
 
 module _ {Z : Type 0} where
   -- the name and the rows of a command are found together

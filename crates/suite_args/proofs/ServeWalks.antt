@@ -1,12 +1,9 @@
 -- How `clap` walks over the words after `serve`.
-use Rattle.std.proofs.Common.{◌≡◌, ◌∙◌, ap, ap₂, sym, subst, refl, codes, true≢false, ℕ, Bool, true, false, ◌==◌, ◌&&◌, List, [], ◌∷◌, Option, Some, None, Result, Ok, Err}
-use Rattle.std.specs.Prelude.{if◌then◌else◌, fold, unwrap_or}
-use Rattle.std.specs.List.{after_first, before_first}
-use Rattle.std.specs.Str.{bytes_eq}
-use Rattle.clap.specs.Lexer.{has_byte, long_of}
-use Rattle.clap.specs.Kinds.{Kinds, or_else}
-use Rattle.clap.specs.Faults.{check_fault, defaults_fault, flag_word_fault, level_fault, long_fault, other_fault, settle_fault, step_fault, stray_fault, turn_fault, walk_fault, word_fault}
-use Rattle.clap.specs.Simple.{rows_at}
+use Rattle.suite_args.proofs.Vocabulary.{◌≡◌, ◌∙◌, ap, ap₂, sym, subst, refl, codes, true≢false, ℕ, Bool, true, false, ◌==◌, ◌&&◌, List, [], ◌∷◌, Option, Some}
+use Rattle.suite_args.proofs.Vocabulary.{None, Result, Ok, Err, if◌then◌else◌, fold, unwrap_or, after_first, before_first, bytes_eq, has_byte, long_of, Kinds}
+use Rattle.suite_args.proofs.Vocabulary.{or_else, check_fault, flag_word_fault, level_fault, long_fault, other_fault, settle_fault, step_fault, stray_fault}
+use Rattle.suite_args.proofs.Vocabulary.{turn_fault, word_fault, rows_at, DisplayHelp, asked_in}
+use Rattle.clap.specs.Faults.{defaults_fault, walk_fault}
 use Rattle.clap.specs.Walk.{
   Held,
   Outcome,
@@ -34,8 +31,6 @@ use Rattle.clap.specs.Walk.{
   walked,
   word_met,
 }
-use Rattle.clap.specs.declared.error.kind.ErrorKind.TheVariants.{DisplayHelp}
-use Rattle.suite_args.specs.Answering.{asked_in}
 use Rattle.suite_args.specs.CommandLine.{
   Asked,
   Told,

@@ -1,20 +1,12 @@
 -- From what a parse comes to, to the answer.
-use Rattle.std.proofs.Common.{◌≡◌, ℕ, Option, Some, None, ◌⊎◌, inl, inr, sym, subst, true, [], ◌∷◌, Result, Ok, Err}
-use Rattle.std.specs.List.{list_all}
-use Rattle.clap.specs.Kinds.{IsAmong, Kinds}
-use Rattle.clap.proofs.WalkLemmas.{both}
-use Rattle.clap.specs.declared.error.kind.ErrorKind.{ErrorKind}
-use Rattle.clap.specs.declared.error.kind.ErrorKind.TheVariants.{ArgumentConflict, DisplayHelp, InvalidSubcommand, InvalidValue, MissingRequiredArgument, MissingSubcommand, OutOfMemory, TooManyValues, UnknownArgument}
-use Rattle.suite_args.specs.Answering.{Answers, AnswersServe, AnswersTo}
-use Rattle.suite_args.specs.CommandLine.{Asked, acl, agents_of, help, nothing, plays, serves, topic}
-use Rattle.suite_args.specs.declared.request.ArgsError.{ArgsError}
-use Rattle.suite_args.specs.declared.request.ArgsError.TheVariants.{CommandLine, Memory}
-use Rattle.suite_args.specs.declared.request.Request.{Request}
-use Rattle.suite_args.specs.declared.request.Request.TheVariants.{Acl, Help, Plays, Serve}
+use Rattle.suite_args.proofs.Vocabulary.{◌≡◌, ℕ, Option, Some, None, ◌⊎◌, inl, inr, sym, subst, true, [], ◌∷◌, Result, Ok, Err, list_all, IsAmong, Kinds, both}
+use Rattle.suite_args.proofs.Vocabulary.{ErrorKind, ArgumentConflict, DisplayHelp, InvalidSubcommand, InvalidValue, MissingRequiredArgument, MissingSubcommand}
+use Rattle.suite_args.proofs.Vocabulary.{OutOfMemory, TooManyValues, UnknownArgument, Answers, AnswersServe, AnswersTo, Asked, acl, agents_of, help, nothing}
+use Rattle.suite_args.proofs.Vocabulary.{plays, serves, topic, ArgsError, CommandLine, Memory, Invocation, Acl, Help, Plays, Serve}
 use Rattle.suite_args.proofs.Meanings.{Meets, are_mistakes, is_mistake}
 
 -- a parse with matches has no fault, and they say what the words ask for
-pub parsed : (asked found : Asked) (faults : Kinds) (r : Result Request ArgsError) → Meets asked faults found → faults ≡ [] → Answers found r → Answers asked r
+pub parsed : (asked found : Asked) (faults : Kinds) (r : Result Invocation ArgsError) → Meets asked faults found → faults ≡ [] → Answers found r → Answers asked r
 parsed (plays script) found faults r meets right answers = subst (λ (x : Asked). Answers x r) meets.1 answers
 parsed (acl names) found faults r meets right answers = subst (λ (x : Asked). Answers x r) meets.1 answers
 parsed (serves text) found faults r meets right answers = subst (λ (x : Asked). Answers x r) meets.1 answers
@@ -27,7 +19,7 @@ no_room : (agents : Option ℕ) → AnswersServe agents (Err Memory)
 no_room (Some number) = tt
 no_room None = tt
 
-no_memory : (asked : Asked) (r : Result Request ArgsError) → AnswersTo OutOfMemory r → Answers asked r
+no_memory : (asked : Asked) (r : Result Invocation ArgsError) → AnswersTo OutOfMemory r → Answers asked r
 no_memory (plays script) (Err Memory) answers = tt
 no_memory (acl names) (Err Memory) answers = tt
 no_memory (serves text) (Err Memory) answers = no_room (agents_of text)
@@ -37,7 +29,7 @@ no_memory nothing (Err Memory) answers = tt
 no_memory asked (Err CommandLine) answers = absurd answers
 no_memory asked (Ok r) answers = absurd answers
 
-helped : (r : Result Request ArgsError) → AnswersTo DisplayHelp r → Answers help r
+helped : (r : Result Invocation ArgsError) → AnswersTo DisplayHelp r → Answers help r
 helped (Ok (Help text)) answers = tt
 helped (Err Memory) answers = tt
 helped (Ok (Plays script)) answers = absurd answers
@@ -45,7 +37,7 @@ helped (Ok (Acl names)) answers = absurd answers
 helped (Ok (Serve agents)) answers = absurd answers
 helped (Err CommandLine) answers = absurd answers
 
-helped_on_topic : (r : Result Request ArgsError) → AnswersTo DisplayHelp r → Answers topic r
+helped_on_topic : (r : Result Invocation ArgsError) → AnswersTo DisplayHelp r → Answers topic r
 helped_on_topic (Ok (Help text)) answers = tt
 helped_on_topic (Err Memory) answers = tt
 helped_on_topic (Ok (Plays script)) answers = absurd answers
@@ -53,7 +45,7 @@ helped_on_topic (Ok (Acl names)) answers = absurd answers
 helped_on_topic (Ok (Serve agents)) answers = absurd answers
 helped_on_topic (Err CommandLine) answers = absurd answers
 
-refused_topic : (r : Result Request ArgsError) → AnswersTo InvalidSubcommand r → Answers topic r
+refused_topic : (r : Result Invocation ArgsError) → AnswersTo InvalidSubcommand r → Answers topic r
 refused_topic (Err CommandLine) answers = tt
 refused_topic (Err Memory) answers = absurd answers
 refused_topic (Ok r) answers = absurd answers
@@ -63,7 +55,7 @@ among_mistakes kind [] all among = absurd among
 among_mistakes kind (k ∷ ks) all (inl is) = subst (λ (x : ErrorKind). is_mistake x ≡ true) (sym is) (both (is_mistake k) _ all).0
 among_mistakes kind (k ∷ ks) all (inr among) = among_mistakes kind ks (both (is_mistake k) _ all).1 among
 
-mistaken : (kind : ErrorKind) (r : Result Request ArgsError) → is_mistake kind ≡ true → AnswersTo kind r → Answers nothing r
+mistaken : (kind : ErrorKind) (r : Result Invocation ArgsError) → is_mistake kind ≡ true → AnswersTo kind r → Answers nothing r
 mistaken kind (Err CommandLine) mistake answers = tt
 mistaken kind (Err Memory) mistake answers = tt
 mistaken ArgumentConflict (Ok r) mistake answers = absurd answers
@@ -76,7 +68,7 @@ mistaken UnknownArgument (Ok r) mistake answers = absurd answers
 mistaken kind (Ok r) mistake answers = cc
 
 -- a parse that fails for one of its faults
-faulted : (asked found : Asked) (faults : Kinds) (kind : ErrorKind) (r : Result Request ArgsError) → Meets asked faults found → IsAmong kind faults → AnswersTo kind r → Answers asked r
+faulted : (asked found : Asked) (faults : Kinds) (kind : ErrorKind) (r : Result Invocation ArgsError) → Meets asked faults found → IsAmong kind faults → AnswersTo kind r → Answers asked r
 faulted (plays script) found faults kind r meets among answers = absurd (subst (IsAmong kind) meets.0 among)
 faulted (acl names) found faults kind r meets among answers = absurd (subst (IsAmong kind) meets.0 among)
 faulted (serves text) found faults kind r meets among answers = absurd (subst (IsAmong kind) meets.0 among)
@@ -92,7 +84,7 @@ faulted topic found faults kind r meets among answers = elim (subst (IsAmong kin
 faulted nothing found [] kind r meets among answers = absurd among
 faulted nothing found (k ∷ ks) kind r meets among answers = mistaken kind r (among_mistakes kind (k ∷ ks) meets among) answers
 
-pub failed : (asked found : Asked) (faults : Kinds) (kind : ErrorKind) (r : Result Request ArgsError) → Meets asked faults found
+pub failed : (asked found : Asked) (faults : Kinds) (kind : ErrorKind) (r : Result Invocation ArgsError) → Meets asked faults found
     → (kind ≡ OutOfMemory) ⊎ IsAmong kind faults → AnswersTo kind r → Answers asked r
 failed asked found faults kind r meets (inl memory) answers = no_memory asked r (subst (λ (k : ErrorKind). AnswersTo k r) memory answers)
 failed asked found faults kind r meets (inr among) answers = faulted asked found faults kind r meets among answers

@@ -1,21 +1,15 @@
 -- What a parse of a whole command line comes to.
-use Rattle.std.proofs.Common.{◌≡◌, ◌∙◌, ap, ap₂, sym, subst, refl, codes, arith, true≢false, Bool, true, false, ◌≤◌, ◌||◌, List, [], ◌∷◌, ◌++◌, Option, Some, None, is_some, length}
-use Rattle.std.specs.Prelude.{if◌then◌else◌, fold, option_map}
-use Rattle.std.specs.Str.{bytes_eq, chars}
-use Rattle.std.proofs.lemmas.Slice.Eq.{bytes_eq-Decides}
-use Rattle.clap.specs.Lexer.{usize_max}
-use Rattle.clap.specs.Kinds.{Kinds, or_else}
-use Rattle.clap.specs.Faults.{check_fault, defaults_fault, entered_fault, fault_of, level_fault, settle_fault, turn_fault, walk_fault}
-use Rattle.clap.specs.Simple.{Shape, entered, names_of, rows_at, subcommand_of}
-use Rattle.clap.specs.Walk.{Held, Names, Row, Text, Walk, finished, idle, nothing_held, settled, subcommand_met, walk, walked}
-use Rattle.clap.proofs.WalkLemmas.{walk_stopped}
-use Rattle.clap.specs.declared.error.kind.ErrorKind.TheVariants.{DisplayHelp, InvalidSubcommand}
-use Rattle.suite_args.specs.Answering.{asked_in}
-use Rattle.suite_args.specs.code.Commands.{script_word, suites}
-use Rattle.suite_args.specs.CommandLine.{Asked, help, nothing, topic, asked_by, asked_by_option, asked_of_acl, asked_of_script, asked_of_serve, untold, ends_options, is_help_option}
+use Rattle.suite_args.proofs.Vocabulary.{◌≡◌, ◌∙◌, ap, ap₂, sym, subst, refl, codes, arith, true≢false, Bool, true, false, ◌≤◌, ◌||◌, List, [], ◌∷◌, ◌++◌}
+use Rattle.suite_args.proofs.Vocabulary.{Option, Some, None, is_some, length, if◌then◌else◌, fold, option_map, bytes_eq, bytes_eq-Decides, usize_max, Kinds}
+use Rattle.suite_args.proofs.Vocabulary.{or_else, check_fault, entered_fault, level_fault, settle_fault, turn_fault, Shape, entered, names_of, rows_at, Held}
+use Rattle.suite_args.proofs.Vocabulary.{Names, Walk, finished, idle, nothing_held, settled, subcommand_met, walk, walk_stopped, DisplayHelp}
+use Rattle.suite_args.proofs.Vocabulary.{InvalidSubcommand, asked_in, script_word, suites, Asked, help, nothing, topic, asked_by, asked_by_option}
+use Rattle.suite_args.proofs.Vocabulary.{asked_of_acl, asked_of_script, asked_of_serve, untold, ends_options, is_help_option, Script, Play, Table}
+use Rattle.std.specs.Str.{chars}
+use Rattle.clap.specs.Faults.{defaults_fault, fault_of, walk_fault}
+use Rattle.clap.specs.Simple.{subcommand_of}
+use Rattle.clap.specs.Walk.{Row, Text, walked}
 use Rattle.suite_args.proofs.Meanings.{Meets, are_mistakes, mistakes_first}
-use Rattle.suite_args.specs.declared.script.Script.{Script}
-use Rattle.suite_args.specs.declared.script.Script.TheVariants.{Play, Table}
 use Rattle.suite_args.proofs.BuiltCommands.{acl_shape, commands, script_shape, serve_shape, top, top_knows}
 use Rattle.suite_args.proofs.FirstWords.{start, end_alone, end_and_more, end_walked, help_first, other_first}
 use Rattle.suite_args.proofs.Levels.{acl_meets, script_meets}

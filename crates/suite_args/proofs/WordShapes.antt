@@ -1,13 +1,9 @@
 -- How a word begins, as `clap` cuts it and as the command line's definition does.
-use Rattle.std.proofs.Common.{◌≡◌, ◌∙◌, ap, sym, refl, ℕ, Bool, true, false, zero, suc, arith, true≢false, ◌==◌, ◌||◌, [], ◌∷◌, Some, None}
-use Rattle.std.specs.Prelude.{if◌then◌else◌, option_and_then, slice_get}
-use Rattle.std.specs.List.{before_first}
+use Rattle.suite_args.proofs.Vocabulary.{◌≡◌, ◌∙◌, ap, sym, refl, ℕ, Bool, true, false, zero, suc, arith, true≢false, ◌==◌, ◌||◌, [], ◌∷◌, Some, None}
+use Rattle.suite_args.proofs.Vocabulary.{if◌then◌else◌, option_and_then, slice_get, before_first, eqb-true, Lacks, before_first-Lacks, has_byte, long_of}
+use Rattle.suite_args.proofs.Vocabulary.{long_of_rest, short_of, short_of_rest, strip_byte, flag_of}
 use Rattle.std.specs.Str.{chars}
-use Rattle.std.proofs.lemmas.Bool.{eqb-true}
-use Rattle.clap.proofs.CutLemmas.{Lacks, before_first-Lacks}
-use Rattle.clap.specs.Lexer.{has_byte, long_of, long_of_rest, short_of, short_of_rest, strip_byte}
 use Rattle.clap.specs.Walk.{Text}
-use Rattle.suite_args.specs.CommandLine.{flag_of}
 
 -- a word that begins with no hyphen
 module _ (b : ℕ) (rest : Text) (other : (b == 45) ≡ false) where

@@ -8,12 +8,12 @@ use Rattle.clap.specs.declared.error.kind.ErrorKind.TheVariants.{DisplayHelp, Ou
 use Rattle.suite_args.specs.CommandLine.{Asked, acl, agents_of, help, nothing, plays, serves, topic}
 use Rattle.suite_args.specs.declared.request.ArgsError.{ArgsError}
 use Rattle.suite_args.specs.declared.request.ArgsError.TheVariants.{CommandLine, Memory}
-use Rattle.suite_args.specs.declared.request.Request.{Request}
-use Rattle.suite_args.specs.declared.request.Request.TheVariants.{Acl, Help, Plays, Serve}
+use Rattle.suite_args.specs.declared.request.Invocation.{Invocation}
+use Rattle.suite_args.specs.declared.request.Invocation.TheVariants.{Acl, Help, Plays, Serve}
 use Rattle.suite_args.specs.declared.script.Script.TheVariants.{Play, Table}
 
 -- `serve` by so many agents, where that number is told
-abbrev pub AnswersServe : Option ℕ → Result Request ArgsError → Type 0
+abbrev pub AnswersServe : Option ℕ → Result Invocation ArgsError → Type 0
 AnswersServe (Some agents) (Ok (Serve given)) = given ≡ agents
 AnswersServe None (Err CommandLine) = ⊤
 AnswersServe agents (Err Memory) = ⊤
@@ -21,7 +21,7 @@ AnswersServe agents answer = ⊥
 
 -- memory may always run out; but for that there is one answer, save that `help` may refuse the
 -- words after it
-abbrev pub Answers : Asked → Result Request ArgsError → Type 0
+abbrev pub Answers : Asked → Result Invocation ArgsError → Type 0
 Answers (plays script) (Ok (Plays given)) = given ≡ script
 Answers (acl names) (Ok (Acl given)) = given ≡ names
 Answers (serves text) answer = AnswersServe (agents_of text) answer
@@ -42,7 +42,7 @@ asked_in (Some command) =
     else (if bytes_eq command.0 (codes "serve") then serves (unwrap_or (first_of (codes "agents") command.1) []) else nothing)))
 
 -- what a parse without matches comes to
-abbrev pub AnswersTo : ErrorKind → Result Request ArgsError → Type 0
+abbrev pub AnswersTo : ErrorKind → Result Invocation ArgsError → Type 0
 AnswersTo DisplayHelp (Ok (Help text)) = ⊤
 AnswersTo DisplayHelp (Err Memory) = ⊤
 AnswersTo DisplayHelp answer = ⊥

@@ -6,7 +6,7 @@ ghost use Rattle.suite_args.specs.Answering.{Answers, AnswersServe, AnswersTo, a
 ghost use Rattle.suite_args.specs.CommandLine.{agents_of};
 
 use crate::commands::{ACL, AGENTS, NAME, PLAY, SERVE, TABLE};
-use crate::request::{ArgsError, HelpText, Names, Request};
+use crate::request::{ArgsError, HelpText, Invocation, NameWords};
 use crate::script::Script;
 use clap::error::ErrorKind;
 use clap::{ArgMatches, Error};
@@ -14,13 +14,13 @@ use script_text::read_number;
 use std::alloc::{AllocError, Global};
 
 /// The names among the arguments of `acl`.
-fn names_in<'a>(alloc: Global, arguments: &ArgMatches<'a>) -> Result<Names<'a>, AllocError>
+fn names_in<'a>(alloc: Global, arguments: &ArgMatches<'a>) -> Result<NameWords<'a>, AllocError>
     ensures { IfOk result (λ names. names
         ≡ unwrap_or (all_of (codes "NAME") (rows_of (found_of arguments.now))) []) }
 {
     match arguments.get_raw(NAME) {
-        Some(words) => Names::new(alloc, words),
-        None => Names::new(alloc, &[]),
+        Some(words) => NameWords::new(alloc, words),
+        None => NameWords::new(alloc, &[]),
     }
 }
 
@@ -28,12 +28,12 @@ fn names_in<'a>(alloc: Global, arguments: &ArgMatches<'a>) -> Result<Names<'a>, 
 pub const MAX_AGENTS: u64 = 64;
 
 /// The number of agents among the arguments of `serve`.
-fn agents_in<'a>(arguments: &ArgMatches<'a>) -> Result<Request<'a>, ArgsError>
+fn agents_in<'a>(arguments: &ArgMatches<'a>) -> Result<Invocation<'a>, ArgsError>
     ensures { AnswersServe (agents_of (unwrap_or (first_of (codes "agents") (rows_of (found_of arguments.now))) [])) result }
 {
     let text = arguments.get_str(AGENTS).unwrap_or("");
     match read_number(text.as_bytes(), MAX_AGENTS) {
-        Some(agents) if agents > 0 => Ok(Request::Serve(agents as u8)),
+        Some(agents) if agents > 0 => Ok(Invocation::Serve(agents as u8)),
         _ => Err(ArgsError::CommandLine),
     }
 }
@@ -42,20 +42,20 @@ fn agents_in<'a>(arguments: &ArgMatches<'a>) -> Result<Request<'a>, ArgsError>
 pub(crate) fn request_of<'a>(
     alloc: Global,
     matches: &ArgMatches<'a>,
-) -> Result<Request<'a>, ArgsError>
+) -> Result<Invocation<'a>, ArgsError>
     ensures { Answers (asked_in (subcommand_rows_of matches.now)) result }
 {
     let Some((command, arguments)) = matches.subcommand() else {
         return Err(ArgsError::CommandLine);
     };
     if command == ACL {
-        return Ok(Request::Acl(names_in(alloc, arguments)?));
+        return Ok(Invocation::Acl(names_in(alloc, arguments)?));
     }
     if command == TABLE {
-        return Ok(Request::Plays(Script::Table));
+        return Ok(Invocation::Plays(Script::Table));
     }
     if command == PLAY {
-        return Ok(Request::Plays(Script::Play));
+        return Ok(Invocation::Plays(Script::Play));
     }
     if command == SERVE {
         return agents_in(arguments);
@@ -64,11 +64,11 @@ pub(crate) fn request_of<'a>(
 }
 
 /// The answer to words in which a parse found no request.
-pub(crate) fn answer_to<'a>(alloc: Global, error: &Error) -> Result<Request<'a>, ArgsError>
+pub(crate) fn answer_to<'a>(alloc: Global, error: &Error) -> Result<Invocation<'a>, ArgsError>
     ensures { AnswersTo (kind_of error.now) result }
 {
     match error.kind() {
-        ErrorKind::DisplayHelp => Ok(Request::Help(HelpText::new(error.to_string(alloc)?))),
+        ErrorKind::DisplayHelp => Ok(Invocation::Help(HelpText::new(error.to_string(alloc)?))),
         ErrorKind::OutOfMemory => Err(ArgsError::Memory),
         _ => Err(ArgsError::CommandLine),
     }

@@ -21,7 +21,7 @@ mod request;
 mod script;
 
 pub use answer::MAX_AGENTS;
-pub use request::{ArgsError, HelpText, Names, Request};
+pub use request::{ArgsError, HelpText, Invocation, NameWords};
 pub use script::Script;
 use std::alloc::Global;
 
@@ -29,7 +29,7 @@ use std::alloc::Global;
 /// that begins with a hyphen and has more is an option, until `--`, and no option is known but help and that of
 /// `serve`, whose number may also stand behind `=` in the same word.
 #[inline(never)]
-pub fn read_words<'a>(alloc: Global, words: &'a [&'a str]) -> Result<Request<'a>, ArgsError>
+pub fn read_words<'a>(alloc: Global, words: &'a [&'a str]) -> Result<Invocation<'a>, ArgsError>
     ensures { Answers (asked_by (map (λ w. w.now) words.entry.now)) result }
 {
     let commands = commands::commands(alloc)?;

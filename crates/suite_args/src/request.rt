@@ -11,9 +11,9 @@ use std::marker::Model;
 
 /// What the words ask for.
 #[derive(Debug, Drop)]
-pub enum Request<'a> {
+pub enum Invocation<'a> {
     /// `suites acl [NAME]...`: print the list that standard input spells, under these names.
-    Acl(Names<'a>),
+    Acl(NameWords<'a>),
     /// Play the script that standard input has.
     Plays(Script),
     /// `suites serve --agents N`: have the jobs of the script that standard input has carried out by so many agents, 1 to 64.
@@ -62,11 +62,11 @@ impl From<AllocError> for ArgsError {
 
 /// The words after `acl`, each meant as a name with its number: `user:lisa=1001`.
 #[derive(Debug, Drop)]
-pub struct Names<'a> {
+pub struct NameWords<'a> {
     words: Vec<&'a str>,
 }
 
-impl<'a> Model for Names<'a> {
+impl<'a> Model for NameWords<'a> {
     ghost use Rattle.std.specs.Prelude.{List, ℕ, map};
 
     ghost Value = { List (List ℕ) };
@@ -74,11 +74,11 @@ impl<'a> Model for Names<'a> {
     ghost view = { λ names. map (λ w. w.now) names.words.items };
 }
 
-impl<'a> Names<'a> {
-    pub(crate) fn new(alloc: Global, words: &[&'a str]) -> Result<Names<'a>, AllocError>
+impl<'a> NameWords<'a> {
+    pub(crate) fn new(alloc: Global, words: &[&'a str]) -> Result<NameWords<'a>, AllocError>
         ensures { IfOk result (λ names. names ≡ map (λ w. w.now) words.now) }
     {
-        Ok(Names {
+        Ok(NameWords {
             words: Vec::from_slice(alloc, words)?,
         })
     }

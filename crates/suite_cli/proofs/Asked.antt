@@ -9,7 +9,7 @@ use Rattle.script_text.specs.Numbers.{is_number, number_up_to}
 use Rattle.byte_streams.specs.Endings.{Finishes, done}
 use Rattle.suite_args.specs.Answering.{Answers, AnswersServe}
 use Rattle.suite_args.specs.CommandLine.{Asked, acl, agents_of, at_least_one, help, max_agents, nothing, plays, serves, topic}
-use Rattle.suite_args.specs.declared.request.Request.TheVariants.{Acl, Help, Plays, Serve}
+use Rattle.suite_args.specs.declared.request.Invocation.TheVariants.{Acl, Help, Plays, Serve}
 use Rattle.suite_args.specs.declared.request.ArgsError.{ArgsError}
 use Rattle.suite_args.specs.declared.request.ArgsError.TheVariants.{CommandLine, Memory}
 use Rattle.suite_args.specs.declared.script.Script.{Script}

@@ -12,7 +12,7 @@ use script_text::push_number;
 use std::alloc::{AllocError, Global};
 use suite_prefix::Settings;
 use suite_script::{
-    PlayError, Root, ScriptReader, Stage, play_lines, push_answered, push_refused, read_root,
+    LineStage, PlayError, Root, ScriptReader, play_lines, push_answered, push_refused, read_root,
 };
 use vote_core::{MAX_SERVERS, ServerSet, Votes};
 
@@ -52,7 +52,7 @@ fn settings_of(root: Root) -> Settings
     .unwrap()
 }
 
-impl Stage<TableLanguage> for Table {
+impl LineStage<TableLanguage> for Table {
     ghost use Rattle.std.specs.Prelude.{false};
     ghost use Rattle.suite_cli.specs.code.Playing.{after_job, line_of};
 

@@ -6,8 +6,8 @@ use Rattle.acl_core.specs.Identity.{Identity}
 use Rattle.acl_core.specs.Permissions.{may_read, may_write, may_execute}
 use Rattle.acl_core.specs.declared.perms.Perms.{Perms}
 use Rattle.file_ops.specs.Steps.{◌>>=◌, ◌>>◌, found_or}
-use Rattle.history_judge.specs.declared.history.Asked.{Asked}
-use Rattle.history_judge.specs.declared.history.Asked.TheVariants.{Ops, Test}
+use Rattle.history_judge.specs.declared.history.CallRequest.{CallRequest}
+use Rattle.history_judge.specs.declared.history.CallRequest.TheVariants.{Ops, Test}
 use Rattle.suite_script.specs.declared.fault.LineFault.{LineFault}
 use Rattle.suite_script.specs.declared.fault.LineFault.TheVariants.{Form}
 use Rattle.suite_script.specs.code.Kept.{kept}
@@ -18,7 +18,7 @@ use Rattle.suite_script.specs.Words.{Word, at_end, caller, word}
 -- who asks for what
 pub record Request : Type 0 where
   pub caller : Identity
-  pub asked : Asked
+  pub asked : CallRequest
 
 -- permissions: r, w and x, some of them and in this order
 abbrev pub permissions : List (Word × ℕ)
@@ -35,7 +35,7 @@ abbrev pub perms_in : Word → Option Perms
 perms_in text = perms_of (find (λ known. bytes_eq text known.0) permissions)
 
 -- a test: a path, and what is wanted there
-abbrev pub test_in : List Word → Result Asked LineFault
+abbrev pub test_in : List Word → Result CallRequest LineFault
 test_in words = do
   path ← word words
   wanted ← word path.rest
@@ -44,7 +44,7 @@ test_in words = do
   Ok (Test path.value perms)
 
 -- operations: of too many, which are refused for that, one more than there may be
-abbrev pub operations_in : List Word → Result Asked LineFault
+abbrev pub operations_in : List Word → Result CallRequest LineFault
 operations_in words = do
   ops ← operations no_names words
   Ok (Ops (kept ops))
@@ -53,7 +53,7 @@ abbrev pub is_test : Word → Bool
 is_test text = bytes_eq text (codes "test")
 
 -- a test, or operations
-abbrev pub asked_in : List Word → Result Asked LineFault
+abbrev pub asked_in : List Word → Result CallRequest LineFault
 asked_in [] = operations_in []
 asked_in (first ∷ words) = if is_test first then test_in words else operations_in (first ∷ words)
 

@@ -5,11 +5,11 @@ use Rattle.std.specs.Str.Lines.{lines}
 use Rattle.sorted_map.specs.SortedMap.{get, insert, remove}
 use Rattle.acl_core.specs.Identity.{Identity}
 use Rattle.file_ops.specs.Steps.{◌>>=◌}
-use Rattle.history_judge.specs.declared.history.Asked.{Asked}
+use Rattle.history_judge.specs.declared.history.CallRequest.{CallRequest}
 use Rattle.history_judge.specs.declared.history.Call.{Call}
 use Rattle.history_judge.specs.declared.history.Seen.{Seen}
 use Rattle.history_judge.specs.declared.history.Seen.TheVariants.{SomeAnswers}
-use Rattle.history_judge.specs.declared.history.Told.{Told}
+use Rattle.history_judge.specs.declared.history.CallReply.{CallReply}
 use Rattle.suite_script.specs.declared.fault.LineFault.{LineFault}
 use Rattle.suite_script.specs.declared.fault.LineFault.TheVariants.{Order}
 use Rattle.suite_script.specs.declared.fault.ScriptFault.{ScriptFault}
@@ -29,11 +29,11 @@ abbrev pub nothing : Heard
 nothing = record { rooted = false; calls = []; waiting = [] }
 
 -- a call that was made, and perhaps told, on a line
-abbrev pub made_on : ℕ → Identity → Asked → Option Told → Call
+abbrev pub made_on : ℕ → Identity → CallRequest → Option CallReply → Call
 made_on line caller asked told = record { caller = caller; asked = asked; called = line; told = told }
 
 -- what was told on a line
-abbrev pub told_on : ℕ → Seen → Told
+abbrev pub told_on : ℕ → Seen → CallReply
 told_on line seen = record { at = line; seen = seen }
 
 -- one call more
@@ -41,12 +41,12 @@ abbrev pub with_call : Heard → Call → Heard
 with_call heard call = record heard { calls = heard.calls ++ call ∷ [] }
 
 -- the call at a place was told this
-abbrev pub told_at : List Call → ℕ → Told → Option Call → List Call
+abbrev pub told_at : List Call → ℕ → CallReply → Option Call → List Call
 told_at calls place told (Some call) = slice_set calls place (record call { told = Some told })
 told_at calls place told None = calls
 
 -- a call whose name is that of no call that was told nothing yet
-abbrev pub called : Heard → ℕ → ℕ → Identity → Asked → Bool → Result Heard LineFault
+abbrev pub called : Heard → ℕ → ℕ → Identity → CallRequest → Bool → Result Heard LineFault
 called heard line name caller asked true = Err Order
 called heard line name caller asked false =
     Ok (record { rooted = heard.rooted; calls = heard.calls ++ made_on line caller asked None ∷ []; waiting = insert nat_cmp heard.waiting name (length heard.calls) })

@@ -8,14 +8,14 @@ use Rattle.suite_prefix.specs.SettingsRules.{Opening}
 use Rattle.vote_core.specs.Quorums.{Configuration}
 use Rattle.vote_core.specs.declared.TheConstants.{MAX_SERVERS}
 use Rattle.history_judge.specs.declared.history.Call.{Call}
-use Rattle.history_judge.specs.declared.verdict.Verdict.{Verdict}
-use Rattle.history_judge.specs.declared.verdict.Verdict.TheVariants.{Order, NoOrder}
+use Rattle.history_judge.specs.declared.verdict.Judgement.{Judgement}
+use Rattle.history_judge.specs.declared.verdict.Judgement.TheVariants.{Order, NoOrder}
 use Rattle.history_judge.specs.Verdicts.{IsVerdict}
 use Rattle.suite_script.specs.declared.fault.ScriptError.{ScriptError}
 use Rattle.suite_script.specs.declared.fault.ScriptError.TheVariants.{Faulty, Memory}
 use Rattle.suite_script.specs.declared.root.Root.{Root}
 use Rattle.suite_script.specs.Faults.{line_feed}
-use Rattle.suite_history.specs.declared.shown.Answer.{Answer}
+use Rattle.suite_history.specs.declared.shown.Printed.{Printed}
 use Rattle.suite_history.specs.Histories.{History, history_in}
 
 -- the table is one of all the servers that there may be, with one vote of the first, and the root folder alone
@@ -63,13 +63,13 @@ pub record Shown : Type 0 where
 abbrev pub no_order : ℕ
 no_order = 1
 
-abbrev pub shown_of : Bool → List Call → Verdict → Shown
+abbrev pub shown_of : Bool → List Call → Judgement → Shown
 shown_of tells_order calls (Order order) = record { text = yes_text (length calls) ++ order_text tells_order calls order.items; status = done }
 shown_of tells_order calls (NoOrder line) = record { text = no_text line; status = no_order }
 
 -- What is shown of calls is a verdict on them.
 pub record IsJudged (tells_order : Bool) (table : PlainTable) (calls : List Call) (shown : Shown) : Type 0 where
-  pub verdict : Verdict
+  pub verdict : Judgement
   pub is_verdict : IsVerdict table calls verdict
   pub is : shown ≡ shown_of tells_order calls verdict
 
@@ -79,11 +79,11 @@ pub record IsShownOf (text : List ℕ) (tells_order : Bool) (shown : Shown) : Ty
   pub reads : history_in text ≡ Ok history
   pub judged : IsJudged tells_order (opening (settings_of history.root)) history.calls shown
 
-abbrev pub shown_in : Answer → Shown
+abbrev pub shown_in : Printed → Shown
 shown_in answer = record { text = answer.text.items; status = answer.status }
 
 -- a history was judged; or this is its first fault; or memory ran out
-abbrev pub Shows : List ℕ → Bool → Result Answer ScriptError → Type 0
+abbrev pub Shows : List ℕ → Bool → Result Printed ScriptError → Type 0
 Shows text tells_order (Ok answer) = IsShownOf text tells_order (shown_in answer)
 Shows text tells_order (Err (Faulty fault)) = history_in text ≡ Err fault
 Shows text tells_order (Err Memory) = Unit {0}

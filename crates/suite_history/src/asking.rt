@@ -8,7 +8,7 @@ ghost use Rattle.suite_script.specs.Readings.{Gives};
 use acl_core::{Caller, Perms};
 use acl_text::Names;
 use file_ops::PathText;
-use history_judge::{Asked, Ops};
+use history_judge::{CallOps, CallRequest};
 use script_text::Words;
 use std::alloc::Global;
 use suite_script::{
@@ -19,7 +19,7 @@ use suite_script::{
 pub(crate) fn read_request(
     alloc: Global,
     mut words: Words<'_>,
-) -> Result<(Caller, Asked), LineError>
+) -> Result<(Caller, CallRequest), LineError>
     ensures { GivesRequest result (request_in words.entry) }
 {
     let uid = read_id(next_word(&mut words)?)?;
@@ -29,7 +29,7 @@ pub(crate) fn read_request(
 }
 
 /// A test, or operations.
-fn read_asked(alloc: Global, words: Words<'_>) -> Result<Asked, LineError>
+fn read_asked(alloc: Global, words: Words<'_>) -> Result<CallRequest, LineError>
     ensures { Gives result (asked_in words.entry) }
 {
     let mut rest = Words::new(words.rest());
@@ -45,22 +45,22 @@ fn is_test(word: &[u8]) -> bool
     word == b"test".as_slice()
 }
 
-fn read_ops(alloc: Global, words: Words<'_>) -> Result<Asked, LineError>
+fn read_ops(alloc: Global, words: Words<'_>) -> Result<CallRequest, LineError>
     ensures { Gives result (operations_in words.entry) }
 {
     let names = Names::new(alloc);
     let ops = read_operations(alloc, &names, words)?;
-    Ok(Asked::Ops(Ops::from_vec(ops)?))
+    Ok(CallRequest::Ops(CallOps::from_vec(ops)?))
 }
 
 /// A path, and what is wanted there.
-fn read_test(alloc: Global, mut words: Words<'_>) -> Result<Asked, LineError>
+fn read_test(alloc: Global, mut words: Words<'_>) -> Result<CallRequest, LineError>
     ensures { Gives result (test_in words.entry) }
 {
     let path = next_word(&mut words)?;
     let wanted = perms_of(next_word(&mut words)?).ok_or(LineFault::Form)?;
     at_end(&mut words)?;
-    Ok(Asked::Test(PathText::new(alloc, path)?, wanted))
+    Ok(CallRequest::Test(PathText::new(alloc, path)?, wanted))
 }
 
 /// The permissions that a word spells.

@@ -9,7 +9,7 @@ ghost use Rattle.suite_script.specs.Scripts.{is_skipped};
 
 use crate::line::{HistoryLines, Said, read_line};
 use acl_core::Caller;
-use history_judge::{Asked, Call, Seen, Told};
+use history_judge::{Call, CallReply, CallRequest, Seen};
 use script_text::Lines;
 use sorted_map::SortedMap;
 use std::alloc::{AllocError, Global};
@@ -17,7 +17,7 @@ use suite_script::{LineError, LineFault, Root, ScriptError, ScriptReader, read_r
 
 /// A history: what its root folder is, and its calls, in the order in which they were made.
 #[derive(Drop)]
-pub struct History {
+pub struct CallHistory {
     pub root: Root,
     pub calls: Vec<Call>,
 }
@@ -32,7 +32,7 @@ pub(crate) struct Hearing {
 }
 
 /// Reads a history whole: what it says, or its first faulty line.
-pub fn read_history(alloc: Global, text: &[u8]) -> Result<History, ScriptError>
+pub fn read_history(alloc: Global, text: &[u8]) -> Result<CallHistory, ScriptError>
     requires { length text.now < 2 ^ 60 }
     ensures history { GivesHistory result (history_in text.now) }
     ensures few { IfOk result (λ history. length history.calls.items ≤ length text.now) }
@@ -40,7 +40,7 @@ pub fn read_history(alloc: Global, text: &[u8]) -> Result<History, ScriptError>
     let mut script = ScriptReader::new(alloc, text);
     let root = read_root::<HistoryLines>(alloc, &mut script)?;
     let hearing = hear_all(alloc, Lines::new(text))?;
-    Ok(History {
+    Ok(CallHistory {
         root,
         calls: hearing.calls,
     })
@@ -107,7 +107,7 @@ impl Hearing {
             }
             Said::Do(caller, asked) => {
                 let seen = Seen::SomeAnswers;
-                let told = Some(Told { at: number, seen });
+                let told = Some(CallReply { at: number, seen });
                 Ok(self.push(number, caller, asked, told)?)
             }
             Said::Call(name, caller, asked) => self.call(number, name, caller, asked),
@@ -120,8 +120,8 @@ impl Hearing {
         &mut self,
         number: u64,
         caller: Caller,
-        asked: Asked,
-        told: Option<Told>,
+        asked: CallRequest,
+        told: Option<CallReply>,
     ) -> Result<(), AllocError>
         ensures calls { OnOk result (self.new.calls.items ≡ self.old.calls.items ++ made_on number caller asked told ∷ []) }
         ensures rooted { self.new.is_rooted ≡ self.old.is_rooted }
@@ -142,7 +142,7 @@ impl Hearing {
         number: u64,
         name: u64,
         caller: Caller,
-        asked: Asked,
+        asked: CallRequest,
     ) -> Result<(), LineError>
         ensures heard { Hears result self.new (called (heard_in self.old) number name caller asked (is_some (get nat_cmp self.old.waiting name))) }
         ensures few { OnOk result (length self.new.calls.items ≤ length self.old.calls.items + 1) }
@@ -162,7 +162,7 @@ impl Hearing {
         match self.waiting.remove(&name) {
             None => Err(LineError::Faulty(LineFault::Order)),
             Some(place) => {
-                tell(&mut self.calls, place, Told { at: number, seen });
+                tell(&mut self.calls, place, CallReply { at: number, seen });
                 Ok(())
             }
         }
@@ -170,7 +170,7 @@ impl Hearing {
 }
 
 /// The call at a place was told this.
-fn tell(calls: &mut Vec<Call>, place: usize, told: Told)
+fn tell(calls: &mut Vec<Call>, place: usize, told: CallReply)
     ensures { calls.new.items ≡ told_at calls.old.items place told (slice_get calls.old.items place) }
 {
     if let Some(call) = calls.get_mut(place) {

@@ -31,5 +31,5 @@ mod reply;
 mod shown;
 mod told;
 
-pub use history::{History, read_history};
-pub use shown::{Answer, NO_ORDER, judge_text};
+pub use history::{CallHistory, read_history};
+pub use shown::{NO_ORDER, Printed, judge_text};

@@ -11,8 +11,8 @@ use crate::asking::read_request;
 use crate::told::read_seen;
 use acl_core::Caller;
 use acl_text::Names;
-use history_judge::{Asked, Seen};
-use script_text::{Parts, Words, read_number};
+use history_judge::{CallRequest, Seen};
+use script_text::{WordParts, Words, read_number};
 use std::alloc::Global;
 use suite_script::{Language, LineError, LineFault, next_word};
 
@@ -22,9 +22,9 @@ pub(crate) enum Said {
     /// That this is the history's root folder.
     Root,
     /// That this was called for, and answered at once.
-    Do(Caller, Asked),
+    Do(Caller, CallRequest),
     /// That a client called for this, by the client's own name of the call.
-    Call(u64, Caller, Asked),
+    Call(u64, Caller, CallRequest),
     /// What the client of this call was told.
     Ret(u64, Seen),
 }
@@ -102,7 +102,7 @@ pub(crate) fn read_line(alloc: Global, line: &[u8]) -> Result<Said, LineError>
     } else if is_call(first) {
         read_call(alloc, words)
     } else if is_ret(first) {
-        read_ret(alloc, Parts::new(line, b';'))
+        read_ret(alloc, WordParts::new(line, b';'))
     } else {
         Err(LineError::Faulty(LineFault::Form))
     }
@@ -132,7 +132,7 @@ fn read_name(word: &[u8]) -> Result<u64, LineFault>
 }
 
 /// What was told, from a line's parts between semicolons.
-fn read_ret(alloc: Global, mut parts: Parts<'_>) -> Result<Said, LineError>
+fn read_ret(alloc: Global, mut parts: WordParts<'_>) -> Result<Said, LineError>
     ensures { Gives result (ret_in parts.entry) }
 {
     let Some(first) = parts.next() else {
@@ -144,7 +144,7 @@ fn read_ret(alloc: Global, mut parts: Parts<'_>) -> Result<Said, LineError>
 }
 
 /// A call's name, and what was told.
-fn read_told(alloc: Global, mut words: Words<'_>, more: Parts<'_>) -> Result<Said, LineError>
+fn read_told(alloc: Global, mut words: Words<'_>, more: WordParts<'_>) -> Result<Said, LineError>
     ensures { Gives result (told_in words.entry more.entry) }
 {
     let name = read_name(next_word(&mut words)?)?;

@@ -15,7 +15,7 @@ use acl_core::Lists;
 use acl_text::{Names, read_acl};
 use file_ops::Answer;
 use hex::FromHexError;
-use script_text::{Parts, Words};
+use script_text::{WordParts, Words};
 use std::alloc::Global;
 use suite_content::{FileBytes, FolderNames, Name, NameList, is_name};
 use suite_script::{LineError, LineFault, at_end, next_word, read_votes};
@@ -112,11 +112,11 @@ fn read_folder(alloc: Global, word: &[u8]) -> Result<FolderNames, LineError>
     if word == b"-".as_slice() {
         return Ok(folder);
     }
-    with_names(folder, Parts::new(word, b','))
+    with_names(folder, WordParts::new(word, b','))
 }
 
 /// A folder with more names, each of which is put at its place.
-fn with_names(folder: FolderNames, mut names: Parts<'_>) -> Result<FolderNames, LineError>
+fn with_names(folder: FolderNames, mut names: WordParts<'_>) -> Result<FolderNames, LineError>
     ensures { Gives result (folder_of folder names.entry) }
 {
     let mut folder = folder;

@@ -7,7 +7,7 @@ ghost use Rattle.suite_history.specs.Shown.{IsJudged, Shows, call_text, no_text,
 use crate::history::read_history;
 use byte_streams::DONE;
 use file_ops::Table;
-use history_judge::{Call, Verdict, judge};
+use history_judge::{Call, Judgement, judge};
 use script_text::push_number;
 use std::alloc::{AllocError, Global};
 use suite_prefix::Settings;
@@ -19,14 +19,14 @@ pub const NO_ORDER: u8 = 1;
 
 /// What is printed, and the exit status.
 #[derive(Drop)]
-pub struct Answer {
+pub struct Printed {
     pub text: Vec<u8>,
     pub status: u8,
 }
 
 /// Judges a history: shows whether one plain table has it, with the lines of its calls in an order where these are asked
 /// for; or the first faulty line.
-pub fn judge_text(alloc: Global, text: &[u8], tells_order: bool) -> Result<Answer, ScriptError>
+pub fn judge_text(alloc: Global, text: &[u8], tells_order: bool) -> Result<Printed, ScriptError>
     requires { length text.now < 2 ^ 60 }
     ensures { Shows text.now tells_order result }
 {
@@ -42,7 +42,7 @@ fn judge_calls(
     tells_order: bool,
     opening: &Table,
     calls: &[Call],
-) -> Result<Answer, AllocError>
+) -> Result<Printed, AllocError>
     requires { length calls.now < 2 ^ 60 }
     ensures { IfOk result (λ answer. IsJudged tells_order opening.now calls.now (shown_in answer)) }
 {
@@ -76,20 +76,20 @@ fn show(
     alloc: Global,
     tells_order: bool,
     calls: &[Call],
-    verdict: &Verdict,
-) -> Result<Answer, AllocError>
+    verdict: &Judgement,
+) -> Result<Printed, AllocError>
     ensures { IfOk result (λ answer. shown_in answer ≡ shown_of tells_order calls.now verdict.now) }
 {
     let mut text = Vec::new(alloc);
     match verdict {
-        Verdict::Order(order) => {
+        Judgement::Order(order) => {
             push_yes(&mut text, calls.len())?;
             push_order_if(&mut text, tells_order, calls, order.as_slice())?;
-            Ok(Answer { text, status: DONE })
+            Ok(Printed { text, status: DONE })
         }
-        Verdict::NoOrder(line) => {
+        Judgement::NoOrder(line) => {
             push_no(&mut text, *line)?;
-            Ok(Answer {
+            Ok(Printed {
                 text,
                 status: NO_ORDER,
             })

@@ -9,7 +9,7 @@ ghost use Rattle.suite_script.specs.Readings.{Gives};
 use crate::reply::{read_reply, reply_of};
 use file_ops::{Answer, Answers, Refusal, Why};
 use history_judge::Seen;
-use script_text::{Parts, Words, read_number};
+use script_text::{WordParts, Words, read_number};
 use std::alloc::Global;
 use suite_script::{LineError, LineFault, at_end, next_word};
 
@@ -17,7 +17,7 @@ use suite_script::{LineError, LineFault, at_end, next_word};
 pub(crate) fn read_seen(
     alloc: Global,
     mut words: Words<'_>,
-    more: Parts<'_>,
+    more: WordParts<'_>,
 ) -> Result<Seen, LineError>
     ensures { Gives result (seen_in words.entry more.entry) }
 {
@@ -30,7 +30,11 @@ pub(crate) fn read_seen(
 }
 
 /// Some replies; that a test was granted; or these replies.
-fn read_answered(alloc: Global, mut words: Words<'_>, more: Parts<'_>) -> Result<Seen, LineError>
+fn read_answered(
+    alloc: Global,
+    mut words: Words<'_>,
+    more: WordParts<'_>,
+) -> Result<Seen, LineError>
     ensures { Gives result (answered_in words.entry more.entry) }
 {
     match words.next() {
@@ -47,7 +51,11 @@ fn is_granted(word: &[u8]) -> bool
 }
 
 /// That a test was granted: no more words, and no more parts.
-fn read_granted(alloc: Global, mut words: Words<'_>, mut more: Parts<'_>) -> Result<Seen, LineError>
+fn read_granted(
+    alloc: Global,
+    mut words: Words<'_>,
+    mut more: WordParts<'_>,
+) -> Result<Seen, LineError>
     ensures { Gives result (granted_in words.entry more.entry) }
 {
     match (words.next(), more.next()) {
@@ -61,7 +69,7 @@ fn read_these(
     alloc: Global,
     verb: &[u8],
     mut words: Words<'_>,
-    more: Parts<'_>,
+    more: WordParts<'_>,
 ) -> Result<Seen, LineError>
     ensures { Gives result (these_in verb.now words.entry more.entry) }
 {
@@ -70,7 +78,7 @@ fn read_these(
 }
 
 /// Replies that were not kept: no words.
-fn some_answers(mut more: Parts<'_>) -> Result<Seen, LineError>
+fn some_answers(mut more: WordParts<'_>) -> Result<Seen, LineError>
     ensures { Gives result (answered_in [] more.entry) }
 {
     match more.next() {
@@ -80,7 +88,7 @@ fn some_answers(mut more: Parts<'_>) -> Result<Seen, LineError>
 }
 
 /// A reply, and those of the parts after it.
-fn all_replies(alloc: Global, first: Answer, parts: Parts<'_>) -> Result<Answers, LineError>
+fn all_replies(alloc: Global, first: Answer, parts: WordParts<'_>) -> Result<Answers, LineError>
     ensures { Gives result (ok_map (λ later. first ∷ later) (replies_in parts.entry)) }
 {
     let mut replies = Vec::with_capacity(alloc, 1)?;
@@ -93,7 +101,7 @@ fn all_replies(alloc: Global, first: Answer, parts: Parts<'_>) -> Result<Answers
 fn push_replies(
     alloc: Global,
     replies: &mut Vec<Answer>,
-    mut parts: Parts<'_>,
+    mut parts: WordParts<'_>,
 ) -> Result<(), LineError>
     ensures { AddsReplies result replies.old.items replies.new.items (replies_in parts.entry) }
 {
@@ -105,7 +113,11 @@ fn push_replies(
 }
 
 /// A denial or another refusal, which is told in one part.
-fn read_refusal(kind: &[u8], words: &mut Words<'_>, mut more: Parts<'_>) -> Result<Seen, LineError>
+fn read_refusal(
+    kind: &[u8],
+    words: &mut Words<'_>,
+    mut more: WordParts<'_>,
+) -> Result<Seen, LineError>
     ensures { Gives result (refusal_in kind.now words.old more.entry) }
 {
     if more.next().is_some() {

@@ -1,27 +1,15 @@
 -- Steps of an agent that are played until its job has ended.
-use Rattle.std.proofs.Common.{◌≡◌, ℕ, zero, suc, ◌-◌, ◌<◌, Bool, true, false, List, [], ◌∷◌, ◌++◌, Option, Some, None, refl, ◌∙◌, ap, sym}
-use Rattle.std.specs.Prelude.{OnSome, is_some, not, slice_get, slice_set}
-use Rattle.std.specs.Option.{option_or}
-use Rattle.std.proofs.lemmas.List.{append-nil}
-use Rattle.suite_prefix.specs.SettingsRules.{Opening}
-use Rattle.rep_core.specs.declared.request.Request.{Request}
+use Rattle.suite_play.proofs.Vocabulary.{◌≡◌, ℕ, zero, suc, ◌-◌, ◌<◌, Bool, true, false, List, [], ◌∷◌, ◌++◌, Option, Some, None, refl, ◌∙◌, ap, sym, OnSome}
+use Rattle.suite_play.proofs.Vocabulary.{is_some, not, slice_get, slice_set, option_or, append-nil, Opening, Request, State, Ending, Response, Replied, Lacked}
+use Rattle.suite_play.proofs.Vocabulary.{After, Doing, Ends, Fixed, GoesOn, RunningSweep, Running, Agent, end_of, fixed_of, is_idle, left, next_of, take_in}
+use Rattle.suite_play.proofs.Vocabulary.{EndedJob, Served, Step, Opened, Actor, World, actor_at, after_serving, asks, asks_at, has_no_job, moved, outcome_of}
+use Rattle.suite_play.proofs.Vocabulary.{serve, server_at, step, steps_once, took, or_nothing, Printed, outcome_text}
+use Rattle.txn_core.specs.Agents.{take}
+use Rattle.run_core.specs.Worlds.{answered}
+use Rattle.suite_play.specs.Playing.{steps}
 use Rattle.rep_core.specs.declared.stamped.Lack.TheVariants as lack
-use Rattle.rep_core.specs.State.{State}
-use Rattle.txn_core.specs.declared.ending.Ending.{Ending}
-use Rattle.txn_core.specs.declared.response.Response.{Response}
-use Rattle.txn_core.specs.declared.response.Response.TheVariants.{Replied, Lacked}
-use Rattle.txn_core.specs.Doing.{After, Doing, Ends, Fixed, GoesOn, RunningSweep, Running}
-use Rattle.txn_core.specs.Agents.{Agent, end_of, fixed_of, is_idle, left, next_of, take, take_in}
 use Rattle.txn_core.specs.Sweeps as sweep
 use Rattle.txn_core.specs.Transactions as txn_run
-use Rattle.run_core.specs.declared.done.EndedJob.{EndedJob}
-use Rattle.run_core.specs.declared.done.Served.{Served}
-use Rattle.run_core.specs.declared.event.Event.TheVariants.{Step}
-use Rattle.run_core.specs.Opened.{Opened}
-use Rattle.run_core.specs.Worlds.{Actor, World, actor_at, after_serving, answered, asks, asks_at, has_no_job, moved, outcome_of, serve, server_at, step, steps_once, took}
-use Rattle.run_core.proofs.Exchanging.{or_nothing}
-use Rattle.suite_play.specs.Playing.{Printed, steps}
-use Rattle.suite_play.specs.Texts.{outcome_text}
 use Rattle.suite_play.proofs.Idle.{more_steps, no_steps, steps_idle}
 
 -- ---- an agent whose job has ended has no job

@@ -1,10 +1,7 @@
 -- Steps of an agent that has no job change nothing.
-use Rattle.std.proofs.Common.{◌≡◌, ℕ, zero, suc, ◌-◌, ◌<◌, true, [], Option, Some, None, refl, ◌∙◌, ap, arith}
-use Rattle.txn_core.specs.Doing.{Doing, Fixed}
-use Rattle.txn_core.specs.Agents.{is_idle, next_in}
-use Rattle.run_core.specs.Worlds.{Actor, World, actor_at, asks, has_no_job, quiet, step, steps_once}
-use Rattle.run_core.specs.declared.event.Event.TheVariants.{Step}
-use Rattle.suite_play.specs.Playing.{before, of_event, steps}
+use Rattle.suite_play.proofs.Vocabulary.{◌≡◌, ℕ, zero, suc, ◌-◌, ◌<◌, true, [], Option, Some, None, refl, ◌∙◌, ap, arith, Doing, Fixed, is_idle, next_in}
+use Rattle.suite_play.proofs.Vocabulary.{Actor, World, actor_at, asks, has_no_job, quiet, step, steps_once, Step, before, of_event}
+use Rattle.suite_play.specs.Playing.{steps}
 
 asks_nothing : (fixed : Fixed) (doing : Option Doing) → is_idle doing ≡ true → next_in fixed doing ≡ None
 asks_nothing fixed None idle = refl

@@ -1,12 +1,5 @@
 -- A script prints the same of what is kept of its lines.
-use Rattle.std.proofs.Common.{◌≡◌, Result}
-use Rattle.suite_prefix.specs.SettingsRules.{Opening}
-use Rattle.suite_script.proofs.Seen.{same_output}
-use Rattle.suite_script.specs.Outputs.{script_output}
-use Rattle.suite_script.specs.Scripts.{Headed, script_of}
-use Rattle.suite_script.specs.declared.fault.ScriptFault.{ScriptFault}
-use Rattle.suite_play.specs.Outputs.{language, lines_of}
-use Rattle.suite_play.specs.code.Kept.{kept_command}
+use Rattle.suite_play.proofs.Vocabulary.{◌≡◌, Result, Opening, same_output, script_output, Headed, script_of, ScriptFault, language, lines_of, kept_command}
 use Rattle.suite_play.proofs.Lines.{kept_language}
 use Rattle.suite_play.proofs.kept.Prints.{kept_prints}
 

@@ -1,3 +1,4 @@
+mod Vocabulary
 pub mod Idle
 pub mod Ended
 pub mod Left

@@ -1,20 +1,8 @@
 -- What the lines of a script print, played one after the other on a world.
-use Rattle.std.proofs.Common.{◌≡◌, ◌∙◌, ℕ, ◌+◌, List, [], ◌∷◌, ◌++◌, Ok, refl, ap, sym}
-use Rattle.suite_prefix.specs.SettingsRules.{Opening}
-use Rattle.txn_core.specs.Agents.{fixed_of}
-use Rattle.run_core.specs.Opened.{Opened}
-use Rattle.run_core.specs.Worlds.{opening}
-use Rattle.suite_script.proofs.Playing.{opened_output}
-use Rattle.suite_script.specs.Gathering.{comes_to}
-use Rattle.suite_script.specs.Playing.{prints_from}
-use Rattle.suite_script.specs.Scripts.{Pending, owns, whole}
+use Rattle.suite_play.proofs.Vocabulary.{◌≡◌, ◌∙◌, ℕ, ◌+◌, List, [], ◌∷◌, ◌++◌, Ok, refl, ap, sym, Opening, fixed_of, Opened, opening, opened_output, comes_to}
+use Rattle.suite_play.proofs.Vocabulary.{prints_from, Pending, owns, whole, header, lines_of, play_output, all_lines, after_line, line_of, Command}
 use Rattle.suite_play.proofs.KeptLines.{kept_output}
 use Rattle.suite_play.proofs.Lines.{kept_language}
-use Rattle.suite_play.specs.Headers.{header}
-use Rattle.suite_play.specs.Outputs.{lines_of, play_output}
-use Rattle.suite_play.specs.Playing.{all_lines}
-use Rattle.suite_play.specs.code.Playing.{after_line, line_of}
-use Rattle.suite_play.specs.declared.command.Command.{Command}
 
 lines_are : (opened : Opened) (number : ℕ) (commands : List Command) → prints_from line_of after_line opened number commands ≡ all_lines (fixed_of opened.given) opened.world commands
 lines_are opened number [] = refl

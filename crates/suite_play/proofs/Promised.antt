@@ -1,31 +1,14 @@
 -- The run of a script, line by line.
-use Rattle.std.proofs.Common.{◌≡◌, ℕ, zero, suc, false, List, [], ◌∷◌, ◌++◌, append_assoc, Option, Some, None, Result, Ok, Err, refl, ◌∙◌, ap, sym, subst}
-use Rattle.std.specs.Prelude.{Bool, IfOk, true, not}
-use Rattle.std.specs.List.{flat_map, list_all}
-use Rattle.std.proofs.lemmas.Bool.{and_parts, false≢true}
-use Rattle.std.proofs.lemmas.List.{append-nil}
-use Rattle.suite_prefix.specs.SettingsRules.{IsAccepted, Opening}
-use Rattle.vote_core.specs.Validity.{IsValid}
-use Rattle.txn_core.specs.Doing.{Fixed}
+use Rattle.suite_play.proofs.Vocabulary.{◌≡◌, ℕ, zero, suc, false, List, [], ◌∷◌, ◌++◌, append_assoc, Option, Some, None, Result, Ok, Err, refl, ◌∙◌, ap, sym}
+use Rattle.suite_play.proofs.Vocabulary.{subst, Bool, IfOk, true, not, flat_map, list_all, and_parts, false≢true, append-nil, IsAccepted, Opening, IsValid}
+use Rattle.suite_play.proofs.Vocabulary.{Fixed, Step, Done, EndedJob, World, step, after, dones, outcomes, dones-append, outcomes-append, CanBe, VotesAreValid}
+use Rattle.suite_play.proofs.Vocabulary.{IsPromised, front, promised, ScriptFault, Pending, Script, owns, script_of, scripted, whole, Command, header}
+use Rattle.suite_play.proofs.Vocabulary.{language, all_lines, endless, played, events_in, events_of, is_audit, LinesAreEvents, PlayIsPromised, outcome_line}
+use Rattle.suite_play.proofs.Vocabulary.{outcome_text}
+use Rattle.suite_play.specs.Playing.{steps}
+use Rattle.suite_play.specs.Promised.{steps_of}
 use Rattle.run_core.specs.declared.event.Event.{Event}
-use Rattle.run_core.specs.declared.event.Event.TheVariants.{Step}
-use Rattle.run_core.specs.declared.done.Done.{Done}
-use Rattle.run_core.specs.declared.done.EndedJob.{EndedJob}
-use Rattle.run_core.specs.Worlds.{World, step}
-use Rattle.run_core.specs.Runs.{after, dones, outcomes}
-use Rattle.run_core.proofs.Appending.{dones-append, outcomes-append}
-use Rattle.law_headline.specs.Premises.{CanBe, VotesAreValid}
-use Rattle.law_headline.specs.Promises.{IsPromised}
-use Rattle.law_headline.proofs.Promised.{front, promised}
-use Rattle.suite_script.specs.declared.fault.ScriptFault.{ScriptFault}
-use Rattle.suite_script.specs.Scripts.{Pending, Script, owns, script_of, scripted, whole}
-use Rattle.suite_play.specs.declared.command.Command.{Command}
 use Rattle.suite_play.specs.declared.command.Command.TheVariants as line
-use Rattle.suite_play.specs.Headers.{header}
-use Rattle.suite_play.specs.Outputs.{language}
-use Rattle.suite_play.specs.Playing.{all_lines, endless, played, steps}
-use Rattle.suite_play.specs.Promised.{steps_of, events_in, events_of, is_audit, LinesAreEvents, PlayIsPromised}
-use Rattle.suite_play.specs.Texts.{outcome_line, outcome_text}
 use Rattle.suite_play.proofs.ValidLines.{valid_lines}
 
 -- ---- what a line makes of a world

@@ -1,11 +1,7 @@
 -- `run` is steps until the agent has no job.
-use Rattle.std.proofs.Common.{◌≡◌, ℕ, zero, suc, ◌+◌, ◌-◌, [], ◌++◌, ◌∙◌, ap, sym, append_assoc, zero-add, arith}
-use Rattle.std.proofs.lemmas.List.{append-nil}
-use Rattle.txn_core.specs.Doing.{Fixed}
-use Rattle.run_core.specs.Worlds.{World, step}
-use Rattle.run_core.specs.declared.event.Event.TheVariants.{Step}
-use Rattle.suite_play.specs.Laws.{RunIsUntilIdle}
-use Rattle.suite_play.specs.Playing.{Printed, endless, of_event, steps}
+use Rattle.suite_play.proofs.Vocabulary.{◌≡◌, ℕ, zero, suc, ◌+◌, ◌-◌, [], ◌++◌, ◌∙◌, ap, sym, append_assoc, zero-add, arith, append-nil, Fixed, World, step}
+use Rattle.suite_play.proofs.Vocabulary.{Step, RunIsUntilIdle, Printed, endless, of_event}
+use Rattle.suite_play.specs.Playing.{steps}
 use Rattle.suite_play.proofs.Idle.{steps_idle}
 
 -- what is printed, and then what is printed later

@@ -1,32 +1,13 @@
 -- The votes of all that a line says are valid.
-use Rattle.std.proofs.Common.{ℕ, zero, suc, List, [], ◌∷◌, Option, Some, None, Result, Ok, Err}
-use Rattle.std.specs.Prelude.{IfOk}
-use Rattle.std.specs.List.{AllByRecursion, slice_split}
-use Rattle.acl_text.specs.Tables.{Tables}
-use Rattle.file_ops.specs.declared.operation.Action.{Action}
+use Rattle.suite_play.proofs.Vocabulary.{ℕ, zero, suc, List, [], ◌∷◌, Option, Some, None, Result, Ok, Err, IfOk, AllByRecursion, slice_split, Tables, Action}
+use Rattle.suite_play.proofs.Vocabulary.{Op, both, AllGiveValidVotes, GivesValidVotes, VotesAreValid, is_semicolon, Opening, each_of, AllHaveValidVotes}
+use Rattle.suite_play.proofs.Vocabulary.{HasValidVotes, after_any, after_end, then_holds, valid_operations, operations, Pending, owns, Word, at_end, caller}
+use Rattle.suite_play.proofs.Vocabulary.{number, ScriptFault, Job, Transaction, Sweep, last_site, begin_in, said_after, said_by, server_in, steps_in}
+use Rattle.suite_play.proofs.Vocabulary.{transaction_in, verb_in, language, places_of, endless, events_in, events_of, Command, Places}
+use Rattle.suite_play.specs.Promised.{steps_of}
 use Rattle.file_ops.specs.declared.operation.Action.TheVariants as action
-use Rattle.file_ops.specs.declared.operation.Op.{Op}
-use Rattle.law_headline.proofs.Promised.{both}
-use Rattle.law_headline.specs.Premises.{AllGiveValidVotes, GivesValidVotes, VotesAreValid}
-use Rattle.script_text.specs.Phrases.{is_semicolon}
-use Rattle.suite_prefix.specs.SettingsRules.{Opening}
-use Rattle.suite_script.proofs.Seen.{each_of}
-use Rattle.suite_script.proofs.ValidOperations.{AllHaveValidVotes, HasValidVotes, after_any, after_end, then_holds, valid_operations}
-use Rattle.suite_script.specs.Operations.{operations}
-use Rattle.suite_script.specs.Scripts.{Pending, owns}
-use Rattle.suite_script.specs.Words.{Word, at_end, caller, number}
-use Rattle.suite_script.specs.declared.fault.ScriptFault.{ScriptFault}
 use Rattle.run_core.specs.declared.event.Event.TheVariants as event
-use Rattle.txn_core.specs.declared.job.Job.{Job}
-use Rattle.txn_core.specs.declared.job.Job.TheVariants.{Transaction, Sweep}
-use Rattle.suite_script.specs.Forms.{last_site}
-use Rattle.suite_play.specs.Commands.{begin_in, said_after, said_by, server_in, steps_in, transaction_in, verb_in}
-use Rattle.suite_play.specs.Outputs.{language, places_of}
-use Rattle.suite_play.specs.Playing.{endless}
-use Rattle.suite_play.specs.Promised.{events_in, events_of, steps_of}
-use Rattle.suite_play.specs.declared.command.Command.{Command}
 use Rattle.suite_play.specs.declared.command.Command.TheVariants.{Event}
-use Rattle.suite_play.specs.declared.places.Places.{Places}
 use Rattle.suite_play.specs.declared.verb.EventVerb as lines
 use Rattle.suite_play.specs.declared.verb.EventVerb.TheVariants as line
 

@@ -11,7 +11,7 @@ ghost use Rattle.suite_script.specs.Scripts.{headed, headed_if};
 use crate::caches::Caches;
 use crate::places::Places;
 use acl_core::Lists;
-use script_text::{Parts, Words, read_number};
+use script_text::{WordParts, Words, read_number};
 use std::alloc::Global;
 use suite_prefix::{Form, MAX_AGENTS, MAX_CACHE, MAX_SLOTS, Settings, SettingsFault};
 use suite_script::{
@@ -240,7 +240,7 @@ fn among(servers: usize, word: &[u8]) -> Result<ServerSet, LineFault>
     ensures known { IfOk result (λ found. (server : ℕ) → contains found server ≡ true → server < servers) }
 {
     let mut found = ServerSet::empty();
-    for field in Parts::new(word, b',') {
+    for field in WordParts::new(word, b',') {
         let server = read_number(field, servers as u64 - 1).ok_or(LineFault::Form)?;
         found.insert(server as u8);
     }

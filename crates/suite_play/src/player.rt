@@ -20,7 +20,7 @@ use run_core::{EndedJob, Event, Served, World};
 use script_text::push_number;
 use std::alloc::{AllocError, Global};
 use suite_prefix::Settings;
-use suite_script::{PlayError, ScriptReader, Stage, play_lines, write_if_full};
+use suite_script::{LineStage, PlayError, ScriptReader, play_lines, write_if_full};
 
 /// How many denials an audit may tell that is no long line.
 const FEW: usize = 1_024;
@@ -52,7 +52,7 @@ pub fn places_of(settings: &Settings) -> Places
     }
 }
 
-impl Stage<Places> for World {
+impl LineStage<Places> for World {
     ghost use Rattle.suite_play.specs.code.Playing.{after_line, is_long, line_of};
 
     ghost line = { line_of };

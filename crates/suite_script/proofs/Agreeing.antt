@@ -1,27 +1,12 @@
 -- The first word of an operation that does not fit has the fault that the reader tells.
-use Rattle.std.proofs.Common.{◌≡◌, ℕ, ◌⊎◌, inl, inr, List, [], ◌∷◌, Option, Some, None, option_map, Result, Ok, Err, refl, ap, sym, ◌∙◌}
-use Rattle.file_ops.specs.Steps.{◌>>=◌, ◌>>◌}
-use Rattle.file_ops.specs.declared.operation.Op.{Op}
-use Rattle.file_ops.specs.declared.operation.Action.{Action}
+use Rattle.suite_script.proofs.Vocabulary.{◌≡◌, ℕ, ◌⊎◌, inl, inr, List, [], ◌∷◌, Option, Some, None, option_map, Result, Ok, Err, refl, ap, sym, ◌∙◌, ◌>>=◌}
+use Rattle.suite_script.proofs.Vocabulary.{◌>>◌, Op, Action, Init, Kind, File, Folder, Perhaps, Misfit, Tables, MAX_SERVERS, LineFault, Scope, Verb, ending_of}
+use Rattle.suite_script.proofs.Vocabulary.{fault_in, places_of, init_in, lists_in, Judged, Left, Wrong, after, closed, ended, judged_fault, misfit_or}
+use Rattle.suite_script.proofs.Vocabulary.{operation_judged, operations_misfit, shaped, act, bytes_in, operation, operations_in, verb_in, votes_or_none}
+use Rattle.suite_script.proofs.Vocabulary.{votes_in, Taken, Word, at_end, word}
 use Rattle.file_ops.specs.declared.operation.Action.TheVariants as action
-use Rattle.file_ops.specs.declared.operation.Init.{Init}
-use Rattle.suite_content.specs.declared.content.Kind.{Kind}
-use Rattle.suite_content.specs.declared.content.Kind.TheVariants.{File, Folder}
-use Rattle.suite_script.specs.declared.form.Ending.TheVariants.{Perhaps}
 use Rattle.suite_script.specs.declared.form.Place.TheVariants as place
-use Rattle.suite_script.specs.declared.misfit.Misfit.{Misfit}
-use Rattle.acl_text.specs.Tables.{Tables}
-use Rattle.vote_core.specs.declared.TheConstants.{MAX_SERVERS}
-use Rattle.suite_script.specs.declared.fault.LineFault.{LineFault}
-use Rattle.suite_script.specs.declared.scope.Scope.{Scope}
-use Rattle.suite_script.specs.declared.verb.Verb.{Verb}
 use Rattle.suite_script.specs.declared.verb.Verb.TheVariants as verb
-use Rattle.suite_script.specs.Forms.{ending_of, fault_in, places_of}
-use Rattle.suite_script.specs.Lists.{init_in, lists_in}
-use Rattle.suite_script.specs.Misfits.{Judged, Left, Wrong, after, closed, ended, judged_fault, misfit_or, operation_judged, operations_misfit, shaped}
-use Rattle.suite_script.specs.Operations.{act, bytes_in, operation, operations_in, verb_in, votes_or_none}
-use Rattle.suite_script.specs.Votes.{votes_in}
-use Rattle.suite_script.specs.Words.{Taken, Word, at_end, word}
 
 cases_option : {A : Type 0} (found : Option A) → (found ≡ None) ⊎ ((given : A) × (found ≡ Some given))
 cases_option None = inl refl

@@ -1,13 +1,8 @@
 -- The fields of servers, one after the other.
-use Rattle.std.proofs.Common.{◌≡◌, ℕ, suc, ◌+◌, ◌-◌, ◌<◌, ◌≤◌, nat_lt, true, false, List, [], ◌∷◌, ◌++◌, codes, length, take, set, Option, Some, None, option_map, refl, ◌∙◌, ap, sym, append_assoc, arith}
-use Rattle.std.specs.List.{flat_map, range_with_len}
-use Rattle.std.specs.Str.{bytes_eq}
-use Rattle.std.proofs.lemmas.Bool.Decides.{nat_tests}
-use Rattle.std.proofs.lemmas.List.{take_more_set}
-use Rattle.script_text.specs.Numbers.{number_up_to}
-use Rattle.vote_core.specs.Quorums.{Representative}
-use Rattle.vote_core.specs.Validity.{max_servers}
-use Rattle.suite_script.specs.Votes.{field_text, fields_text, last_server, reps_from, with_field, with_votes}
+use Rattle.suite_script.proofs.Vocabulary.{◌≡◌, ℕ, suc, ◌+◌, ◌-◌, ◌<◌, ◌≤◌, nat_lt, true, false, List, [], ◌∷◌, ◌++◌, codes, length, take, set, Option, Some}
+use Rattle.suite_script.proofs.Vocabulary.{None, option_map, refl, ◌∙◌, ap, sym, append_assoc, arith, flat_map, range_with_len, bytes_eq, nat_tests}
+use Rattle.suite_script.proofs.Vocabulary.{take_more_set, number_up_to, Representative, max_servers, field_text, fields_text, last_server, reps_from}
+use Rattle.suite_script.proofs.Vocabulary.{with_field, with_votes}
 
 -- what is listed, where some servers were read already
 abbrev pub reps_after : List Representative → Option (List Representative) → Option (List Representative)

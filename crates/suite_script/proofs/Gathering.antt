@@ -1,15 +1,8 @@
 -- Text that is gathered and written in pieces.
-use Rattle.std.proofs.Common.{◌≡◌, ℕ, true, List, [], ◌++◌, Option, Some, None, Result, Ok, Err, refl, ◌∙◌, ap, sym, subst, append_assoc}
-use Rattle.std.specs.Prelude.{IsErr, IsErrAnd}
-use Rattle.std.proofs.lemmas.Bool.{false≢true}
-use Rattle.std.proofs.lemmas.List.{append-nil}
-use Rattle.byte_streams.specs.Streams.{Adds, one_more}
-use Rattle.suite_script.specs.Gathering.{BrokeOff, Plays, Prints, Wrote, WroteSoFar}
-use Rattle.suite_script.specs.Outputs.{Output, Done, Faulty, IsBegun, StopsWith, is_done, text_of}
-use Rattle.suite_script.specs.Readings.{play_error_of}
-use Rattle.suite_script.specs.declared.fault.ScriptError.{ScriptError}
+use Rattle.suite_script.proofs.Vocabulary.{◌≡◌, ℕ, true, List, [], ◌++◌, Option, Some, None, Result, Ok, Err, refl, ◌∙◌, ap, sym, subst, append_assoc, IsErr}
+use Rattle.suite_script.proofs.Vocabulary.{IsErrAnd, false≢true, append-nil, Adds, one_more, BrokeOff, Plays, Prints, Wrote, WroteSoFar, Output, Done, Faulty}
+use Rattle.suite_script.proofs.Vocabulary.{IsBegun, StopsWith, is_done, text_of, play_error_of, ScriptError, PlayError}
 use Rattle.suite_script.specs.declared.fault.ScriptError.TheVariants as script
-use Rattle.suite_script.specs.declared.play_error.PlayError.{PlayError}
 use Rattle.suite_script.specs.declared.play_error.PlayError.TheVariants as play
 
 -- ---- what a `?` hands on

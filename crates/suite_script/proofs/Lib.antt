@@ -1,3 +1,4 @@
+mod Vocabulary
 pub mod Steps
 pub mod Fields
 pub mod Gathering

@@ -1,7 +1,5 @@
 -- No more lines say something than there are.
-use Rattle.std.proofs.Common.{ℕ, ◌+◌, ◌≤◌, List, [], ◌∷◌, length, inl, inr, arith}
-use Rattle.std.proofs.lemmas.Bool.{cases_Bool}
-use Rattle.suite_script.specs.Scripts.{is_skipped, lines_from}
+use Rattle.suite_script.proofs.Vocabulary.{ℕ, ◌+◌, ◌≤◌, List, [], ◌∷◌, length, inl, inr, arith, cases_Bool, is_skipped, lines_from}
 
 pub length-lines_from : (number : ℕ) (lines : List (List ℕ)) → length (lines_from number lines) ≤ length lines
 length-lines_from number [] = omega arith

@@ -1,19 +1,11 @@
 -- A script that is played line by line: nothing is written until it is known to have no fault, and then in pieces.
-use Rattle.std.proofs.Common.{◌≡◌, ◌+◌, ℕ, Bool, true, false, List, [], ◌++◌, Option, Result, Ok, Err, refl, ◌∙◌, ap, sym, subst}
-use Rattle.std.proofs.lemmas.Bool.{false≢true}
-use Rattle.byte_streams.specs.Streams.{Adds}
+use Rattle.suite_script.proofs.Vocabulary.{◌≡◌, ◌+◌, ℕ, Bool, true, false, List, [], ◌++◌, Option, Result, Ok, Err, refl, ◌∙◌, ap, sym, subst, false≢true}
+use Rattle.suite_script.proofs.Vocabulary.{Adds, Plays, Prints, Wrote, WroteSoFar, comes_to, Output, Done, StopsWith, is_done, script_output, text_of}
+use Rattle.suite_script.proofs.Vocabulary.{prints_from, Checks, Heads, fault_of, play_error_of, Headed, Language, Pending, Script, script_of, with_own}
+use Rattle.suite_script.proofs.Vocabulary.{ScriptError, ScriptFault, PlayError}
 use Rattle.suite_script.proofs.Gathering.{broke_off, prints_on, stops, wrote_all, wrote_nothing}
 use Rattle.suite_script.proofs.Playing.{ends, found_left, goes_on, headless, left_lines, moved_on, still_done}
-use Rattle.suite_script.specs.Gathering.{Plays, Prints, Wrote, WroteSoFar, comes_to}
-use Rattle.suite_script.specs.Outputs.{Output, Done, StopsWith, is_done, script_output, text_of}
-use Rattle.suite_script.specs.Playing.{prints_from}
-use Rattle.suite_script.specs.Progress.{Checks, Heads, fault_of}
-use Rattle.suite_script.specs.Readings.{play_error_of}
-use Rattle.suite_script.specs.Scripts.{Headed, Language, Pending, Script, script_of, with_own}
-use Rattle.suite_script.specs.declared.fault.ScriptError.{ScriptError}
 use Rattle.suite_script.specs.declared.fault.ScriptError.TheVariants as script
-use Rattle.suite_script.specs.declared.fault.ScriptFault.{ScriptFault}
-use Rattle.suite_script.specs.declared.play_error.PlayError.{PlayError}
 
 -- An output of which this is left, with what is gathered: nothing is written; or it is known to tell no fault.
 abbrev pub PlayedTo : Bool → Output → Output → Option (List ℕ) → Option (List ℕ) → Type 0

@@ -1,15 +1,9 @@
 -- Playing a script line by line.
-use Rattle.std.proofs.Common.{◌≡◌, ℕ, true, List, [], ◌∷◌, ◌++◌, Option, Result, Ok, Err, refl, ◌∙◌, ap, sym, append_assoc}
-use Rattle.std.proofs.lemmas.Bool.{false≢true}
-use Rattle.std.proofs.lemmas.List.{append-nil}
-use Rattle.suite_script.specs.declared.fault.ScriptError.{ScriptError}
+use Rattle.suite_script.proofs.Vocabulary.{◌≡◌, ℕ, true, List, [], ◌∷◌, ◌++◌, Option, Result, Ok, Err, refl, ◌∙◌, ap, sym, append_assoc, false≢true}
+use Rattle.suite_script.proofs.Vocabulary.{append-nil, ScriptError, ScriptFault, WroteSoFar, comes_to, Done, Finds, StopsWith, is_done, script_output, text_of}
+use Rattle.suite_script.proofs.Vocabulary.{Checks, GivesOwn, Heads, fault_of, Headed, Language, Pending, Script, owns, script_of, scripted, with_own}
 use Rattle.suite_script.specs.declared.fault.ScriptError.TheVariants as script
-use Rattle.suite_script.specs.declared.fault.ScriptFault.{ScriptFault}
 use Rattle.suite_script.proofs.Gathering.{wrote_moved}
-use Rattle.suite_script.specs.Gathering.{WroteSoFar, comes_to}
-use Rattle.suite_script.specs.Outputs.{Done, Finds, StopsWith, is_done, script_output, text_of}
-use Rattle.suite_script.specs.Progress.{Checks, GivesOwn, Heads, fault_of}
-use Rattle.suite_script.specs.Scripts.{Headed, Language, Pending, Script, owns, script_of, scripted, with_own}
 
 -- what the lines that are left print, where they have no fault
 abbrev pub left_lines : {A : Type 0} → (List A → List ℕ) → Result (List A) ScriptFault → List ℕ

@@ -1,16 +1,7 @@
 -- A language whose lines say what those of another say, seen through a function.
-use Rattle.std.proofs.Common.{◌≡◌, ℕ, Bool, true, List, [], ◌∷◌, map, Result, Ok, Err, refl, ◌∙◌, ap, inl, inr}
-use Rattle.std.specs.Prelude.{IfOk}
-use Rattle.std.specs.List.{AllByRecursion}
-use Rattle.std.proofs.lemmas.Bool.{cases_Bool}
-use Rattle.acl_text.specs.Tables.{Tables}
-use Rattle.file_ops.specs.Steps.{ok_map}
-use Rattle.suite_script.specs.Outputs.{Done, script_output}
-use Rattle.suite_script.specs.Scripts.{Headed, Language, Said, Named, Own, Script, followed, language_of, later_line, name_line, named_line, own_line, owns, owns_in, script_of, scripted, with_own}
-use Rattle.suite_script.specs.Words.{Word}
-use Rattle.suite_script.specs.declared.fault.LineFault.{LineFault}
-use Rattle.suite_script.specs.declared.fault.ScriptFault.{ScriptFault}
-use Rattle.suite_script.specs.declared.line.Line.{Line}
+use Rattle.suite_script.proofs.Vocabulary.{◌≡◌, ℕ, Bool, true, List, [], ◌∷◌, map, Result, Ok, Err, refl, ◌∙◌, ap, inl, inr, IfOk, AllByRecursion, cases_Bool}
+use Rattle.suite_script.proofs.Vocabulary.{Tables, ok_map, Done, script_output, Headed, Language, Said, Named, Own, Script, followed, language_of, later_line}
+use Rattle.suite_script.proofs.Vocabulary.{name_line, named_line, own_line, owns, owns_in, script_of, scripted, with_own, Word, LineFault, ScriptFault, Line}
 
 abbrev pub seen : {A B : Type 0} → (A → B) → Language A → Language B
 seen see language = language_of language.is_known language.begins (λ names first words. ok_map see (language.own names first words))

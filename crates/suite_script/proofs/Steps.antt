@@ -1,19 +1,8 @@
 -- Readings step by step.
-use Rattle.std.proofs.Common.{◌≡◌, ℕ, zero, suc, ◌+◌, ◌<◌, ◌≤◌, nat_le, true, List, [], ◌∷◌, ◌++◌, length, take, Result, Ok, Err, refl, ◌∙◌, ap, sym, inl, inr, append_assoc, arith}
-use Rattle.std.proofs.lemmas.Bool.{cases_Bool}
-use Rattle.std.proofs.lemmas.Bool.Decides.{nat_tests}
-use Rattle.std.proofs.lemmas.List.{length-take-le, take-append-le, take_all}
-use Rattle.acl_core.specs.Identity.{Identity}
-use Rattle.file_ops.specs.Rows.{Rows}
-use Rattle.file_ops.specs.Transactions.{is_miscounted, max_operations, transaction}
-use Rattle.file_ops.specs.declared.service.Service.{Service}
-use Rattle.file_ops.specs.declared.refusal.Why.TheVariants.{OpCount}
-use Rattle.acl_text.specs.Tables.{Tables}
-use Rattle.file_ops.specs.Steps.{◌>>=◌, ok_map}
-use Rattle.file_ops.specs.declared.operation.Op.{Op}
-use Rattle.suite_script.specs.Operations.{FirstAreEnough, operation, operations_in}
-use Rattle.suite_script.specs.code.Kept.{kept}
-use Rattle.suite_script.specs.declared.fault.LineFault.{LineFault}
+use Rattle.suite_script.proofs.Vocabulary.{◌≡◌, ℕ, zero, suc, ◌+◌, ◌<◌, ◌≤◌, nat_le, true, List, [], ◌∷◌, ◌++◌, length, take, Result, Ok, Err, refl, ◌∙◌, ap}
+use Rattle.suite_script.proofs.Vocabulary.{sym, inl, inr, append_assoc, arith, cases_Bool, nat_tests, length-take-le, take-append-le, take_all, Identity, Rows}
+use Rattle.suite_script.proofs.Vocabulary.{is_miscounted, max_operations, transaction, Service, OpCount, Tables, ◌>>=◌, ok_map, Op, FirstAreEnough, operation}
+use Rattle.suite_script.proofs.Vocabulary.{operations_in, kept, LineFault}
 
 -- operations, where some were read already
 abbrev pub ops_after : List Op → Result (List Op) LineFault → Result (List Op) LineFault

@@ -1,24 +1,9 @@
 -- The votes of operations that are read are valid.
-use Rattle.std.proofs.Common.{List, [], ◌∷◌, Result, Ok, Err}
-use Rattle.std.specs.Prelude.{IfOk, IfSome}
-use Rattle.std.specs.List.{AllByRecursion}
-use Rattle.acl_text.specs.Tables.{Tables}
-use Rattle.file_ops.specs.Steps.{◌>>=◌, ◌>>◌, found_or}
-use Rattle.file_ops.specs.declared.operation.Action.{Action}
+use Rattle.suite_script.proofs.Vocabulary.{List, [], ◌∷◌, Result, Ok, Err, IfOk, IfSome, AllByRecursion, Tables, ◌>>=◌, ◌>>◌, found_or, Action, Op, Kind, File}
+use Rattle.suite_script.proofs.Vocabulary.{Folder, IsValid, MAX_SERVERS, acl, init, act, bytes, make, operation, operations_in, verb_in, votes, votes_or_none}
+use Rattle.suite_script.proofs.Vocabulary.{votes_in, Taken, Word, at_end, word, LineFault, Form, Verb}
 use Rattle.file_ops.specs.declared.operation.Action.TheVariants as action
-use Rattle.file_ops.specs.declared.operation.Op.{Op}
-use Rattle.suite_content.specs.declared.content.Kind.{Kind}
-use Rattle.suite_content.specs.declared.content.Kind.TheVariants.{File, Folder}
-use Rattle.vote_core.specs.Validity.{IsValid}
-use Rattle.vote_core.specs.declared.TheConstants.{MAX_SERVERS}
 use Rattle.suite_script.proofs.ValidVotes.{valid_votes}
-use Rattle.suite_script.specs.Lists.{acl, init}
-use Rattle.suite_script.specs.Operations.{act, bytes, make, operation, operations_in, verb_in, votes, votes_or_none}
-use Rattle.suite_script.specs.Votes.{votes_in}
-use Rattle.suite_script.specs.Words.{Taken, Word, at_end, word}
-use Rattle.suite_script.specs.declared.fault.LineFault.{LineFault}
-use Rattle.suite_script.specs.declared.fault.LineFault.TheVariants.{Form}
-use Rattle.suite_script.specs.declared.verb.Verb.{Verb}
 use Rattle.suite_script.specs.declared.verb.Verb.TheVariants as verb
 
 -- ---- one reading after another

@@ -1,22 +1,9 @@
 -- Votes that are read are valid.
-use Rattle.std.proofs.Common.{◌≡◌, ℕ, ◌+◌, ◌<◌, ◌≤◌, nat_le, nat_lt, nat_eq, ◌&&◌, List, [], ◌∷◌, All, codes, Option, Some, None, refl, inl, inr, arith}
-use Rattle.std.specs.Prelude.{IfOk, IfSome}
-use Rattle.std.specs.List.{slice_split}
-use Rattle.std.specs.Str.{bytes_eq}
-use Rattle.std.specs.Str.Parse.{digits_value}
-use Rattle.std.proofs.lemmas.Bool.{and_parts, cases_Bool}
-use Rattle.std.proofs.lemmas.Bool.Decides.{nat_tests}
-use Rattle.std.proofs.lemmas.List.Elements.{All-cons, All-nil}
-use Rattle.file_ops.specs.Steps.{◌>>=◌, found_or}
-use Rattle.script_text.specs.Numbers.{is_number, number_up_to}
-use Rattle.vote_core.specs.Quorums.{Configuration, Representative}
-use Rattle.vote_core.specs.Validity.{IsValid, first_fault}
-use Rattle.vote_core.specs.declared.TheConstants.{MAX_SERVERS}
-use Rattle.vote_core.specs.declared.fault.VotesFault.{VotesFault}
-use Rattle.vote_core.proofs.Faults.{accepted_without_fault}
-use Rattle.suite_script.specs.Votes.{collected, configuration_in, configuration_of, judged, max_collected, max_votes, reps_from, votes_in, with_field, with_votes}
-use Rattle.suite_script.specs.Words.{Word}
-use Rattle.suite_script.specs.declared.fault.LineFault.TheVariants.{Form}
+use Rattle.suite_script.proofs.Vocabulary.{◌≡◌, ℕ, ◌+◌, ◌<◌, ◌≤◌, nat_le, nat_lt, nat_eq, ◌&&◌, List, [], ◌∷◌, All, codes, Option, Some, None, refl, inl, inr}
+use Rattle.suite_script.proofs.Vocabulary.{arith, IfOk, IfSome, slice_split, bytes_eq, digits_value, and_parts, cases_Bool, nat_tests, All-cons, All-nil}
+use Rattle.suite_script.proofs.Vocabulary.{◌>>=◌, found_or, is_number, number_up_to, Configuration, Representative, IsValid, first_fault, MAX_SERVERS}
+use Rattle.suite_script.proofs.Vocabulary.{VotesFault, accepted_without_fault, collected, configuration_in, configuration_of, judged, max_collected, max_votes}
+use Rattle.suite_script.proofs.Vocabulary.{reps_from, votes_in, with_field, with_votes, Word, Form}
 
 -- no server has more votes than it may have
 abbrev AreFew : List Representative → Type 0

@@ -12,8 +12,8 @@ use Rattle.suite_script.specs.declared.fault.LineFault.{LineFault}
 use Rattle.suite_script.specs.declared.fault.LineFault.TheVariants.{Form, Settings}
 use Rattle.suite_script.specs.declared.fault.LineError.{LineError}
 use Rattle.suite_script.specs.declared.fault.LineError.TheVariants.{Faulty, Memory}
-use Rattle.suite_script.specs.declared.form.Ending.{Ending}
-use Rattle.suite_script.specs.declared.form.Ending.TheVariants.{Whole, Perhaps}
+use Rattle.suite_script.specs.declared.form.FormEnding.{FormEnding}
+use Rattle.suite_script.specs.declared.form.FormEnding.TheVariants.{Whole, Perhaps}
 use Rattle.suite_script.specs.declared.form.Place.{Place}
 use Rattle.suite_script.specs.declared.form.Place.TheVariants as place
 use Rattle.suite_script.specs.declared.scope.Scope.{Scope}
@@ -40,7 +40,7 @@ places_of verb.SetAcl = place.Path ∷ place.Lists ∷ []
 places_of verb.GetVotes = place.Path ∷ []
 places_of verb.SetVotes = place.Path ∷ place.Votes ∷ []
 
-abbrev pub ending_of : Verb → Ending
+abbrev pub ending_of : Verb → FormEnding
 ending_of verb.File = Perhaps place.Votes
 ending_of verb.Folder = Perhaps place.Votes
 ending_of _ = Whole

@@ -4,8 +4,8 @@ use Rattle.std.specs.List.{slice_split}
 use Rattle.script_text.specs.Phrases.{is_semicolon}
 use Rattle.suite_script.specs.declared.fault.LineFault.{LineFault}
 use Rattle.suite_script.specs.declared.fault.LineFault.TheVariants as line
-use Rattle.suite_script.specs.declared.form.Ending.{Ending}
-use Rattle.suite_script.specs.declared.form.Ending.TheVariants.{Whole, Perhaps, Operations}
+use Rattle.suite_script.specs.declared.form.FormEnding.{FormEnding}
+use Rattle.suite_script.specs.declared.form.FormEnding.TheVariants.{Whole, Perhaps, Operations}
 use Rattle.suite_script.specs.declared.form.Place.{Place}
 use Rattle.suite_script.specs.declared.misfit.Expected.{Expected}
 use Rattle.suite_script.specs.declared.misfit.Expected.TheVariants as expected
@@ -50,14 +50,14 @@ ended number [] = Left number []
 ended number (word ∷ words) = Wrong (misfit_at number expected.End line.Form)
 
 -- words after all places of a form; operations are left
-abbrev pub closed : Scope → Ending → ℕ → List Word → Judged
+abbrev pub closed : Scope → FormEnding → ℕ → List Word → Judged
 closed scope Whole number words = ended number words
 closed scope (Perhaps place) number [] = Left number []
 closed scope (Perhaps place) number (word ∷ words) = judged_word number place (place_fault scope place word) (ended (after number) words)
 closed scope Operations number words = Left number words
 
 -- words after the first of a form
-abbrev pub shaped : Scope → List Place → Ending → ℕ → List Word → Judged
+abbrev pub shaped : Scope → List Place → FormEnding → ℕ → List Word → Judged
 shaped scope places ending number words = if_fits (judge scope number places words) (closed scope ending)
 
 abbrev pub shaped_by : Scope → Option Verb → ℕ → List Word → Judged
@@ -85,20 +85,20 @@ phrases_ended number [] = None
 phrases_ended number (phrase ∷ phrases) = Some (misfit_at number expected.End line.Form)
 
 -- what is left of a line after the places of its form
-abbrev pub rest_misfit : Scope → Ending → ℕ → List Word → List (List Word) → Option Misfit
+abbrev pub rest_misfit : Scope → FormEnding → ℕ → List Word → List (List Word) → Option Misfit
 rest_misfit scope Operations number words phrases = operations_misfit scope number (words ∷ phrases)
 rest_misfit scope _ number words phrases = phrases_ended number phrases
 
-abbrev pub judged_rest : Scope → Ending → List (List Word) → Judged → Option Misfit
+abbrev pub judged_rest : Scope → FormEnding → List (List Word) → Judged → Option Misfit
 judged_rest scope ending phrases (Wrong misfit) = Some misfit
 judged_rest scope ending phrases (Left number words) = rest_misfit scope ending number words phrases
 
-abbrev pub phrases_misfit : Scope → List Place → Ending → List (List Word) → Option Misfit
+abbrev pub phrases_misfit : Scope → List Place → FormEnding → List (List Word) → Option Misfit
 phrases_misfit scope places ending [] = None
 phrases_misfit scope places ending (phrase ∷ phrases) = judged_rest scope ending phrases (shaped scope places ending 2 phrase)
 
 -- the first word of a line that its form does not allow; these are the words after its first
-abbrev pub line_misfit : Scope → List Place → Ending → List Word → Option Misfit
+abbrev pub line_misfit : Scope → List Place → FormEnding → List Word → Option Misfit
 line_misfit scope places ending words = phrases_misfit scope places ending (slice_split is_semicolon words)
 
 -- what the program has found, and what is then left
@@ -107,7 +107,7 @@ found (Some misfit) number words = Wrong misfit
 found None number words = Left number words
 
 -- nothing is left, unless operations are
-abbrev pub IsClosed : Ending → List Word → Type 0
+abbrev pub IsClosed : FormEnding → List Word → Type 0
 IsClosed Operations words = Unit {0}
 IsClosed _ words = words ≡ []
 

@@ -28,7 +28,7 @@ pub enum Place {
 
 /// What comes after the places of a form.
 #[derive(Clone, Copy, PartialEq, Eq, Debug)]
-pub enum Ending {
+pub enum FormEnding {
     /// Nothing.
     Whole,
     /// One word more, in its place, or nothing.
@@ -39,10 +39,10 @@ pub enum Ending {
 
 /// The form of a line or an operation: the word with which it begins, the places after that word, and what it does.
 #[derive(Clone, Copy)]
-pub struct Form {
+pub struct LineForm {
     pub word: &'static [u8],
     pub places: &'static [Place],
-    pub ending: Ending,
+    pub ending: FormEnding,
     pub does: &'static [u8],
 }
 
@@ -50,11 +50,11 @@ pub struct Form {
 #[derive(Clone, Copy)]
 pub struct Forms {
     /// The lines of the header: each has to be there.
-    pub header: &'static [Form],
+    pub header: &'static [LineForm],
     /// A line at the header's end that may be missing.
-    pub optional: &'static [Form],
+    pub optional: &'static [LineForm],
     /// The lines that name users and groups.
-    pub names: &'static [Form],
+    pub names: &'static [LineForm],
     /// The lines of the command's own.
-    pub own: &'static [Form],
+    pub own: &'static [LineForm],
 }

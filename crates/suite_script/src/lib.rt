@@ -7,7 +7,7 @@
 //!
 //! **Promises.** `ScriptReader` gives the lines one by one, each with the names that are known there, or the first
 //! fault (`specs/Scripts.antt`). `play_lines` plays them as they are read, on what the command plays them on
-//! (`Stage`), and looks through those that are left for a fault before it writes. Words say what the definitions
+//! (`LineStage`), and looks through those that are left for a fault before it writes. Words say what the definitions
 //! say (`read_operations`, `read_votes`, `read_caller`), and outcomes and faults print as these say
 //! (`push_answered`, `push_refused`, `push_votes`, `fault_text`). Text is gathered and written in pieces
 //! (`write_if_full`).
@@ -58,7 +58,7 @@ mod word;
 
 pub use code::{fault_text, push_line_code};
 pub use fault::{LineError, LineFault, ScriptError, ScriptFault};
-pub use form::{Ending, Form, Forms, Place};
+pub use form::{FormEnding, Forms, LineForm, Place};
 pub use gathered::{write_gathered, write_if_full};
 pub use header::{read_root, root_of};
 pub use language::Language;
@@ -73,7 +73,7 @@ pub use play_error::PlayError;
 pub use root::Root;
 pub use scope::{LAST_SITE, MAX_STEPS, Scope};
 pub use script::ScriptReader;
-pub use stage::{Stage, play_lines};
+pub use stage::{LineStage, play_lines};
 pub use verb::{VERBS, Verb};
 pub use votes::{push_votes, read_votes};
 pub use word::{at_end, next_word, read_caller, read_id};

@@ -1,60 +1,60 @@
 //! The lines of each command's scripts.
 
-use crate::form::{Ending, Form, Forms, Place};
+use crate::form::{FormEnding, Forms, LineForm, Place};
 
-const SERVERS: Form = Form {
+const SERVERS: LineForm = LineForm {
     word: b"servers",
     places: &[Place::Servers],
-    ending: Ending::Whole,
+    ending: FormEnding::Whole,
     does: b"1 to 32 servers, numbered from 0",
 };
 
-const AGENTS: Form = Form {
+const AGENTS: LineForm = LineForm {
     word: b"agents",
     places: &[Place::Agents],
-    ending: Ending::Whole,
+    ending: FormEnding::Whole,
     does: b"1 to 64 agents, numbered from 0",
 };
 
-const VOTES: Form = Form {
+const VOTES: LineForm = LineForm {
     word: b"votes",
     places: &[Place::OpeningVotes],
-    ending: Ending::Whole,
+    ending: FormEnding::Whole,
     does: b"the votes at first",
 };
 
-const ROOT: Form = Form {
+const ROOT: LineForm = LineForm {
     word: b"root",
     places: &[Place::Uid, Place::Gid, Place::Init],
-    ending: Ending::Whole,
+    ending: FormEnding::Whole,
     does: b"the root folder's owner, group and list",
 };
 
-const CACHE: Form = Form {
+const CACHE: LineForm = LineForm {
     word: b"cache",
     places: &[Place::Budget, Place::Quota, Place::Slots],
-    ending: Ending::Whole,
+    ending: FormEnding::Whole,
     does: b"the most bytes of an agent's cache, of a site's part of it, and the most entries",
 };
 
-const OLD: Form = Form {
+const OLD: LineForm = LineForm {
     word: b"old",
     places: &[Place::Old],
-    ending: Ending::Whole,
+    ending: FormEnding::Whole,
     does: b"servers whose root is first written in form 1",
 };
 
-const USER: Form = Form {
+const USER: LineForm = LineForm {
     word: b"user",
     places: &[Place::UserName, Place::Uid],
-    ending: Ending::Whole,
+    ending: FormEnding::Whole,
     does: b"a user's name for the lists of the lines below",
 };
 
-const GROUP: Form = Form {
+const GROUP: LineForm = LineForm {
     word: b"group",
     places: &[Place::GroupName, Place::Gid],
-    ending: Ending::Whole,
+    ending: FormEnding::Whole,
     does: b"a group's name for the lists of the lines below",
 };
 
@@ -66,59 +66,59 @@ pub const PLAY_LINES: Forms = Forms {
     own: &[BEGIN, SWEEP, STEP, RUN, CRASH, RETURN, FORGET, AUDIT],
 };
 
-const BEGIN: Form = Form {
+const BEGIN: LineForm = LineForm {
     word: b"begin",
     places: &[Place::Agent, Place::Uid, Place::Gids, Place::Site],
-    ending: Ending::Operations,
+    ending: FormEnding::Operations,
     does: b"agent A begins a transaction of a user, at one of its sites 0 to 15",
 };
 
-const SWEEP: Form = Form {
+const SWEEP: LineForm = LineForm {
     word: b"sweep",
     places: &[Place::Agent, Place::Server],
-    ending: Ending::Whole,
+    ending: FormEnding::Whole,
     does: b"agent A begins to end what others have left at server S",
 };
 
-const STEP: Form = Form {
+const STEP: LineForm = LineForm {
     word: b"step",
     places: &[Place::Agent],
-    ending: Ending::Perhaps(Place::Steps),
+    ending: FormEnding::Perhaps(Place::Steps),
     does: b"one step of agent A, or N",
 };
 
-const RUN: Form = Form {
+const RUN: LineForm = LineForm {
     word: b"run",
     places: &[Place::Agent],
-    ending: Ending::Whole,
+    ending: FormEnding::Whole,
     does: b"steps of agent A until it has no job",
 };
 
-const CRASH: Form = Form {
+const CRASH: LineForm = LineForm {
     word: b"crash",
     places: &[Place::Server],
-    ending: Ending::Whole,
+    ending: FormEnding::Whole,
     does: b"server S crashes",
 };
 
-const RETURN: Form = Form {
+const RETURN: LineForm = LineForm {
     word: b"return",
     places: &[Place::Server],
-    ending: Ending::Whole,
+    ending: FormEnding::Whole,
     does: b"server S restarts",
 };
 
-const FORGET: Form = Form {
+const FORGET: LineForm = LineForm {
     word: b"forget",
     places: &[Place::Agent, Place::Site],
-    ending: Ending::Whole,
+    ending: FormEnding::Whole,
     does: b"agent A forgets what its cache has for a site",
 };
 
-const AUDIT: Form = Form {
+const AUDIT: LineForm = LineForm {
     word: b"audit",
     places: &[Place::Server],
-    ending: Ending::Whole,
+    ending: FormEnding::Whole,
     does: b"the denials that server S recorded are printed",
 };
 
@@ -130,24 +130,24 @@ pub const SERVE_LINES: Forms = Forms {
     own: &[JOB, SERVER_SWEEP, TOGETHER],
 };
 
-const JOB: Form = Form {
+const JOB: LineForm = LineForm {
     word: b"do",
     places: &[Place::Uid, Place::Gids, Place::Site],
-    ending: Ending::Operations,
+    ending: FormEnding::Operations,
     does: b"a transaction of a user, at one of an agent's sites 0 to 15",
 };
 
-const SERVER_SWEEP: Form = Form {
+const SERVER_SWEEP: LineForm = LineForm {
     word: b"sweep",
     places: &[Place::Server],
-    ending: Ending::Whole,
+    ending: FormEnding::Whole,
     does: b"what others have left at server S is ended",
 };
 
-const TOGETHER: Form = Form {
+const TOGETHER: LineForm = LineForm {
     word: b"together",
     places: &[],
-    ending: Ending::Whole,
+    ending: FormEnding::Whole,
     does: b"once: the jobs above it are done one after the other, by agent 0; those below it by all agents at once, each as one is free",
 };
 
@@ -159,9 +159,9 @@ pub const TABLE_LINES: Forms = Forms {
     own: &[TRANSACTION],
 };
 
-const TRANSACTION: Form = Form {
+const TRANSACTION: LineForm = LineForm {
     word: b"do",
     places: &[Place::Uid, Place::Gids],
-    ending: Ending::Operations,
+    ending: FormEnding::Operations,
     does: b"a transaction of a user who is in these groups",
 };

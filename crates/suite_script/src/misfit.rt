@@ -4,7 +4,7 @@ ghost use Rattle.std.specs.Prelude.{◌≡◌, ◌∷◌, [], None, IfOk};
 ghost use Rattle.suite_script.specs.Misfits.{IsClosed, after, closed, ended, found, judge, line_misfit, misfit_at, operation_judged, operations_misfit, phrases_ended, shaped};
 
 use crate::fault::LineFault;
-use crate::form::{Ending, Form, Place};
+use crate::form::{FormEnding, LineForm, Place};
 use crate::scope::Scope;
 use crate::verb::Verb;
 use script_text::{Phrases, Words};
@@ -80,7 +80,7 @@ impl Scope {
     fn close(
         &self,
         alloc: Global,
-        ending: Ending,
+        ending: FormEnding,
         number: &mut u64,
         phrases: &mut Phrases<'_>,
     ) -> Result<Option<Misfit>, AllocError>
@@ -89,9 +89,9 @@ impl Scope {
         ensures later { phrases.new.later ≡ phrases.old.later }
     {
         match ending {
-            Ending::Whole => Ok(end_misfit(*number, phrases)),
-            Ending::Perhaps(place) => self.judge_last(alloc, place, number, phrases),
-            Ending::Operations => Ok(None),
+            FormEnding::Whole => Ok(end_misfit(*number, phrases)),
+            FormEnding::Perhaps(place) => self.judge_last(alloc, place, number, phrases),
+            FormEnding::Operations => Ok(None),
         }
     }
 
@@ -104,7 +104,7 @@ impl Scope {
         phrases: &mut Phrases<'_>,
     ) -> Result<Option<Misfit>, AllocError>
         ensures judged { IfOk result (λ misfit. found misfit number.new phrases.new.here
-            ≡ closed self.now (Ending.Perhaps place) number.old phrases.old.here) }
+            ≡ closed self.now (FormEnding.Perhaps place) number.old phrases.old.here) }
         ensures whole { IfOk result (λ misfit. misfit ≡ None → phrases.new.here ≡ []) }
         ensures later { phrases.new.later ≡ phrases.old.later }
     {
@@ -126,7 +126,7 @@ impl Scope {
     fn judge_form(
         &self,
         alloc: Global,
-        form: Form,
+        form: LineForm,
         number: &mut u64,
         phrases: &mut Phrases<'_>,
     ) -> Result<Option<Misfit>, AllocError>
@@ -185,7 +185,7 @@ impl Scope {
     pub fn misfit(
         &self,
         alloc: Global,
-        form: Form,
+        form: LineForm,
         words: Words<'_>,
     ) -> Result<Option<Misfit>, AllocError>
         ensures { IfOk result (λ misfit. misfit ≡ line_misfit self.now form.places.now form.ending words.entry) }
@@ -196,8 +196,8 @@ impl Scope {
             return Ok(Some(misfit));
         }
         match form.ending {
-            Ending::Operations => self.operations_misfit(alloc, number, phrases),
-            Ending::Whole | Ending::Perhaps(_) => Ok(later_misfit(number, &mut phrases)),
+            FormEnding::Operations => self.operations_misfit(alloc, number, phrases),
+            FormEnding::Whole | FormEnding::Perhaps(_) => Ok(later_misfit(number, &mut phrases)),
         }
     }
 }

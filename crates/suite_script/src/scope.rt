@@ -16,7 +16,7 @@ use crate::form::Place;
 use crate::votes::read_votes;
 use crate::word::{read_bytes, read_caller, read_init, read_lists};
 use acl_text::{NameError, Names};
-use script_text::{Parts, read_number};
+use script_text::{WordParts, read_number};
 use std::alloc::{AllocError, Global};
 use suite_prefix::{MAX_AGENTS, MAX_CACHE, MAX_SLOTS, SettingsFault};
 use vote_core::MAX_SERVERS;
@@ -73,7 +73,7 @@ fn servers_fault(word: &[u8], last: u8) -> Option<LineFault>
     ensures { result ≡ (if list_all (λ part. is_some (number_up_to last part)) (slice_split (λ byte. byte == 44) word.now)
         then None else Some LineFault.Form) }
 {
-    for part in Parts::new(word, b',') {
+    for part in WordParts::new(word, b',') {
         if read_number(part, u64::from(last)).is_none() {
             return Some(LineFault::Form);
         }

@@ -13,7 +13,7 @@ use byte_streams::ByteOut;
 use std::alloc::{AllocError, Global};
 
 /// What the lines of a language are played on. Each has its number, from 0.
-pub trait Stage<L: Language> {
+pub trait LineStage<L: Language> {
     // What a line prints.
     ghost line: { Self → ℕ → L.Own → List ℕ };
 
@@ -63,7 +63,7 @@ pub trait Stage<L: Language> {
 /// as it is read: so nothing is written until the script is known to have no fault, which is at its end, or, where much is
 /// printed, once the rest was looked through. So what is printed and not written is never more than 4 MiB and what two
 /// lines print, of which a long one is none: it is written in pieces.
-pub fn play_lines<L: Language, S: Stage<L>, O: ByteOut>(
+pub fn play_lines<L: Language, S: LineStage<L>, O: ByteOut>(
     alloc: Global,
     script: &mut ScriptReader<'_>,
     language: &L,

@@ -4,7 +4,7 @@ ghost use Rattle.std.specs.Prelude.{◌≡◌};
 ghost use Rattle.suite_script.specs.Forms.{ending_of, places_of};
 ghost use Rattle.suite_script.specs.Operations.{spelling, verb_in};
 
-use crate::form::{Ending, Form, Place};
+use crate::form::{FormEnding, LineForm, Place};
 
 /// The words that begin an operation.
 #[derive(Clone, Copy, PartialEq, Eq, Debug)]
@@ -75,12 +75,12 @@ impl Verb {
     }
 
     /// What may stand behind that.
-    fn ending(self) -> Ending
+    fn ending(self) -> FormEnding
         ensures { result ≡ ending_of self }
     {
         match self {
-            Verb::File | Verb::Folder => Ending::Perhaps(Place::Votes),
-            _ => Ending::Whole,
+            Verb::File | Verb::Folder => FormEnding::Perhaps(Place::Votes),
+            _ => FormEnding::Whole,
         }
     }
 
@@ -100,12 +100,12 @@ impl Verb {
     }
 
     /// The form of its operation.
-    pub fn form(self) -> Form
+    pub fn form(self) -> LineForm
         ensures word { result.word.now ≡ spelling self }
         ensures places { result.places.now ≡ places_of self }
         ensures ending { result.ending ≡ ending_of self }
     {
-        Form {
+        LineForm {
             word: self.word(),
             places: self.places(),
             ending: self.ending(),

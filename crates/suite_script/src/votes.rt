@@ -5,7 +5,7 @@ ghost use Rattle.std.specs.List.{flat_map, range_with_len, slice_split};
 ghost use Rattle.suite_script.specs.Votes.{configuration_of, field_text, fields_text, judged, last_server, listed_votes, reps_from, votes_in, votes_text};
 
 use crate::fault::LineFault;
-use script_text::{Parts, push_number, read_number};
+use script_text::{WordParts, push_number, read_number};
 use std::alloc::AllocError;
 use std::marker::Model;
 use vote_core::{MAX_SERVERS, Votes};
@@ -61,7 +61,7 @@ fn split_word(word: &[u8]) -> Result<(&[u8], &[u8], &[u8]), LineFault>
         MatchResult result (λ three. parts ≡ three.0.now ∷ three.1.now ∷ three.2.now ∷ [])
         (λ fault. (fault ≡ LineFault.Form) × (configuration_of parts ≡ None)) }
 {
-    let mut parts = Parts::new(word, b'/');
+    let mut parts = WordParts::new(word, b'/');
     let (Some(fields), Some(r), Some(w)) = (parts.next(), parts.next(), parts.next()) else {
         return Err(LineFault::Form);
     };
@@ -78,7 +78,7 @@ fn read_fields(fields: &[u8]) -> Option<Listed>
     let mut reps = [(0, 0); MAX_SERVERS];
     let mut count = 0;
     let mut server = 0;
-    for field in Parts::new(fields, b',') {
+    for field in WordParts::new(fields, b',') {
         if server == MAX_SERVERS {
             return None;
         }

@@ -1,12 +1,6 @@
 -- How many items histories have.
-use Rattle.std.proofs.Common.{arith, ◌*◌, ◌^◌, ◌<◌, ◌≤◌, List, [], ◌∷◌, length}
-use Rattle.std.specs.Prelude.{All}
-use Rattle.std.proofs.lemmas.List.Elements.{All-head, All-tail}
-use Rattle.suite_prefix.specs.SettingsRules.{IsAccepted, Opening}
-use Rattle.server_lock.specs.declared.item.Item.{Item}
-use Rattle.server_lock.specs.Closed.{AreOf}
-use Rattle.server_lock.specs.Histories.{max_items}
-use Rattle.suite_serve.specs.Served.{items_in}
+use Rattle.suite_serve.proofs.Vocabulary.{arith, ◌*◌, ◌^◌, ◌<◌, ◌≤◌, List, [], ◌∷◌, length, All, All-head, All-tail, IsAccepted, Opening, Item, AreOf}
+use Rattle.suite_serve.proofs.Vocabulary.{max_items, items_in}
 
 few_each : (histories : List (List Item)) → All (λ (history : List Item). length history ≤ max_items) histories → items_in histories ≤ length histories * max_items
 few_each [] few = omega arith

@@ -1,20 +1,12 @@
 -- From outcomes to how jobs ended in the agents' transcripts.
-use Rattle.std.proofs.Common.{◌≡◌, ◌∙◌, ap, sym, refl, subst, arith, ℕ, zero, suc, ◌+◌, ◌<◌, List, [], ◌∷◌, ◌++◌, length, map}
-use Rattle.std.proofs.lemmas.List.{length-map}
-use Rattle.std.proofs.lemmas.Option.{none-some, same_Some, slice_get-map}
-use Rattle.std.specs.Prelude.{Contains, slice_get, Option, Some}
-use Rattle.std.specs.Prelude.{option_map}
+use Rattle.suite_serve.proofs.Vocabulary.{◌≡◌, ◌∙◌, ap, sym, refl, subst, arith, ℕ, zero, suc, ◌+◌, ◌<◌, List, [], ◌∷◌, ◌++◌, length, map, length-map}
+use Rattle.suite_serve.proofs.Vocabulary.{none-some, same_Some, slice_get-map, Contains, slice_get, Option, Some, option_map, EndedJob, AgentEntry, Begun}
+use Rattle.suite_serve.proofs.Vocabulary.{Ended, JobOutcome, NamedJob, end_of, Played, number_of, AreBefore, AreFirst, AreJobEnds, EndsIn, IsJobEnd, JobEnd}
+use Rattle.suite_serve.proofs.Vocabulary.{done_as, end_in, end_there, named_end, AreNumbered, AreOfFirst, HasEnded, HaveEnded, StandBefore, named_from}
+use Rattle.suite_serve.proofs.Vocabulary.{transcripts_of}
+use Rattle.suite_serve.specs.Served.{AreApart, AreInOrder}
 use Rattle.txn_core.specs.declared.job.Job.{Job}
-use Rattle.run_core.specs.declared.done.EndedJob.{EndedJob}
-use Rattle.run_certify.specs.declared.entry.Entry.{Entry}
-use Rattle.run_certify.specs.declared.entry.Entry.TheVariants.{Begun, Ended}
-use Rattle.agent_pool.specs.declared.outcome.JobOutcome.{JobOutcome}
-use Rattle.agent_pool.specs.declared.pool_context.NamedJob.{NamedJob}
-use Rattle.agent_pool.specs.Endings.{end_of}
-use Rattle.agent_pool.specs.Transcripts.{Played, number_of}
 use Rattle.agent_pool.specs.Pools.{AreApart as ApartOutcomes, AreInOrder as OutcomesInOrder}
-use Rattle.suite_serve.specs.Served.{AreApart, AreBefore, AreFirst, AreInOrder, AreJobEnds, EndsIn, IsJobEnd, JobEnd, done_as, end_in, end_there, named_end}
-use Rattle.suite_serve.specs.code.Working.{AreNumbered, AreOfFirst, HasEnded, HaveEnded, StandBefore, named_from, transcripts_of}
 use Rattle.suite_serve.proofs.Numbers.{number_at}
 use Rattle.suite_serve.proofs.Places.{contained_get, get_contained, get_front, get_past, mapped_get}
 
@@ -28,7 +20,7 @@ transcript_at players are player has =
     ∙ slice_get-map (λ (p : Played). p.entries) players has.0
     ∙ ap (option_map (λ (p : Played). p.entries)) there
 
-ends_there : (before asked after : List Entry) (begun : Entry) (end : EndedJob) → end_of (slice_get (before ++ begun ∷ (asked ++ Ended end ∷ after)) (length before + (length asked + 1))) ≡ Some end
+ends_there : (before asked after : List AgentEntry) (begun : AgentEntry) (end : EndedJob) → end_of (slice_get (before ++ begun ∷ (asked ++ Ended end ∷ after)) (length before + (length asked + 1))) ≡ Some end
 ends_there before asked after begun end =
     let next : length asked + 1 ≡ suc (length asked + 0) = omega arith in
     ap (λ n. end_of (slice_get (before ++ begun ∷ (asked ++ Ended end ∷ after)) (length before + n))) next
@@ -43,7 +35,7 @@ one_end players are named outcome has =
     let there = transcript_at players are has.player has.there ∙ ap Some told.split in
     let name : named_end (transcripts_of players) outcome ≡ Some end =
     ap (λ n. end_there (slice_get (transcripts_of players) n) outcome.at) (sym has.number)
-    ∙ ap (λ (o : Option (List Entry)). end_there o outcome.at) there
+    ∙ ap (λ (o : Option (List AgentEntry)). end_there o outcome.at) there
     ∙ ap (λ n. end_of (slice_get (told.before ++ Begun named.job ∷ (told.asked ++ Ended end ∷ told.after)) n)) (sym told.at)
     ∙ ends_there told.before told.asked told.after (Begun named.job) end
     in
@@ -115,7 +107,7 @@ order_ends players are jobs outcomes all order i j a b agent first second at_i a
     omega (arith, less, from, to)
 
 -- the first had ended before any other was begun
-pub before_ends : (alone : ℕ) (outcomes : List JobOutcome) (transcripts : List (List Entry)) → AreOfFirst alone outcomes → StandBefore alone outcomes transcripts → AreBefore alone (map (end_in transcripts) outcomes) transcripts
+pub before_ends : (alone : ℕ) (outcomes : List JobOutcome) (transcripts : List (List AgentEntry)) → AreOfFirst alone outcomes → StandBefore alone outcomes transcripts → AreBefore alone (map (end_in transcripts) outcomes) transcripts
 before_ends alone outcomes transcripts are stand = record {
   first = stand.first;
   rest = stand.rest;
@@ -130,7 +122,7 @@ before_ends alone outcomes transcripts are stand = record {
       let told : end.told ≡ Some stands.0 =
       ap (λ (e : JobEnd). e.told) (sym from.1.1)
       ∙ ap (λ n. end_there (slice_get transcripts n) outcome.at) agent
-      ∙ ap (λ (ts : List (List Entry)). end_there (slice_get ts 0) outcome.at) stand.split
+      ∙ ap (λ (ts : List (List AgentEntry)). end_there (slice_get ts 0) outcome.at) stand.split
       ∙ ap end_of (get_front stand.first stand.rest outcome.at (Ended stands.0) stands.1)
       in
       subst (λ (told : Option EndedJob). EndsIn stand.first told) (sym told) (get_contained stand.first (Ended stands.0) outcome.at stands.1);

@@ -1,22 +1,10 @@
 -- Agents that go on after what another did.
-use Rattle.std.proofs.Common.{◌≡◌, ◌≢◌, ◌∙◌, ap, sym, refl, subst, inl, inr, arith, ℕ, zero, suc, ◌+◌, ◌<◌, ◌≤◌, min, List, [], ◌∷◌, ◌++◌, length, slice_index}
-use Rattle.std.specs.Prelude.{All, Contains, slice_get, Some}
-use Rattle.std.specs.List.{AllZip}
-use Rattle.std.proofs.lemmas.List.Elements.{All-cons, All-head, All-nil, All-tail}
-use Rattle.std.proofs.lemmas.Option.{none-some, same_Some}
-use Rattle.suite_prefix.specs.SettingsRules.{Opening}
-use Rattle.server_lock.specs.Passes.{Held}
-use Rattle.txn_core.specs.Agents.{is_idle}
-use Rattle.txn_core.specs.Standing.{Standing}
+use Rattle.suite_serve.proofs.Vocabulary.{◌≡◌, ◌≢◌, ◌∙◌, ap, sym, refl, subst, inl, inr, arith, ℕ, zero, suc, ◌+◌, ◌<◌, ◌≤◌, min, List, [], ◌∷◌, ◌++◌, length}
+use Rattle.suite_serve.proofs.Vocabulary.{slice_index, All, Contains, slice_get, Some, AllZip, All-cons, All-head, All-nil, All-tail, none-some, same_Some}
+use Rattle.suite_serve.proofs.Vocabulary.{Opening, Held, is_idle, Standing, EndedJob, AgentEntry, Begun, Asked, Ended, JobOutcome, begun_by, AreReady, HasPass}
+use Rattle.suite_serve.proofs.Vocabulary.{WentOn, numbers_of, passes_for, IsIdle, IsTold, Played, begins, first_player, known_at, most_numbers, number_of}
+use Rattle.suite_serve.proofs.Vocabulary.{players_from, AreNumbered, FollowsAll, HasEnded, StandBefore, transcripts_of}
 use Rattle.txn_core.specs.declared.job.Job.{Job}
-use Rattle.run_core.specs.declared.done.EndedJob.{EndedJob}
-use Rattle.run_certify.specs.declared.entry.Entry.{Entry}
-use Rattle.run_certify.specs.declared.entry.Entry.TheVariants.{Begun, Asked, Ended}
-use Rattle.agent_pool.specs.declared.outcome.JobOutcome.{JobOutcome}
-use Rattle.agent_pool.specs.Pools.{begun_by}
-use Rattle.agent_pool.specs.Seats.{AreReady, HasPass, WentOn, numbers_of, passes_for}
-use Rattle.agent_pool.specs.Transcripts.{IsIdle, IsTold, Played, begins, first_player, known_at, most_numbers, number_of, players_from}
-use Rattle.suite_serve.specs.code.Working.{AreNumbered, FollowsAll, HasEnded, StandBefore, transcripts_of}
 use Rattle.suite_serve.proofs.Learned.{contains_or, told_known, told_later}
 use Rattle.suite_serve.proofs.Places.{get_past}
 
@@ -90,7 +78,7 @@ begun_both [] ys = omega arith
 begun_both (x ∷ xs) ys = let e = begun_both xs ys in omega arith
 
 later_all : (old new : List Held) (lead : Played) (others later now : List Played) → AllZip (FollowsAll (lead ∷ [])) others later → AllZip (WentOn old new) later now
-    → AreNew others → (entries : List Entry) → Contains (transcripts_of now) entries
+    → AreNew others → (entries : List AgentEntry) → Contains (transcripts_of now) entries
     → (server stamp : ℕ) → server < most_numbers → Contains entries (Asked server stamp) → known_at lead server < stamp
 later_all old new lead [] [] [] follow went fresh entries has server stamp there asked = let low = has.1 in absurd (omega arith)
 later_all old new lead [] [] (n ∷ now) follow went fresh entries has server stamp there asked = absurd went
@@ -112,7 +100,7 @@ later_all old new lead (o ∷ others) (l ∷ later) (n ∷ now) follow went fres
 
 -- ---- how the first jobs ended
 
-ends_at : (before asked after : List Entry) (begun : Entry) (end : EndedJob) → slice_get (before ++ begun ∷ (asked ++ Ended end ∷ after)) (length before + (length asked + 1)) ≡ Some (Ended end)
+ends_at : (before asked after : List AgentEntry) (begun : AgentEntry) (end : EndedJob) → slice_get (before ++ begun ∷ (asked ++ Ended end ∷ after)) (length before + (length asked + 1)) ≡ Some (Ended end)
 ends_at before asked after begun end =
     let next : length asked + 1 ≡ suc (length asked + 0) = omega arith in
     ap (λ n. slice_get (before ++ begun ∷ (asked ++ Ended end ∷ after)) (length before + n)) next

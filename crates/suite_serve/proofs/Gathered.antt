@@ -1,18 +1,11 @@
 -- The jobs of lines, gathered line by line.
-use Rattle.std.proofs.Common.{◌≡◌, ◌∙◌, ap, ap₂, sym, refl, arith, ℕ, ◌+◌, suc, List, [], ◌∷◌, ◌++◌, length, Option, Some, None, Result, Ok, Err}
-use Rattle.std.specs.Prelude.{unwrap_or}
-use Rattle.std.proofs.lemmas.List.{append-nil, append_assoc, length-append}
-use Rattle.file_ops.specs.Steps.{ok_map}
+use Rattle.suite_serve.proofs.Vocabulary.{◌≡◌, ◌∙◌, ap, ap₂, sym, refl, arith, ℕ, ◌+◌, suc, List, [], ◌∷◌, ◌++◌, length, Option, Some, None, Result, Ok, Err}
+use Rattle.suite_serve.proofs.Vocabulary.{unwrap_or, length-append, ok_map, with_own, Checks, fault_of, ScriptError, ScriptFault, above_together, jobs_of}
+use Rattle.suite_serve.proofs.Vocabulary.{GivesJobs, jobs_and_alone, Command, Together}
+use Rattle.std.proofs.lemmas.List.{append-nil, append_assoc}
+use Rattle.suite_serve.specs.declared.command.Command.TheVariants.{Job}
 use Rattle.txn_core.specs.declared.job.Job as jobs
-use Rattle.suite_script.specs.Scripts.{with_own}
-use Rattle.suite_script.specs.Progress.{Checks, fault_of}
-use Rattle.suite_script.specs.declared.fault.ScriptError.{ScriptError}
 use Rattle.suite_script.specs.declared.fault.ScriptError.TheVariants as script
-use Rattle.suite_script.specs.declared.fault.ScriptFault.{ScriptFault}
-use Rattle.suite_serve.specs.Scripts.{above_together, jobs_of}
-use Rattle.suite_serve.specs.code.Reading.{GivesJobs, jobs_and_alone}
-use Rattle.suite_serve.specs.declared.command.Command.{Command}
-use Rattle.suite_serve.specs.declared.command.Command.TheVariants.{Job, Together}
 
 -- the jobs that were gathered, with those of the lines that are left, and how many stand above `together`
 abbrev pub jobs_after : List jobs.Job → Option ℕ → List Command → List jobs.Job × ℕ

@@ -1,10 +1,6 @@
 -- What agents know of servers, and the stamps that they were told.
-use Rattle.std.proofs.Common.{◌≡◌, ◌⊎◌, inl, inr, ap, arith, ℕ, zero, suc, ◌+◌, ◌<◌, ◌≤◌, List, [], ◌∷◌, length, refl, slice_index, slice_set}
-use Rattle.std.specs.Prelude.{Contains}
-use Rattle.std.proofs.Math.ListN.{length-set}
-use Rattle.run_certify.specs.declared.entry.Entry.{Entry}
-use Rattle.run_certify.specs.declared.entry.Entry.TheVariants.{Begun, Asked, Lacked, Forgot, Ended}
-use Rattle.agent_pool.specs.Transcripts.{Learns}
+use Rattle.suite_serve.proofs.Vocabulary.{◌≡◌, ◌⊎◌, inl, inr, ap, arith, ℕ, zero, suc, ◌+◌, ◌<◌, ◌≤◌, List, [], ◌∷◌, length, refl, slice_index, slice_set}
+use Rattle.suite_serve.proofs.Vocabulary.{Contains, length-set, AgentEntry, Begun, Asked, Lacked, Forgot, Ended, Learns}
 
 -- what is in a list is its first, or in the rest
 pub contains_or : {A : Type 0} (x : A) (xs : List A) (y : A) → Contains (x ∷ xs) y → (x ≡ y) ⊎ Contains xs y
@@ -25,7 +21,7 @@ set_rises (x ∷ xs) (suc at) stamp zero less = omega arith
 set_rises (x ∷ xs) (suc at) stamp (suc server) less = set_rises xs at stamp server less
 
 -- what is known of a server never falls
-known_rises : (entries : List Entry) (old new : List ℕ) (server : ℕ) → Learns old entries new → slice_index old server ≤ slice_index new server
+known_rises : (entries : List AgentEntry) (old new : List ℕ) (server : ℕ) → Learns old entries new → slice_index old server ≤ slice_index new server
 known_rises [] old new server learns = let same = ap (λ (known : List ℕ). slice_index known server) learns in omega arith
 known_rises (Begun job ∷ entries) old new server learns = known_rises entries old new server learns
 known_rises (Asked at stamp ∷ entries) old new server learns =
@@ -37,7 +33,7 @@ known_rises (Forgot site ∷ entries) old new server learns = known_rises entrie
 known_rises (Ended outcome ∷ entries) old new server learns = known_rises entries old new server learns
 
 -- no stamp that was told is above what is known then
-pub told_known : (entries : List Entry) (old new : List ℕ) (server stamp : ℕ) → Learns old entries new → Contains entries (Asked server stamp) → stamp ≤ slice_index new server
+pub told_known : (entries : List AgentEntry) (old new : List ℕ) (server stamp : ℕ) → Learns old entries new → Contains entries (Asked server stamp) → stamp ≤ slice_index new server
 told_known [] old new server stamp learns has = let low = has.1 in absurd (omega arith)
 told_known (Begun job ∷ entries) old new server stamp learns has =
     elim (contains_or (Begun job) entries (Asked server stamp) has) [
@@ -77,7 +73,7 @@ pub record IsLater (known : List ℕ) (server stamp : ℕ) : Type 0 where
   pub above : slice_index known server < stamp
 
 -- each stamp that is told is later than what was known before
-pub told_later : (entries : List Entry) (old new : List ℕ) (server stamp : ℕ) → Learns old entries new → Contains entries (Asked server stamp) → IsLater old server stamp
+pub told_later : (entries : List AgentEntry) (old new : List ℕ) (server stamp : ℕ) → Learns old entries new → Contains entries (Asked server stamp) → IsLater old server stamp
 told_later [] old new server stamp learns has = let low = has.1 in absurd (omega arith)
 told_later (Begun job ∷ entries) old new server stamp learns has =
     elim (contains_or (Begun job) entries (Asked server stamp) has) [

@@ -1,3 +1,4 @@
+mod Vocabulary
 mod Gathered
 mod Planned
 mod Places

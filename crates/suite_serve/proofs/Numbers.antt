@@ -1,9 +1,6 @@
 -- Agents and their numbers.
-use Rattle.std.proofs.Common.{◌≡◌, ◌∙◌, ap, sym, arith, ℕ, zero, suc, ◌+◌, List, [], ◌∷◌}
-use Rattle.std.proofs.lemmas.Option.{none-some, same_Some}
-use Rattle.std.specs.Prelude.{slice_get, Some}
-use Rattle.agent_pool.specs.Transcripts.{Played, number_of}
-use Rattle.suite_serve.specs.code.Working.{AreNumbered}
+use Rattle.suite_serve.proofs.Vocabulary.{◌≡◌, ◌∙◌, ap, sym, arith, ℕ, zero, suc, ◌+◌, List, [], ◌∷◌, none-some, same_Some, slice_get, Some, Played, number_of}
+use Rattle.suite_serve.proofs.Vocabulary.{AreNumbered}
 
 -- the agent at a place has its number
 pub number_at : (start : ℕ) (players : List Played) → AreNumbered start players → (player : Played) (place : ℕ) → slice_get players place ≡ Some player → number_of player ≡ start + place

@@ -1,8 +1,6 @@
 -- Places in lists.
-use Rattle.std.proofs.Common.{◌≡◌, ◌∙◌, ◌⊎◌, ap, refl, subst, inl, inr, arith, ℕ, zero, suc, ◌+◌, List, [], ◌∷◌, ◌++◌, length, map}
-use Rattle.std.specs.Prelude.{Contains, slice_get, Some}
-use Rattle.std.specs.List.{AllZip}
-use Rattle.std.proofs.lemmas.Option.{get_or_from_slice_get, none-some, same_Some, slice_get-get_or, slice_get_within}
+use Rattle.suite_serve.proofs.Vocabulary.{◌≡◌, ◌∙◌, ◌⊎◌, ap, refl, subst, inl, inr, arith, ℕ, zero, suc, ◌+◌, List, [], ◌∷◌, ◌++◌, length, map, Contains}
+use Rattle.suite_serve.proofs.Vocabulary.{slice_get, Some, AllZip, get_or_from_slice_get, none-some, same_Some, slice_get-get_or, slice_get_within}
 
 pub contained_get : {A : Type 0} (xs : List A) (x : A) (has : Contains xs x) → slice_get xs has.0 ≡ Some x
 contained_get xs x has = slice_get-get_or xs has.0 x has.1 ∙ ap Some has.2

@@ -1,21 +1,11 @@
 -- From the jobs of a script's lines to what the script asks for.
-use Rattle.std.proofs.Common.{◌≡◌, ◌∙◌, ap, ap₂, sym, refl, ℕ, List, [], ◌∷◌, map, Option, Some, None, Result, Ok, Err, suc, ◌-◌}
-use Rattle.file_ops.specs.Steps.{ok_map}
-use Rattle.suite_play.specs.code.Kept.{kept_job}
-use Rattle.suite_prefix.specs.SettingsRules.{Opening}
+use Rattle.suite_serve.proofs.Vocabulary.{◌≡◌, ◌∙◌, ap, ap₂, sym, refl, ℕ, List, [], ◌∷◌, map, Option, Some, None, Result, Ok, Err, suc, ◌-◌, ok_map, kept_job}
+use Rattle.suite_serve.proofs.Vocabulary.{Opening, owns_seen, Headed, Pending, Script, owns, script_of, scripted, ScriptError, ScriptFault, GivesScript, Plan}
+use Rattle.suite_serve.proofs.Vocabulary.{above_together, at_line, jobs_of, language, plan_of, said_once, commands, kept_command, kept_plan, GivesJobs}
+use Rattle.suite_serve.proofs.Vocabulary.{first_error, jobs_and_alone, Command, Together, JobLines}
+use Rattle.suite_serve.specs.declared.command.Command.TheVariants.{Job}
 use Rattle.txn_core.specs.declared.job.Job as jobs
-use Rattle.suite_script.proofs.Seen.{owns_seen}
-use Rattle.suite_script.specs.Scripts.{Headed, Pending, Script, owns, script_of, scripted}
-use Rattle.suite_script.specs.declared.fault.ScriptError.{ScriptError}
 use Rattle.suite_script.specs.declared.fault.ScriptError.TheVariants as script
-use Rattle.suite_script.specs.declared.fault.ScriptFault.{ScriptFault}
-use Rattle.suite_serve.specs.Readings.{GivesScript}
-use Rattle.suite_serve.specs.Scripts.{Plan, above_together, at_line, jobs_of, language, plan_of, said_once}
-use Rattle.suite_serve.specs.code.Kept.{commands, kept_command, kept_plan}
-use Rattle.suite_serve.specs.code.Reading.{GivesJobs, first_error, jobs_and_alone}
-use Rattle.suite_serve.specs.declared.command.Command.{Command}
-use Rattle.suite_serve.specs.declared.command.Command.TheVariants.{Job, Together}
-use Rattle.suite_serve.specs.declared.language.JobLines.{JobLines}
 
 -- ---- what is kept of lines
 

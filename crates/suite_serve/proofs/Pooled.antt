@@ -1,26 +1,12 @@
 -- From what agent 0 did alone, and what all agents did after it, to what was done with all jobs.
-use Rattle.std.proofs.Common.{◌≡◌, ◌∙◌, ap, sym, refl, subst, inl, inr, arith, ℕ, zero, suc, ◌+◌, ◌-◌, ◌<◌, ◌≤◌, min, List, [], ◌∷◌, ◌++◌, length}
-use Rattle.std.proofs.lemmas.Slice.Zip.{AllZip-long}
-use Rattle.std.proofs.lemmas.List.{length-append}
-use Rattle.std.proofs.lemmas.List.Elements.{Contains-append_left}
-use Rattle.std.proofs.lemmas.Option.{none-some, same_Some, slice_get-get_or, slice_get_within}
-use Rattle.std.specs.Prelude.{Contains, slice_get, slice_index_or, Some}
-use Rattle.std.specs.List.{AllZip}
+use Rattle.suite_serve.proofs.Vocabulary.{◌≡◌, ◌∙◌, ap, sym, refl, subst, inl, inr, arith, ℕ, zero, suc, ◌+◌, ◌-◌, ◌<◌, ◌≤◌, min, List, [], ◌∷◌, ◌++◌, length}
+use Rattle.suite_serve.proofs.Vocabulary.{AllZip-long, length-append, Contains-append_left, none-some, same_Some, slice_get-get_or, slice_get_within, Contains}
+use Rattle.suite_serve.proofs.Vocabulary.{slice_get, slice_index_or, Some, AllZip, Opening, Held, passes_of, AgentEntry, Begun, Asked, Lacked, Forgot, Ended}
+use Rattle.suite_serve.proofs.Vocabulary.{JobOutcome, Pool, NamedJob, IsOutcome, IsPoolOf, begun_by, AreReady, WentOn, IsLonger, IsTold, Played, begins}
+use Rattle.suite_serve.proofs.Vocabulary.{first_player, number_of, players_from, ready_first, told_longer, AreDone, AreNumbered, AreOfFirst, FollowsAll}
+use Rattle.suite_serve.proofs.Vocabulary.{HasEnded, HaveEnded, StandBefore, transcripts_of, Worked}
+use Rattle.agent_pool.specs.Pools.{AreApart, AreInOrder}
 use Rattle.txn_core.specs.declared.job.Job.{Job}
-use Rattle.suite_prefix.specs.SettingsRules.{Opening}
-use Rattle.server_lock.specs.Passes.{Held, passes_of}
-use Rattle.run_certify.specs.declared.entry.Entry.{Entry}
-use Rattle.run_certify.specs.declared.entry.Entry.TheVariants.{Begun, Asked, Lacked, Forgot, Ended}
-use Rattle.agent_pool.specs.declared.outcome.JobOutcome.{JobOutcome}
-use Rattle.agent_pool.specs.declared.pool.Pool.{Pool}
-use Rattle.agent_pool.specs.declared.pool_context.NamedJob.{NamedJob}
-use Rattle.agent_pool.specs.Pools.{AreApart, AreInOrder, IsOutcome, IsPoolOf, begun_by}
-use Rattle.agent_pool.specs.Seats.{AreReady, WentOn}
-use Rattle.agent_pool.specs.Transcripts.{IsLonger, IsTold, Played, begins, first_player, number_of, players_from}
-use Rattle.agent_pool.proofs.Readiness.{ready_first}
-use Rattle.agent_pool.proofs.Works.{told_longer}
-use Rattle.suite_serve.specs.code.Working.{AreDone, AreNumbered, AreOfFirst, FollowsAll, HasEnded, HaveEnded, StandBefore, transcripts_of}
-use Rattle.suite_serve.specs.declared.serving.Worked.{Worked}
 use Rattle.suite_serve.proofs.Followed.{AreNew, begun_both, none_begun, end_stands, new_others, numbered_followers, stand_before}
 use Rattle.suite_serve.proofs.Numbers.{number_at}
 use Rattle.suite_serve.proofs.Places.{contained_get, get_contained, get_either, zip_append, zip_at, zip_map}
@@ -95,7 +81,7 @@ numbered_one old new was (n ∷ m ∷ now) others all is are = absurd all.1
 abbrev AllOfFirst : ℕ → List JobOutcome → Type 0
 AllOfFirst few outcomes = (place : ℕ) (outcome : JobOutcome) → slice_get outcomes place ≡ Some outcome → (outcome.agent ≡ 0) × (outcome.count < few)
 
-begins_more : (before rest : List Entry) (job : Job) → begins before < begins (before ++ Begun job ∷ rest)
+begins_more : (before rest : List AgentEntry) (job : Job) → begins before < begins (before ++ Begun job ∷ rest)
 begins_more [] rest job = omega arith
 begins_more (Begun other ∷ before) rest job = let e = begins_more before rest job in omega arith
 begins_more (Asked server stamp ∷ before) rest job = begins_more before rest job
@@ -106,7 +92,7 @@ begins_more (Ended outcome ∷ before) rest job = begins_more before rest job
 -- an agent began a job that it has told
 began : (player : Played) (job : Job) (number place : ℕ) → IsTold player job number place → number < begins player.entries
 began player job number place told =
-    let end : Entry = Ended (record { agent = number_of player; count = number; steps = length told.asked; ending = told.ending }) in
+    let end : AgentEntry = Ended (record { agent = number_of player; count = number; steps = length told.asked; ending = told.ending }) in
     let more = begins_more told.before (told.asked ++ end ∷ told.after) job in
     let split = ap begins told.split in
     let count = told.count in

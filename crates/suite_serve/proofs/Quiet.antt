@@ -1,13 +1,7 @@
 -- The operator does nothing: its pass comes back as it was.
-use Rattle.std.proofs.Common.{◌≡◌, ◌∙◌, ◌<◌, ap, arith, refl, sym, subst, ℕ, zero, suc, ◌+◌, ◌++◌, ◌==◌, true, List, [], ◌∷◌, Some, None}
-use Rattle.std.proofs.lemmas.Bool.{eqb-true}
-use Rattle.server_lock.specs.declared.item.Item.{Item}
-use Rattle.server_lock.specs.Closed.{askers}
-use Rattle.server_lock.specs.Counts.{is_counted, made_by, passes_by, seat_of}
-use Rattle.server_lock.specs.Passes.{Held, agents_from, new_pass, passes_of}
-use Rattle.agent_pool.specs.Seats.{IsOther}
-use Rattle.agent_pool.specs.Transcripts.{Played, number_of}
-use Rattle.agent_pool.proofs.Seating.{other_cons}
+use Rattle.suite_serve.proofs.Vocabulary.{◌≡◌, ◌∙◌, ◌<◌, ap, arith, refl, sym, subst, ℕ, zero, suc, ◌+◌, ◌++◌, ◌==◌, true, List, [], ◌∷◌, Some, None, eqb-true}
+use Rattle.suite_serve.proofs.Vocabulary.{Item, askers, is_counted, made_by, passes_by, seat_of, Held, agents_from, new_pass, passes_of, IsOther, Played}
+use Rattle.suite_serve.proofs.Vocabulary.{number_of, other_cons}
 
 -- the operator is no agent
 pub no_operator : (players : List Played) → IsOther players None

@@ -1,8 +1,6 @@
 -- Text that was gathered, and is written at last.
-use Rattle.std.proofs.Common.{◌∙◌, ℕ, List, [], ◌++◌, append-nil, Option}
-use Rattle.byte_streams.specs.Streams.{Adds}
-use Rattle.suite_script.proofs.Gathering.{adds_both}
-use Rattle.suite_script.specs.Gathering.{WroteSoFar}
+use Rattle.suite_serve.proofs.Vocabulary.{◌∙◌, ℕ, List, [], ◌++◌, Option, Adds, adds_both, WroteSoFar}
+use Rattle.std.proofs.Common.{append-nil}
 
 pub wrote_then : (told now after : Option (List ℕ)) (whole gathered : List ℕ) → WroteSoFar told whole gathered now → Adds now gathered after → WroteSoFar told whole [] after
 wrote_then told now after whole gathered so added = record {

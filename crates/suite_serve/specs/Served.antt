@@ -6,8 +6,8 @@ use Rattle.txn_core.specs.declared.ending.Ending.{Ending}
 use Rattle.txn_core.specs.declared.job.Job.{Job}
 use Rattle.run_core.specs.declared.done.EndedJob.{EndedJob}
 use Rattle.server_lock.specs.declared.item.Item.{Item}
-use Rattle.run_certify.specs.declared.entry.Entry.{Entry}
-use Rattle.run_certify.specs.declared.entry.Entry.TheVariants.{Begun, Asked, Ended}
+use Rattle.run_certify.specs.declared.entry.AgentEntry.{AgentEntry}
+use Rattle.run_certify.specs.declared.entry.AgentEntry.TheVariants.{Begun, Asked, Ended}
 use Rattle.run_certify.specs.Certified.{IsCertified}
 use Rattle.run_certify.specs.Promised.{CertifiedIsPromised}
 use Rattle.law_certified.specs.Histories.{TellsOfTime}
@@ -55,15 +55,15 @@ endings_of (end ∷ ends) = ending_of end.told ++ endings_of ends
 
 -- ---- ends in transcripts
 
-abbrev pub end_there : Option (List Entry) → ℕ → Option EndedJob
+abbrev pub end_there : Option (List AgentEntry) → ℕ → Option EndedJob
 end_there (Some transcript) at = end_at transcript at
 end_there None at = None
 
 -- the end that a job's outcome names
-abbrev pub named_end : List (List Entry) → JobOutcome → Option EndedJob
+abbrev pub named_end : List (List AgentEntry) → JobOutcome → Option EndedJob
 named_end transcripts outcome = end_there (slice_get transcripts outcome.agent) outcome.at
 
-abbrev pub end_in : List (List Entry) → JobOutcome → JobEnd
+abbrev pub end_in : List (List AgentEntry) → JobOutcome → JobEnd
 end_in transcripts outcome = record { job = outcome.job; told = named_end transcripts outcome }
 
 -- ---- what was certified
@@ -74,23 +74,23 @@ items_in [] = 0
 items_in (history ∷ histories) = length history + items_in histories
 
 -- A job ended so: its agent's transcript has the job as its begin of that count, then as many requests as it took steps, and then this end.
-pub record EndedSo (transcripts : List (List Entry)) (job : Job) (told : EndedJob) : Type 0 where
-  pub before : List Entry
-  pub asked : List Entry
-  pub after : List Entry
+pub record EndedSo (transcripts : List (List AgentEntry)) (job : Job) (told : EndedJob) : Type 0 where
+  pub before : List AgentEntry
+  pub asked : List AgentEntry
+  pub after : List AgentEntry
   pub there : slice_get transcripts told.agent ≡ Some (before ++ Begun job ∷ (asked ++ Ended told ∷ after))
   pub count : begins before ≡ told.count
   pub asks : AreAsks asked
   pub steps : length asked ≡ told.steps
 
 -- how the job of a number ended
-pub record IsJobEnd (transcripts : List (List Entry)) (number : ℕ) (job : Job) (end : JobEnd) : Type 0 where
+pub record IsJobEnd (transcripts : List (List AgentEntry)) (number : ℕ) (job : Job) (end : JobEnd) : Type 0 where
   pub told : EndedJob
   pub is : end ≡ record { job = number; told = Some told }
   pub ended : EndedSo transcripts job told
 
 -- how all jobs ended, which are numbered from a number on
-abbrev pub AreJobEnds : List (List Entry) → ℕ → List Job → List JobEnd → Type 0
+abbrev pub AreJobEnds : List (List AgentEntry) → ℕ → List Job → List JobEnd → Type 0
 AreJobEnds transcripts number [] [] = Unit {0}
 AreJobEnds transcripts number (job ∷ jobs) (end ∷ ends) = IsJobEnd transcripts number job end × AreJobEnds transcripts (number + 1) jobs ends
 AreJobEnds transcripts number _ _ = ⊥
@@ -114,25 +114,25 @@ AreInOrder ends =
     → done_as a ≡ Some (agent, first) → done_as b ≡ Some (agent, second) → first < second
 
 -- its end stands in these entries
-abbrev pub EndsIn : List Entry → Option EndedJob → Type 0
+abbrev pub EndsIn : List AgentEntry → Option EndedJob → Type 0
 EndsIn entries (Some told) = Contains entries (Ended told)
 EndsIn entries None = ⊥
 
 -- So many of the first were served before all others: agent 0 began with a part in which it began just these, and in which each of them ended. What a
 -- server served for that part it served before all that it served for the rest, or for others: its stamps rise, and each stamp that it gave in it is below.
 -- Of a job that asked nothing yet it is not said when it was begun.
-pub record AreBefore (alone : ℕ) (ends : List JobEnd) (transcripts : List (List Entry)) : Type 0 where
-  pub first : List Entry
-  pub rest : List Entry
-  pub others : List (List Entry)
+pub record AreBefore (alone : ℕ) (ends : List JobEnd) (transcripts : List (List AgentEntry)) : Type 0 where
+  pub first : List AgentEntry
+  pub rest : List AgentEntry
+  pub others : List (List AgentEntry)
   pub split : transcripts ≡ (first ++ rest) ∷ others
   pub just : begins first ≡ min alone (length ends)
   pub ended : (place : ℕ) (end : JobEnd) → place < alone → slice_get ends place ≡ Some end → EndsIn first end.told
-  pub before : (server stamp later : ℕ) (entries : List Entry) → Contains first (Asked server stamp) → Contains (rest ∷ others) entries
+  pub before : (server stamp later : ℕ) (entries : List AgentEntry) → Contains first (Asked server stamp) → Contains (rest ∷ others) entries
       → Contains entries (Asked server later) → stamp < later
 
 -- how many jobs were begun, all together
-abbrev pub begun_in : List (List Entry) → ℕ
+abbrev pub begun_in : List (List AgentEntry) → ℕ
 begun_in [] = 0
 begun_in (entries ∷ later) = begins entries + begun_in later
 
@@ -142,7 +142,7 @@ begun_in (entries ∷ later) = begins entries + begun_in later
 -- at each of its moments, and what its histories tell of time.
 pub record IsServed (plan : Plan) (came : Came) : Type 0 where
   pub histories : List (List Item)
-  pub transcripts : List (List Entry)
+  pub transcripts : List (List AgentEntry)
   pub certified : IsCertified plan.settings histories transcripts
   pub promised : CertifiedIsPromised plan.settings histories transcripts
   pub time : TellsOfTime plan.settings histories transcripts

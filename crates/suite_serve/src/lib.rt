@@ -31,5 +31,5 @@ mod serving;
 mod verb;
 
 pub use script::{JobScript, read_script};
-pub use served::Served;
+pub use served::ServedScript;
 pub use serving::{serve, serve_through};

@@ -19,13 +19,13 @@ use txn_core::Ending;
 /// What the jobs of a script came to in a run that was certified: what agents did, where the jobs ended in it, in the order
 /// of their numbers, and how many requests were served.
 #[derive(Drop)]
-pub struct Served {
+pub struct ServedScript {
     transcripts: Transcripts,
     outcomes: Vec<JobOutcome>,
     steps: u64,
 }
 
-impl Model for Served {
+impl Model for ServedScript {
     ghost use Rattle.std.specs.Prelude.{map};
     ghost use Rattle.suite_serve.specs.Served.{Came, end_in};
 
@@ -34,12 +34,16 @@ impl Model for Served {
     ghost view = { λ served. record { ends = map (end_in served.transcripts) served.outcomes.items; steps = served.steps } };
 }
 
-impl Served {
+impl ServedScript {
     /// What jobs came to that ended so in these transcripts, and how many requests were served.
-    pub(crate) fn new(transcripts: Transcripts, outcomes: Vec<JobOutcome>, steps: u64) -> Served
+    pub(crate) fn new(
+        transcripts: Transcripts,
+        outcomes: Vec<JobOutcome>,
+        steps: u64,
+    ) -> ServedScript
         ensures { result ≡ record { ends = map (end_in transcripts) outcomes.items; steps = steps } }
     {
-        Served {
+        ServedScript {
             transcripts,
             outcomes,
             steps,

@@ -12,7 +12,7 @@ ghost use Rattle.std.specs.List.{AllZip};
 ghost use Rattle.suite_serve.specs.code.Working.{AreDone, FollowsAll, named_from, transcripts_of};
 
 use crate::script::JobScript;
-use crate::served::{Served, items_in};
+use crate::served::{ServedScript, items_in};
 use agent_pool::{JobOutcome, NamedJob, Player, Pool, PoolFault, first_players, run_pool};
 use law_certified::promise;
 use run_certify::{CertifyFault, KeptJob, Transcripts, certify};
@@ -28,7 +28,7 @@ pub fn serve<R: Threads + Wait + Sync>(
     rt: &R,
     alloc: Global,
     script: JobScript,
-) -> Result<Served, CertifyFault>
+) -> Result<ServedScript, CertifyFault>
     ensures { IfOk result (λ served. IsServed script served) }
 {
     serve_through(rt, alloc, &OpenGate, script)
@@ -43,7 +43,7 @@ pub fn serve_through<R: Threads + Wait + Sync, G: Gate + Sync>(
     alloc: Global,
     gate: &G,
     script: JobScript,
-) -> Result<Served, CertifyFault>
+) -> Result<ServedScript, CertifyFault>
     ensures { IfOk result (λ served. IsServed script served) }
 {
     let JobScript {
@@ -75,7 +75,7 @@ pub fn serve_through<R: Threads + Wait + Sync, G: Gate + Sync>(
     judge(alloc, &settings, &histories, &transcripts)?;
     let _servers = settings.servers();
     let steps = items_in(&histories);
-    Ok(Served::new(transcripts, outcomes, steps))
+    Ok(ServedScript::new(transcripts, outcomes, steps))
 }
 
 /// Certifies that this is one run. What is promised of it, and what its histories tell of time, comes with that.

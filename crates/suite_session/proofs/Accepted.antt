@@ -1,31 +1,14 @@
 -- The settings of a header that was read have no fault.
-use Rattle.std.proofs.Common.{◌≡◌, ◌∙◌, ℕ, ◌-◌, ◌<◌, ◌≤◌, nat_le, nat_lt, nat_eq, Bool, true, false, ◌&&◌, ◌||◌, not, cond, if◌then◌else◌, List, [], ◌∷◌, Option, Some, None, Ok, Err, refl, inl, inr, arith, sym}
-use Rattle.std.specs.Prelude.{IfOk, IfSome}
-use Rattle.std.specs.FinSet.{FinSet, contains, contains-empty, empty, insert}
-use Rattle.std.specs.List.{list_any, slice_split}
-use Rattle.std.specs.Ordering.{nat_cmp}
-use Rattle.std.specs.Str.Parse.{digits_value}
-use Rattle.std.proofs.lemmas.Bool.{and_parts, cases_Bool, eqb-false, eqb-true, false≢true, or_cases, or_from, or_parts}
-use Rattle.std.proofs.lemmas.Bool.Decides.{nat_tests}
-use Rattle.file_ops.specs.Steps.{◌>>◌, found_or}
-use Rattle.script_text.specs.Numbers.{is_number, number_up_to}
-use Rattle.suite_play.specs.Headers.{among, caches_in, count, count_in, judged, limit, max_number, old_in, opening_votes}
-use Rattle.suite_play.specs.declared.caches.Caches.{Caches}
-use Rattle.suite_prefix.specs.Forms.{fits_one}
-use Rattle.suite_prefix.specs.SettingsRules.{Opening, first_fault, has_fault, max_agents, max_cache, max_slots}
-use Rattle.suite_prefix.specs.declared.settings.SettingsFault.{SettingsFault}
-use Rattle.suite_prefix.specs.declared.settings.SettingsFault.TheVariants.{BadCache, BadCount, OldTooLarge, UnknownServer}
-use Rattle.suite_script.proofs.ValidOperations.{after_any, after_end, then_holds}
+use Rattle.suite_session.proofs.Vocabulary.{◌≡◌, ◌∙◌, ℕ, ◌-◌, ◌<◌, ◌≤◌, nat_le, nat_lt, nat_eq, Bool, true, false, ◌&&◌, ◌||◌, not, cond, if◌then◌else◌, List}
+use Rattle.suite_session.proofs.Vocabulary.{[], ◌∷◌, Option, Some, None, Ok, Err, refl, inl, inr, arith, sym, IfOk, IfSome, FinSet, contains, contains-empty}
+use Rattle.suite_session.proofs.Vocabulary.{empty, insert, list_any, slice_split, nat_cmp, digits_value, and_parts, cases_Bool, eqb-false, eqb-true}
+use Rattle.suite_session.proofs.Vocabulary.{false≢true, or_cases, or_from, or_parts, nat_tests, ◌>>◌, found_or, is_number, number_up_to, among, caches_in}
+use Rattle.suite_session.proofs.Vocabulary.{count, count_in, judged, limit, max_number, old_in, opening_votes, Caches, fits_one, Opening, first_fault}
+use Rattle.suite_session.proofs.Vocabulary.{has_fault, max_agents, max_cache, max_slots, SettingsFault, BadCache, BadCount, OldTooLarge, UnknownServer}
+use Rattle.suite_session.proofs.Vocabulary.{after_any, after_end, then_holds, Word, at_end, word, Form, Settings, Root, contains_inserted, are_below_decides}
+use Rattle.suite_session.proofs.Vocabulary.{Configuration, Representative, are_below, VotesFault}
 use Rattle.suite_script.specs.Votes as votes
-use Rattle.suite_script.specs.Words.{Word, at_end, word}
-use Rattle.suite_script.specs.declared.fault.LineFault.TheVariants.{Form, Settings}
-use Rattle.suite_script.specs.declared.root.Root.{Root}
-use Rattle.vote_core.proofs.ServerSets.{contains_inserted}
-use Rattle.vote_core.proofs.Within.{are_below_decides}
-use Rattle.vote_core.specs.Quorums.{Configuration, Representative}
-use Rattle.vote_core.specs.Servers.{are_below}
 use Rattle.vote_core.specs.Validity as valid
-use Rattle.vote_core.specs.declared.fault.VotesFault.{VotesFault}
 
 -- ---- numbers
 

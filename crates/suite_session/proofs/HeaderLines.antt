@@ -1,20 +1,9 @@
 -- A line of the header, as `play` finds it in a text and as a session comes to it.
-use Rattle.std.proofs.Common.{◌≡◌, ◌∙◌, ℕ, ◌+◌, Bool, true, false, List, [], ◌∷◌, if◌then◌else◌, Result, Ok, Err, refl, sym, ap, subst}
-use Rattle.std.specs.Str.{bytes_eq}
-use Rattle.file_ops.specs.Steps.{◌>>=◌}
-use Rattle.script_desk.specs.Doing.{Keeps, Passes, said}
-use Rattle.script_desk.specs.declared.desk.ScriptDesk.{ScriptDesk}
-use Rattle.script_text.specs.Words.{words}
-use Rattle.suite_play.specs.Headers.{is_known}
-use Rattle.suite_script.specs.Scripts.{Headed, Pending, header_line_in, headed, is_skipped, lines_from, misplaced, no_names, said_at, words_after}
-use Rattle.suite_script.specs.Words.{Word}
-use Rattle.suite_script.specs.declared.fault.LineFault.{LineFault}
-use Rattle.suite_script.specs.declared.fault.ScriptFault.{ScriptFault}
-use Rattle.suite_script.specs.declared.line.Line.{Line}
+use Rattle.suite_session.proofs.Vocabulary.{◌≡◌, ◌∙◌, ℕ, ◌+◌, Bool, true, false, List, [], ◌∷◌, if◌then◌else◌, Result, Ok, Err, refl, sym, ap, subst, bytes_eq}
+use Rattle.suite_session.proofs.Vocabulary.{◌>>=◌, Keeps, Passes, said, ScriptDesk, words, is_known, Headed, Pending, header_line_in, is_skipped, lines_from}
+use Rattle.suite_session.proofs.Vocabulary.{misplaced, no_names, said_at, words_after, Word, LineFault, ScriptFault, Line, ways, head_of, heads, PlayService}
+use Rattle.suite_script.specs.Scripts.{headed}
 use Rattle.suite_session.proofs.Played.{Goes, Prints, goes_quietly, passes_quietly}
-use Rattle.suite_session.specs.Promised.{ways}
-use Rattle.suite_session.specs.Services.{head_of, heads}
-use Rattle.suite_session.specs.declared.play_service.PlayService.{PlayService}
 
 -- ---- one step after another
 

@@ -1,24 +1,14 @@
 -- The header of a text that `play` reads without a fault opens a session as it opens `play`.
-use Rattle.std.proofs.Common.{◌≡◌, ◌∙◌, ℕ, Bool, true, false, List, codes, if◌then◌else◌, Result, Ok, refl, sym, ap, subst}
-use Rattle.std.specs.Prelude.{IfOk}
-use Rattle.std.specs.FinSet.{FinSet, empty}
-use Rattle.std.specs.Ordering.{nat_cmp}
-use Rattle.suite_play.specs.Headers.{caches_in, count_in, header, is_known, old_in, opening_lines, opening_votes}
-use Rattle.suite_play.specs.declared.caches.Caches.{Caches}
-use Rattle.suite_prefix.specs.SettingsRules.{Opening, max_agents}
-use Rattle.suite_script.specs.Scripts.{Headed, Pending, headed, headed_if, next_begins, root_in}
-use Rattle.suite_script.specs.Words.{Word}
-use Rattle.suite_script.specs.declared.fault.LineFault.{LineFault}
-use Rattle.suite_script.specs.declared.root.Root.{Root}
+use Rattle.suite_session.proofs.Vocabulary.{◌≡◌, ◌∙◌, ℕ, Bool, true, false, List, codes, if◌then◌else◌, Result, Ok, refl, sym, ap, subst, IfOk, FinSet, empty}
+use Rattle.suite_session.proofs.Vocabulary.{nat_cmp, caches_in, count_in, header, is_known, old_in, opening_lines, opening_votes, Caches, Opening, max_agents}
+use Rattle.suite_session.proofs.Vocabulary.{Headed, Pending, headed_if, next_begins, root_in, Word, LineFault, Root, at_first, opened_of, PlayService}
+use Rattle.suite_session.proofs.Vocabulary.{Configuration, max_servers}
+use Rattle.suite_script.specs.Scripts.{headed}
 use Rattle.suite_session.proofs.Accepted.{AreOld, AreRight, are_old, is_bad, known_votes, knows_not, no_fault, none_below, none_fit, old_fit, right_caches, right_count, some_servers}
 use Rattle.suite_session.proofs.HeaderLines.{Takes, begins_as, both_steps, header_line, same_headed, script_at}
 use Rattle.suite_session.proofs.Played.{Prints}
-use Rattle.suite_session.specs.Services.{at_first, opened_of}
 use Rattle.suite_session.specs.declared.heading.Heading.TheVariants as so_far
-use Rattle.suite_session.specs.declared.play_service.PlayService.{PlayService}
 use Rattle.suite_session.specs.declared.play_service.PlayService.TheVariants as service
-use Rattle.vote_core.specs.Quorums.{Configuration}
-use Rattle.vote_core.specs.Validity.{max_servers}
 
 -- ---- what each line leaves
 

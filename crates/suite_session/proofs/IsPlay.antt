@@ -1,33 +1,16 @@
 -- A session over a text that `play` reads without a fault is `play`.
-use Rattle.std.proofs.Common.{◌≡◌, ◌∙◌, ℕ, ◌+◌, Bool, true, false, List, [], ◌∷◌, ◌++◌, length, Result, Ok, Err, refl, sym, ap, subst, arith}
-use Rattle.std.specs.List.{list_any}
-use Rattle.std.specs.Str.Lines.{lines}
-use Rattle.std.proofs.lemmas.Bool.{or_parts}
-use Rattle.std.proofs.lemmas.List.{append-nil}
-use Rattle.byte_streams.specs.Endings.{done}
-use Rattle.byte_streams.specs.Streams.{one_more}
-use Rattle.line_session.proofs.Cutting.{lines_are_cut}
-use Rattle.line_session.specs.Answers.{Came, Done, Going, Left, Lost, Unkept, after, answers, first_of, is_long, later_of, line_answer, line_next, line_status, one_line, status_of_kind, worse}
+use Rattle.suite_session.proofs.Vocabulary.{◌≡◌, ◌∙◌, ℕ, ◌+◌, Bool, true, false, List, [], ◌∷◌, ◌++◌, length, Result, Ok, Err, refl, sym, ap, subst, arith}
+use Rattle.suite_session.proofs.Vocabulary.{list_any, lines, or_parts, append-nil, done, one_more, lines_are_cut, Came, Done, Going, Left, Lost, Unkept, after}
+use Rattle.suite_session.proofs.Vocabulary.{answers, first_of, is_long, later_of, line_answer, line_next, line_status, one_line, status_of_kind, worse, Does}
+use Rattle.suite_session.proofs.Vocabulary.{Fails, Keeps, Passes, after_line, does, kind_in, text_in, text_of, ScriptDesk, kept_output, kept_language, header}
+use Rattle.suite_session.proofs.Vocabulary.{lines_of, play_output, Command, Opening, Headed, Pending, owns, no_names, script_of, scripted, whole, ScriptFault}
+use Rattle.suite_session.proofs.Vocabulary.{AreDone, SessionIsPlay, first_state, manner, told_for, ways, opened_of, PlayService}
 use Rattle.line_session.specs.Lines as cutting
 use Rattle.line_session.specs.Turns as turn
-use Rattle.script_desk.specs.Doing.{Does, Fails, Keeps, Passes, after_line, does, kind_in, text_in, text_of}
-use Rattle.script_desk.specs.declared.desk.ScriptDesk.{ScriptDesk}
-use Rattle.suite_play.proofs.KeptLines.{kept_output}
-use Rattle.suite_play.proofs.Lines.{kept_language}
-use Rattle.suite_play.specs.Headers.{header}
-use Rattle.suite_play.specs.Outputs.{lines_of, play_output}
-use Rattle.suite_play.specs.declared.command.Command.{Command}
-use Rattle.suite_prefix.specs.SettingsRules.{Opening}
 use Rattle.suite_script.specs.Outputs as output
-use Rattle.suite_script.specs.Scripts.{Headed, Pending, owns, no_names, script_of, scripted, whole}
-use Rattle.suite_script.specs.declared.fault.ScriptFault.{ScriptFault}
 use Rattle.suite_session.proofs.HeaderLines.{begins_as}
 use Rattle.suite_session.proofs.HeaderText.{header_opens}
 use Rattle.suite_session.proofs.Played.{AreRight, Prints, are_played}
-use Rattle.suite_session.specs.Played.{AreDone, SessionIsPlay, first_state, manner, told_for}
-use Rattle.suite_session.specs.Promised.{ways}
-use Rattle.suite_session.specs.Services.{opened_of}
-use Rattle.suite_session.specs.declared.play_service.PlayService.{PlayService}
 use Rattle.suite_session.specs.declared.play_service.PlayService.TheVariants as service
 
 -- ---- a text that `play` reads

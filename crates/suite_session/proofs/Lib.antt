@@ -1,3 +1,4 @@
+mod Vocabulary
 pub mod Accepted
 pub mod HeaderLines
 pub mod HeaderText

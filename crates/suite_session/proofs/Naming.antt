@@ -1,18 +1,9 @@
 -- Numbers in sets and in lists, and how many are not among them.
-use Rattle.std.proofs.Common.{◌≡◌, ◌∙◌, ℕ, zero, suc, ◌+◌, ◌==◌, Bool, true, false, ◌||◌, not, cond, List, [], ◌∷◌, ◌++◌, Option, Some, None, ap, arith, refl, sym}
-use Rattle.std.proofs.lemmas.Bool.{false≢true}
-use Rattle.std.proofs.lemmas.Bool.Decides.{nat_tests}
-use Rattle.std.proofs.lemmas.List.Folds.{list_any-append}
-use Rattle.std.specs.BTreeMap.{is_at}
-use Rattle.std.specs.List.{fold, list_any}
-use Rattle.std.specs.Ordering.{nat_cmp}
-use Rattle.std.specs.Prelude.{codes, decimal}
-use Rattle.rep_core.specs.State.{State}
-use Rattle.run_core.specs.Worlds.{World, server_at}
-use Rattle.suite_prefix.specs.declared.copies.Replica.{Replica}
-use Rattle.suite_script.specs.Faults.{line_feed}
-use Rattle.suite_session.specs.Places.{has, room_line, room_lines, taken_text, unnamed}
-use Rattle.suite_session.specs.code.Naming.{AreTold, HaveSame}
+use Rattle.suite_session.proofs.Vocabulary.{◌≡◌, ◌∙◌, ℕ, zero, suc, ◌+◌, ◌==◌, Bool, true, false, ◌||◌, not, cond, List, [], ◌∷◌, ◌++◌, Option, Some, None, ap}
+use Rattle.suite_session.proofs.Vocabulary.{arith, refl, sym, false≢true, nat_tests, list_any-append, is_at, fold, list_any, nat_cmp, codes, decimal, State}
+use Rattle.suite_session.proofs.Vocabulary.{server_at, Replica, line_feed, has, room_line, taken_text, unnamed, AreTold, HaveSame}
+use Rattle.run_core.specs.Worlds.{World}
+use Rattle.suite_session.specs.Places.{room_lines}
 
 -- ---- a set has what the list of its keys has
 

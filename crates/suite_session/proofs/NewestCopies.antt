@@ -1,11 +1,7 @@
 -- The newest of copies is one of them, and none is newer.
-use Rattle.std.proofs.Common.{◌≡◌, ◌⊎◌, ℕ, zero, suc, ◌<◌, ◌≤◌, Bool, true, false, if◌then◌else◌, Option, Some, None, inl, inr, refl, sym, ap, subst, ◌∙◌, arith}
-use Rattle.std.proofs.lemmas.Bool.Decides.{nat_tests}
-use Rattle.std.proofs.lemmas.Option.{none-some}
-use Rattle.std.specs.Prelude.{nat_lt}
-use Rattle.suite_prefix.specs.declared.copies.Replica.{Replica}
-use Rattle.suite_session.specs.Rows.{Copies, newer, newest, version_of}
-use Rattle.suite_session.specs.declared.side.Side.{Side}
+use Rattle.suite_session.proofs.Vocabulary.{◌≡◌, ◌⊎◌, ℕ, zero, suc, ◌<◌, ◌≤◌, Bool, true, false, if◌then◌else◌, Option, Some, None, inl, inr, refl, sym, ap}
+use Rattle.suite_session.proofs.Vocabulary.{subst, ◌∙◌, arith, nat_tests, none-some, nat_lt, Replica, Copies, newer, version_of, Side}
+use Rattle.suite_session.specs.Rows.{newest}
 
 -- a copy that is found, at least of this version
 pub record AtLeast (one : Side) (version : ℕ) (found : Option Replica) : Type 0 where

@@ -1,14 +1,11 @@
 -- What is told of servers, one server more.
-use Rattle.std.proofs.Common.{◌≡◌, ℕ, suc, ◌+◌, List, [], ◌∷◌, ◌++◌, None, ap, arith, refl}
-use Rattle.file_ops.specs.Rows.{root}
-use Rattle.run_core.specs.Worlds.{World, server_at}
-use Rattle.suite_prefix.specs.SettingsRules.{Opening}
-use Rattle.suite_session.specs.Copies.{standing_at, standing_line, standing_lines}
-use Rattle.suite_session.specs.HeldLocks.{locks_by, locks_text}
-use Rattle.suite_session.specs.Places.{named_by, named_in, room_line, room_lines}
-use Rattle.suite_session.specs.Rows.{Copies, newer, newest}
-use Rattle.suite_session.specs.declared.copies.Sought.{Sought}
-use Rattle.suite_session.specs.declared.side.Side.{Side}
+use Rattle.suite_session.proofs.Vocabulary.{◌≡◌, ℕ, suc, ◌+◌, List, [], ◌∷◌, ◌++◌, None, ap, arith, refl, root, server_at, Opening, standing_at, standing_line}
+use Rattle.suite_session.proofs.Vocabulary.{locks_by, named_by, room_line, Copies, newer, Sought, Side}
+use Rattle.run_core.specs.Worlds.{World}
+use Rattle.suite_session.specs.Copies.{standing_lines}
+use Rattle.suite_session.specs.HeldLocks.{locks_text}
+use Rattle.suite_session.specs.Places.{named_in, room_lines}
+use Rattle.suite_session.specs.Rows.{newest}
 
 one_more : (count : ℕ) → count + 1 ≡ suc count
 one_more count = omega arith

@@ -1,29 +1,12 @@
 -- Line by line a session below its header prints what `play` prints, and none of the lines is faulty.
-use Rattle.std.proofs.Common.{◌≡◌, ◌∙◌, ℕ, ◌+◌, Bool, true, false, ◌&&◌, List, [], ◌∷◌, ◌++◌, codes, if◌then◌else◌, Result, Ok, Err, refl, sym, ap, subst}
-use Rattle.std.proofs.lemmas.Bool.{false≢true}
-use Rattle.std.proofs.lemmas.Slice.Eq.{bytes_eq-Decides}
-use Rattle.std.specs.Str.{bytes_eq}
-use Rattle.acl_text.specs.Tables.{Tables}
-use Rattle.byte_streams.specs.Endings.{done}
-use Rattle.line_session.specs.Answers.{status_of_kind}
-use Rattle.script_desk.specs.Doing.{Does, Keeps, Passes, after_line, asked, below, headed, kind_in, kind_of_line, next_in, said, text_in}
-use Rattle.script_desk.specs.declared.desk.ScriptDesk.{ScriptDesk}
-use Rattle.script_text.specs.Words.{words}
-use Rattle.suite_play.specs.Commands.{is_command}
-use Rattle.suite_play.specs.Headers.{is_known}
-use Rattle.suite_play.specs.Playing.{all_lines}
-use Rattle.suite_play.specs.declared.command.Command.{Command}
-use Rattle.suite_script.specs.Scripts.{followed, group_line, is_group, is_skipped, is_user, later_line, lines_from, misplaced, name_line, named_line, own_line, owns_in, user_line, with_own}
-use Rattle.suite_script.specs.Words.{Word}
-use Rattle.suite_script.specs.declared.fault.LineFault.{LineFault}
-use Rattle.suite_script.specs.declared.fault.ScriptFault.{ScriptFault}
-use Rattle.suite_session.specs.Played.{LinesBelowArePlayed, language_below, told_for}
-use Rattle.suite_session.specs.Promised.{ways}
-use Rattle.suite_session.specs.Services.{after_own, asks, head_of, heads, own_of, told}
-use Rattle.suite_session.specs.declared.open_service.OpenService.{OpenService}
-use Rattle.suite_session.specs.declared.play_service.PlayService.{PlayService}
+use Rattle.suite_session.proofs.Vocabulary.{◌≡◌, ◌∙◌, ℕ, ◌+◌, Bool, true, false, ◌&&◌, List, [], ◌∷◌, ◌++◌, codes, if◌then◌else◌, Result, Ok, Err, refl, sym}
+use Rattle.suite_session.proofs.Vocabulary.{ap, subst, false≢true, bytes_eq-Decides, bytes_eq, Tables, done, status_of_kind, Does, Keeps, Passes, after_line}
+use Rattle.suite_session.proofs.Vocabulary.{asked, below, kind_in, kind_of_line, next_in, said, text_in, ScriptDesk, words, is_command, is_known, all_lines}
+use Rattle.suite_session.proofs.Vocabulary.{Command, followed, group_line, is_group, is_skipped, is_user, later_line, lines_from, misplaced, name_line}
+use Rattle.suite_session.proofs.Vocabulary.{named_line, own_line, owns_in, user_line, with_own, Word, LineFault, ScriptFault, LinesBelowArePlayed}
+use Rattle.suite_session.proofs.Vocabulary.{language_below, told_for, ways, after_own, asks, head_of, heads, own_of, told, OpenService, PlayService, fixed_of}
+use Rattle.script_desk.specs.Doing.{headed}
 use Rattle.suite_session.specs.declared.play_service.PlayService.TheVariants as service
-use Rattle.txn_core.specs.Agents.{fixed_of}
 
 -- ---- words that begin lines of another kind
 

@@ -1,41 +1,16 @@
 -- What a session leaves is what its events made.
-use Rattle.std.proofs.Common.{◌≡◌, ℕ, zero, suc, ◌+◌, ◌-◌, Bool, true, false, List, [], ◌∷◌, ◌++◌, take, if◌then◌else◌, is_some, Option, Some, None, Result, Ok, Err, refl, sym, subst, arith}
-use Rattle.std.specs.Prelude.{IfOk}
-use Rattle.std.proofs.lemmas.Bool.{false≢true}
-use Rattle.std.proofs.lemmas.List.{append-nil}
-use Rattle.acl_text.specs.Tables.{Tables}
-use Rattle.file_ops.specs.Steps.{ok_map}
-use Rattle.file_ops.specs.declared.operation.Op.{Op}
-use Rattle.law_headline.proofs.Promised.{front, goes_on, opens, promised}
-use Rattle.law_headline.specs.Premises.{AllGiveValidVotes, CanBe, VotesAreValid}
-use Rattle.run_core.specs.declared.event.Event.{Event}
+use Rattle.suite_session.proofs.Vocabulary.{◌≡◌, ℕ, zero, suc, ◌+◌, ◌-◌, Bool, true, false, List, [], ◌∷◌, ◌++◌, take, if◌then◌else◌, is_some, Option, Some}
+use Rattle.suite_session.proofs.Vocabulary.{None, Result, Ok, Err, refl, sym, subst, arith, IfOk, false≢true, append-nil, Tables, ok_map, Op, front, goes_on}
+use Rattle.suite_session.proofs.Vocabulary.{opens, promised, AllGiveValidVotes, CanBe, VotesAreValid, Event, Passes, asked, below, later_said, next_in, said}
+use Rattle.suite_session.proofs.Vocabulary.{ScriptDesk, words, line_world, valid_lines, command_in, is_command, said_after, verb_in, is_known, played}
+use Rattle.suite_session.proofs.Vocabulary.{places_of, events_in, events_of, kept_command, Command, Audit, Run, Steps, Places, Opening, Named, Own, Said}
+use Rattle.suite_session.proofs.Vocabulary.{followed, is_skipped, name_line, named_line, own_line, Line, Word, LineFault, Form, IsMadeBy, IsPromisedOf}
+use Rattle.suite_session.proofs.Vocabulary.{SessionIsPromised, begins_headed, events_by, events_said, ways, asks, head_of, heads, opened_of, own_of, told}
+use Rattle.suite_session.proofs.Vocabulary.{PlayService, fixed_of, Transaction, Sweep}
+use Rattle.script_desk.specs.Doing.{headed}
+use Rattle.suite_play.specs.declared.command.Command.TheVariants.{Event as event_line}
 use Rattle.run_core.specs.declared.event.Event.TheVariants as event
-use Rattle.script_desk.specs.Doing.{Passes, asked, below, headed, later_said, next_in, said}
-use Rattle.script_desk.specs.declared.desk.ScriptDesk.{ScriptDesk}
-use Rattle.script_text.specs.Words.{words}
-use Rattle.suite_play.proofs.Promised.{line_world}
-use Rattle.suite_play.proofs.ValidLines.{valid_lines}
-use Rattle.suite_play.specs.Commands.{command_in, is_command, said_after, verb_in}
-use Rattle.suite_play.specs.Headers.{is_known}
-use Rattle.suite_play.specs.Playing.{played}
-use Rattle.suite_play.specs.Outputs.{places_of}
-use Rattle.suite_play.specs.Promised.{events_in, events_of}
-use Rattle.suite_play.specs.code.Kept.{kept_command}
-use Rattle.suite_play.specs.declared.command.Command.{Command}
-use Rattle.suite_play.specs.declared.command.Command.TheVariants.{Audit, Event as event_line, Run, Steps}
-use Rattle.suite_play.specs.declared.places.Places.{Places}
-use Rattle.suite_prefix.specs.SettingsRules.{Opening}
-use Rattle.suite_script.specs.Scripts.{Named, Own, Said, followed, is_skipped, name_line, named_line, own_line}
-use Rattle.suite_script.specs.declared.line.Line.{Line}
-use Rattle.suite_script.specs.Words.{Word}
-use Rattle.suite_script.specs.declared.fault.LineFault.{LineFault}
-use Rattle.suite_script.specs.declared.fault.LineFault.TheVariants.{Form}
-use Rattle.suite_session.specs.Promised.{IsMadeBy, IsPromisedOf, SessionIsPromised, begins_headed, events_by, events_said, ways}
-use Rattle.suite_session.specs.Services.{asks, head_of, heads, opened_of, own_of, told}
-use Rattle.suite_session.specs.declared.play_service.PlayService.{PlayService}
 use Rattle.suite_session.specs.declared.play_service.PlayService.TheVariants as service
-use Rattle.txn_core.specs.Agents.{fixed_of}
-use Rattle.txn_core.specs.declared.job.Job.TheVariants.{Transaction, Sweep}
 
 -- ---- the votes of what lines say are valid
 

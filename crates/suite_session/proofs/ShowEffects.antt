@@ -1,32 +1,13 @@
 -- The copies that a session reads are those that are in effect, so what it tells of a path is the row of the table.
-use Rattle.std.proofs.Common.{◌≡◌, ℕ, zero, suc, ◌<◌, ◌≤◌, ◌==◌, Bool, true, false, if◌then◌else◌, List, [], ◌∷◌, length, unwrap_or, option_map, Option, Some, None, refl, sym, ap, subst, ◌∙◌, arith}
-use Rattle.std.proofs.lemmas.Bool.Decides.{nat_tests}
-use Rattle.std.proofs.lemmas.List.Elements.{All-weaker}
-use Rattle.std.proofs.lemmas.List.Folds.{list_any_none}
-use Rattle.std.proofs.lemmas.Option.{none-some, same_Some, slice_get_within}
-use Rattle.std.specs.List.{list_any}
-use Rattle.std.specs.Ordering.{nat_cmp}
-use Rattle.std.specs.Prelude.{slice_get}
-use Rattle.law_headline.proofs.Keeping.{all_keep}
-use Rattle.law_headline.specs.Premises.{CanBe}
-use Rattle.law_one_table.specs.Effects.{answered_in, copy_at}
-use Rattle.law_run_machine.specs.Machines.{home_in}
-use Rattle.law_runs.proofs.Lengths.{so_many}
-use Rattle.rep_core.specs.Intentions.{Intention}
+use Rattle.suite_session.proofs.Vocabulary.{◌≡◌, ℕ, zero, suc, ◌<◌, ◌≤◌, ◌==◌, Bool, true, false, if◌then◌else◌, List, [], ◌∷◌, length, unwrap_or, option_map}
+use Rattle.suite_session.proofs.Vocabulary.{Option, Some, None, refl, sym, ap, subst, ◌∙◌, arith, nat_tests, All-weaker, list_any_none, none-some, same_Some}
+use Rattle.suite_session.proofs.Vocabulary.{slice_get_within, list_any, nat_cmp, slice_get, all_keep, CanBe, answered_in, copy_at, home_in, so_many, Intention}
+use Rattle.suite_session.proofs.Vocabulary.{State, copy_in_effect, copy_of, in_effect, left_by, root_copy, run, server_at, Event, get, absent_copy, IsAccepted}
+use Rattle.suite_session.proofs.Vocabulary.{Opening, Replica, answered_or, has_answered, in_effect_by, in_effect_in, is_answered, standing, IsTheRow}
+use Rattle.suite_session.proofs.Vocabulary.{RowsAreTheTables, Representative}
+use Rattle.run_core.specs.Worlds.{World}
 use Rattle.rep_core.specs.State as state
-use Rattle.rep_core.specs.State.{State}
-use Rattle.rep_core.specs.Store.{copy_in_effect, copy_of, in_effect, left_by, root_copy}
-use Rattle.run_core.specs.Runs.{run}
-use Rattle.run_core.specs.Worlds.{World, server_at}
-use Rattle.run_core.specs.declared.event.Event.{Event}
-use Rattle.sorted_map.specs.SortedMap.{get}
-use Rattle.suite_prefix.specs.Absent.{absent_copy}
-use Rattle.suite_prefix.specs.SettingsRules.{IsAccepted, Opening}
-use Rattle.suite_prefix.specs.declared.copies.Replica.{Replica}
 use Rattle.suite_session.proofs.TableRows.{ShowEffects, is_the_row}
-use Rattle.suite_session.specs.Rows.{answered_or, has_answered, in_effect_by, in_effect_in, is_answered, standing}
-use Rattle.suite_session.specs.TableRows.{IsTheRow, RowsAreTheTables}
-use Rattle.vote_core.specs.Quorums.{Representative}
 
 -- nothing was made there
 abbrev IsNever : Replica → Type 0

@@ -1,43 +1,17 @@
 -- What copies tell of a path is what the table has there, where they are those that are in effect.
-use Rattle.std.proofs.Common.{◌≡◌, ◌⊎◌, ℕ, ◌<◌, ◌≤◌, true, List, [], ◌∷◌, Option, Some, None, inl, inr, refl, sym, ap, subst, ◌∙◌, arith}
-use Rattle.std.proofs.lemmas.Bool.Decides.{nat_tests}
-use Rattle.std.proofs.lemmas.List.{append-nil}
-use Rattle.std.proofs.lemmas.Option.{none-some, same_Some}
-use Rattle.std.specs.Prelude.{nat_le}
-use Rattle.file_ops.specs.Paths.{names_of}
-use Rattle.file_ops.specs.Rows.{Row, Rows, root, row_of}
-use Rattle.law_one_table.proofs.Effects.{effect_at, greatest, inv, of_row}
-use Rattle.law_one_table.proofs.Running.{all_shown}
-use Rattle.law_one_table.proofs.Shown.{IsShown, NeverAs}
-use Rattle.law_one_table.specs.Effects.{copy_at}
-use Rattle.law_one_table.specs.Tables.{AllKeepSides, register, row_shown}
-use Rattle.law_one_table.specs.Versions.{HaveVersions}
-use Rattle.law_run_machine.specs.Machines.{machine_of}
-use Rattle.law_server_moves.specs.Laws.{beginning}
-use Rattle.law_suite_machine.proofs.Conclusions.{quorums_show}
-use Rattle.law_suite_machine.proofs.Invariant.{Inv}
-use Rattle.law_suite_machine.specs.Machine.{IsQuorum, World}
-use Rattle.law_suite_machine.specs.Registers.{Beginning, WasCopy, content_at, prefix_at}
-use Rattle.run_core.specs.declared.event.Event.{Event}
-use Rattle.run_core.specs.TableOfRun.{table_of}
-use Rattle.suite_content.specs.Contents.{empty_content}
-use Rattle.suite_content.specs.declared.content.Content.{Content}
-use Rattle.suite_content.specs.declared.content.Kind.{Kind}
+use Rattle.suite_session.proofs.Vocabulary.{◌≡◌, ◌⊎◌, ℕ, ◌<◌, ◌≤◌, true, List, [], ◌∷◌, Option, Some, None, inl, inr, refl, sym, ap, subst, ◌∙◌, arith}
+use Rattle.suite_session.proofs.Vocabulary.{nat_tests, append-nil, none-some, same_Some, nat_le, names_of, Row, Rows, root, row_of, effect_at, greatest, inv}
+use Rattle.suite_session.proofs.Vocabulary.{of_row, all_shown, IsShown, NeverAs, copy_at, AllKeepSides, register, row_shown, HaveVersions, machine_of}
+use Rattle.suite_session.proofs.Vocabulary.{beginning, quorums_show, Inv, IsQuorum, Beginning, WasCopy, content_at, prefix_at, Event, table_of, empty_content}
+use Rattle.suite_session.proofs.Vocabulary.{Content, Kind, held_by, Opening, Prefix, PrefixKind, Replica, Copies, child_in, child_of, found, found_at}
+use Rattle.suite_session.proofs.Vocabulary.{found_on, shown_by, shown_for, shown_at, unless_absent, IsTheRow, child_by, leads_at, leads_to, numbered}
+use Rattle.suite_session.proofs.Vocabulary.{numbered_at, row_in, row_told, Shown, row_with, Configuration, votes_in, IsValid}
+use Rattle.law_suite_machine.specs.Machine.{World}
+use Rattle.suite_session.specs.Rows.{newest}
 use Rattle.suite_content.specs.declared.content.Kind.TheVariants as holds
-use Rattle.suite_prefix.specs.Copies.{held_by}
-use Rattle.suite_prefix.specs.SettingsRules.{Opening}
-use Rattle.suite_prefix.specs.declared.copies.Prefix.{Prefix}
-use Rattle.suite_prefix.specs.declared.copies.PrefixKind.{PrefixKind}
 use Rattle.suite_prefix.specs.declared.copies.PrefixKind.TheVariants as kind
-use Rattle.suite_prefix.specs.declared.copies.Replica.{Replica}
 use Rattle.suite_session.proofs.NewestCopies.{IsNewest, is_newest}
-use Rattle.suite_session.specs.Rows.{Copies, child_in, child_of, found, found_at, found_on, newest, shown_by, shown_for, shown_at, unless_absent}
-use Rattle.suite_session.specs.TableRows.{IsTheRow, child_by, leads_at, leads_to, numbered, numbered_at, row_in, row_told}
-use Rattle.suite_session.specs.declared.shown.Shown.{Shown}
 use Rattle.suite_session.specs.declared.side.Side.TheVariants as side
-use Rattle.txn_core.specs.Suites.{row_with}
-use Rattle.vote_core.specs.Quorums.{Configuration, votes_in}
-use Rattle.vote_core.specs.Validity.{IsValid}
 
 -- each copy of a suite is the one in effect, and where there is none nothing is; so it is behind the last server
 pub record ShowEffects (given : Opening) (events : List Event) (copies : Copies) (suite : ℕ) : Type 0 where

@@ -13,7 +13,7 @@ use script_text::Words;
 use std::alloc::{AllocError, Global};
 use suite_play::{Command, Places, old_of, places_of};
 use suite_prefix::Settings;
-use suite_script::{LineError, LineFault, Stage};
+use suite_script::{LineError, LineFault, LineStage};
 
 /// A world below a header, and whether it is fresh: then the header may yet name the servers that open with their
 /// root in form 1.
@@ -64,7 +64,7 @@ impl OpenService {
         ensures stopped { OnErr result (KeepsAllButWorld self.old self.new) }
     {
         self.is_fresh = false;
-        <World as Stage<Places>>::play_line(&mut self.world, alloc, 0, command, text)
+        <World as LineStage<Places>>::play_line(&mut self.world, alloc, 0, command, text)
     }
 }
 

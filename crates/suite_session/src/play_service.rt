@@ -8,7 +8,7 @@ use crate::heading::Heading;
 use crate::open_service::OpenService;
 use crate::question::{Question, tell};
 use acl_text::Names;
-use script_desk::Service;
+use script_desk::ScriptService;
 use script_text::Words;
 use std::alloc::{AllocError, Global};
 use suite_play::{Command, Places};
@@ -75,7 +75,7 @@ impl Language for PlayService {
     }
 }
 
-impl Service for PlayService {
+impl ScriptService for PlayService {
     ghost use Rattle.suite_session.specs.Services.{after_of, asks, head_of, heads, line_of, settled, told, Stops};
 
     ghost heads = { heads };

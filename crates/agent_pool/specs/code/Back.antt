@@ -8,7 +8,7 @@ use Rattle.crossbeam_channel.specs.declared.flavors.array.Key.{Key}
 use Rattle.crossbeam_channel.specs.declared.flavors.array.Rows.{Rows}
 use Rattle.crossbeam_channel.specs.declared.flavors.array.ruled.Receiving.{Receiving}
 use Rattle.agent_pool.specs.declared.line.Hand.{Hand}
-use Rattle.agent_pool.specs.declared.line.Item.{Item}
+use Rattle.agent_pool.specs.declared.line.PoolItem.{PoolItem}
 use Rattle.agent_pool.specs.declared.pool_context.NamedJob.{NamedJob}
 use Rattle.agent_pool.specs.declared.start.Start.{Start}
 use Rattle.agent_pool.specs.declared.start.Start.TheVariants.{Started, Rested}
@@ -24,12 +24,12 @@ pub record IsBack (servers : ℕ) (jobs : List NamedJob) (returned : Returned) :
 
 module _ {Q M L A B : Type 0} where
   -- the same, by the channel with this end
-  abbrev pub IsBackAt : Receiving (Rows (Badge (Key Item)) (Doing Item Hand) Q M (Key Item) L A) B → ℕ → List NamedJob → Returned → Type 0
+  abbrev pub IsBackAt : Receiving (Rows (Badge (Key PoolItem)) (Doing PoolItem Hand) Q M (Key PoolItem) L A) B → ℕ → List NamedJob → Returned → Type 0
   IsBackAt receiver servers jobs returned = IsSeatAt (receives_on receiver) returned.ticket × IsBack servers jobs returned
 
   -- a thread was started that hands this back, of this channel; or nothing was taken
-  abbrev pub IsOf : Receiving (Rows (Badge (Key Item)) (Doing Item Hand) Q M (Key Item) L A) B → ℕ → List NamedJob → Start → Type 0
+  abbrev pub IsOf : Receiving (Rows (Badge (Key PoolItem)) (Doing PoolItem Hand) Q M (Key PoolItem) L A) B → ℕ → List NamedJob → Start → Type 0
   IsOf receiver servers jobs (Started handle) =
-      ((ticket : Pass Item Hand) → IsSeatAt (receives_on handle.promise.receiver.now) ticket → IsSeatAt (receives_on receiver) ticket)
+      ((ticket : Pass PoolItem Hand) → IsSeatAt (receives_on handle.promise.receiver.now) ticket → IsSeatAt (receives_on receiver) ticket)
       × (handle.promise.servers.now.servers ≡ servers) × (handle.promise.jobs.now ≡ jobs)
   IsOf receiver servers jobs (Rested returned) = IsBackAt receiver servers jobs returned

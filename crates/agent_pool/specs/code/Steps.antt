@@ -8,8 +8,8 @@ use Rattle.server_lock.specs.declared.miss.Miss.TheVariants.{Lack, Stale}
 use Rattle.server_lock.specs.Passes.{Held, front_at}
 use Rattle.txn_core.specs.declared.ending.Ending.{Ending}
 use Rattle.txn_core.specs.declared.response.Response.TheVariants.{Replied, Lacked as NotServed}
-use Rattle.run_certify.specs.declared.entry.Entry.{Entry}
-use Rattle.run_certify.specs.declared.entry.Entry.TheVariants.{Asked, Lacked as AskedInVain, Ended}
+use Rattle.run_certify.specs.declared.entry.AgentEntry.{AgentEntry}
+use Rattle.run_certify.specs.declared.entry.AgentEntry.TheVariants.{Asked, Lacked as AskedInVain, Ended}
 use Rattle.txn_core.specs.declared.job.Job.{Job}
 use Rattle.txn_core.specs.Agents.{is_idle, next_of}
 use Rattle.txn_core.specs.Agents as agents
@@ -36,14 +36,14 @@ known_after known server (Some stamp) = slice_set known server stamp
 known_after known server None = known
 
 -- how a job of an agent ended, as it is written down
-abbrev pub end_entry : ℕ → ℕ → ℕ → Ending → Entry
+abbrev pub end_entry : ℕ → ℕ → ℕ → Ending → AgentEntry
 end_entry number count steps ending = Ended (record { agent = number; count = count; steps = steps; ending = ending })
 
 -- An agent, whose job was begun at so many entries, did this: it asked servers, and where its job ended, that is written down last.
-abbrev pub Leaves : ℕ → Played → List Entry → Played → Came → Type 0
+abbrev pub Leaves : ℕ → Played → List AgentEntry → Played → Came → Type 0
 Leaves begun old rest new came.On = AreAsks rest
 Leaves begun old rest new (came.Ended ran) =
-    (asked : List Entry) × (ending : Ending) × AreAsks asked
+    (asked : List AgentEntry) × (ending : Ending) × AreAsks asked
     × (rest ≡ asked ++ end_entry (number_of old) ran.count (length old.entries + length asked - begun) ending ∷ [])
     × (ran.at ≡ length old.entries + length asked) × (ran.count ≡ begins old.entries - 1) × IsIdle new
 Leaves begun old rest new came.Stuck = AreAsks rest
@@ -56,7 +56,7 @@ Takes delivery old new ending =
 
 -- What is written down when an agent is told something: how its job ended too, where it did, as it gave it. Where memory was refused, for
 -- what it takes or for its end, no end is written down.
-abbrev pub HearsOn : ℕ → ℕ → Delivery → Standing → List Entry → Standing → List Entry → Came → Type 0
+abbrev pub HearsOn : ℕ → ℕ → Delivery → Standing → List AgentEntry → Standing → List AgentEntry → Came → Type 0
 HearsOn number begun delivery old entries new more (came.Ended ran) =
     (ending : Ending)
     × (more ≡ entries ++ delivery.entry ∷ end_entry number ran.count (length entries + 1 - begun) ending ∷ [])
@@ -65,7 +65,7 @@ HearsOn number begun delivery old entries new more came.Stuck = ⊥
 HearsOn number begun delivery old entries new more came.On = (more ≡ entries ++ delivery.entry ∷ []) × Takes delivery old new None
 HearsOn number begun delivery old entries new more came.Lacked = more ≡ entries ++ delivery.entry ∷ []
 
-abbrev pub Hears : ℕ → ℕ → Delivery → Standing → List Entry → Standing → List Entry → Came → Type 0
+abbrev pub Hears : ℕ → ℕ → Delivery → Standing → List AgentEntry → Standing → List AgentEntry → Came → Type 0
 Hears number begun delivery old entries new more came =
     (new.fixed ≡ old.fixed) × (new.state.index ≡ old.state.index) × (new.state.count ≡ old.state.count)
     × HearsOn number begun delivery old entries new more came

@@ -2,16 +2,16 @@
 use Rattle.std.specs.Prelude.{List}
 use Rattle.std.specs.List.{AllByRecursion}
 use Rattle.law_headline.specs.Premises.{JobGivesValidVotes}
-use Rattle.run_certify.specs.declared.entry.Entry.{Entry}
-use Rattle.run_certify.specs.declared.entry.Entry.TheVariants.{Begun}
+use Rattle.run_certify.specs.declared.entry.AgentEntry.{AgentEntry}
+use Rattle.run_certify.specs.declared.entry.AgentEntry.TheVariants.{Begun}
 
 -- a job that was begun gives valid votes
-abbrev pub EntryGivesValidVotes : Entry → Type 0
+abbrev pub EntryGivesValidVotes : AgentEntry → Type 0
 EntryGivesValidVotes (Begun job) = JobGivesValidVotes job
 EntryGivesValidVotes _ = Unit {0}
 
-abbrev pub EntriesGiveValidVotes : List Entry → Type 0
+abbrev pub EntriesGiveValidVotes : List AgentEntry → Type 0
 EntriesGiveValidVotes entries = AllByRecursion EntryGivesValidVotes entries
 
-abbrev pub AllBegunAreValid : List (List Entry) → Type 0
+abbrev pub AllBegunAreValid : List (List AgentEntry) → Type 0
 AllBegunAreValid transcripts = AllByRecursion EntriesGiveValidVotes transcripts

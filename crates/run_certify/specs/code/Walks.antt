@@ -13,8 +13,8 @@ use Rattle.run_core.specs.declared.event.Event.{Event}
 use Rattle.run_core.specs.Telling.{served_if}
 use Rattle.run_core.specs.Worlds.{World, opening, step}
 use Rattle.server_lock.specs.declared.item.Item.{Item}
-use Rattle.run_certify.specs.declared.entry.Entry.{Entry}
-use Rattle.run_certify.specs.declared.entry.Entry.TheVariants.{Asked}
+use Rattle.run_certify.specs.declared.entry.AgentEntry.{AgentEntry}
+use Rattle.run_certify.specs.declared.entry.AgentEntry.TheVariants.{Asked}
 use Rattle.run_certify.specs.Certified.{AreOfRun}
 use Rattle.run_certify.specs.Deciding.{AreCounted, IsPlayed, count_at, decision_by, job_at}
 use Rattle.run_certify.specs.Merges.{ItemAt, IsMerge}
@@ -30,12 +30,12 @@ pub record Walked : Type 0 where
   pub given : Opening
   pub world : World
   pub histories : List (List Item)
-  pub unused : List (List Entry)
+  pub unused : List (List AgentEntry)
   pub begun : Begins
   pub made : List Decided
 
 -- What is left of histories and transcripts, from a world on, is of a run with these decisions; an item that was taken already may stand before the rest.
-pub record IsLeft (fixed : Fixed) (world : World) (taken : List ItemAt) (histories : List (List Item)) (unused : List (List Entry)) (ds : List Decided) : Type 0 where
+pub record IsLeft (fixed : Fixed) (world : World) (taken : List ItemAt) (histories : List (List Item)) (unused : List (List AgentEntry)) (ds : List Decided) : Type 0 where
   pub items : List ItemAt
   pub merge : IsMerge histories items
   pub run : AreOfRun fixed world (weave (taken ++ items) unused) (taken ++ items) unused
@@ -69,7 +69,7 @@ Fails was taken = IsSound was → (total : List Decided) → IsOfRun was taken t
 -- ---- an entry
 
 -- it is used, and nothing else has changed
-pub record IsUse (was : Walked) (agent : ℕ) (entry : Entry) (now : Walked) : Type 0 where
+pub record IsUse (was : Walked) (agent : ℕ) (entry : AgentEntry) (now : Walked) : Type 0 where
   pub used : AreUsed was.unused agent (entry ∷ []) now.unused
   pub kept : now ≡ record was { unused = now.unused }
 
@@ -103,16 +103,16 @@ pub record IsBegin (was : Walked) (agent : ℕ) (job : Job) (now : Walked) : Typ
   pub kept : now ≡ record was { begun = now.begun }
 
 -- an agent's entry that was used is played
-abbrev pub EntryGoes : ℕ → Entry → Walked → Walked → Type 0
+abbrev pub EntryGoes : ℕ → AgentEntry → Walked → Walked → Type 0
 EntryGoes agent entry old new = (was : Walked) (taken : List ItemAt) → IsUse was agent entry old → IsTurn taken was.histories was.unused agent → Goes was taken new taken
 
-abbrev pub EntryFails : ℕ → Entry → Walked → Type 0
+abbrev pub EntryFails : ℕ → AgentEntry → Walked → Type 0
 EntryFails agent entry old = (was : Walked) (taken : List ItemAt) → IsUse was agent entry old → IsTurn taken was.histories was.unused agent → Fails was taken
 
 -- only an agent's entries are used, and no items
 pub record IsShorter (old : Walked) (agent : ℕ) (new : Walked) : Type 0 where
   pub histories : new.histories ≡ old.histories
-  pub rest : List Entry
+  pub rest : List AgentEntry
   pub set : new.unused ≡ slice_set old.unused agent rest
   pub short : length rest ≤ length (transcript_of old.unused agent)
 
@@ -126,7 +126,7 @@ AskedFails agent server stamp one old = (was : Walked) → IsUse was agent (Aske
 -- ---- the start
 
 -- nothing was played yet
-pub record IsStart (given : Opening) (histories : List (List Item)) (transcripts : List (List Entry)) (walked : Walked) : Type 0 where
+pub record IsStart (given : Opening) (histories : List (List Item)) (transcripts : List (List AgentEntry)) (walked : Walked) : Type 0 where
   pub settings : walked.settings ≡ given
   pub given_is : walked.given ≡ given
   pub world : walked.world ≡ opening given

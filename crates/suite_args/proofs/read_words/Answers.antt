@@ -1,10 +1,6 @@
-use Rattle.std.proofs.Common.{◌≡◌, ◌∙◌, ◌≤◌, ap, sym, subst, refl, arith, true, List, [], Option, map, length}
-use Rattle.std.proofs.lemmas.List.{length-map}
-use Rattle.clap.specs.Lexer.{usize_max}
-use Rattle.clap.specs.Words.{App, HasKind, Row, Text, fault_of, is_simple, is_simple_and_free, kind_of, subcommand_of, subcommand_rows_of}
-use Rattle.suite_args.specs.Answering.{Answers, asked_in}
-use Rattle.suite_args.specs.CommandLine.{asked_by}
-use Rattle.suite_args.specs.code.Commands.{suites}
+use Rattle.suite_args.proofs.Vocabulary.{◌≡◌, ◌∙◌, ◌≤◌, ap, sym, subst, refl, arith, true, List, [], Option, map, length, length-map, usize_max, HasKind}
+use Rattle.suite_args.proofs.Vocabulary.{is_simple, is_simple_and_free, kind_of, subcommand_rows_of, Answers, asked_in, asked_by, suites}
+use Rattle.clap.specs.Words.{App, Row, Text, fault_of, subcommand_of}
 use Rattle.suite_args.proofs.Verdicts.{failed, parsed}
 use Rattle.suite_args.proofs.WholeLines.{lines_meet}
 use Rattle.suite_args.proofs.read_words.Goals as goal

@@ -12,9 +12,9 @@ use Rattle.suite_script.specs.declared.fault.ScriptError.{ScriptError}
 use Rattle.suite_script.specs.declared.fault.ScriptError.TheVariants as script
 use Rattle.suite_script.specs.declared.fault.ScriptFault.{ScriptFault}
 use Rattle.suite_history.specs.declared.history.Hearing.{Hearing}
-use Rattle.suite_history.specs.declared.history.History as read
+use Rattle.suite_history.specs.declared.history.CallHistory as read
 use Rattle.acl_core.specs.Identity.{Identity}
-use Rattle.history_judge.specs.declared.history.Asked.{Asked}
+use Rattle.history_judge.specs.declared.history.CallRequest.{CallRequest}
 use Rattle.suite_history.specs.Histories.{Heard, History}
 use Rattle.suite_history.specs.Asking.{Request}
 
@@ -33,11 +33,11 @@ GivesHeard (Ok hearing) given = given ≡ Ok (heard_in hearing)
 GivesHeard (Err (script.Faulty fault)) given = given ≡ Err fault
 GivesHeard (Err script.Memory) given = Unit {0}
 
-abbrev pub in_lists : read.History → History
+abbrev pub in_lists : read.CallHistory → History
 in_lists history = record { root = history.root; calls = history.calls.items }
 
 -- a history was read; or this is its first faulty line
-abbrev pub GivesHistory : Result read.History ScriptError → Result History ScriptFault → Type 0
+abbrev pub GivesHistory : Result read.CallHistory ScriptError → Result History ScriptFault → Type 0
 GivesHistory (Ok history) given = given ≡ Ok (in_lists history)
 GivesHistory (Err (script.Faulty fault)) given = given ≡ Err fault
 GivesHistory (Err script.Memory) given = Unit {0}
@@ -60,7 +60,7 @@ AddsReplies (Err (line.Faulty fault)) old new given = given ≡ Err fault
 AddsReplies (Err line.Memory) old new given = Unit {0}
 
 -- who asks for what was read
-abbrev pub GivesRequest : Result (Identity × Asked) LineError → Result Request LineFault → Type 0
+abbrev pub GivesRequest : Result (Identity × CallRequest) LineError → Result Request LineFault → Type 0
 GivesRequest (Ok request) given = given ≡ Ok (record { caller = request.0; asked = request.1 })
 GivesRequest (Err (line.Faulty fault)) given = given ≡ Err fault
 GivesRequest (Err line.Memory) given = Unit {0}

@@ -1,17 +1,11 @@
 -- What an agent does is not changed by operations that are not kept of its transactions.
-use Rattle.std.proofs.Common.{◌≡◌, ℕ, ◌+◌, ◌*◌, Bool, true, false, cond, [], Option, Some, None, refl, ap, ◌∙◌}
-use Rattle.std.specs.Prelude.{option_map, nat_lt, ◌&&◌}
-use Rattle.rep_core.specs.declared.request.Request.{Request}
-use Rattle.weak_cache.specs.Entries.{Cache}
-use Rattle.txn_core.specs.declared.response.Response.{Response}
-use Rattle.txn_core.specs.declared.job.Job.{Job}
-use Rattle.txn_core.specs.declared.job.Job.TheVariants.{Transaction, Sweep}
-use Rattle.txn_core.specs.Doing.{Fixed, Task, TransactionRun, SweepRun, Doing, Running, RunningSweep, After, GoesOn, Ends}
+use Rattle.suite_play.proofs.Vocabulary.{◌≡◌, ℕ, ◌+◌, ◌*◌, Bool, true, false, cond, [], Option, Some, None, refl, ap, ◌∙◌, option_map, nat_lt, ◌&&◌, Request}
+use Rattle.suite_play.proofs.Vocabulary.{Cache, Response, Job, Transaction, Sweep, Fixed, Task, TransactionRun, SweepRun, Doing, Running, RunningSweep, After}
+use Rattle.suite_play.proofs.Vocabulary.{GoesOn, Ends, execute, Agent, Taken, next_in, next_of, left, end_of, with_step, take_in, begin, begins, has_sense}
+use Rattle.suite_play.proofs.Vocabulary.{is_idle, max_jobs, started, kept_job}
+use Rattle.txn_core.specs.Agents.{take}
 use Rattle.txn_core.specs.Transactions as txn_run
-use Rattle.txn_core.specs.Transactions.{execute}
 use Rattle.txn_core.specs.Sweeps as sweep
-use Rattle.txn_core.specs.Agents.{Agent, Taken, next_in, next_of, left, end_of, with_step, take_in, take, begin, begins, has_sense, is_idle, max_jobs, started}
-use Rattle.suite_play.specs.code.Kept.{kept_job}
 use Rattle.suite_play.proofs.kept.Courses.{cut_course, cut_after, asks_the_same, executes, hears_response}
 
 abbrev pub cut_doing : Doing → Doing

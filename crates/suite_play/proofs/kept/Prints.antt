@@ -1,14 +1,8 @@
 -- The lines of a script print the same of transactions that have all their operations and of those that have what is kept of them.
-use Rattle.std.proofs.Common.{◌≡◌, ℕ, zero, suc, List, [], ◌∷◌, ◌++◌, map, refl, ap, sym, ◌∙◌}
-use Rattle.suite_prefix.specs.SettingsRules.{Opening}
-use Rattle.txn_core.specs.Doing.{Fixed}
-use Rattle.txn_core.specs.Agents.{fixed_of}
-use Rattle.run_core.specs.Worlds.{World, opening, step}
-use Rattle.run_core.specs.declared.event.Event.TheVariants.{Step}
-use Rattle.suite_play.specs.code.Kept.{kept_command}
-use Rattle.suite_play.specs.declared.command.Command.{Command}
-use Rattle.suite_play.specs.declared.command.Command.TheVariants.{Event, Steps, Run, Audit}
-use Rattle.suite_play.specs.Playing.{Printed, all_lines, before, endless, of_event, played, steps}
+use Rattle.suite_play.proofs.Vocabulary.{◌≡◌, ℕ, zero, suc, List, [], ◌∷◌, ◌++◌, map, refl, ap, sym, ◌∙◌, Opening, Fixed, fixed_of, World, opening, step, Step}
+use Rattle.suite_play.proofs.Vocabulary.{kept_command, Command, Steps, Run, Audit, Printed, all_lines, before, endless, of_event, played}
+use Rattle.suite_play.specs.declared.command.Command.TheVariants.{Event}
+use Rattle.suite_play.specs.Playing.{steps}
 use Rattle.suite_play.proofs.kept.Worlds.{cut_stepped, cut_world, opening_same, step_same}
 
 abbrev cut_printed : Printed → Printed

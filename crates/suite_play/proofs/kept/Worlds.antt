@@ -1,21 +1,13 @@
 -- What comes of an event is not changed by operations that are not kept of the agents' transactions.
-use Rattle.std.proofs.Common.{◌≡◌, ℕ, zero, suc, ◌+◌, List, ◌∷◌, map, Option, Some, None, refl, ap, sym, ◌∙◌}
-use Rattle.std.specs.Prelude.{option_map}
-use Rattle.std.proofs.lemmas.List.{map-set}
-use Rattle.std.proofs.lemmas.Option.{slice_get-map}
-use Rattle.suite_prefix.specs.SettingsRules.{Opening}
-use Rattle.rep_core.specs.declared.request.Request.{Request}
+use Rattle.suite_play.proofs.Vocabulary.{◌≡◌, ℕ, zero, suc, ◌+◌, List, ◌∷◌, map, Option, Some, None, refl, ap, sym, ◌∙◌, option_map, map-set, slice_get-map}
+use Rattle.suite_play.proofs.Vocabulary.{Opening, Request, State, Response, Replied, Lacked, Fixed, Agent, Taken, begin, forget, next_of, Begin, Step, Crash}
+use Rattle.suite_play.proofs.Vocabulary.{Return, Forget, Served, kept_event, kept_job}
+use Rattle.txn_core.specs.Agents.{take}
+use Rattle.run_core.specs.declared.event.Event.TheVariants.{Lack}
 use Rattle.rep_core.specs.declared.request.Request.TheVariants as request
 use Rattle.rep_core.specs.declared.stamped.Lack.TheVariants as lack
-use Rattle.rep_core.specs.State.{State}
-use Rattle.txn_core.specs.declared.response.Response.{Response}
-use Rattle.txn_core.specs.declared.response.Response.TheVariants.{Replied, Lacked}
-use Rattle.txn_core.specs.Doing.{Fixed}
 use Rattle.txn_core.specs.Agents as agent
-use Rattle.txn_core.specs.Agents.{Agent, Taken, begin, forget, next_of, take}
 use Rattle.run_core.specs.declared.event.Event.{Event}
-use Rattle.run_core.specs.declared.event.Event.TheVariants.{Begin, Step, Crash, Return, Forget, Lack}
-use Rattle.run_core.specs.declared.done.Served.{Served}
 use Rattle.run_core.specs.Worlds.{
   Actor,
   World,
@@ -42,7 +34,6 @@ use Rattle.run_core.specs.Worlds.{
   took,
   with_actor,
 }
-use Rattle.suite_play.specs.code.Kept.{kept_event, kept_job}
 use Rattle.suite_play.proofs.kept.Agents.{begin_same, cut_agent, cut_taken, next_same, take_same}
 
 abbrev pub cut_actor : Actor → Actor

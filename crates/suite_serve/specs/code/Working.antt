@@ -2,8 +2,8 @@
 use Rattle.std.specs.Prelude.{◌≡◌, ℕ, ◌+◌, ◌<◌, ◌≤◌, min, Contains, List, [], ◌∷◌, ◌++◌, length, map, slice_get, Some}
 use Rattle.std.specs.List.{AllZip}
 use Rattle.txn_core.specs.declared.job.Job.{Job}
-use Rattle.run_certify.specs.declared.entry.Entry.{Entry}
-use Rattle.run_certify.specs.declared.entry.Entry.TheVariants.{Asked, Ended}
+use Rattle.run_certify.specs.declared.entry.AgentEntry.{AgentEntry}
+use Rattle.run_certify.specs.declared.entry.AgentEntry.TheVariants.{Asked, Ended}
 use Rattle.run_core.specs.declared.done.EndedJob.{EndedJob}
 use Rattle.agent_pool.specs.declared.outcome.JobOutcome.{JobOutcome}
 use Rattle.agent_pool.specs.declared.pool_context.NamedJob.{NamedJob}
@@ -22,7 +22,7 @@ AreNumbered number [] = Unit {0}
 AreNumbered number (player ∷ players) = (number_of player ≡ number) × AreNumbered (number + 1) players
 
 -- what agents did
-abbrev pub transcripts_of : List Played → List (List Entry)
+abbrev pub transcripts_of : List Played → List (List AgentEntry)
 transcripts_of players = map (λ (player : Played). player.entries) players
 
 -- an outcome is of this job, and is told in the transcript of one of these agents
@@ -47,15 +47,15 @@ pub record FollowsAll (leaders : List Played) (was now : Played) : Type 0 where
   pub known : (place : ℕ) (leader : Played) (server : ℕ) → slice_get leaders place ≡ Some leader → server < most_numbers → known_at leader server ≤ known_at now server
 
 -- So many of the first outcomes stand in a part with which agent 0 began. Each stamp that a server gave in it is below all others of that server.
-pub record StandBefore (alone : ℕ) (outcomes : List JobOutcome) (transcripts : List (List Entry)) : Type 0 where
-  pub first : List Entry
-  pub rest : List Entry
-  pub others : List (List Entry)
+pub record StandBefore (alone : ℕ) (outcomes : List JobOutcome) (transcripts : List (List AgentEntry)) : Type 0 where
+  pub first : List AgentEntry
+  pub rest : List AgentEntry
+  pub others : List (List AgentEntry)
   pub split : transcripts ≡ (first ++ rest) ∷ others
   pub just : begins first ≡ min alone (length outcomes)
   pub ended : (place : ℕ) (outcome : JobOutcome) → place < alone → slice_get outcomes place ≡ Some outcome
       → (told : EndedJob) × (slice_get first outcome.at ≡ Some (Ended told))
-  pub before : (server stamp later : ℕ) (entries : List Entry) → Contains first (Asked server stamp) → Contains (rest ∷ others) entries
+  pub before : (server stamp later : ℕ) (entries : List AgentEntry) → Contains first (Asked server stamp) → Contains (rest ∷ others) entries
       → Contains entries (Asked server later) → stamp < later
 
 -- all jobs were done, so many of the first by agent 0, before the others

@@ -1,7 +1,4 @@
-use Rattle.std.proofs.Common.{rules, ◌≡◌, ℕ, [], map, eqb, refl, ap, ◌∙◌, arith}
-use Rattle.std.specs.List.{slice_split}
-use Rattle.script_text.specs.Numbers.{number_up_to}
-use Rattle.acl_text.specs.Qualifiers.{max_id}
+use Rattle.acl_text.proofs.Vocabulary.{rules, ◌≡◌, ℕ, [], map, eqb, refl, ap, ◌∙◌, arith, slice_split, number_up_to, max_id}
 use Rattle.acl_text.proofs.Ids.{ids_after, ids_at_first}
 use Rattle.acl_text.proofs.caller.read_caller.Goals as goal
 

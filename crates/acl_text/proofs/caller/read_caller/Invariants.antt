@@ -1,6 +1,4 @@
-use Rattle.std.proofs.Common.{◌≡◌, ◌≤◌, ℕ, length, take, eqb}
-use Rattle.std.specs.List.{slice_split}
-use Rattle.acl_text.specs.Callers.{ids_in}
+use Rattle.acl_text.proofs.Vocabulary.{◌≡◌, ◌≤◌, ℕ, length, take, eqb, slice_split, ids_in}
 use Rattle.acl_text.proofs.Ids.{ids_after}
 use Rattle.acl_text.proofs.caller.read_caller.Given as goal
 

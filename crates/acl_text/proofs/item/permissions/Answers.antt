@@ -1,6 +1,4 @@
-use Rattle.std.proofs.Common.{◌≡◌, ◌+◌, ◌<◌, false, length, take, drop, sym, ap, ◌∙◌, arith}
-use Rattle.std.proofs.lemmas.List.{take-append-drop, take_more}
-use Rattle.acl_text.specs.Grammar.{are_permissions}
+use Rattle.acl_text.proofs.Vocabulary.{◌≡◌, ◌+◌, ◌<◌, false, length, take, drop, sym, ap, ◌∙◌, arith, take-append-drop, take_more, are_permissions}
 use Rattle.acl_text.proofs.Granting.{spoilt_front}
 use Rattle.acl_text.proofs.item.permissions.Goals as goal
 

@@ -1,5 +1,4 @@
-use Rattle.std.proofs.Common.{take}
-use Rattle.acl_text.specs.code.Reading.{IsReadOf}
+use Rattle.acl_text.proofs.Vocabulary.{take, IsReadOf}
 use Rattle.acl_text.proofs.item.permissions.Given as goal
 
 -- the letters of the bytes so far

@@ -1,13 +1,5 @@
-use Rattle.std.proofs.Common.{◌≡◌, ◌∙◌, false, Result, Ok, Err, ap, sym, rules}
-use Rattle.std.proofs.lemmas.Option.{MatchOption-at_some}
-use Rattle.std.specs.Result.{IsOkAnd, MatchResult, result_map_both}
-use Rattle.acl_core.specs.Entries.{entry_of}
-use Rattle.acl_core.specs.Permissions.{digit_of}
-use Rattle.acl_core.specs.declared.entry.Entry.{Entry}
-use Rattle.acl_core.specs.declared.entry.Tag.{Tag}
-use Rattle.acl_text.specs.declared.item.ItemFault.{ItemFault}
-use Rattle.acl_text.specs.Grammar.{are_permissions, entry_reading}
-use Rattle.acl_text.specs.code.Reading.{IsReadOf}
+use Rattle.acl_text.proofs.Vocabulary.{◌≡◌, ◌∙◌, false, Result, Ok, Err, ap, sym, rules, MatchOption-at_some, IsOkAnd, MatchResult, result_map_both, entry_of}
+use Rattle.acl_text.proofs.Vocabulary.{digit_of, Entry, Tag, ItemFault, are_permissions, entry_reading, IsReadOf}
 use Rattle.acl_text.proofs.Granting.{entry_by}
 use Rattle.acl_text.proofs.item.read_entry.Goals as goal
 

@@ -1,6 +1,4 @@
-use Rattle.std.proofs.Common.{ap, sym, ◌∙◌}
-use Rattle.acl_text.specs.Layout.{colon}
-use Rattle.acl_text.specs.code.Remaining.{parts_left}
+use Rattle.acl_text.proofs.Vocabulary.{ap, sym, ◌∙◌, colon, parts_left}
 use Rattle.acl_text.proofs.FieldLists.{many_fields}
 use Rattle.acl_text.proofs.item.read_fields.Goals as goal
 

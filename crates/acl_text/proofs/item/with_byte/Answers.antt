@@ -1,6 +1,4 @@
-use Rattle.std.proofs.Common.{◌≡◌, true, false, [], ◌∷◌, ◌++◌, subst, sym, rules, arith}
-use Rattle.std.proofs.lemmas.Bool.Decides.{nat_tests}
-use Rattle.acl_text.specs.code.Reading.{IsReadOf}
+use Rattle.acl_text.proofs.Vocabulary.{◌≡◌, true, false, [], ◌∷◌, ◌++◌, subst, sym, rules, arith, nat_tests, IsReadOf}
 use Rattle.acl_text.proofs.Granting.{spoils, takes_r, takes_w, takes_x}
 use Rattle.acl_text.proofs.item.with_byte.Goals as goal
 

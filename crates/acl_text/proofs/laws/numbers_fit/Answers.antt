@@ -1,11 +1,5 @@
-use Rattle.std.proofs.Common.{◌≤◌, List, [], ◌∷◌, take, sym, arith}
-use Rattle.std.specs.Prelude.{All}
+use Rattle.acl_text.proofs.Vocabulary.{◌≤◌, List, [], ◌∷◌, take, sym, arith, All, All-more, All-same, All-tail, Entry, qualifier, NumbersFit, max_id}
 use Rattle.std.proofs.lemmas.List.{take_all}
-use Rattle.std.proofs.lemmas.List.Elements.{All-more, All-same, All-tail}
-use Rattle.acl_core.specs.declared.entry.Entry.{Entry}
-use Rattle.acl_core.specs.Tags.{qualifier}
-use Rattle.acl_text.specs.Laws.{NumbersFit}
-use Rattle.acl_text.specs.Qualifiers.{max_id}
 use Rattle.acl_text.proofs.laws.numbers_fit.Goals as goal
 
 each_fits : (list : List Entry) → All (λ e. qualifier e.tag ≤ max_id) list → NumbersFit list

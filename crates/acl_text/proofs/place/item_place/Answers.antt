@@ -1,9 +1,5 @@
-use Rattle.std.proofs.Common.{◌≡◌, ℕ, ◌+◌, ◌-◌, ◌∷◌, ◌++◌, List, [], length, Option, ap, sym, ◌∙◌, arith}
-use Rattle.std.specs.List.{slice_get}
-use Rattle.acl_text.specs.Layout.{comma, line_feed, parts}
-use Rattle.acl_text.specs.Places.{begins, begins_of_lines}
-use Rattle.acl_text.specs.code.Finding.{found}
-use Rattle.acl_text.specs.code.Remaining.{parts_left}
+use Rattle.acl_text.proofs.Vocabulary.{◌≡◌, ℕ, ◌+◌, ◌-◌, ◌∷◌, ◌++◌, List, [], length, Option, ap, sym, ◌∙◌, arith, slice_get, comma, line_feed, parts, begins}
+use Rattle.acl_text.proofs.Vocabulary.{begins_of_lines, found, parts_left}
 use Rattle.acl_text.proofs.ItemCounts.{cut_length}
 use Rattle.acl_text.proofs.ItemPlaces.{lines_begun, lines_below}
 use Rattle.acl_text.proofs.place.item_place.Goals as goal

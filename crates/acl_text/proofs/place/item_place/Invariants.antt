@@ -1,7 +1,4 @@
-use Rattle.std.proofs.Common.{◌≡◌, ◌≤◌, length, ◌-◌}
-use Rattle.std.specs.List.{slice_get}
-use Rattle.acl_text.specs.Layout.{line_feed, parts}
-use Rattle.acl_text.specs.Places.{begins_of_lines, item_place}
+use Rattle.acl_text.proofs.Vocabulary.{◌≡◌, ◌≤◌, length, ◌-◌, slice_get, line_feed, parts, begins_of_lines, item_place}
 use Rattle.acl_text.proofs.place.item_place.Given as goal
 
 -- the place is that of an item of the lines below

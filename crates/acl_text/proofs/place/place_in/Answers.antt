@@ -1,8 +1,4 @@
-use Rattle.std.proofs.Common.{◌+◌, ◌-◌, ◌∷◌, ◌++◌, length, ap, ◌∙◌, arith}
-use Rattle.std.specs.List.{slice_get}
-use Rattle.acl_text.specs.Layout.{comma, parts}
-use Rattle.acl_text.specs.Places.{begins}
-use Rattle.acl_text.specs.code.Remaining.{parts_left}
+use Rattle.acl_text.proofs.Vocabulary.{◌+◌, ◌-◌, ◌∷◌, ◌++◌, length, ap, ◌∙◌, arith, slice_get, comma, parts, begins, parts_left}
 use Rattle.acl_text.proofs.ItemCounts.{cut_length}
 use Rattle.acl_text.proofs.ItemPlaces.{begun_here, is_some_left, search_ends, search_on}
 use Rattle.acl_text.proofs.place.place_in.Goals as goal

@@ -1,7 +1,4 @@
-use Rattle.std.proofs.Common.{◌≡◌, ℕ, ◌≤◌, List, ◌++◌, length, ◌+◌, ◌-◌}
-use Rattle.std.specs.List.{slice_get}
-use Rattle.acl_text.specs.Layout.{comma, parts}
-use Rattle.acl_text.specs.Places.{begins}
+use Rattle.acl_text.proofs.Vocabulary.{◌≡◌, ℕ, ◌≤◌, List, ◌++◌, length, ◌+◌, ◌-◌, slice_get, comma, parts, begins}
 use Rattle.acl_text.proofs.place.place_in.Given as goal
 
 -- the place is that of a part of the rest

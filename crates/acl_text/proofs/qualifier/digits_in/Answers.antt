@@ -1,9 +1,5 @@
-use Rattle.std.proofs.Common.{◌≡◌, ◌+◌, ◌-◌, ◌*◌, ◌<◌, ◌∙◌, true, get_or, length, sym, ap, rules, arith}
-use Rattle.std.specs.Char.{is_ascii_digit}
-use Rattle.std.proofs.lemmas.Bool.{and_from}
-use Rattle.std.proofs.lemmas.Grind.{common_steps}
-use Rattle.std.proofs.lemmas.List.Folds.{list_all_more}
-use Rattle.acl_text.specs.Qualifiers.{max_id}
+use Rattle.acl_text.proofs.Vocabulary.{◌≡◌, ◌+◌, ◌-◌, ◌*◌, ◌<◌, ◌∙◌, true, get_or, length, sym, ap, rules, arith, is_ascii_digit, and_from, common_steps}
+use Rattle.acl_text.proofs.Vocabulary.{list_all_more, max_id}
 use Rattle.acl_text.proofs.Numbers.{number_more, too_big}
 use Rattle.acl_text.proofs.qualifier.digits_in.Goals as goal
 

@@ -1,8 +1,4 @@
-use Rattle.std.proofs.Common.{◌≡◌, ◌≤◌, true, take}
-use Rattle.std.specs.Char.{is_ascii_digit}
-use Rattle.std.specs.List.{list_all}
-use Rattle.std.specs.Str.Parse.{digits_value}
-use Rattle.acl_text.specs.Qualifiers.{max_id}
+use Rattle.acl_text.proofs.Vocabulary.{◌≡◌, ◌≤◌, true, take, is_ascii_digit, list_all, digits_value, max_id}
 use Rattle.acl_text.proofs.qualifier.digits_in.Given as goal
 
 -- the number that the digits so far write

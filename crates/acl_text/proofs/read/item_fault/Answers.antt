@@ -1,6 +1,4 @@
-use Rattle.std.proofs.Common.{◌≡◌, ap, refl, ◌∙◌, arith}
-use Rattle.acl_text.specs.code.Remaining.{items_left}
-use Rattle.acl_text.specs.Layout.{items_of}
+use Rattle.acl_text.proofs.Vocabulary.{◌≡◌, ap, refl, ◌∙◌, arith, items_left, items_of}
 use Rattle.acl_text.proofs.ItemCounts.{few_items}
 use Rattle.acl_text.proofs.read.item_fault.Goals as goal
 

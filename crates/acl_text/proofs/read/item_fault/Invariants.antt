@@ -1,7 +1,4 @@
-use Rattle.std.proofs.Common.{◌≡◌, ◌+◌, ◌≤◌, length, map}
-use Rattle.acl_text.specs.Grammar.{reading}
-use Rattle.acl_text.specs.code.Remaining.{items_left}
-use Rattle.acl_text.specs.Texts.{readings, first_item_fault}
+use Rattle.acl_text.proofs.Vocabulary.{◌≡◌, ◌+◌, ◌≤◌, length, map, reading, items_left, readings, first_item_fault}
 use Rattle.acl_text.proofs.read.item_fault.Given as goal
 
 -- The first fault of the items left, by their numbers, is that of the text.

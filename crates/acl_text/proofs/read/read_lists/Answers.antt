@@ -1,11 +1,6 @@
-use Rattle.std.proofs.Common.{◌≡◌, ◌+◌, List, [], ◌∷◌, ◌++◌, length, map, None, Some, Ok, refl, ap, subst, sym, ◌∙◌, append-nil, append_assoc, length-append, arith}
-use Rattle.std.specs.List.{filter_map}
-use Rattle.acl_text.specs.declared.item.SidedEntry.{SidedEntry}
-use Rattle.acl_text.specs.Grammar.{reading}
-use Rattle.acl_text.specs.code.Remaining.{items_left}
-use Rattle.acl_text.specs.code.Tallied.{AreTallied}
-use Rattle.acl_text.specs.Layout.{items_of}
-use Rattle.acl_text.specs.Texts.{readings, first_item_fault, entry_said, said_before, said_in}
+use Rattle.acl_text.proofs.Vocabulary.{◌≡◌, ◌+◌, List, [], ◌∷◌, ◌++◌, length, map, None, Some, Ok, refl, ap, subst, sym, ◌∙◌, append-nil, append_assoc}
+use Rattle.acl_text.proofs.Vocabulary.{length-append, arith, filter_map, SidedEntry, reading, items_left, AreTallied, items_of, readings, first_item_fault}
+use Rattle.acl_text.proofs.Vocabulary.{entry_said, said_before, said_in}
 use Rattle.acl_text.proofs.ItemCounts.{few_items}
 use Rattle.acl_text.proofs.Spelling.{spelled_from_faultless}
 use Rattle.acl_text.proofs.EntryByEntry.{lists_spelled}

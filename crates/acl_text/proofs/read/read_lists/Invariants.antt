@@ -1,10 +1,5 @@
-use Rattle.std.proofs.Common.{◌≡◌, ◌+◌, ◌≤◌, List, ◌++◌, length, map}
-use Rattle.std.specs.List.{filter_map}
-use Rattle.acl_text.specs.declared.item.SidedEntry.{SidedEntry}
-use Rattle.acl_text.specs.Grammar.{reading}
-use Rattle.acl_text.specs.code.Remaining.{items_left}
-use Rattle.acl_text.specs.code.Tallied.{AreTallied}
-use Rattle.acl_text.specs.Texts.{readings, first_item_fault, entry_said, said_before, said_in}
+use Rattle.acl_text.proofs.Vocabulary.{◌≡◌, ◌+◌, ◌≤◌, List, ◌++◌, length, map, filter_map, SidedEntry, reading, items_left, AreTallied, readings}
+use Rattle.acl_text.proofs.Vocabulary.{first_item_fault, entry_said, said_before, said_in}
 use Rattle.acl_text.proofs.read.read_lists.Given as goal
 
 -- The entries that were taken and those of the items left are all entries, and the first fault of the items left, by

@@ -1,8 +1,4 @@
-use Rattle.std.proofs.Common.{◌≡◌, ◌++◌, ap, sym, ◌∙◌, append_assoc}
-use Rattle.std.specs.List.{flat_map}
-use Rattle.acl_text.specs.declared.item.Side.TheVariants.{Access, Default}
-use Rattle.acl_text.specs.Sides.{default_entries}
-use Rattle.acl_text.specs.Writing.{line_text, long_lines, mask_of}
+use Rattle.acl_text.proofs.Vocabulary.{◌≡◌, ◌++◌, ap, sym, ◌∙◌, append_assoc, flat_map, Access, Default, default_entries, line_text, long_lines, mask_of}
 use Rattle.acl_text.proofs.EntryByEntry.{on_ok}
 use Rattle.acl_text.proofs.write.append_both.Goals as goal
 

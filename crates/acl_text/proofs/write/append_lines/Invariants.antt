@@ -1,6 +1,4 @@
-use Rattle.std.proofs.Common.{◌≡◌, ◌++◌, take}
-use Rattle.std.specs.List.{flat_map}
-use Rattle.acl_text.specs.Writing.{line_text}
+use Rattle.acl_text.proofs.Vocabulary.{◌≡◌, ◌++◌, take, flat_map, line_text}
 use Rattle.acl_text.proofs.write.append_lines.Given as goal
 
 -- the lines of the entries so far

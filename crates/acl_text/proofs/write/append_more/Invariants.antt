@@ -1,6 +1,4 @@
-use Rattle.std.proofs.Common.{◌≡◌, ◌++◌, take}
-use Rattle.std.specs.List.{flat_map}
-use Rattle.acl_text.specs.Writing.{next_text}
+use Rattle.acl_text.proofs.Vocabulary.{◌≡◌, ◌++◌, take, flat_map, next_text}
 use Rattle.acl_text.proofs.write.append_more.Given as goal
 
 -- the entries so far, each with a comma before it

@@ -1,12 +1,6 @@
-use Rattle.std.proofs.Common.{◌≡◌, ◌+◌, ◌-◌, ◌++◌, ◌∷◌, [], Option, Some, None, refl, length, ap, sym, ◌∙◌, append_assoc, arith}
-use Rattle.std.specs.Option.{option_or}
-use Rattle.run_core.specs.declared.done.EndedJob.{EndedJob}
-use Rattle.run_certify.specs.declared.entry.Entry.TheVariants.{Ended}
-use Rattle.txn_core.specs.Agents.{is_idle}
+use Rattle.agent_pool.proofs.Vocabulary.{◌≡◌, ◌+◌, ◌-◌, ◌++◌, ◌∷◌, [], Option, Some, None, refl, length, ap, sym, ◌∙◌, append_assoc, arith, option_or}
+use Rattle.agent_pool.proofs.Vocabulary.{EndedJob, Ended, is_idle, Response, Standing, end_entry}
 use Rattle.txn_core.specs.Agents as agents
-use Rattle.txn_core.specs.declared.response.Response.{Response}
-use Rattle.txn_core.specs.Standing.{Standing}
-use Rattle.agent_pool.specs.code.Steps.{end_entry}
 use Rattle.agent_pool.proofs.Keeping.{take_count, take_idle, take_index}
 use Rattle.agent_pool.proofs.asking.hear.Goals as goal
 

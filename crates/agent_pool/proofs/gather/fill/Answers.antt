@@ -1,14 +1,8 @@
-use Rattle.std.proofs.Common.{◌≡◌, ℕ, List, ◌∙◌, refl, sym, subst, ap, rules, arith, length, take, ◌++◌, ◌∷◌, []}
-use Rattle.std.proofs.lemmas.List.{take_all}
-use Rattle.std.specs.Prelude.{Contains, Some, slice_get, slice_index_or}
-use Rattle.agent_pool.specs.code.Filled.{AreOfThese, done_in, players_of, sitting}
-use Rattle.agent_pool.specs.declared.work.JobDone.{JobDone}
-use Rattle.agent_pool.specs.declared.work.Worked.{Worked}
-use Rattle.agent_pool.specs.code.Gathering.{AreSeen, AreWithin}
-use Rattle.agent_pool.specs.Gathers.{IsDouble, places, places_by}
-use Rattle.agent_pool.specs.Seats.{numbers_of}
-use Rattle.agent_pool.specs.code.Working.{AllDone, RiseBetween, RiseInPlace}
-use Rattle.agent_pool.specs.Transcripts.{begins, number_of}
+use Rattle.agent_pool.proofs.Vocabulary.{◌≡◌, ℕ, List, ◌∙◌, refl, sym, subst, ap, rules, arith, length, ◌++◌, ◌∷◌, [], take_all, Contains, Some, slice_get}
+use Rattle.agent_pool.proofs.Vocabulary.{slice_index_or, AreOfThese, done_in, players_of, sitting, JobDone, Worked, AreSeen, AreWithin, IsDouble, places}
+use Rattle.agent_pool.proofs.Vocabulary.{places_by, numbers_of, AllDone, RiseBetween, RiseInPlace, number_of}
+use Rattle.std.proofs.Common.{take}
+use Rattle.agent_pool.specs.Transcripts.{begins}
 use Rattle.agent_pool.proofs.Apart.{below_none, is_fresh, none_at, of_more}
 use Rattle.agent_pool.proofs.Filling.{is_of, more_many, none_filled, none_many, number_at, take_numbers, worked_at}
 use Rattle.agent_pool.proofs.Seen.{done_within, double_further, passed_on, seen_none, worked_next, worked_split}

@@ -1,11 +1,6 @@
-use Rattle.std.proofs.Common.{◌≡◌, List, length, take}
-use Rattle.std.specs.List.{AllZip}
-use Rattle.agent_pool.specs.code.Filled.{AreInOrderIn, AreOfThese, IsFilled, done_in, filled_in, players_of, sitting}
-use Rattle.agent_pool.specs.code.Gathering.{AreSeen}
-use Rattle.agent_pool.specs.Gathers.{places}
-use Rattle.agent_pool.specs.Seats.{numbers_of}
-use Rattle.agent_pool.specs.code.Starts.{IsWorkOf}
-use Rattle.agent_pool.specs.declared.work.SeatedAgent.{SeatedAgent}
+use Rattle.agent_pool.proofs.Vocabulary.{◌≡◌, List, length, AllZip, AreInOrderIn, AreOfThese, IsFilled, done_in, filled_in, players_of, sitting, AreSeen}
+use Rattle.agent_pool.proofs.Vocabulary.{places, numbers_of, IsWorkOf, SeatedAgent}
+use Rattle.std.proofs.Common.{take}
 use Rattle.agent_pool.proofs.gather.fill.Given as goal
 
 abbrev pub invariant-loop-one : goal.invariant-loop-one

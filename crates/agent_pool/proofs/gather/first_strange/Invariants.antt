@@ -1,5 +1,4 @@
-use Rattle.std.proofs.Common.{◌≡◌, length}
-use Rattle.agent_pool.specs.Gathers.{first_strange}
+use Rattle.agent_pool.proofs.Vocabulary.{◌≡◌, length, first_strange}
 use Rattle.agent_pool.proofs.gather.first_strange.Given as goal
 
 abbrev pub invariant-loop-one : goal.invariant-loop-one

@@ -1,11 +1,5 @@
-use Rattle.std.proofs.Common.{◌≡◌, List, sym, subst}
-use Rattle.std.specs.Prelude.{None}
-use Rattle.agent_pool.specs.declared.work.Worked.{Worked}
-use Rattle.agent_pool.specs.declared.outcome.JobOutcome.{JobOutcome}
-use Rattle.agent_pool.specs.Gathers.{HaveOne, NoneFailed, TellsOf, first_stuck, places}
-use Rattle.agent_pool.specs.Pools.{AreApart, AreInOrder, AreOutcomes}
-use Rattle.agent_pool.specs.code.Filled.{players_of, sitting}
-use Rattle.agent_pool.specs.code.Gathering.{AreGathered}
+use Rattle.agent_pool.proofs.Vocabulary.{◌≡◌, List, sym, subst, None, Worked, JobOutcome, HaveOne, NoneFailed, TellsOf, first_stuck, places, AreApart}
+use Rattle.agent_pool.proofs.Vocabulary.{AreInOrder, AreOutcomes, players_of, sitting, AreGathered}
 use Rattle.agent_pool.proofs.Seen.{all_ran}
 use Rattle.agent_pool.proofs.gather.gather.Goals as goal
 

@@ -1,5 +1,4 @@
-use Rattle.std.proofs.Common.{◌≡◌, length}
-use Rattle.agent_pool.specs.Gathers.{lacks_memory}
+use Rattle.agent_pool.proofs.Vocabulary.{◌≡◌, length, lacks_memory}
 use Rattle.agent_pool.proofs.gather.lacks_memory.Given as goal
 
 abbrev pub invariant-loop-one : goal.invariant-loop-one

@@ -1,7 +1,4 @@
-use Rattle.std.proofs.Common.{rules, ◌≡◌, ◌∙◌, inr, false, sym}
-use Rattle.std.specs.Prelude.{None}
-use Rattle.agent_pool.specs.Gathers.{first_strange, first_stuck, lacks_memory, places}
-use Rattle.agent_pool.specs.code.Filled.{players_of, sitting}
+use Rattle.agent_pool.proofs.Vocabulary.{rules, ◌≡◌, ◌∙◌, inr, false, sym, None, first_strange, first_stuck, lacks_memory, places, players_of, sitting}
 use Rattle.agent_pool.proofs.Seen.{missing_is, one_each, tells_double, tells_missing}
 use Rattle.agent_pool.proofs.gather.outcomes_in.Goals as goal
 

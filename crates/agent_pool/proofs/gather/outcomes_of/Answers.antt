@@ -1,10 +1,5 @@
-use Rattle.std.proofs.Common.{◌∙◌, ap, sym, subst, refl, rules, arith, length, List}
-use Rattle.std.proofs.lemmas.List.{length-map}
-use Rattle.std.proofs.lemmas.Option.{slice_get_read}
-use Rattle.std.specs.Prelude.{Option, Some, slice_get}
-use Rattle.std.specs.List.{AllZip}
-use Rattle.agent_pool.specs.declared.outcome.JobOutcome.{JobOutcome}
-use Rattle.agent_pool.specs.code.Filled.{AreInOrderIn, IsFilled, filled_in}
+use Rattle.agent_pool.proofs.Vocabulary.{◌∙◌, ap, sym, subst, refl, rules, arith, length, List, length-map, slice_get_read, Option, Some, slice_get, AllZip}
+use Rattle.agent_pool.proofs.Vocabulary.{JobOutcome, AreInOrderIn, IsFilled, filled_in}
 use Rattle.agent_pool.proofs.Apart.{apart_filled, order_filled}
 use Rattle.agent_pool.proofs.Columns.{full_below, full_further}
 use Rattle.agent_pool.proofs.Filling.{all_filled, some_many}

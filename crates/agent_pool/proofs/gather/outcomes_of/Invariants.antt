@@ -1,5 +1,4 @@
-use Rattle.std.proofs.Common.{◌≢◌, ℕ, ◌<◌}
-use Rattle.std.specs.Prelude.{None, Some, slice_get}
+use Rattle.agent_pool.proofs.Vocabulary.{◌≢◌, ℕ, ◌<◌, None, Some, slice_get}
 use Rattle.agent_pool.proofs.gather.outcomes_of.Given as goal
 
 abbrev pub invariant-loop-place : goal.invariant-loop-place

@@ -1,10 +1,7 @@
-use Rattle.std.proofs.Common.{rules, ◌≡◌, ◌∙◌, ◌++◌, List, ℕ, append-nil, refl, arith, ◌+◌, subst, sym}
-use Rattle.std.proofs.lemmas.List.{drop_more, take_all}
-use Rattle.agent_pool.specs.declared.work.JobDone.{JobDone}
-use Rattle.agent_pool.specs.Gathers.{places_by}
-use Rattle.agent_pool.specs.code.Gathering.{AreSeen}
+use Rattle.agent_pool.proofs.Vocabulary.{rules, ◌≡◌, ◌∙◌, ◌++◌, List, ℕ, refl, arith, ◌+◌, subst, sym, drop_more, take_all, JobDone, places_by, AreSeen}
+use Rattle.agent_pool.proofs.Vocabulary.{filled_in}
+use Rattle.std.proofs.Common.{append-nil}
 use Rattle.agent_pool.proofs.Seen.{double_next, passed_on, seen_next, within_at}
-use Rattle.agent_pool.specs.code.Filled.{filled_in}
 use Rattle.agent_pool.specs.Transcripts.{begins}
 use Rattle.agent_pool.proofs.Apart.{at_next}
 use Rattle.agent_pool.proofs.Filling.{done_at, put_many}

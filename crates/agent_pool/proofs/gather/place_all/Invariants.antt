@@ -1,11 +1,8 @@
-use Rattle.std.proofs.Common.{◌≡◌, ◌+◌, ◌++◌, ℕ, List, drop, length, take}
-use Rattle.std.specs.Prelude.{Contains}
-use Rattle.agent_pool.specs.Transcripts.{Played, begins}
-use Rattle.agent_pool.specs.code.Working.{AllDone, RiseBetween, RiseInPlace}
+use Rattle.agent_pool.proofs.Vocabulary.{◌≡◌, ◌+◌, ◌++◌, ℕ, List, drop, length, Contains, Played, AllDone, RiseBetween, RiseInPlace, AreBelow, AreInOrderIn}
+use Rattle.agent_pool.proofs.Vocabulary.{KeepFilled, filled_in, AreSeen, places_by}
+use Rattle.std.proofs.Common.{take}
+use Rattle.agent_pool.specs.Transcripts.{begins}
 use Rattle.agent_pool.specs.Pools.{IsOf}
-use Rattle.agent_pool.specs.code.Filled.{AreBelow, AreInOrderIn, KeepFilled, filled_in}
-use Rattle.agent_pool.specs.code.Gathering.{AreSeen}
-use Rattle.agent_pool.specs.Gathers.{places_by}
 use Rattle.agent_pool.proofs.Apart.{At}
 use Rattle.agent_pool.proofs.gather.place_all.Given as goal
 

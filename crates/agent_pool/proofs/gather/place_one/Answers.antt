@@ -1,9 +1,4 @@
-use Rattle.std.proofs.Common.{rules, refl, sym, subst, List, ◌≡◌}
-use Rattle.std.proofs.lemmas.Option.{slice_get_read}
-use Rattle.std.specs.Prelude.{Option, Some, slice_get}
-use Rattle.std.specs.List.{AllZip}
-use Rattle.agent_pool.specs.declared.outcome.JobOutcome.{JobOutcome}
-use Rattle.agent_pool.specs.code.Filled.{IsFilled}
+use Rattle.agent_pool.proofs.Vocabulary.{rules, refl, sym, subst, List, ◌≡◌, slice_get_read, Option, Some, slice_get, AllZip, JobOutcome, IsFilled}
 use Rattle.agent_pool.proofs.Filling.{place_filled}
 use Rattle.agent_pool.proofs.gather.place_one.Goals as goal
 

@@ -1,6 +1,6 @@
-use Rattle.std.proofs.Common.{◌≡◌, ◌+◌, ◌≤◌, ◌++◌, vec_len, vec_capacity, length}
-use Rattle.std.specs.Vec.Iter.{into_iter_items, into_iter_len}
-use Rattle.agent_pool.specs.code.Filled.{passes_of, players_of}
+use Rattle.agent_pool.proofs.Vocabulary.{◌≡◌, ◌+◌, ◌≤◌, ◌++◌, length, into_iter_items, into_iter_len, players_of}
+use Rattle.std.proofs.Common.{vec_len, vec_capacity}
+use Rattle.agent_pool.specs.code.Filled.{passes_of}
 use Rattle.agent_pool.proofs.gather.pool_of.Given as goal
 
 abbrev pub invariant-loop-one : goal.invariant-loop-one

@@ -1,4 +1,4 @@
-use Rattle.std.proofs.Common.{◌≡◌, ◌<◌, ◌≤◌, ℕ, length, max, slice_index}
+use Rattle.agent_pool.proofs.Vocabulary.{◌≡◌, ◌<◌, ◌≤◌, ℕ, length, max, slice_index}
 use Rattle.agent_pool.proofs.known.unite.Given as goal
 
 abbrev pub invariant-loop-server : goal.invariant-loop-server

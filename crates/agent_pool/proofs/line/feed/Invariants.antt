@@ -1,6 +1,4 @@
-use Rattle.std.proofs.Common.{◌≡◌}
-use Rattle.crossbeam_channel.specs.Claims.{view, IsSeatAt}
-use Rattle.crossbeam_channel.specs.Ends.{sends_on}
+use Rattle.agent_pool.proofs.Vocabulary.{◌≡◌, view, IsSeatAt, sends_on}
 use Rattle.agent_pool.proofs.line.feed.Given as goal
 
 abbrev pub invariant-loop-place : goal.invariant-loop-place

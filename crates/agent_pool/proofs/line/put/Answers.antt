@@ -1,6 +1,4 @@
-use Rattle.std.proofs.Common.{subst, sym}
-use Rattle.agent_pool.specs.declared.line.Hand.{Hand}
-use Rattle.agent_pool.specs.Line.{MayPut}
+use Rattle.agent_pool.proofs.Vocabulary.{subst, sym, Hand, MayPut}
 use Rattle.agent_pool.proofs.Lines.{puts_item}
 use Rattle.agent_pool.proofs.line.put.Goals as goal
 

@@ -1,6 +1,4 @@
-use Rattle.std.proofs.Common.{subst, sym}
-use Rattle.agent_pool.specs.declared.line.Hand.{Hand}
-use Rattle.agent_pool.specs.Line.{IsTaker}
+use Rattle.agent_pool.proofs.Vocabulary.{subst, sym, Hand, IsTaker}
 use Rattle.agent_pool.proofs.Lines.{takes}
 use Rattle.agent_pool.proofs.line.take.Goals as goal
 

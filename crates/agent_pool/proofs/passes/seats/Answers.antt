@@ -1,9 +1,5 @@
-use Rattle.std.proofs.Common.{◌≡◌, ℕ, ◌∷◌, [], ◌++◌, List, length, refl, sym, ap, subst, ◌∙◌, append_assoc, arith}
-use Rattle.std.specs.Prelude.{All}
-use Rattle.std.specs.Vec.Iter.{into_iter_items}
-use Rattle.agent_pool.specs.Seats.{AreDistinct, HasPass, numbers_of, passes_for}
-use Rattle.agent_pool.specs.code.Seated.{IsTakenOut}
-use Rattle.agent_pool.specs.Transcripts.{Played}
+use Rattle.agent_pool.proofs.Vocabulary.{◌≡◌, ℕ, ◌∷◌, [], ◌++◌, List, length, refl, sym, ap, subst, ◌∙◌, append_assoc, arith, All, into_iter_items}
+use Rattle.agent_pool.proofs.Vocabulary.{AreDistinct, HasPass, numbers_of, passes_for, IsTakenOut, Played}
 use Rattle.agent_pool.proofs.Seating.{none_left, others_before, seated_more}
 use Rattle.agent_pool.proofs.passes.seats.Goals as goal
 

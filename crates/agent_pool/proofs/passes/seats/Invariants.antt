@@ -1,6 +1,5 @@
-use Rattle.std.proofs.Common.{◌≡◌, ◌+◌, ◌≤◌, ◌++◌, vec_len, vec_capacity, length}
-use Rattle.std.specs.Vec.Iter.{into_iter_items, into_iter_len}
-use Rattle.agent_pool.specs.code.Seated.{AreSeated}
+use Rattle.agent_pool.proofs.Vocabulary.{◌≡◌, ◌+◌, ◌≤◌, ◌++◌, length, into_iter_items, into_iter_len, AreSeated}
+use Rattle.std.proofs.Common.{vec_len, vec_capacity}
 use Rattle.agent_pool.proofs.passes.seats.Given as goal
 
 abbrev pub invariant-loop-player : goal.invariant-loop-player

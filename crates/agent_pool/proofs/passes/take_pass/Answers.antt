@@ -1,4 +1,4 @@
-use Rattle.std.proofs.Common.{rules}
+use Rattle.agent_pool.proofs.Vocabulary.{rules}
 use Rattle.agent_pool.proofs.Seating.{taken_at}
 use Rattle.agent_pool.proofs.passes.take_pass.Goals as goal
 

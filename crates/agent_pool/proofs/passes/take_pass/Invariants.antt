@@ -1,6 +1,5 @@
-use Rattle.std.proofs.Common.{◌≡◌, ◌≤◌, [], drop}
+use Rattle.agent_pool.proofs.Vocabulary.{◌≡◌, ◌≤◌, [], drop, passes_for}
 use Rattle.std.specs.Vec.{vec_len}
-use Rattle.agent_pool.specs.Seats.{passes_for}
 use Rattle.agent_pool.proofs.passes.take_pass.Given as goal
 
 abbrev pub invariant-loop-at : goal.invariant-loop-at

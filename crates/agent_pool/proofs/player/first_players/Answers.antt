@@ -1,5 +1,4 @@
-use Rattle.std.proofs.Common.{List, [], ◌∷◌, ◌++◌, ap, sym, ◌∙◌}
-use Rattle.agent_pool.specs.Transcripts.{Played, first_player}
+use Rattle.agent_pool.proofs.Vocabulary.{List, [], ◌∷◌, ◌++◌, ap, sym, ◌∙◌, Played, first_player}
 use Rattle.agent_pool.proofs.Firsts.{players_more}
 use Rattle.agent_pool.proofs.player.first_players.Goals as goal
 

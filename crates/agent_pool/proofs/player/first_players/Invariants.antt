@@ -1,5 +1,4 @@
-use Rattle.std.proofs.Common.{◌≡◌}
-use Rattle.agent_pool.specs.Transcripts.{players_from}
+use Rattle.agent_pool.proofs.Vocabulary.{◌≡◌, players_from}
 use Rattle.agent_pool.proofs.player.first_players.Given as goal
 
 abbrev pub invariant-loop-number : goal.invariant-loop-number

@@ -1,17 +1,8 @@
-use Rattle.std.proofs.Common.{All, Vec, ◌≡◌, ◌∷◌, [], ◌++◌, List, length, sym, ap, subst, ◌∙◌, append_assoc, append-nil, arith, rules}
-use Rattle.std.proofs.lemmas.List.{length-append}
-use Rattle.std.proofs.lemmas.List.Elements.{All-push, All-same, All-tail}
-use Rattle.std.specs.List.{AllZip}
-use Rattle.std.specs.Vec.Iter.{into_iter_items}
-use Rattle.std.specs.declared.alloc.Global.{Global}
-use Rattle.agent_pool.specs.declared.line.Hand.{Hand}
-use Rattle.agent_pool.specs.declared.start.Start.{Start}
-use Rattle.agent_pool.specs.declared.work.SeatedAgent.{SeatedAgent}
-use Rattle.agent_pool.specs.declared.work.Worked.{Worked}
-use Rattle.agent_pool.specs.Line.{feeder, with_taker}
+use Rattle.agent_pool.proofs.Vocabulary.{All, Vec, ◌≡◌, ◌∷◌, [], ◌++◌, List, length, sym, ap, subst, ◌∙◌, append_assoc, arith, rules, length-append, All-push}
+use Rattle.agent_pool.proofs.Vocabulary.{All-same, All-tail, AllZip, into_iter_items, Global, Hand, Start, SeatedAgent, Worked, feeder, with_taker, Comes}
+use Rattle.agent_pool.proofs.Vocabulary.{IsStart, IsWorkOf, IsIdle}
+use Rattle.std.proofs.Common.{append-nil}
 use Rattle.agent_pool.specs.code.Back.{IsOf}
-use Rattle.agent_pool.specs.code.Starts.{Comes, IsStart, IsWorkOf}
-use Rattle.agent_pool.specs.Transcripts.{IsIdle}
 use Rattle.agent_pool.proofs.Lines.{forks}
 use Rattle.agent_pool.proofs.JobsTaken.{by_ok}
 use Rattle.agent_pool.proofs.Zips.{zip_push, zip_then, nothing_left}

@@ -1,12 +1,7 @@
-use Rattle.std.proofs.Common.{◌≡◌, ◌+◌, ◌≤◌, ◌++◌, All, vec_len, vec_capacity, length}
-use Rattle.std.specs.List.{AllZip}
-use Rattle.std.specs.Vec.Iter.{into_iter_items, into_iter_len}
-use Rattle.crossbeam_channel.specs.Claims.{view, IsSeatAt}
-use Rattle.crossbeam_channel.specs.Ends.{sends_on}
-use Rattle.agent_pool.specs.Line.{feeder}
+use Rattle.agent_pool.proofs.Vocabulary.{◌≡◌, ◌+◌, ◌≤◌, ◌++◌, All, length, AllZip, into_iter_items, into_iter_len, view, IsSeatAt, sends_on, feeder, AreIdle}
+use Rattle.agent_pool.proofs.Vocabulary.{IsStart}
+use Rattle.std.proofs.Common.{vec_len, vec_capacity}
 use Rattle.agent_pool.specs.code.Back.{IsOf}
-use Rattle.agent_pool.specs.code.Filled.{AreIdle}
-use Rattle.agent_pool.specs.code.Starts.{IsStart}
 use Rattle.agent_pool.proofs.pool.in_scope.Given as goal
 
 abbrev pub invariant-loop-seat : goal.invariant-loop-seat

@@ -1,9 +1,5 @@
-use Rattle.std.proofs.Common.{rules, ◌+◌, ◌≤◌, inr, ℕ, List, length, sym, subst, arith}
+use Rattle.agent_pool.proofs.Vocabulary.{rules, ◌+◌, ◌≤◌, inr, ℕ, List, length, sym, subst, arith, Held, HasRoom, AreSeated, IsSeated, IsWorkOf}
 use Rattle.std.specs.Vec.{vec_len, vec_capacity}
-use Rattle.server_lock.specs.Passes.{Held}
-use Rattle.agent_pool.specs.code.Gathering.{HasRoom}
-use Rattle.agent_pool.specs.code.Seated.{AreSeated, IsSeated}
-use Rattle.agent_pool.specs.code.Starts.{IsWorkOf}
 use Rattle.agent_pool.proofs.Filling.{as_many, seats_idle, still_distinct}
 use Rattle.agent_pool.proofs.Lines.{begins}
 use Rattle.agent_pool.proofs.Pooling.{pool_is}

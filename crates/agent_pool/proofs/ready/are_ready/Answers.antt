@@ -1,5 +1,4 @@
-use Rattle.std.proofs.Common.{◌≢◌, ℕ, [], Some, subst, ◌∙◌, sym}
-use Rattle.agent_pool.specs.Seats.{IsOther, passes_for}
+use Rattle.agent_pool.proofs.Vocabulary.{◌≢◌, ℕ, [], Some, subst, ◌∙◌, sym, IsOther, passes_for}
 use Rattle.agent_pool.proofs.Readiness.{ready_all, ready_on}
 use Rattle.agent_pool.proofs.ready.are_ready.Goals as goal
 use Rattle.agent_pool.proofs.ready.are_ready.Goals.{then-not-is_idle-via-then-not-is_idle, then-not-is_idle-via-else-not-is_idle+then-not-has_pass, then-not-is_idle-via-else-not-is_idle+else-not-has_pass+then-not-is_other}

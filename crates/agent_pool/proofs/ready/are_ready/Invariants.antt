@@ -1,5 +1,4 @@
-use Rattle.std.proofs.Common.{◌↔◌, length}
-use Rattle.agent_pool.specs.Seats.{AreReady}
+use Rattle.agent_pool.proofs.Vocabulary.{◌↔◌, length, AreReady}
 use Rattle.agent_pool.proofs.ready.are_ready.Given as goal
 
 abbrev pub invariant-loop-player : goal.invariant-loop-player

@@ -1,5 +1,4 @@
-use Rattle.std.proofs.Common.{◌≡◌, length}
-use Rattle.agent_pool.specs.Seats.{passes_for}
+use Rattle.agent_pool.proofs.Vocabulary.{◌≡◌, length, passes_for}
 use Rattle.agent_pool.proofs.ready.has_pass.Given as goal
 
 abbrev pub invariant-loop-pass : goal.invariant-loop-pass

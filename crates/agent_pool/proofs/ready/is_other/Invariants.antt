@@ -1,5 +1,4 @@
-use Rattle.std.proofs.Common.{◌↔◌, Some, length}
-use Rattle.agent_pool.specs.Seats.{IsOther}
+use Rattle.agent_pool.proofs.Vocabulary.{◌↔◌, Some, length, IsOther}
 use Rattle.agent_pool.proofs.ready.is_other.Given as goal
 
 abbrev pub invariant-loop-player : goal.invariant-loop-player

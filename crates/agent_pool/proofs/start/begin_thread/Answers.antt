@@ -1,8 +1,4 @@
-use Rattle.std.proofs.Common.{sym, subst}
-use Rattle.crossbeam_channel.specs.Claims.{Pass, IsSeatAt}
-use Rattle.crossbeam_channel.specs.Ends.{receives_on}
-use Rattle.agent_pool.specs.declared.line.Hand.{Hand}
-use Rattle.agent_pool.specs.declared.line.Item.{Item}
+use Rattle.agent_pool.proofs.Vocabulary.{sym, subst, Pass, IsSeatAt, receives_on, Hand, PoolItem}
 use Rattle.agent_pool.proofs.start.begin_thread.Goals as goal
 
 pub returns-in_default-clause-start : goal.returns-in_default-clause-start
@@ -10,6 +6,6 @@ returns-in_default-clause-start g c = c.new.ensures.work c.args.context.now.jobs
 
 pub returns-in_default-clause-of : goal.returns-in_default-clause-of
 returns-in_default-clause-of g c = (
-  subst (λ (ticket : Pass Item Hand). IsSeatAt (receives_on c.args.context.now.receiver.now) ticket) (sym c.new.ensures.ticket) c.requires.ticket.0,
+  subst (λ (ticket : Pass PoolItem Hand). IsSeatAt (receives_on c.args.context.now.receiver.now) ticket) (sym c.new.ensures.ticket) c.requires.ticket.0,
   c.new.ensures.back c.args.context.now.servers.now.servers c.args.context.now.jobs.now,
 )

@@ -1,15 +1,8 @@
-use Rattle.std.proofs.Common.{inl, inr, ◌≡◌, ◌∷◌, [], ◌++◌, ℕ, List, length, sym, ap, subst, ◌∙◌, append_assoc, append-nil, arith, rules}
-use Rattle.std.proofs.lemmas.List.{length-append}
-use Rattle.std.proofs.lemmas.List.Elements.{All-head, All-same, All-tail}
-use Rattle.std.specs.List.{AllZip}
-use Rattle.std.specs.Vec.Iter.{into_iter_items}
-use Rattle.crossbeam_channel.specs.Claims.{view, IsSeatAt}
-use Rattle.agent_pool.specs.declared.line.Hand.{Hand}
-use Rattle.agent_pool.specs.declared.work.Worked.{Worked}
-use Rattle.agent_pool.specs.Line.{HaveSame, places_below}
-use Rattle.agent_pool.specs.Taken.{AllTook}
+use Rattle.agent_pool.proofs.Vocabulary.{inl, inr, ◌≡◌, ◌∷◌, [], ◌++◌, ℕ, List, length, sym, ap, subst, ◌∙◌, append_assoc, arith, rules, length-append}
+use Rattle.agent_pool.proofs.Vocabulary.{All-head, All-same, All-tail, AllZip, into_iter_items, view, IsSeatAt, Hand, Worked, HaveSame, places_below, AllTook}
+use Rattle.agent_pool.proofs.Vocabulary.{Comes}
+use Rattle.std.proofs.Common.{append-nil}
 use Rattle.agent_pool.specs.code.Back.{IsOf}
-use Rattle.agent_pool.specs.code.Starts.{Comes}
 use Rattle.agent_pool.proofs.Lines.{either_is, learns_all, merges}
 use Rattle.agent_pool.proofs.JobsTaken.{all_took_more}
 use Rattle.agent_pool.proofs.Zips.{zip_push, nothing_left}

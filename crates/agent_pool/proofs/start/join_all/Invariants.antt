@@ -1,11 +1,7 @@
-use Rattle.std.proofs.Common.{◌≡◌, ◌+◌, ◌≤◌, ◌++◌, All, true, vec_len, vec_capacity, length}
-use Rattle.std.specs.List.{AllZip}
-use Rattle.std.specs.Vec.Iter.{into_iter_items, into_iter_len}
-use Rattle.crossbeam_channel.specs.Claims.{view, IsSeatAt}
-use Rattle.crossbeam_channel.specs.Ends.{sends_on}
-use Rattle.agent_pool.specs.Taken.{AllTook}
+use Rattle.agent_pool.proofs.Vocabulary.{◌≡◌, ◌+◌, ◌≤◌, ◌++◌, All, true, length, AllZip, into_iter_items, into_iter_len, view, IsSeatAt, sends_on, AllTook}
+use Rattle.agent_pool.proofs.Vocabulary.{Comes}
+use Rattle.std.proofs.Common.{vec_len, vec_capacity}
 use Rattle.agent_pool.specs.code.Back.{IsOf}
-use Rattle.agent_pool.specs.code.Starts.{Comes}
 use Rattle.agent_pool.proofs.start.join_all.Given as goal
 
 abbrev pub invariant-loop-start : goal.invariant-loop-start

@@ -1,7 +1,5 @@
-use Rattle.std.proofs.Common.{List, ℕ, subst}
-use Rattle.agent_pool.specs.declared.pool_context.NamedJob.{NamedJob}
-use Rattle.agent_pool.specs.declared.start.Start.{Start}
-use Rattle.agent_pool.specs.code.Back.{IsBack, IsOf}
+use Rattle.agent_pool.proofs.Vocabulary.{List, ℕ, subst, NamedJob, Start, IsBack}
+use Rattle.agent_pool.specs.code.Back.{IsOf}
 use Rattle.agent_pool.proofs.start.join_one.Goals as goal
 
 pub returns-in-Started-clause-back : goal.returns-in-Started-clause-back

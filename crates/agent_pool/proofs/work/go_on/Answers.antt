@@ -1,6 +1,4 @@
-use Rattle.std.proofs.Common.{ℕ, ap, subst, length}
-use Rattle.agent_pool.specs.declared.asking.Came.{Came}
-use Rattle.agent_pool.specs.code.Steps.{DidMore}
+use Rattle.agent_pool.proofs.Vocabulary.{ℕ, ap, subst, length, Came, DidMore}
 use Rattle.agent_pool.proofs.Leaving.{did_more, did_nothing}
 use Rattle.agent_pool.proofs.work.go_on.Goals as goal
 

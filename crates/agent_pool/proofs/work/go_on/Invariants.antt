@@ -1,6 +1,5 @@
-use Rattle.std.proofs.Common.{◌≡◌, length}
+use Rattle.agent_pool.proofs.Vocabulary.{◌≡◌, length, DidMore}
 use Rattle.agent_pool.specs.declared.asking.Came.TheVariants as came
-use Rattle.agent_pool.specs.code.Steps.{DidMore}
 use Rattle.agent_pool.proofs.work.go_on.Given as goal
 
 abbrev pub invariant-loop : goal.invariant-loop

@@ -1,4 +1,4 @@
-use Rattle.std.proofs.Common.{rules}
+use Rattle.agent_pool.proofs.Vocabulary.{rules}
 use Rattle.agent_pool.proofs.Leaving.{did_job, lacked_job, no_job}
 use Rattle.agent_pool.proofs.work.run.Goals as goal
 

@@ -1,11 +1,4 @@
-use Rattle.std.proofs.Common.{rules, ℕ, List, sym, subst, arith}
-use Rattle.crossbeam_channel.specs.Claims.{Pass, view, IsSeatAt}
-use Rattle.crossbeam_channel.specs.Ends.{receives_on}
-use Rattle.agent_pool.specs.declared.line.Hand.{Hand}
-use Rattle.agent_pool.specs.declared.line.Item.{Item}
-use Rattle.agent_pool.specs.declared.work.JobDone.{JobDone}
-use Rattle.agent_pool.specs.Taken.{Took}
-use Rattle.agent_pool.specs.code.Working.{RiseInPlace}
+use Rattle.agent_pool.proofs.Vocabulary.{rules, ℕ, List, sym, subst, arith, Pass, view, IsSeatAt, receives_on, Hand, PoolItem, JobDone, Took, RiseInPlace}
 use Rattle.agent_pool.proofs.Lines.{behind_job, end_taken}
 use Rattle.agent_pool.proofs.Works.{place_longer}
 use Rattle.agent_pool.proofs.work.work.Goals as goal
@@ -16,7 +9,7 @@ loop-init g c =
     let back = made.back c.args.context.now.servers.now.servers c.args.context.now.jobs.now in (
       tt,
       tt,
-      subst (λ (ticket : Pass Item Hand). IsSeatAt (receives_on c.args.context.now.receiver.now) ticket) (sym made.ticket) c.requires.ticket.0,
+      subst (λ (ticket : Pass PoolItem Hand). IsSeatAt (receives_on c.args.context.now.receiver.now) ticket) (sym made.ticket) c.requires.ticket.0,
       back.takes,
       search rules,
       made.work c.args.context.now.jobs.now,

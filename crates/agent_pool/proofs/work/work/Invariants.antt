@@ -1,10 +1,4 @@
-use Rattle.std.proofs.Common.{◌≡◌}
-use Rattle.crossbeam_channel.specs.Claims.{view, IsSeatAt}
-use Rattle.crossbeam_channel.specs.Ends.{receives_on}
-use Rattle.agent_pool.specs.Line.{IsTaker}
-use Rattle.agent_pool.specs.Taken.{Took}
-use Rattle.agent_pool.specs.code.Starts.{IsWorkOf}
-use Rattle.agent_pool.specs.code.Working.{RiseInPlace}
+use Rattle.agent_pool.proofs.Vocabulary.{◌≡◌, view, IsSeatAt, receives_on, IsTaker, Took, IsWorkOf, RiseInPlace}
 use Rattle.agent_pool.proofs.work.work.Given as goal
 
 abbrev pub invariant-loop : goal.invariant-loop

@@ -1,5 +1,4 @@
-use Rattle.std.proofs.Common.{◌≡◌, ◌++◌, length}
-use Rattle.explore.specs.Ways.{decided_jobs}
+use Rattle.explore.proofs.Vocabulary.{◌≡◌, ◌++◌, length, decided_jobs}
 use Rattle.explore.proofs.order.push_decided.Given as goal
 
 abbrev pub invariant-loop-left : goal.invariant-loop-left

@@ -1,5 +1,4 @@
-use Rattle.std.proofs.Common.{◌≡◌, ◌+◌, length}
-use Rattle.explore.specs.Halves.{stray_below}
+use Rattle.explore.proofs.Vocabulary.{◌≡◌, ◌+◌, length, stray_below}
 use Rattle.explore.proofs.stray.stray_below.Given as goal
 
 abbrev pub invariant-loop-line : goal.invariant-loop-line

@@ -1,5 +1,4 @@
-use Rattle.std.proofs.Common.{◌≡◌, ◌+◌, ◌≤◌, length}
-use Rattle.explore.specs.Halves.{stray_above, stray_in}
+use Rattle.explore.proofs.Vocabulary.{◌≡◌, ◌+◌, ◌≤◌, length, stray_above, stray_in}
 use Rattle.explore.proofs.stray.stray_in.Given as goal
 
 abbrev pub invariant-loop-line : goal.invariant-loop-line

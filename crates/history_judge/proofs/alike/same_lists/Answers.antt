@@ -1,5 +1,4 @@
-use Rattle.std.proofs.Common.{sym, ◌∙◌}
-use Rattle.acl_core.proofs.ListsEquality.{same_lists_decides}
+use Rattle.history_judge.proofs.Vocabulary.{sym, ◌∙◌, same_lists_decides}
 use Rattle.history_judge.proofs.alike.same_lists.Goals as goal
 
 pub returns : goal.returns

@@ -1,4 +1,4 @@
-use Rattle.std.proofs.lemmas.Slice.Eq.{bytes_eq-Decides, slice_eq-Decides}
+use Rattle.history_judge.proofs.Vocabulary.{bytes_eq-Decides, slice_eq-Decides}
 use Rattle.history_judge.proofs.alike.same_names.Goals as goal
 
 pub returns : goal.returns

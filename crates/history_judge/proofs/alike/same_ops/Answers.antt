@@ -1,4 +1,4 @@
-use Rattle.std.proofs.Common.{arith}
+use Rattle.history_judge.proofs.Vocabulary.{arith}
 use Rattle.history_judge.proofs.Places.{at_within}
 use Rattle.history_judge.proofs.Sameness.{next_same}
 use Rattle.history_judge.proofs.alike.same_ops.Goals as goal

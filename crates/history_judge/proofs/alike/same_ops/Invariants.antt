@@ -1,7 +1,4 @@
-use Rattle.std.proofs.Common.{◌≡◌, ℕ, ◌<◌, Some}
-use Rattle.std.specs.Prelude.{slice_get}
-use Rattle.file_ops.specs.declared.operation.Op.{Op}
-use Rattle.history_judge.specs.Alike.{DoSame}
+use Rattle.history_judge.proofs.Vocabulary.{◌≡◌, ℕ, ◌<◌, Some, slice_get, Op, DoSame}
 use Rattle.history_judge.proofs.alike.same_ops.Given as goal
 
 abbrev pub invariant-loop-i : goal.invariant-loop-i

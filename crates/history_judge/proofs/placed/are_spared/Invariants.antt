@@ -1,6 +1,4 @@
-use Rattle.std.proofs.Common.{◌≡◌, ◌⊎◌, ℕ, ◌<◌, Some}
-use Rattle.std.specs.Prelude.{slice_get, Contains}
-use Rattle.history_judge.specs.Placing.{IsUntold}
+use Rattle.history_judge.proofs.Vocabulary.{◌≡◌, ◌⊎◌, ℕ, ◌<◌, Some, slice_get, Contains, IsUntold}
 use Rattle.history_judge.proofs.placed.are_spared.Given as goal
 
 abbrev pub invariant-loop-number : goal.invariant-loop-number

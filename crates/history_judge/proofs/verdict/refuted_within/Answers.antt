@@ -1,7 +1,4 @@
-use Rattle.std.proofs.Common.{◌+◌, ◌-◌, ◌/◌, ◌<◌, ℕ, List, sym, subst, arith}
-use Rattle.history_judge.specs.Fronts.{front}
-use Rattle.history_judge.specs.Histories.{IsOrderOf}
-use Rattle.history_judge.specs.Verdicts.{IsToldOf}
+use Rattle.history_judge.proofs.Vocabulary.{◌+◌, ◌-◌, ◌/◌, ◌<◌, ℕ, List, sym, subst, arith, front, IsOrderOf, IsToldOf}
 use Rattle.history_judge.proofs.Cutting.{front_all}
 use Rattle.history_judge.proofs.Stuck.{refuted_at}
 use Rattle.history_judge.proofs.verdict.refuted_within.Goals as goal

@@ -1,4 +1,4 @@
-use Rattle.std.proofs.Common.{false, true, refl}
+use Rattle.line_session.proofs.Vocabulary.{false, true, refl}
 use Rattle.line_session.proofs.Saying.{answered, lost, ran_then, says_kept, says_none, unkept}
 use Rattle.line_session.proofs.answering.carry_out.Goals as goal
 

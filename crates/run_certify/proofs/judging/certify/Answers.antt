@@ -1,10 +1,10 @@
-use Rattle.run_certify.proofs.Vocabulary.{rules, ◌≡◌, true, List, [], sym, subst, err_from_is_err_and, Decided, Item, Entry, Mismatch, IsCertifiedAs, can_all_be_told, AreAllPlayed, AllBegunAreValid, IsStart, Walked, Opening}
+use Rattle.run_certify.proofs.Vocabulary.{rules, ◌≡◌, true, List, [], sym, subst, err_from_is_err_and, Decided, Item, AgentEntry, Mismatch, IsCertifiedAs, can_all_be_told, AreAllPlayed, AllBegunAreValid, IsStart, Walked, Opening}
 use Rattle.run_certify.proofs.Going.{told_on, walked_no_further, walked_to_end}
 use Rattle.run_certify.proofs.Promised.{certified_is_promised}
 use Rattle.run_certify.proofs.Walking.{fails_further}
 use Rattle.run_certify.proofs.judging.certify.Goals as goal
 
-started : (given : Opening) (h histories : List (List Item)) (t transcripts : List (List Entry)) (walk : Walked) → h ≡ histories → t ≡ transcripts → IsStart given h t walk → IsStart given histories transcripts walk
+started : (given : Opening) (h histories : List (List Item)) (t transcripts : List (List AgentEntry)) (walk : Walked) → h ≡ histories → t ≡ transcripts → IsStart given h t walk → IsStart given histories transcripts walk
 started given h histories t transcripts walk same_h same_t start = subst (λ hs. IsStart given hs transcripts walk) same_h (subst (λ ts. IsStart given h ts walk) same_t start)
 
 pub returns-in_err-items-clause-mismatch : goal.returns-in_err-items-clause-mismatch

@@ -1,12 +1,7 @@
-use Rattle.std.proofs.Common.{◌≡◌, ◌∙◌, ap, sym, subst, refl, codes, ℕ, zero, suc, ◌<◌, ◌≤◌, Bor, List, [], Option, Some, None, Ok, Err, option_map, arith}
-use Rattle.std.specs.Prelude.{unwrap_or}
-use Rattle.clap.specs.Words.{Text, first_of, found_of, rows_of}
-use Rattle.clap.proofs.WalkLemmas.{first_value-rows}
-use Rattle.script_text.specs.Numbers.{number_up_to}
-use Rattle.suite_args.specs.Answering.{AnswersServe}
-use Rattle.suite_args.specs.CommandLine.{at_least_one, max_agents}
-use Rattle.suite_args.specs.declared.request.ArgsError.TheVariants.{CommandLine}
-use Rattle.suite_args.specs.declared.request.Request.TheVariants.{Serve}
+use Rattle.suite_args.proofs.Vocabulary.{◌≡◌, ◌∙◌, ap, sym, subst, refl, codes, ℕ, zero, suc, ◌<◌, ◌≤◌, Bor, List, [], Option, Some, None, Ok, Err, option_map}
+use Rattle.suite_args.proofs.Vocabulary.{arith, unwrap_or, first_of, found_of, rows_of, first_value-rows, number_up_to, AnswersServe, at_least_one, max_agents}
+use Rattle.suite_args.proofs.Vocabulary.{CommandLine, Serve}
+use Rattle.clap.specs.Words.{Text}
 use Rattle.suite_args.proofs.answer.agents_in.Goals as goal
 use Rattle.suite_args.proofs.answer.agents_in.Goals.{in_default-via-in-Some+else-agents-gt0, in_default-via-in_default}
 

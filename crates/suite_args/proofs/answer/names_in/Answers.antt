@@ -1,8 +1,5 @@
-use Rattle.std.proofs.Common.{◌∙◌, ap, sym, List, [], Option, option_map, map, codes}
-use Rattle.std.specs.Prelude.{unwrap_or}
-use Rattle.std.proofs.lemmas.Result.{IfOk-weaker}
-use Rattle.clap.specs.Words.{Text, found_of}
-use Rattle.clap.proofs.WalkLemmas.{raw_values-rows}
+use Rattle.suite_args.proofs.Vocabulary.{◌∙◌, ap, sym, List, [], Option, option_map, map, codes, unwrap_or, IfOk-weaker, found_of, raw_values-rows}
+use Rattle.clap.specs.Words.{Text}
 use Rattle.suite_args.proofs.answer.names_in.Goals as goal
 
 pub returns-in-Some : goal.returns-in-Some

@@ -1,5 +1,4 @@
-use Rattle.std.proofs.Common.{◌∙◌, ap, sym, option_map}
-use Rattle.clap.specs.Words.{found_of, rows_of}
+use Rattle.suite_args.proofs.Vocabulary.{◌∙◌, ap, sym, option_map, found_of, rows_of}
 use Rattle.suite_args.proofs.RequestLemmas.{answers_acl, found_command}
 use Rattle.suite_args.proofs.answer.request_of.Goals as goal
 

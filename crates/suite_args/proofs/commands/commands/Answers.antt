@@ -1,8 +1,6 @@
-use Rattle.std.proofs.Common.{◌≡◌, ◌∙◌, ap, ap₂, rules}
-use Rattle.std.proofs.lemmas.Result.{IfOk-weaker}
-use Rattle.clap.specs.Words.{App, app_of, with_subcommand}
-use Rattle.suite_args.specs.code.Commands.{acl_command, no_commands, script_command, serve_command}
-use Rattle.suite_args.specs.declared.script.Script.TheVariants.{Play, Table}
+use Rattle.suite_args.proofs.Vocabulary.{◌≡◌, ◌∙◌, ap, ap₂, rules, IfOk-weaker, app_of, with_subcommand, acl_command, no_commands, script_command}
+use Rattle.suite_args.proofs.Vocabulary.{serve_command, Play, Table}
+use Rattle.clap.specs.Words.{App}
 use Rattle.suite_args.proofs.commands.commands.Goals as goal
 
 pub returns : goal.returns

@@ -1,7 +1,4 @@
-use Rattle.std.proofs.Common.{◌≡◌, ◌<◌, ℕ, true, eqb}
-use Rattle.std.specs.FinSet.{contains, empty}
-use Rattle.std.specs.List.{slice_split}
-use Rattle.suite_play.specs.Headers.{among}
+use Rattle.suite_play.proofs.Vocabulary.{◌≡◌, ◌<◌, ℕ, true, eqb, contains, empty, slice_split, among}
 use Rattle.suite_play.proofs.header.among.Given as goal
 
 abbrev pub invariant-loop-field : goal.invariant-loop-field

@@ -1,16 +1,8 @@
-use Rattle.std.proofs.Common.{◌≤◌, ◌∙◌, Result, Ok, Err, ap, arith, length, subst, sym}
-use Rattle.std.specs.Prelude.{OnOk}
+use Rattle.suite_play.proofs.Vocabulary.{◌≤◌, ◌∙◌, Result, Ok, Err, ap, arith, length, subst, sym, OnOk, header, language, lines_of, play_output, failed}
+use Rattle.suite_play.proofs.Vocabulary.{stops, headed_badly, Plays, Output, play_error_of, whole}
 use Rattle.suite_play.proofs.Left.{header_left}
 use Rattle.suite_play.proofs.Playing.{played_output}
 use Rattle.suite_play.proofs.Promised.{play_promised}
-use Rattle.suite_play.specs.Headers.{header}
-use Rattle.suite_play.specs.Outputs.{language, lines_of, play_output}
-use Rattle.suite_script.proofs.Gathering.{failed, stops}
-use Rattle.suite_script.proofs.Played.{headed_badly}
-use Rattle.suite_script.specs.Gathering.{Plays}
-use Rattle.suite_script.specs.Outputs.{Output}
-use Rattle.suite_script.specs.Readings.{play_error_of}
-use Rattle.suite_script.specs.Scripts.{whole}
 use Rattle.suite_script.specs.declared.fault.ScriptError.TheVariants.{Memory}
 use Rattle.suite_play.proofs.player.play_events.Goals as goal
 

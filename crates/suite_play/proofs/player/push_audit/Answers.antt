@@ -1,9 +1,4 @@
-use Rattle.std.proofs.Common.{◌≡◌, ◌∙◌, ◌+◌, ◌++◌, ap, append_assoc, drop, get_or, sym}
-use Rattle.std.specs.List.{flat_map}
-use Rattle.std.proofs.lemmas.List.{drop_more}
-use Rattle.acl_core.specs.declared.check.Decider.TheVariants.{UserObj}
-use Rattle.file_ops.specs.declared.audit.AuditItem.{AuditItem}
-use Rattle.suite_play.specs.Texts.{item_line}
+use Rattle.suite_play.proofs.Vocabulary.{◌≡◌, ◌∙◌, ◌+◌, ◌++◌, ap, append_assoc, drop, get_or, sym, flat_map, drop_more, UserObj, AuditItem, item_line}
 use Rattle.suite_play.proofs.player.push_audit.Goals as goal
 
 -- what is read where there is none

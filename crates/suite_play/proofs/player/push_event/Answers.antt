@@ -1,13 +1,5 @@
-use Rattle.std.proofs.Common.{◌≡◌, ◌∙◌, ◌++◌, ℕ, Bool, List, Option, None, Result, OnOk, ap}
-use Rattle.std.proofs.lemmas.Result.{on_ok_weaker}
-use Rattle.txn_core.specs.Agents.{fixed_of}
-use Rattle.run_core.proofs.Exchanging.{or_nothing}
-use Rattle.run_core.specs.declared.done.EndedJob.{EndedJob}
-use Rattle.run_core.specs.declared.done.Served.{Served}
-use Rattle.run_core.specs.Telling.{ComesTo}
-use Rattle.run_core.specs.Worlds.{Stepped, World, step}
-use Rattle.suite_play.specs.Playing.{of_event}
-use Rattle.suite_play.specs.Texts.{outcome_text}
+use Rattle.suite_play.proofs.Vocabulary.{◌≡◌, ◌∙◌, ◌++◌, ℕ, Bool, List, Option, None, Result, OnOk, ap, on_ok_weaker, fixed_of, or_nothing, EndedJob, Served}
+use Rattle.suite_play.proofs.Vocabulary.{ComesTo, Stepped, World, step, of_event, outcome_text}
 use Rattle.suite_play.proofs.player.push_event.Goals as goal
 
 -- what was put into an empty place is printed

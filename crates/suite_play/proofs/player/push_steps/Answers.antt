@@ -1,10 +1,4 @@
-use Rattle.std.proofs.Common.{◌∙◌, ◌++◌, List, ℕ, ap, arith, refl, sym}
-use Rattle.std.proofs.lemmas.List.{append-nil}
-use Rattle.std.proofs.lemmas.Result.{on_ok_weaker}
-use Rattle.txn_core.specs.Agents.{fixed_of}
-use Rattle.std.specs.Option.{option_or}
-use Rattle.run_core.specs.Worlds.{step, Stepped}
-use Rattle.suite_play.specs.Playing.{Printed}
+use Rattle.suite_play.proofs.Vocabulary.{◌∙◌, ◌++◌, List, ℕ, ap, arith, refl, sym, append-nil, on_ok_weaker, fixed_of, option_or, step, Stepped, Printed}
 use Rattle.suite_play.proofs.Idle.{steps_idle}
 use Rattle.suite_play.proofs.Ended.{NothingLeft, all_text, all_world, from_start, has_ended, none_left, nothing_put, one_more, something_put}
 use Rattle.suite_play.proofs.player.push_steps.Goals as goal

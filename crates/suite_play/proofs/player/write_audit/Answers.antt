@@ -1,11 +1,6 @@
-use Rattle.std.proofs.Common.{◌≡◌, ◌∙◌, ◌+◌, ◌++◌, [], ap, drop, get_or}
-use Rattle.std.specs.List.{flat_map}
-use Rattle.std.proofs.lemmas.List.{drop_more}
-use Rattle.acl_core.specs.declared.check.Decider.TheVariants.{UserObj}
-use Rattle.file_ops.specs.declared.audit.AuditItem.{AuditItem}
-use Rattle.suite_script.proofs.Gathering.{failed, prints_nothing, wrote_line, wrote_moved}
+use Rattle.suite_play.proofs.Vocabulary.{◌≡◌, ◌∙◌, ◌+◌, ◌++◌, [], ap, drop, get_or, flat_map, drop_more, UserObj, AuditItem, failed, prints_nothing}
+use Rattle.suite_play.proofs.Vocabulary.{wrote_line, wrote_moved, audit_lines, item_line}
 use Rattle.suite_script.specs.declared.play_error.PlayError.TheVariants.{Memory}
-use Rattle.suite_play.specs.Texts.{audit_lines, item_line}
 use Rattle.suite_play.proofs.player.write_audit.Goals as goal
 
 -- what is read where there is none

@@ -1,7 +1,4 @@
-use Rattle.std.proofs.Common.{◌≡◌, ◌++◌, drop}
-use Rattle.std.specs.List.{flat_map}
-use Rattle.suite_script.specs.Gathering.{WroteSoFar}
-use Rattle.suite_play.specs.Texts.{audit_lines, item_line}
+use Rattle.suite_play.proofs.Vocabulary.{◌≡◌, ◌++◌, drop, flat_map, WroteSoFar, audit_lines, item_line}
 use Rattle.suite_play.proofs.player.write_audit.Given as goal
 
 abbrev pub invariant-loop-item : goal.invariant-loop-item

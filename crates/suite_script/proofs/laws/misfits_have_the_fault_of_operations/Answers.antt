@@ -1,5 +1,4 @@
-use Rattle.std.specs.List.{slice_split}
-use Rattle.script_text.specs.Phrases.{is_semicolon}
+use Rattle.suite_script.proofs.Vocabulary.{slice_split, is_semicolon}
 use Rattle.suite_script.proofs.Agreeing.{operations_agree}
 use Rattle.suite_script.proofs.laws.misfits_have_the_fault_of_operations.Goals as goal
 

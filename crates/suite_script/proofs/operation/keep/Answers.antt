@@ -1,4 +1,4 @@
-use Rattle.std.proofs.Common.{◌≡◌, length, arith}
+use Rattle.suite_script.proofs.Vocabulary.{◌≡◌, length, arith}
 use Rattle.suite_script.proofs.Steps.{kept_full}
 use Rattle.suite_script.proofs.operation.keep.Goals as goal
 

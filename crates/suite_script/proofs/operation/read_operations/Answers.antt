@@ -1,7 +1,4 @@
-use Rattle.std.proofs.Common.{◌≡◌, ◌∷◌, ◌∙◌, ap, sym}
-use Rattle.file_ops.specs.Steps.{ok_map}
-use Rattle.suite_script.specs.Operations.{operations_in}
-use Rattle.suite_script.specs.code.Kept.{kept}
+use Rattle.suite_script.proofs.Vocabulary.{◌≡◌, ◌∷◌, ◌∙◌, ap, sym, ok_map, operations_in, kept}
 use Rattle.suite_script.proofs.Steps.{kept_more, ops_after}
 use Rattle.suite_script.proofs.operation.read_operations.Goals as goal
 

@@ -1,8 +1,4 @@
-use Rattle.std.proofs.Common.{◌≡◌, ◌+◌, ◌≤◌, ◌∷◌, length, vec_len}
-use Rattle.file_ops.specs.Steps.{ok_map}
-use Rattle.file_ops.specs.Transactions.{max_operations}
-use Rattle.suite_script.specs.Operations.{operations_in}
-use Rattle.suite_script.specs.code.Kept.{kept}
+use Rattle.suite_script.proofs.Vocabulary.{◌≡◌, ◌+◌, ◌≤◌, ◌∷◌, length, vec_len, ok_map, max_operations, operations_in, kept}
 use Rattle.suite_script.proofs.Steps.{ops_after}
 use Rattle.suite_script.proofs.operation.read_operations.Given as goal
 

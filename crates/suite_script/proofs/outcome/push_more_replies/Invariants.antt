@@ -1,6 +1,4 @@
-use Rattle.std.proofs.Common.{◌≡◌, ◌++◌, drop, codes}
-use Rattle.std.specs.List.{flat_map}
-use Rattle.suite_script.specs.Texts.{reply_text}
+use Rattle.suite_script.proofs.Vocabulary.{◌≡◌, ◌++◌, drop, codes, flat_map, reply_text}
 use Rattle.suite_script.proofs.outcome.push_more_replies.Given as goal
 
 abbrev pub invariant-loop-reply : goal.invariant-loop-reply

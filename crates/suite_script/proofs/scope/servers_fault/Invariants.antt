@@ -1,7 +1,4 @@
-use Rattle.std.proofs.Common.{◌≡◌, ℕ, List, eqb}
-use Rattle.std.specs.Prelude.{is_some}
-use Rattle.std.specs.List.{list_all, slice_split}
-use Rattle.script_text.specs.Numbers.{number_up_to}
+use Rattle.suite_script.proofs.Vocabulary.{◌≡◌, ℕ, List, eqb, is_some, list_all, slice_split, number_up_to}
 use Rattle.suite_script.proofs.scope.servers_fault.Given as goal
 
 abbrev pub invariant-loop-part : goal.invariant-loop-part

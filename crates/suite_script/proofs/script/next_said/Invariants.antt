@@ -1,5 +1,4 @@
-use Rattle.std.proofs.Common.{◌≡◌, ◌+◌, length}
-use Rattle.suite_script.specs.Scripts.{lines_from}
+use Rattle.suite_script.proofs.Vocabulary.{◌≡◌, ◌+◌, length, lines_from}
 use Rattle.suite_script.proofs.script.next_said.Given as goal
 
 abbrev pub invariant-loop-line : goal.invariant-loop-line

@@ -1,5 +1,4 @@
-use Rattle.std.proofs.Common.{◌∙◌, ◌+◌, ◌++◌, ap}
-use Rattle.suite_script.specs.Votes.{field_text}
+use Rattle.suite_script.proofs.Vocabulary.{◌∙◌, ◌+◌, ◌++◌, ap, field_text}
 use Rattle.suite_script.proofs.Fields.{fields_from, more_fields}
 use Rattle.suite_script.proofs.votes.push_fields.Goals as goal
 

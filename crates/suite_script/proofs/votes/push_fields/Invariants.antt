@@ -1,5 +1,4 @@
-use Rattle.std.proofs.Common.{◌≡◌, ◌++◌}
-use Rattle.suite_script.specs.Votes.{fields_text}
+use Rattle.suite_script.proofs.Vocabulary.{◌≡◌, ◌++◌, fields_text}
 use Rattle.suite_script.proofs.Fields.{fields_from}
 use Rattle.suite_script.proofs.votes.push_fields.Given as goal
 

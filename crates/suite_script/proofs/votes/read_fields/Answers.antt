@@ -1,7 +1,4 @@
-use Rattle.std.proofs.Common.{◌≡◌, ◌∙◌, ◌<◌, true, false, take, codes, ap, sym, arith, rules}
-use Rattle.std.specs.Str.{bytes_eq}
-use Rattle.vote_core.specs.Validity.{max_servers}
-use Rattle.suite_script.specs.Votes.{reps_from}
+use Rattle.suite_script.proofs.Vocabulary.{◌≡◌, ◌∙◌, ◌<◌, true, false, take, codes, ap, sym, arith, rules, bytes_eq, max_servers, reps_from}
 use Rattle.suite_script.proofs.Fields.{listed_more, reps_after, unlisted_more}
 use Rattle.suite_script.proofs.votes.read_fields.Goals as goal
 use Rattle.suite_script.proofs.votes.read_fields.Goals.{then-ne+in_ok-read_number, else-ne}

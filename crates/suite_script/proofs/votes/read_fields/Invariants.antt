@@ -1,7 +1,4 @@
-use Rattle.std.proofs.Common.{◌≡◌, ◌≤◌, ℕ, length, take, eqb}
-use Rattle.std.specs.List.{slice_split}
-use Rattle.vote_core.specs.Validity.{max_servers}
-use Rattle.suite_script.specs.Votes.{reps_from}
+use Rattle.suite_script.proofs.Vocabulary.{◌≡◌, ◌≤◌, ℕ, length, take, eqb, slice_split, max_servers, reps_from}
 use Rattle.suite_script.proofs.Fields.{reps_after}
 use Rattle.suite_script.proofs.votes.read_fields.Given as goal
 

@@ -1,5 +1,4 @@
-use Rattle.std.proofs.Common.{◌≡◌, ◌+◌, length}
-use Rattle.suite_serve.specs.Scripts.{togethers_from}
+use Rattle.suite_serve.proofs.Vocabulary.{◌≡◌, ◌+◌, length, togethers_from}
 use Rattle.suite_serve.proofs.script.next_together.Given as goal
 
 abbrev pub invariant-loop-line : goal.invariant-loop-line

@@ -1,9 +1,4 @@
-use Rattle.std.proofs.Common.{◌≡◌, ◌∙◌, ap, sym, rules, ℕ, Ok, length}
-use Rattle.std.specs.Prelude.{unwrap_or}
-use Rattle.file_ops.specs.Steps.{ok_map}
-use Rattle.suite_script.proofs.Gathering.{failed}
-use Rattle.suite_script.specs.Scripts.{owns}
-use Rattle.suite_serve.specs.code.Kept.{commands}
+use Rattle.suite_serve.proofs.Vocabulary.{◌≡◌, ◌∙◌, ap, sym, rules, ℕ, Ok, length, unwrap_or, ok_map, failed, owns, commands}
 use Rattle.suite_serve.proofs.Gathered.{all_are, fault_below, jobs_after}
 use Rattle.suite_serve.proofs.script.read_jobs.Goals as goal
 

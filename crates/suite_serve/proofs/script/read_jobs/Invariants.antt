@@ -1,7 +1,4 @@
-use Rattle.std.proofs.Common.{◌≡◌, [], None, length}
-use Rattle.file_ops.specs.Steps.{ok_map}
-use Rattle.suite_script.specs.Scripts.{owns}
-use Rattle.suite_serve.specs.code.Kept.{commands}
+use Rattle.suite_serve.proofs.Vocabulary.{◌≡◌, [], None, length, ok_map, owns, commands}
 use Rattle.suite_serve.proofs.Gathered.{jobs_after}
 use Rattle.suite_serve.proofs.script.read_jobs.Given as goal
 

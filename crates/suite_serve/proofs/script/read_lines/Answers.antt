@@ -1,7 +1,4 @@
-use Rattle.std.proofs.Common.{◌∙◌, ap, sym, ◌-◌, ℕ}
-use Rattle.suite_script.proofs.Gathering.{failed}
-use Rattle.suite_script.specs.Scripts.{whole}
-use Rattle.suite_serve.specs.Scripts.{header}
+use Rattle.suite_serve.proofs.Vocabulary.{◌∙◌, ap, sym, ◌-◌, ℕ, failed, whole, header}
 use Rattle.suite_serve.proofs.Planned.{faulty_jobs, read_whole}
 use Rattle.suite_serve.proofs.script.read_lines.Goals as goal
 

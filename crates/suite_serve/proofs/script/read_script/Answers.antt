@@ -1,6 +1,4 @@
-use Rattle.std.proofs.Common.{◌∙◌, sym}
-use Rattle.suite_script.specs.Scripts.{script_of, whole}
-use Rattle.suite_serve.specs.Scripts.{header, language, second_together}
+use Rattle.suite_serve.proofs.Vocabulary.{◌∙◌, sym, script_of, whole, header, language, second_together}
 use Rattle.suite_serve.proofs.Planned.{faulty, said_more}
 use Rattle.suite_serve.proofs.script.read_script.Goals as goal
 

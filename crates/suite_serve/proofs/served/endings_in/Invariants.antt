@@ -1,5 +1,4 @@
-use Rattle.std.proofs.Common.{◌≡◌, ◌++◌, drop, map}
-use Rattle.suite_serve.specs.Served.{end_in, endings_of}
+use Rattle.suite_serve.proofs.Vocabulary.{◌≡◌, ◌++◌, drop, map, end_in, endings_of}
 use Rattle.suite_serve.proofs.served.endings_in.Given as goal
 
 abbrev pub invariant-loop-outcome : goal.invariant-loop-outcome

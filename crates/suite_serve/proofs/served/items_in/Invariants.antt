@@ -1,5 +1,4 @@
-use Rattle.std.proofs.Common.{◌≡◌, ◌+◌, drop}
-use Rattle.suite_serve.specs.Served.{items_in}
+use Rattle.suite_serve.proofs.Vocabulary.{◌≡◌, ◌+◌, drop, items_in}
 use Rattle.suite_serve.proofs.served.items_in.Given as goal
 
 abbrev pub invariant-loop-history : goal.invariant-loop-history

@@ -1,10 +1,6 @@
-use Rattle.std.proofs.Common.{◌≡◌, ◌∙◌, ◌+◌, ◌++◌, [], ap, drop, get_or, map, sym}
-use Rattle.std.proofs.lemmas.List.{drop_all, drop_more}
-use Rattle.std.specs.Prelude.{option_map}
-use Rattle.agent_pool.specs.declared.outcome.JobOutcome.{JobOutcome}
-use Rattle.suite_script.proofs.Gathering.{wrote_line, wrote_moved, wrote_rest}
+use Rattle.suite_serve.proofs.Vocabulary.{◌≡◌, ◌∙◌, ◌+◌, ◌++◌, [], ap, drop, get_or, map, sym, drop_all, drop_more, option_map, JobOutcome, wrote_line}
+use Rattle.suite_serve.proofs.Vocabulary.{wrote_moved, wrote_rest, end_in, job_lines, told_line}
 use Rattle.suite_serve.proofs.Written.{wrote_then}
-use Rattle.suite_serve.specs.Served.{end_in, job_lines, told_line}
 use Rattle.suite_serve.proofs.served.write_lines.Goals as goal
 
 -- what is read where there is none

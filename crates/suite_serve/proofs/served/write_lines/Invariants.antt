@@ -1,6 +1,4 @@
-use Rattle.std.proofs.Common.{◌≡◌, ◌++◌, drop, map}
-use Rattle.suite_script.specs.Gathering.{WroteSoFar}
-use Rattle.suite_serve.specs.Served.{end_in, job_lines}
+use Rattle.suite_serve.proofs.Vocabulary.{◌≡◌, ◌++◌, drop, map, WroteSoFar, end_in, job_lines}
 use Rattle.suite_serve.proofs.served.write_lines.Given as goal
 
 abbrev pub invariant-loop-outcome : goal.invariant-loop-outcome

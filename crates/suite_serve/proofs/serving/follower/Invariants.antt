@@ -1,6 +1,4 @@
-use Rattle.std.proofs.Common.{◌≡◌, ◌<◌, ◌≤◌, ℕ}
-use Rattle.std.specs.Prelude.{slice_get, Some}
-use Rattle.agent_pool.specs.Transcripts.{Played, known_at, most_numbers}
+use Rattle.suite_serve.proofs.Vocabulary.{◌≡◌, ◌<◌, ◌≤◌, ℕ, slice_get, Some, Played, known_at, most_numbers}
 use Rattle.suite_serve.proofs.serving.follower.Given as goal
 
 abbrev pub invariant-loop-leader : goal.invariant-loop-leader

@@ -1,9 +1,5 @@
-use Rattle.std.proofs.Common.{◌∷◌, ◌++◌, [], ◌∙◌, List, append_assoc, append-nil, sym, ap, subst}
-use Rattle.std.specs.List.{AllZip}
-use Rattle.std.specs.Vec.Iter.{into_iter_items}
-use Rattle.agent_pool.specs.Transcripts.{Played}
-use Rattle.agent_pool.proofs.Zips.{zip_push}
-use Rattle.suite_serve.specs.code.Working.{FollowsAll}
+use Rattle.suite_serve.proofs.Vocabulary.{◌∷◌, ◌++◌, [], ◌∙◌, List, sym, ap, subst, AllZip, into_iter_items, Played, zip_push, FollowsAll}
+use Rattle.std.proofs.Common.{append_assoc, append-nil}
 use Rattle.suite_serve.proofs.serving.followers.Goals as goal
 
 pub loop-player-preserved : goal.loop-player-preserved

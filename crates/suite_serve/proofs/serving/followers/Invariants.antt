@@ -1,7 +1,4 @@
-use Rattle.std.proofs.Common.{◌≡◌, ◌++◌}
-use Rattle.std.specs.List.{AllZip}
-use Rattle.std.specs.Vec.Iter.{into_iter_items}
-use Rattle.suite_serve.specs.code.Working.{FollowsAll}
+use Rattle.suite_serve.proofs.Vocabulary.{◌≡◌, ◌++◌, AllZip, into_iter_items, FollowsAll}
 use Rattle.suite_serve.proofs.serving.followers.Given as goal
 
 abbrev pub invariant-loop-player : goal.invariant-loop-player

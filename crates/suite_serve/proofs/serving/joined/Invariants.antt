@@ -1,5 +1,4 @@
-use Rattle.std.proofs.Common.{◌≡◌, ◌++◌}
-use Rattle.std.specs.Vec.Iter.{into_iter_items}
+use Rattle.suite_serve.proofs.Vocabulary.{◌≡◌, ◌++◌, into_iter_items}
 use Rattle.suite_serve.proofs.serving.joined.Given as goal
 
 abbrev pub invariant-loop-item : goal.invariant-loop-item

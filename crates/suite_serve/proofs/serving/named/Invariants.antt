@@ -1,6 +1,4 @@
-use Rattle.std.proofs.Common.{◌≡◌, ◌++◌, length}
-use Rattle.std.specs.Vec.Iter.{into_iter_items}
-use Rattle.suite_serve.specs.code.Working.{named_from}
+use Rattle.suite_serve.proofs.Vocabulary.{◌≡◌, ◌++◌, length, into_iter_items, named_from}
 use Rattle.suite_serve.proofs.serving.named.Given as goal
 
 abbrev pub invariant-loop-job : goal.invariant-loop-job

@@ -1,11 +1,4 @@
-use Rattle.std.proofs.Common.{◌≡◌, ◌∙◌, ap, subst, [], ◌∷◌, None}
-use Rattle.suite_prefix.specs.SettingsRules.{Opening}
-use Rattle.server_lock.specs.Closed.{AreOf}
-use Rattle.server_lock.specs.Counts.{passes_by}
-use Rattle.server_lock.specs.Passes.{new_pass}
-use Rattle.suite_serve.specs.Scripts.{Plan}
-use Rattle.suite_serve.specs.Served.{IsServed}
-use Rattle.suite_serve.specs.code.Working.{AreDone}
+use Rattle.suite_serve.proofs.Vocabulary.{◌≡◌, ◌∙◌, ap, subst, [], ◌∷◌, None, Opening, AreOf, passes_by, new_pass, Plan, IsServed, AreDone}
 use Rattle.suite_serve.proofs.Certified.{came_of, is_served}
 use Rattle.suite_serve.proofs.Counted.{few_items}
 use Rattle.suite_serve.proofs.Quiet.{none_made, operators}

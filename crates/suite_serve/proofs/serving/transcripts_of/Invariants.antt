@@ -1,6 +1,4 @@
-use Rattle.std.proofs.Common.{◌≡◌, ◌++◌}
-use Rattle.std.specs.Vec.Iter.{into_iter_items}
-use Rattle.suite_serve.specs.code.Working.{transcripts_of}
+use Rattle.suite_serve.proofs.Vocabulary.{◌≡◌, ◌++◌, into_iter_items, transcripts_of}
 use Rattle.suite_serve.proofs.serving.transcripts_of.Given as goal
 
 abbrev pub invariant-loop-player : goal.invariant-loop-player

@@ -1,16 +1,6 @@
-use Rattle.std.proofs.Common.{◌≡◌, ◌∙◌, ap, ap₂, arith, refl, sym, subst, List, [], ◌∷◌, ◌++◌, length, min, None, Result}
-use Rattle.std.specs.Prelude.{IfOk}
-use Rattle.std.proofs.lemmas.List.{take-append-drop}
-use Rattle.agent_pool.specs.declared.fault.PoolFault.{PoolFault}
-use Rattle.agent_pool.specs.declared.pool.Pool.{Pool}
-use Rattle.agent_pool.specs.declared.pool_context.NamedJob.{NamedJob}
-use Rattle.agent_pool.specs.Pools.{IsPoolOf}
-use Rattle.agent_pool.specs.Seats.{AreReady}
-use Rattle.agent_pool.specs.Transcripts.{Played, first_player, players_from}
-use Rattle.suite_prefix.specs.SettingsRules.{Opening}
-use Rattle.agent_pool.proofs.Readiness.{ready_after, ready_front}
-use Rattle.std.specs.List.{AllZip}
-use Rattle.suite_serve.specs.code.Working.{FollowsAll}
+use Rattle.suite_serve.proofs.Vocabulary.{◌≡◌, ◌∙◌, ap, ap₂, arith, refl, sym, subst, List, [], ◌∷◌, ◌++◌, length, min, None, Result, IfOk, take-append-drop}
+use Rattle.suite_serve.proofs.Vocabulary.{PoolFault, Pool, NamedJob, IsPoolOf, AreReady, Played, first_player, players_from, Opening, ready_after, ready_front}
+use Rattle.suite_serve.proofs.Vocabulary.{AllZip, FollowsAll}
 use Rattle.suite_serve.proofs.Followed.{ready_followers}
 use Rattle.suite_serve.proofs.Pooled.{all_ready, both_done}
 use Rattle.suite_serve.proofs.Quiet.{no_operator}

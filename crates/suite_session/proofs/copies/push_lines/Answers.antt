@@ -1,7 +1,6 @@
-use Rattle.std.proofs.Common.{◌++◌, ◌∙◌, ap, sym}
-use Rattle.std.proofs.lemmas.List.{append_assoc, append-nil}
+use Rattle.suite_session.proofs.Vocabulary.{◌++◌, ◌∙◌, ap, sym, append_assoc, append-nil, standing_at, standing_line}
+use Rattle.suite_session.specs.Copies.{standing_lines}
 use Rattle.suite_session.proofs.OneMore.{none_standing, standing_more}
-use Rattle.suite_session.specs.Copies.{standing_at, standing_line, standing_lines}
 use Rattle.suite_session.proofs.copies.push_lines.Goals as goal
 
 pub loop-number-init : goal.loop-number-init

@@ -1,4 +1,4 @@
-use Rattle.std.proofs.Common.{◌≡◌, ◌++◌}
+use Rattle.suite_session.proofs.Vocabulary.{◌≡◌, ◌++◌}
 use Rattle.suite_session.specs.Copies.{standing_lines}
 use Rattle.suite_session.proofs.copies.push_lines.Given as goal
 

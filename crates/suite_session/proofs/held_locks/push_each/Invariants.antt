@@ -1,6 +1,4 @@
-use Rattle.std.proofs.Common.{◌≡◌, ◌++◌, drop}
-use Rattle.std.specs.List.{flat_map}
-use Rattle.suite_session.specs.HeldLocks.{lock_line}
+use Rattle.suite_session.proofs.Vocabulary.{◌≡◌, ◌++◌, drop, flat_map, lock_line}
 use Rattle.suite_session.proofs.held_locks.push_each.Given as goal
 
 abbrev pub invariant-loop-lock : goal.invariant-loop-lock

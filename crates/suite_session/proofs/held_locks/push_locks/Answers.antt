@@ -1,8 +1,6 @@
-use Rattle.std.proofs.Common.{◌++◌, ◌∙◌, ap, sym}
-use Rattle.std.proofs.lemmas.List.{append_assoc, append-nil}
-use Rattle.run_core.specs.Worlds.{server_at}
+use Rattle.suite_session.proofs.Vocabulary.{◌++◌, ◌∙◌, ap, sym, append_assoc, append-nil, server_at, locks_by}
+use Rattle.suite_session.specs.HeldLocks.{locks_text}
 use Rattle.suite_session.proofs.OneMore.{locks_more, none_locked}
-use Rattle.suite_session.specs.HeldLocks.{locks_by, locks_text}
 use Rattle.suite_session.proofs.held_locks.push_locks.Goals as goal
 
 pub loop-number-init : goal.loop-number-init

@@ -1,4 +1,4 @@
-use Rattle.std.proofs.Common.{◌≡◌, ◌++◌}
+use Rattle.suite_session.proofs.Vocabulary.{◌≡◌, ◌++◌}
 use Rattle.suite_session.specs.HeldLocks.{locks_text}
 use Rattle.suite_session.proofs.held_locks.push_locks.Given as goal
 

@@ -1,8 +1,4 @@
-use Rattle.std.proofs.Common.{◌≡◌, ◌||◌, ℕ, drop}
-use Rattle.std.specs.List.{flat_map}
-use Rattle.rep_core.specs.code.Planning.{copies_in}
-use Rattle.suite_session.specs.Places.{has, numbers_by}
-use Rattle.suite_session.specs.code.Naming.{AreTold}
+use Rattle.suite_session.proofs.Vocabulary.{◌≡◌, ◌||◌, ℕ, drop, flat_map, copies_in, has, numbers_by, AreTold}
 use Rattle.suite_session.proofs.named.add_named_by.Given as goal
 
 abbrev pub invariant-loop-suite : goal.invariant-loop-suite

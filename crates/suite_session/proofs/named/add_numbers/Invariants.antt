@@ -1,5 +1,4 @@
-use Rattle.std.proofs.Common.{◌≡◌, ◌||◌, ℕ, drop, map}
-use Rattle.suite_session.specs.Places.{has}
+use Rattle.suite_session.proofs.Vocabulary.{◌≡◌, ◌||◌, ℕ, drop, map, has}
 use Rattle.suite_session.proofs.named.add_numbers.Given as goal
 
 abbrev pub invariant-loop-number : goal.invariant-loop-number

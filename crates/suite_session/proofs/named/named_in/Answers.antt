@@ -1,9 +1,7 @@
-use Rattle.std.proofs.Common.{◌||◌, ◌==◌, ◌∙◌, ap, subst, sym}
-use Rattle.run_core.specs.Worlds.{server_at}
+use Rattle.suite_session.proofs.Vocabulary.{◌||◌, ◌==◌, ◌∙◌, ap, subst, sym, server_at, has, named_by, AreTold}
+use Rattle.suite_session.specs.Places.{named_in}
 use Rattle.suite_session.proofs.Naming.{has_append, none_told, or_false}
 use Rattle.suite_session.proofs.OneMore.{named_more, root_named}
-use Rattle.suite_session.specs.Places.{has, named_by, named_in}
-use Rattle.suite_session.specs.code.Naming.{AreTold}
 use Rattle.suite_session.proofs.named.named_in.Goals as goal
 
 pub loop-number-init : goal.loop-number-init

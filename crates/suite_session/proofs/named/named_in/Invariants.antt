@@ -1,5 +1,5 @@
 use Rattle.suite_session.specs.Places.{named_in}
-use Rattle.suite_session.specs.code.Naming.{AreTold, HaveSame}
+use Rattle.suite_session.proofs.Vocabulary.{AreTold, HaveSame}
 use Rattle.suite_session.proofs.named.named_in.Given as goal
 
 abbrev pub invariant-loop-number : goal.invariant-loop-number

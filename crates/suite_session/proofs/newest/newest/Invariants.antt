@@ -1,6 +1,5 @@
-use Rattle.std.proofs.Common.{◌≡◌}
-use Rattle.std.specs.Option.{option_copied}
-use Rattle.suite_session.specs.Rows.{copies_of, copy_in, newest}
+use Rattle.suite_session.proofs.Vocabulary.{◌≡◌, option_copied, copies_of, copy_in}
+use Rattle.suite_session.specs.Rows.{newest}
 use Rattle.suite_session.proofs.newest.newest.Given as goal
 
 abbrev pub invariant-loop-server : goal.invariant-loop-server

@@ -1,8 +1,6 @@
-use Rattle.std.proofs.Common.{◌++◌, ◌∙◌, ap, sym}
-use Rattle.std.proofs.lemmas.List.{append_assoc, append-nil}
-use Rattle.run_core.specs.Worlds.{server_at}
+use Rattle.suite_session.proofs.Vocabulary.{◌++◌, ◌∙◌, ap, sym, append_assoc, append-nil, server_at, room_line}
+use Rattle.suite_session.specs.Places.{room_lines}
 use Rattle.suite_session.proofs.OneMore.{no_room, room_more}
-use Rattle.suite_session.specs.Places.{room_line, room_lines}
 use Rattle.suite_session.proofs.places.push_lines.Goals as goal
 
 pub loop-number-init : goal.loop-number-init

@@ -1,4 +1,4 @@
-use Rattle.std.proofs.Common.{◌≡◌, ◌++◌}
+use Rattle.suite_session.proofs.Vocabulary.{◌≡◌, ◌++◌}
 use Rattle.suite_session.specs.Places.{room_lines}
 use Rattle.suite_session.proofs.places.push_lines.Given as goal
 

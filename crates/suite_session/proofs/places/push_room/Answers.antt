@@ -1,4 +1,4 @@
-use Rattle.std.proofs.Common.{◌≡◌, ◌++◌, ◌∙◌, OnOk, ap, subst}
+use Rattle.suite_session.proofs.Vocabulary.{◌≡◌, ◌++◌, ◌∙◌, OnOk, ap, subst}
 use Rattle.suite_session.proofs.Naming.{same_lines}
 use Rattle.suite_session.specs.Places.{named_in, room_lines}
 use Rattle.suite_session.proofs.places.push_room.Goals as goal

@@ -1,5 +1,4 @@
-use Rattle.std.proofs.Common.{◌≡◌, drop}
-use Rattle.suite_session.specs.Rows.{found, in_effect_in}
+use Rattle.suite_session.proofs.Vocabulary.{◌≡◌, drop, found, in_effect_in}
 use Rattle.suite_session.proofs.shown.found.Given as goal
 
 -- the rest of the names leads on from the suite that was reached

@@ -1,5 +1,4 @@
-use Rattle.std.proofs.Common.{◌≡◌, ◌++◌, ◌∷◌, [], ap, ◌∙◌, map}
-use Rattle.acl_text.specs.Tables.{number_in}
+use Rattle.acl_text.proofs.Vocabulary.{◌≡◌, ◌++◌, ◌∷◌, [], ap, ◌∙◌, map, number_in}
 use Rattle.acl_text.proofs.NameLookups.{shown-insert_entry, absent_without_fault}
 use Rattle.acl_text.proofs.names.NameTable.add.Goals as goal
 

@@ -1,5 +1,4 @@
-use Rattle.std.proofs.Common.{sym, ◌∙◌, ap, map, length}
-use Rattle.std.proofs.lemmas.List.{length-map, nil_from_length}
+use Rattle.acl_text.proofs.Vocabulary.{sym, ◌∙◌, ap, map, length, length-map, nil_from_length}
 use Rattle.acl_text.proofs.names.NameTable.is_empty.Goals as goal
 
 pub returns : goal.returns

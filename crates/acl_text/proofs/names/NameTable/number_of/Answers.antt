@@ -1,5 +1,4 @@
-use Rattle.std.proofs.Common.{sym, ap, ◌∙◌}
-use Rattle.acl_text.specs.Tables.{number_in}
+use Rattle.acl_text.proofs.Vocabulary.{sym, ap, ◌∙◌, number_in}
 use Rattle.acl_text.proofs.NameLookups.{number_in-shown}
 use Rattle.acl_text.proofs.names.NameTable.number_of.Goals as goal
 

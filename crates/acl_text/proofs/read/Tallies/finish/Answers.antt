@@ -1,6 +1,4 @@
-use Rattle.acl_text.specs.Faults.{fault_of_list}
-use Rattle.acl_text.specs.Sides.{entries_of}
-use Rattle.acl_text.specs.declared.item.Side.TheVariants.{Access}
+use Rattle.acl_text.proofs.Vocabulary.{fault_of_list, entries_of, Access}
 use Rattle.acl_text.proofs.EntryByEntry.{access_refused, err_told}
 use Rattle.acl_text.proofs.read.Tallies.finish.Goals as goal
 

@@ -1,5 +1,4 @@
-use Rattle.std.proofs.Common.{refl}
-use Rattle.acl_text.specs.declared.item.Side.TheVariants.{Access, Default}
+use Rattle.acl_text.proofs.Vocabulary.{refl, Access, Default}
 use Rattle.acl_text.proofs.EntryByEntry.{on_ok, tally_more, tally_stays}
 use Rattle.acl_text.proofs.read.Tallies.take.Goals as goal
 

@@ -1,6 +1,4 @@
-use Rattle.std.proofs.Common.{◌∷◌, [], ap, ◌∙◌, arith}
-use Rattle.txn_core.specs.Standing.{Standing}
-use Rattle.run_certify.specs.declared.entry.Entry.TheVariants.{Forgot}
+use Rattle.agent_pool.proofs.Vocabulary.{◌∷◌, [], ap, ◌∙◌, arith, Standing, Forgot}
 use Rattle.agent_pool.specs.Transcripts.{begins}
 use Rattle.agent_pool.proofs.Begins.{begins-append}
 use Rattle.agent_pool.proofs.player.Player.forget.Goals as goal

@@ -1,7 +1,4 @@
-use Rattle.std.proofs.Common.{◌≡◌, ℕ, List, [], replicate}
-use Rattle.txn_core.specs.Standing.{Standing}
-use Rattle.run_certify.specs.declared.entry.Entry.{Entry}
-use Rattle.agent_pool.specs.Transcripts.{first_player, most_numbers}
+use Rattle.agent_pool.proofs.Vocabulary.{◌≡◌, ℕ, List, [], replicate, Standing, AgentEntry, first_player, most_numbers}
 use Rattle.agent_pool.proofs.player.Player.new.Goals as goal
 
 pub returns : goal.returns

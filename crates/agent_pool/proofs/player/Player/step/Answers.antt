@@ -1,10 +1,5 @@
-use Rattle.std.proofs.Common.{rules, inl, inr, ◌≡◌, ◌<◌, ℕ, List, ◌∷◌, [], length, slice_index, Err, ap, sym, subst, ◌∙◌}
-use Rattle.std.specs.Prelude.{IfSome, Option}
-use Rattle.server_lock.specs.declared.miss.Miss.TheVariants.{Stale}
-use Rattle.server_lock.specs.Passes.{Held}
-use Rattle.txn_core.specs.Agents.{next_of}
-use Rattle.txn_core.specs.Standing.{Standing}
-use Rattle.agent_pool.specs.code.Steps.{AsksNobody, known_after}
+use Rattle.agent_pool.proofs.Vocabulary.{rules, inl, inr, ◌≡◌, ◌<◌, ℕ, List, ◌∷◌, [], length, slice_index, Err, ap, sym, subst, ◌∙◌, IfSome, Option, Stale}
+use Rattle.agent_pool.proofs.Vocabulary.{Held, next_of, Standing, AsksNobody, known_after}
 use Rattle.agent_pool.specs.Transcripts.{GoesOn, Learns, begins}
 use Rattle.agent_pool.proofs.Leaving.{answer_fits, delivery_asks, did_lack, did_stick, does_by, goes_by, heard_begins, heard_in, known_long, learned_by, stale_seen}
 use Rattle.agent_pool.proofs.player.Player.step.Goals as goal

@@ -1,6 +1,4 @@
-use Rattle.std.proofs.Common.{◌≢◌, ℕ, ◌∙◌, List, sym, subst}
-use Rattle.std.specs.Prelude.{Option, None, Some, slice_get}
-use Rattle.agent_pool.specs.declared.outcome.JobOutcome.{JobOutcome}
+use Rattle.agent_pool.proofs.Vocabulary.{◌≢◌, ℕ, ◌∙◌, List, sym, subst, Option, None, Some, slice_get, JobOutcome}
 use Rattle.agent_pool.proofs.Columns.{slots_full}
 use Rattle.agent_pool.proofs.slots.Slots.into_outcomes.Goals as goal
 

@@ -1,7 +1,4 @@
-use Rattle.std.proofs.Common.{◌≡◌, ◌<◌, List, length, sym, subst, arith}
-use Rattle.std.specs.Prelude.{Option, None, Some, slice_get}
-use Rattle.agent_pool.specs.declared.outcome.JobOutcome.{JobOutcome}
-use Rattle.agent_pool.specs.code.Slots.{slots_of}
+use Rattle.agent_pool.proofs.Vocabulary.{◌≡◌, ◌<◌, List, length, sym, subst, arith, Option, None, Some, slice_get, JobOutcome, slots_of}
 use Rattle.agent_pool.proofs.Columns.{slot_free, slot_there, slots_long}
 use Rattle.agent_pool.proofs.slots.Slots.is_filled.Goals as goal
 

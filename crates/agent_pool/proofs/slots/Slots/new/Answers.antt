@@ -1,6 +1,4 @@
-use Rattle.std.proofs.Common.{Bool, List, sym, subst, arith}
-use Rattle.agent_pool.specs.code.Filled.{AreNone}
-use Rattle.agent_pool.specs.code.Slots.{slots_of}
+use Rattle.agent_pool.proofs.Vocabulary.{Bool, List, sym, subst, arith, AreNone, slots_of}
 use Rattle.agent_pool.proofs.Columns.{slots_long, slots_none}
 use Rattle.agent_pool.proofs.slots.Slots.new.Goals as goal
 

@@ -1,7 +1,4 @@
-use Rattle.std.proofs.Common.{◌<◌, ◌∙◌, ap, List, length, slice_set, sym, subst, arith}
-use Rattle.std.specs.Prelude.{Option, Some}
-use Rattle.agent_pool.specs.declared.outcome.JobOutcome.{JobOutcome}
-use Rattle.agent_pool.specs.code.Slots.{slots_of}
+use Rattle.agent_pool.proofs.Vocabulary.{◌<◌, ◌∙◌, ap, List, length, slice_set, sym, subst, arith, Option, Some, JobOutcome, slots_of}
 use Rattle.agent_pool.proofs.Columns.{slots_long, slots_set}
 use Rattle.agent_pool.proofs.slots.Slots.put.Goals as goal
 

@@ -1,5 +1,4 @@
-use Rattle.std.proofs.Common.{ap, true≢false, sym}
-use Rattle.agent_pool.specs.declared.line.Hand.{Hand}
+use Rattle.agent_pool.proofs.Vocabulary.{ap, true≢false, sym, Hand}
 use Rattle.agent_pool.proofs.JobsTaken.{took_none}
 use Rattle.agent_pool.proofs.work.Returned.new.Goals as goal
 

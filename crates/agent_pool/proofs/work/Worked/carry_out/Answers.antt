@@ -1,14 +1,6 @@
-use Rattle.std.proofs.Common.{rules, ◌+◌, List, ◌++◌, ◌∷◌, [], ◌∙◌, ap, sym, refl, subst, arith}
-use Rattle.std.specs.Prelude.{Some}
-use Rattle.std.proofs.lemmas.Option.{slice_get-get_or}
-use Rattle.std.proofs.lemmas.Bool.{ltb-true}
-use Rattle.agent_pool.specs.declared.asking.Came.{Came}
-use Rattle.agent_pool.specs.declared.work.Halt.{Halt}
-use Rattle.agent_pool.specs.declared.work.Halt.TheVariants.{Lacked, Strange}
-use Rattle.agent_pool.specs.declared.pool_context.NamedJob.{NamedJob}
-use Rattle.agent_pool.specs.code.Steps.{DidJob}
-use Rattle.agent_pool.specs.declared.work.JobDone.{JobDone}
-use Rattle.agent_pool.specs.code.Working.{IsHalted, RiseInPlace}
+use Rattle.agent_pool.proofs.Vocabulary.{rules, ◌+◌, List, ◌++◌, ◌∷◌, [], ◌∙◌, ap, sym, refl, subst, arith, Some, slice_get-get_or, ltb-true, Came, Halt}
+use Rattle.agent_pool.proofs.Vocabulary.{Strange, NamedJob, DidJob, JobDone, IsHalted, RiseInPlace}
+use Rattle.agent_pool.specs.declared.work.Halt.TheVariants.{Lacked}
 use Rattle.agent_pool.specs.Taken.{Leaves}
 use Rattle.agent_pool.proofs.JobsTaken.{took_done, took_halted, took_left}
 use Rattle.agent_pool.proofs.Works.{not_some, number_there, place_longer, place_more, works_longer, works_more, works_stop}

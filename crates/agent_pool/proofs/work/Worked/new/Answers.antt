@@ -1,4 +1,4 @@
-use Rattle.std.proofs.Common.{refl}
+use Rattle.agent_pool.proofs.Vocabulary.{refl}
 use Rattle.agent_pool.proofs.Works.{works_first}
 use Rattle.agent_pool.proofs.work.Worked.new.Goals as goal
 

@@ -1,4 +1,4 @@
-use Rattle.suite_script.proofs.Gathering.{failed}
+use Rattle.explore.proofs.Vocabulary.{failed}
 use Rattle.explore.proofs.Reading.{line_error, play_line}
 use Rattle.explore.proofs.line.ScriptLines.read_play.Goals as goal
 

@@ -1,8 +1,5 @@
-use Rattle.std.proofs.Common.{◌≡◌, ◌∙◌, ℕ, false, List, Global, None, Some, Vec, ap, map, refl, sym}
-use Rattle.std.specs.List.{list_any, position}
-use Rattle.std.specs.Str.{bytes_eq}
+use Rattle.explore.proofs.Vocabulary.{◌≡◌, ◌∙◌, ℕ, false, List, Global, None, Some, Vec, ap, map, refl, sym, list_any, position, bytes_eq, printed_in, ways_in}
 use Rattle.explore.specs.Ways.{Printed}
-use Rattle.explore.specs.code.Printing.{printed_in, ways_in}
 use Rattle.explore.proofs.Joining.{same_lines, text_last, text_place, texts_added, way_added}
 use Rattle.explore.proofs.ways.JoinedWays.add.Goals as goal
 

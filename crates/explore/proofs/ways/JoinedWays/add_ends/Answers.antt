@@ -1,7 +1,4 @@
-use Rattle.std.proofs.Common.{◌≡◌, ◌∙◌, ◌+◌, ap, min, sym}
-use Rattle.std.proofs.lemmas.List.{get_or_default}
-use Rattle.rep_core.specs.Store.{last_number}
-use Rattle.explore.specs.code.Printing.{printed_in}
+use Rattle.explore.proofs.Vocabulary.{◌≡◌, ◌∙◌, ◌+◌, ap, min, sym, get_or_default, last_number, printed_in}
 use Rattle.explore.proofs.Joining.{ends_added}
 use Rattle.explore.proofs.ways.JoinedWays.add_ends.Goals as goal
 

@@ -1,8 +1,5 @@
-use Rattle.std.proofs.Common.{◌⊎◌, ◌≡◌, ⊎_elim, inl, inr, sym, ap, subst, ◌∙◌, arith, Result, Ok, Err}
-use Rattle.std.specs.Prelude.{OnOk, slice_get, get_or}
-use Rattle.std.proofs.lemmas.Option.{same_Some}
-use Rattle.std.proofs.lemmas.List.Elements.{Contains-get_or}
-use Rattle.history_judge.specs.Events.{IsPassed, IsDone}
+use Rattle.history_judge.proofs.Vocabulary.{◌⊎◌, ◌≡◌, ⊎_elim, inl, inr, sym, ap, subst, ◌∙◌, arith, Result, Ok, Err, OnOk, slice_get, get_or, same_Some}
+use Rattle.history_judge.proofs.Vocabulary.{Contains-get_or, IsPassed, IsDone}
 use Rattle.history_judge.proofs.Among.{below_or}
 use Rattle.history_judge.proofs.Places.{at_get, get_same}
 use Rattle.history_judge.proofs.Standing.{holds_kept}

@@ -1,6 +1,4 @@
-use Rattle.std.proofs.Common.{◌≡◌, ◌⊎◌, ◌<◌, ℕ, Some}
-use Rattle.std.specs.Prelude.{slice_get}
-use Rattle.history_judge.specs.Events.{HasGrown, IsDone}
+use Rattle.history_judge.proofs.Vocabulary.{◌≡◌, ◌⊎◌, ◌<◌, ℕ, Some, slice_get, HasGrown, IsDone}
 use Rattle.history_judge.proofs.event.Event.spread.Given as goal
 
 abbrev pub invariant-loop-i : goal.invariant-loop-i

@@ -1,5 +1,4 @@
-use Rattle.std.proofs.Common.{subst, sym, Result, Ok, Err}
-use Rattle.std.specs.Prelude.{Contains, OnOk}
+use Rattle.history_judge.proofs.Vocabulary.{subst, sym, Result, Ok, Err, Contains, OnOk}
 use Rattle.history_judge.proofs.Going.{grown_added, ends_added, spread_ends}
 use Rattle.history_judge.proofs.event.Event.step.Goals as goal
 

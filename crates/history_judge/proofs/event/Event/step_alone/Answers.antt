@@ -1,7 +1,4 @@
-use Rattle.std.proofs.Common.{⊎_elim, inl, inr, ◌∷◌, [], ap, sym, subst, ◌∙◌, length, arith}
-use Rattle.std.specs.Prelude.{slice_get}
-use Rattle.std.proofs.lemmas.Option.{none-some}
-use Rattle.history_judge.specs.Events.{Ends}
+use Rattle.history_judge.proofs.Vocabulary.{⊎_elim, inl, inr, ◌∷◌, [], ap, sym, subst, ◌∙◌, length, arith, slice_get, none-some, Ends}
 use Rattle.history_judge.proofs.Places.{at_left, at_end, at_pushed, at_within}
 use Rattle.history_judge.proofs.Standing.{holds_kept}
 use Rattle.history_judge.proofs.Going.{ends_kept}

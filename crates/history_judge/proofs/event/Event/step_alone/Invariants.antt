@@ -1,6 +1,4 @@
-use Rattle.std.proofs.Common.{◌⊎◌, length}
-use Rattle.history_judge.specs.Events.{SomeEnds}
-use Rattle.history_judge.specs.Placing.{AllHold}
+use Rattle.history_judge.proofs.Vocabulary.{◌⊎◌, length, SomeEnds, AllHold}
 use Rattle.history_judge.proofs.event.Event.step_alone.Given as goal
 
 abbrev pub invariant-loop-placed : goal.invariant-loop-placed

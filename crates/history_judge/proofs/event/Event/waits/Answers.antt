@@ -1,5 +1,4 @@
-use Rattle.std.proofs.Common.{subst}
-use Rattle.history_judge.specs.Alike.{Waits}
+use Rattle.history_judge.proofs.Vocabulary.{subst, Waits}
 use Rattle.history_judge.proofs.event.Event.waits.Goals as goal
 
 pub returns : goal.returns

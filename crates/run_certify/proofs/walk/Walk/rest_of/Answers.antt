@@ -1,4 +1,4 @@
-use Rattle.run_certify.proofs.Vocabulary.{◌≡◌, ℕ, ap, sym, subst, ◌∙◌, arith, err_from_is_err_and, Entry, transcript_of, AreAllPlayed, EntryFails, EntryGoes, IsShorter, IsUse, Walked}
+use Rattle.run_certify.proofs.Vocabulary.{◌≡◌, ℕ, ap, sym, subst, ◌∙◌, arith, err_from_is_err_and, AgentEntry, transcript_of, AreAllPlayed, EntryFails, EntryGoes, IsShorter, IsUse, Walked}
 use Rattle.run_certify.proofs.Going.{IsAsFar, far_on, less_of, none_up_to, other_than_asked, rest_asked, rest_fails_at, rest_far, start_far}
 use Rattle.run_certify.proofs.walk.Walk.rest_of.Goals as goal
 
@@ -12,7 +12,7 @@ pub returns-in-Asked-clause-mismatch : goal.returns-in-Asked-clause-mismatch
 returns-in-Asked-clause-mismatch c = λ _.
     let far = c.loop-entry.invariant in
     rest_asked c.args.self.now c.loop-entry.self c.args.agent far.goes (still c.args.self.now c.loop-entry.self c.args.agent c.requires.played far) far.before c.next_entry.new.self c.in-Asked.server c.in-Asked.stamp
-    (subst (λ (entry : Entry). IsUse c.loop-entry.self c.args.agent entry c.next_entry.new.self) c.in-Asked.is c.in-Some.ensures.used)
+    (subst (λ (entry : AgentEntry). IsUse c.loop-entry.self c.args.agent entry c.next_entry.new.self) c.in-Asked.is c.in-Some.ensures.used)
 
 pub returns-in_default-try_from : goal.returns-in_default-try_from
 returns-in_default-try_from c =

@@ -1,4 +1,4 @@
-use Rattle.run_certify.proofs.Vocabulary.{◌≡◌, ℕ, [], ◌∷◌, refl, ap, subst, ◌∙◌, err_from_is_err_and, on_ok_weaker, Entry, transcript_of, at_server, IsUse, Walked}
+use Rattle.run_certify.proofs.Vocabulary.{◌≡◌, ℕ, [], ◌∷◌, refl, ap, subst, ◌∙◌, err_from_is_err_and, on_ok_weaker, AgentEntry, transcript_of, at_server, IsUse, Walked}
 use Rattle.run_certify.proofs.Going.{less_of, other_than_asked, same_histories, serve_asked, serve_asked_fails, serve_fails, serve_none, serve_on}
 use Rattle.run_certify.proofs.Walking.{goes_nowhere}
 use Rattle.run_certify.proofs.walk.Walk.serve.Goals as goal
@@ -17,7 +17,7 @@ returns-in-Asked-clause-ok c =
     let it : IsUse c.loop-entry.self c.args.agent c.in-Some.entry.now c.next_entry.new.self = subst (λ (n : ℕ). IsUse c.loop-entry.self n c.in-Some.entry.now c.next_entry.new.self) c.from.ensures c.in-Some.ensures.used in
     on_ok_weaker c.ask.result
     (λ more. serve_asked c.args.self.now c.loop-entry.self c.args.agent one c.requires c.loop-entry.invariant.0 c.next_entry.new.self c.in-Asked.asked c.in-Asked.stamp
-    (subst (λ (entry : Entry). IsUse c.loop-entry.self c.args.agent entry c.next_entry.new.self) c.in-Asked.is it) c.ask.new.self more)
+    (subst (λ (entry : AgentEntry). IsUse c.loop-entry.self c.args.agent entry c.next_entry.new.self) c.in-Asked.is it) c.ask.new.self more)
     c.ask.ensures.ok
 
 pub returns-in-Asked-clause-mismatch : goal.returns-in-Asked-clause-mismatch
@@ -25,7 +25,7 @@ returns-in-Asked-clause-mismatch c = λ is.
     let one = at_server c.args.server c.args.item.now in
     let it : IsUse c.loop-entry.self c.args.agent c.in-Some.entry.now c.next_entry.new.self = subst (λ (n : ℕ). IsUse c.loop-entry.self n c.in-Some.entry.now c.next_entry.new.self) c.from.ensures c.in-Some.ensures.used in
     serve_asked_fails c.args.self.now c.loop-entry.self c.args.agent one c.requires c.loop-entry.invariant.0 c.next_entry.new.self c.in-Asked.asked c.in-Asked.stamp
-    (subst (λ (entry : Entry). IsUse c.loop-entry.self c.args.agent entry c.next_entry.new.self) c.in-Asked.is it) (c.ask.ensures.mismatch is)
+    (subst (λ (entry : AgentEntry). IsUse c.loop-entry.self c.args.agent entry c.next_entry.new.self) c.in-Asked.is it) (c.ask.ensures.mismatch is)
 
 pub returns-in-Asked-clause-histories : goal.returns-in-Asked-clause-histories
 returns-in-Asked-clause-histories c =

@@ -1,7 +1,5 @@
 -- a long word is read byte by byte, and is then the verb's spelling
-use Rattle.std.proofs.Common.{arith, rules, refl}
-use Rattle.std.proofs.lemmas.Slice.Eq.{text_from_reads}
-use Rattle.suite_play.specs.Commands.{spelling}
+use Rattle.suite_play.proofs.Vocabulary.{arith, rules, refl, text_from_reads, spelling}
 use Rattle.suite_play.specs.declared.verb.EventVerb.TheVariants as verb
 use Rattle.suite_play.proofs.verb.EventVerb.of.Goals as goal
 

@@ -1,5 +1,4 @@
-use Rattle.std.proofs.Common.{◌≡◌, drop}
-use Rattle.suite_script.specs.Misfits.{judge}
+use Rattle.suite_script.proofs.Vocabulary.{◌≡◌, drop, judge}
 use Rattle.suite_script.proofs.scope.Scope.judge.Given as goal
 
 abbrev pub invariant-loop-place : goal.invariant-loop-place

@@ -1,5 +1,4 @@
-use Rattle.std.proofs.Common.{◌≡◌, ◌∷◌, length}
-use Rattle.suite_script.specs.Misfits.{operations_misfit}
+use Rattle.suite_script.proofs.Vocabulary.{◌≡◌, ◌∷◌, length, operations_misfit}
 use Rattle.suite_script.proofs.scope.Scope.operations_misfit.Given as goal
 
 abbrev pub invariant-loop-misfit : goal.invariant-loop-misfit

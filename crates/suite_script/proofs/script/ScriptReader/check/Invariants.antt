@@ -1,6 +1,4 @@
-use Rattle.std.proofs.Common.{◌≡◌, length}
-use Rattle.suite_script.specs.Progress.{fault_of}
-use Rattle.suite_script.specs.Scripts.{language_of, owns}
+use Rattle.suite_script.proofs.Vocabulary.{◌≡◌, length, fault_of, language_of, owns}
 use Rattle.suite_script.proofs.script.ScriptReader.check.Given as goal
 
 abbrev pub invariant-loop : goal.invariant-loop

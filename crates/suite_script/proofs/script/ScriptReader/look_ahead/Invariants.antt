@@ -1,6 +1,4 @@
-use Rattle.std.proofs.Common.{◌≡◌, ◌+◌, ◌<◌, ◌^◌, true, length}
-use Rattle.suite_script.specs.Progress.{fault_of}
-use Rattle.suite_script.specs.Scripts.{language_of, lines_from, owns, owns_in}
+use Rattle.suite_script.proofs.Vocabulary.{◌≡◌, ◌+◌, ◌<◌, ◌^◌, true, length, fault_of, language_of, lines_from, owns, owns_in}
 use Rattle.suite_script.proofs.script.ScriptReader.look_ahead.Given as goal
 
 abbrev pub invariant-loop-place : goal.invariant-loop-place

@@ -1,4 +1,4 @@
-use Rattle.std.proofs.Common.{arith}
+use Rattle.suite_script.proofs.Vocabulary.{arith}
 use Rattle.suite_script.proofs.LineCounts.{length-lines_from}
 use Rattle.suite_script.proofs.script.ScriptReader.new.Goals as goal
 

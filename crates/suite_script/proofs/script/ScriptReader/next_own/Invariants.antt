@@ -1,5 +1,4 @@
-use Rattle.std.proofs.Common.{◌≡◌, ◌≤◌, length}
-use Rattle.suite_script.specs.Scripts.{language_of, owns}
+use Rattle.suite_script.proofs.Vocabulary.{◌≡◌, ◌≤◌, length, language_of, owns}
 use Rattle.suite_script.proofs.script.ScriptReader.next_own.Given as goal
 
 abbrev pub invariant-loop-line : goal.invariant-loop-line

@@ -1,7 +1,5 @@
 -- a long word is read byte by byte, and is then the verb's spelling
-use Rattle.std.proofs.Common.{arith, rules, refl}
-use Rattle.std.proofs.lemmas.Slice.Eq.{text_from_reads}
-use Rattle.suite_serve.specs.Commands.{spelling}
+use Rattle.suite_serve.proofs.Vocabulary.{arith, rules, refl, text_from_reads, spelling}
 use Rattle.suite_serve.specs.declared.verb.JobVerb.TheVariants as verb
 use Rattle.suite_serve.proofs.verb.JobVerb.of.Goals as goal
 

@@ -1,7 +1,5 @@
 -- a long word is read byte by byte, and is then the question's spelling
-use Rattle.std.proofs.Common.{arith, rules, refl}
-use Rattle.std.proofs.lemmas.Slice.Eq.{text_from_reads}
-use Rattle.suite_session.specs.Questions.{spelling}
+use Rattle.suite_session.proofs.Vocabulary.{arith, rules, refl, text_from_reads, spelling}
 use Rattle.suite_session.specs.declared.question.Question.TheVariants as question
 use Rattle.suite_session.proofs.question.Question.of.Goals as goal
 

@@ -1,7 +1,6 @@
-use Rattle.std.proofs.Common.{[]}
-use Rattle.suite_script.proofs.Gathering.{failed, prints_nothing}
+use Rattle.suite_play.proofs.Vocabulary.{[], failed, prints_nothing}
 use Rattle.suite_script.specs.declared.play_error.PlayError.TheVariants.{Memory}
-use Rattle.suite_play.proofs.player.WorldStagePlaces.write_line.Goals as goal
+use Rattle.suite_play.proofs.player.WorldLineStagePlaces.write_line.Goals as goal
 
 -- memory ran out
 pub returns-in_err-play_line : goal.returns-in_err-play_line
