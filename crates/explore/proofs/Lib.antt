@@ -1,7 +1,6 @@
 mod Vocabulary
 pub mod Places
 pub mod Joining
-pub mod Stepping
 pub mod Taken
 pub mod Reading
 pub mod LinesPlayed

@@ -1,6 +1,7 @@
 mod Vocabulary
 pub mod Idle
 pub mod Ended
+pub mod Stepping
 pub mod Left
 pub mod Lines
 pub mod Playing

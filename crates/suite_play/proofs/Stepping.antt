@@ -1,7 +1,8 @@
 -- Steps of an agent that are played one by one, as long as it has a job.
-use Rattle.explore.proofs.Vocabulary.{◌≡◌, ℕ, ◌-◌, ◌<◌, true, ◌∙◌, ap, sym, fixed_of, Done, Event, Step, Opened, Stepped, actor_at, has_no_job, step, steps}
-use Rattle.explore.proofs.Vocabulary.{more_steps, steps_idle, NothingLeft, after_event}
-use Rattle.suite_play.specs.Playing.{Printed}
+use Rattle.suite_play.proofs.Vocabulary.{◌≡◌, ℕ, ◌-◌, ◌<◌, true, ◌∙◌, ap, sym, fixed_of, Step, Opened, actor_at, has_no_job, step, Printed}
+use Rattle.suite_play.specs.Playing.{steps}
+use Rattle.suite_play.proofs.Idle.{more_steps, steps_idle}
+use Rattle.suite_play.proofs.Ended.{NothingLeft}
 
 -- so many steps are left, and they lead where all of them lead
 pub record Left (start : Opened) (agent count : ℕ) (now : Opened) (left : ℕ) : Type 0 where
@@ -30,14 +31,6 @@ pub all_steps : (start now : Opened) (agent count left : ℕ) → NothingLeft no
 all_steps start now agent count left none so_far =
     let given = so_far.given in
     let world : now.world ≡ (steps (fixed_of start.given) start.world agent count).world = sym (ap (λ (all : Printed). all.world) none) ∙ so_far.world in
-    λ i. record { given = given i; world = world i }
-
--- a world that was stepped once is the one after the event
-pub stepped : (was now : Opened) (event : Event) (done : Done) → now.given ≡ was.given
-    → step (fixed_of was.given) was.world event ≡ record { world = now.world; done = done }
-    → now ≡ after_event was event
-stepped was now event done given ok =
-    let world : now.world ≡ (step (fixed_of was.given) was.world event).world = ap (λ (once : Stepped). once.world) (sym ok) in
     λ i. record { given = given i; world = world i }
 
 -- an agent that has no job has no steps left
