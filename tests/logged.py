@@ -68,7 +68,7 @@ class Run:
         self.lines, self.alone = script(chosen)
         self.agents = chosen.choice(AGENTS)
         log = os.path.join(folder, "history")
-        words = [built.program("serve_log"), "--agents", str(self.agents), "--log", log]
+        words = [built.program(), "serve", "--agents", str(self.agents), "--log", log]
         text = "\n".join([*self.lines, ""]).encode()
         done = subprocess.run(words, input=text, stdout=subprocess.PIPE, check=False)
         self.status, self.printed = done.returncode, done.stdout.decode().splitlines()

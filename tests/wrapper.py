@@ -37,6 +37,14 @@ for word; do :; done
 [ $# = 1 ] && { read -r line; cat > /dev/null; echo "read $line"; exit 0; }
 exit "$word"
 """
+# In place of the program: each command that has a script is that, with the words behind it.
+COMMANDS = """#!/bin/sh
+own=${0%/*}/commands
+[ -x "$own/$1" ] || exec "$own/suites" "$@"
+own=$own/$1
+shift
+exec "$own" "$@"
+"""
 # Words that ask for help.
 HELP = (
     "help votes",
@@ -130,18 +138,15 @@ class Copy(Tally):
         return given
 
     def build(self, name: str, text: str) -> None:
-        """Puts a script in the place of the checked build of a program."""
-        os.makedirs(os.path.join(self.top, "out"), exist_ok=True)
-        path = os.path.join(self.top, "out", name)
-        with open(path, "w", encoding="utf-8") as file:
-            file.write(text)
-        os.chmod(path, 0o755)
-        subprocess.run(
-            [sys.executable, "-c", KEEP],
-            cwd=self.top,
-            env={**os.environ, "PYTHONPATH": os.path.join(self.top, "tools"), "SUITES_PROGRAM": name},
-            check=True,
-        )
+        """Puts a script in the place of a command of the checked build, or under `suites` of all that have none."""
+        folder = os.path.join(self.top, "out", "commands")
+        os.makedirs(folder, exist_ok=True)
+        for path, told in ((os.path.join(folder, name), text), (os.path.join(self.top, "out", "suites"), COMMANDS)):
+            with open(path, "w", encoding="utf-8") as file:
+                file.write(told)
+            os.chmod(path, 0o755)
+        settings = {**os.environ, "PYTHONPATH": os.path.join(self.top, "tools")}
+        subprocess.run([sys.executable, "-c", KEEP], cwd=self.top, env=settings, check=True)
 
     def on_terminal(self, words: list[str], *pieces: bytes, stdin: int | None = None) -> str:
         """What a terminal shows of an answer, where these are typed, each once nothing more comes; or where this is the
@@ -242,12 +247,16 @@ def says_once_a_day(copy: Copy) -> None:
 
 
 def tells_all_commands(copy: Copy) -> None:
-    """Help tells each word that `./suites` knows."""
+    """Help tells each word that `./suites` knows, and so does README.md."""
     with open(os.path.join(copy.top, "suites"), encoding="utf-8") as file:
-        known = re.findall(r"^([a-z|-]+)\)", file.read().split("\ncase $1 in\n")[1], re.M)
+        known = " ".join(re.findall(r"\b(?:own|tools|options)='([^']*)'", file.read())).split()
+    with open(os.path.join(copy.top, "README.md"), encoding="utf-8") as file:
+        page = file.read()
     text = copy.answer(["--help"])[1]
-    for word in "|".join([*known, "play|table|acl|serve"]).split("|"):
+    copy.holds(len(known) > 20, f"of ./suites are known: {known}")
+    for word in known:
         copy.holds(re.search(rf"^  {word}\b", text, re.M), f"--help tells nothing of {word}")
+        copy.holds(re.search(rf"`(?:\./suites )?{word}\b", page), f"README.md tells nothing of {word}")
     for line in ("./suites play < examples/play/server-down.script", "./suites --test"):
         copy.holds(f"  {line} " in text, f"--help does not show {line}")
 

@@ -17,15 +17,13 @@ import typing
 from common import TOP, built, console
 from front import sources, trial
 
-CHOICE = built.kept(sources.PROGRAM, "choice.sh")
+CHOICE = built.kept("choice.sh")
 PROGRAMS = {
     "proved": f"crates/{sources.PROGRAM}/out/{sources.PROGRAM}",
     "checked": f"out/{sources.PROGRAM}",
     "trial": "tools/front/trial.sh",
 }
 STOPPED = "stopped; there is no checked build yet"
-# The programs beside it that tools use.
-BESIDE = ("trace", "explore", "may", "forms", "judge", "session", "serve_log")
 CHANGES = os.path.join(TOP, "CHANGELOG.md")
 
 
@@ -44,7 +42,7 @@ def record_of(kind: str, now: sources.Sources, kit: sources.Kit) -> dict[str, st
 
 
 def record_path(kind: str) -> str:
-    return built.kept(sources.PROGRAM, f"{kind}.json")
+    return built.kept(f"{kind}.json")
 
 
 def keep_record(kind: str, now: sources.Sources, kit: sources.Kit) -> None:
@@ -106,15 +104,12 @@ def build() -> None:
     teller = console.Teller()
     sources.Kit().wanted()
     sources.make_folder()
-    with console.alone(built.kept(sources.PROGRAM, "checked.lock"), teller) as has_waited:
+    with console.alone(built.kept("checked.lock"), teller) as has_waited:
         if has_waited and choose():
             return
         teller = console.Teller()
         now, kit = sources.Sources(), sources.Kit()
-        teller.say(
-            f"the program {sources.PROGRAM} of these sources is not built yet: making a checked build of it, some two"
-            " minutes"
-        )
+        teller.say("the program of these sources is not built yet: making a checked build of it, some two minutes")
         kind, part = "checked", f"{path_of('checked')}.part"
         try:
             trial.build(part, lambda: teller.say(f"checked build, {teller.seconds()} s", False))
@@ -146,10 +141,6 @@ def version() -> typing.Iterator[str]:
     kit = sources.Kit()
     is_there = "which is on the path" if sources.KIT_LOGIC in kit.name.split() else "which is not on the path"
     yield f"kit logic {sources.KIT_LOGIC}, {is_there}"
-    others = [(name, built.kept_choice(name)) for name in BESIDE]
-    told = [f"{name} {choice[0]}" for name, choice in others if choice]
-    if told:
-        yield f"beside it {', '.join(told)}"
     kind = any(map(os.path.exists, map(record_path, PROGRAMS))) and fresh_kind(sources.Sources(), kit)
     yield (
         f"build {kind}, {PROGRAMS[kind]}"

@@ -16,8 +16,8 @@ import typing
 from common import TOP, console
 
 CRATES = os.path.join(TOP, "crates")
-# The program that is built or run: `suites`, or the one that `./suites` names here.
-PROGRAM = os.environ.get("SUITES_PROGRAM", "suites")
+# The program.
+PROGRAM = "suites"
 LIST = "crates.txt"
 # The logic of the kit that these sources are proved with, as README.md names it.
 KIT_LOGIC = "dac8208d650f15bf"

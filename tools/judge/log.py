@@ -1,7 +1,7 @@
 """./suites serve --agents N --log FILE < SCRIPT
 
 Serves a script of jobs as without --log, and writes what each job's caller saw into FILE, as a history for
-`./suites judge`. The program `serve_log` does the work, and takes the place of this tool.
+`./suites judge`. The program does the work, and takes the place of this tool.
 """
 import argparse
 import os
@@ -9,8 +9,6 @@ import sys
 import typing
 
 from common import built, console
-
-PROGRAM = "serve_log"
 
 
 class Parser(argparse.ArgumentParser):
@@ -27,6 +25,6 @@ def main() -> int:
     given = parser.parse_args(sys.argv[2:])
     # where the file cannot be written that is told before anything is served
     os.close(os.open(given.log, os.O_WRONLY | os.O_CREAT, 0o666))
-    program = built.program(PROGRAM)
+    program = built.program()
     console.tell_reading()
-    os.execv(program, [program, "--agents", given.agents, "--log", given.log])
+    os.execv(program, [program, "serve", "--agents", given.agents, "--log", given.log])

@@ -16,16 +16,27 @@ pub trait CommandWords {
         ensures says { SaysWord (words self.now) place (length buffer.old) result buffer.new };
 }
 
-/// The words that the system gives. Of these nothing is told.
+/// The words that the system gives, from the one at this place on: at 0 stands the program's name. Of these nothing is
+/// told.
 #[derive(Drop)]
 pub struct SystemWords<'a, R: Env> {
     rt: &'a R,
+    first: usize,
 }
 
 impl<'a, R: Env> SystemWords<'a, R> {
     /// The words of the program's start.
-    pub fn new(rt: &'a R) -> SystemWords<'a, R> {
-        SystemWords { rt }
+    pub fn new(rt: &'a R) -> SystemWords<'a, R>
+        ensures { result.first ≡ 1 }
+    {
+        SystemWords { rt, first: 1 }
+    }
+
+    /// Those behind the first, which names a command.
+    pub fn behind_command(rt: &'a R) -> SystemWords<'a, R>
+        ensures { result.first ≡ 2 }
+    {
+        SystemWords { rt, first: 2 }
     }
 }
 
@@ -33,7 +44,7 @@ impl<'a, R: Env> CommandWords for SystemWords<'a, R> {
     ghost words = { λ _. None };
 
     fn word(&self, place: usize, buffer: &mut [u8]) -> Result<usize, FillError> {
-        self.rt.arg(place.saturating_add(1), buffer)
+        self.rt.arg(place.saturating_add(self.first), buffer)
     }
 }
 

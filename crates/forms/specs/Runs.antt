@@ -1,7 +1,10 @@
 -- What the program has done when it ends.
-use Rattle.std.specs.Prelude.{◌≡◌, ℕ, ◌⊎◌, List, [], ◌∷◌, ◌++◌, codes, Option}
-use Rattle.byte_streams.specs.Endings.{Finishes, Lacks, TellsLine, bad_words, done}
-use Rattle.byte_streams.specs.Programs.{RunsOn, Streams}
+use Rattle.std.specs.Prelude.{◌≡◌, ℕ, ◌⊎◌, Bool, true, false, List, Option}
+use Rattle.byte_streams.specs.Endings.{Finishes, Lacks, TellsLine, done}
+use Rattle.byte_streams.specs.Programs.{RefusesWords, RunsOn, Streams, WritesHelp}
+use Rattle.byte_streams.specs.Words.{wanted_by}
+use Rattle.byte_streams.specs.declared.wanted.Wanted.{Wanted}
+use Rattle.byte_streams.specs.declared.wanted.Wanted.TheVariants as given
 use Rattle.forms.specs.Answers.{IsAnswer}
 use Rattle.forms.specs.declared.Question.{Question}
 use Rattle.forms.specs.declared.Wish.{Wish}
@@ -22,17 +25,6 @@ abbrev pub Runs : Question → Streams → ℕ → Type 0
 Runs question streams status =
     RunsOn (λ given. Ends question given streams.written streams.written_after streams.failed_writes streams.failed_writes_after status) streams status streams.input
 
--- nothing was read, and a text was written with its status, or a write failed
-abbrev pub WritesAlone : List ℕ → ℕ → Streams → ℕ → Type 0
-WritesAlone text status streams result =
-    (streams.input_after ≡ streams.input)
-    × Finishes text status result streams.written streams.written_after streams.failed_writes streams.failed_writes_after
-
--- the same, of some text
-pub record WritesHelp (streams : Streams) (status : ℕ) : Type 0 where
-  pub text : List ℕ
-  pub written : WritesAlone text done streams status
-
 -- the same, or memory ran out
 pub record WritesTable (streams : Streams) (status : ℕ) : Type 0 where
   pub text : List ℕ
@@ -44,4 +36,22 @@ abbrev pub Does : Wish → Streams → ℕ → Type 0
 Does Table streams status = WritesTable streams status
 Does Help streams status = WritesHelp streams status
 Does (Answer question) streams status = Runs question streams status
-Does Nothing streams status = WritesAlone (codes "fault command line" ++ 10 ∷ []) bad_words streams status
+Does Nothing streams status = RefusesWords streams status
+
+-- ---- what the words ask for
+
+-- an answer, or nothing that there is
+abbrev pub is_other : Wish → Bool
+is_other Table = false
+is_other Help = false
+is_other (Answer question) = true
+is_other Nothing = true
+
+-- no word asks for the table, `--help` for help, and others for neither
+abbrev pub AsksAs : Wanted → Wish → Type 0
+AsksAs given.Work wish = wish ≡ Table
+AsksAs given.Help wish = wish ≡ Help
+AsksAs given.Nothing wish = is_other wish ≡ true
+
+abbrev pub Asks : List (List ℕ) → Wish → Type 0
+Asks words wish = AsksAs (wanted_by words) wish

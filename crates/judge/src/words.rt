@@ -1,6 +1,10 @@
 //! The command line: what is asked for.
 
-use std::env::{Env, FillError};
+ghost use Rattle.std.specs.Prelude.{◌≡◌, IfSome};
+ghost use Rattle.judge.specs.Runs.{wanted_by, wanted_by_one};
+
+use byte_streams::CommandWords;
+use std::env::FillError;
 
 /// What the words of the command line ask for.
 #[derive(Clone, Copy)]
@@ -15,22 +19,26 @@ pub(crate) enum Wanted {
 const LONGEST: usize = 16;
 
 /// What the words of the command line ask for: at most one.
-pub(crate) fn read_words<R: Env>(rt: &R) -> Wanted {
+pub(crate) fn read_words<W: CommandWords>(words: &W) -> Wanted
+    ensures { IfSome (W.words words.now) (λ given. result ≡ wanted_by given) }
+{
     let mut word = [0; LONGEST];
-    let wanted = match rt.arg(1, &mut word) {
+    let wanted = match words.word(0, &mut word) {
         Err(FillError::NotPresent) => return Wanted::Judge { tells_order: false },
         Err(_) => return Wanted::Nothing,
-        Ok(length) => wanted_by(word.get(..length).unwrap_or(b"")),
+        Ok(length) => wanted_by_one(word.get(..length).unwrap_or(b"")),
     };
     let mut more = [0; LONGEST];
-    match rt.arg(2, &mut more) {
+    match words.word(1, &mut more) {
         Err(FillError::NotPresent) => wanted,
         _ => Wanted::Nothing,
     }
 }
 
 /// What one word asks for.
-fn wanted_by(word: &[u8]) -> Wanted {
+fn wanted_by_one(word: &[u8]) -> Wanted
+    ensures { result ≡ wanted_by_one word.now }
+{
     match word {
         b"--order" => Wanted::Judge { tells_order: true },
         b"--help" => Wanted::Help,

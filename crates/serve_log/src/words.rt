@@ -3,9 +3,10 @@
 ghost use Rattle.std.specs.Prelude.{◌≤◌, IfOk, IfSome};
 ghost use Rattle.serve_log.specs.Logs.{IsServable};
 
+use byte_streams::CommandWords;
 use script_text::read_number;
 use std::alloc::{AllocError, Global};
-use std::env::{Env, FillError};
+use std::env::FillError;
 use suite_prefix::MAX_AGENTS;
 
 /// How many agents there are, 1 to 64, and the file of the history.
@@ -19,7 +20,6 @@ pub(crate) struct Wish {
 #[derive(Drop)]
 pub(crate) enum Wanted {
     Serve(Wish),
-    Help,
     Nothing,
 }
 
@@ -31,56 +31,59 @@ const AGENTS: &[u8] = b"--agents";
 const LOG: &[u8] = b"--log";
 
 /// What the words of the command line ask for: both options, each with its value, in any order.
-pub(crate) fn read_words<R: Env>(rt: &R, alloc: Global) -> Result<Wanted, AllocError>
+pub(crate) fn read_words<W: CommandWords>(words: &W, alloc: Global) -> Result<Wanted, AllocError>
     ensures { IfOk result IsServable }
 {
-    if is_word(rt, 1, b"--help") && is_end(rt, 2) {
-        Ok(Wanted::Help)
-    } else if !is_end(rt, 5) {
+    if !is_end(words, 4) {
         Ok(Wanted::Nothing)
-    } else if is_word(rt, 1, AGENTS) && is_word(rt, 3, LOG) {
-        wanted_at(rt, alloc, 2, 4)
-    } else if is_word(rt, 1, LOG) && is_word(rt, 3, AGENTS) {
-        wanted_at(rt, alloc, 4, 2)
+    } else if is_word(words, 0, AGENTS) && is_word(words, 2, LOG) {
+        wanted_at(words, alloc, 1, 3)
+    } else if is_word(words, 0, LOG) && is_word(words, 2, AGENTS) {
+        wanted_at(words, alloc, 3, 1)
     } else {
         Ok(Wanted::Nothing)
     }
 }
 
 /// What is asked for by the values at these places: of how many agents there are, and of the file.
-fn wanted_at<R: Env>(rt: &R, alloc: Global, agents: usize, log: usize) -> Result<Wanted, AllocError>
+fn wanted_at<W: CommandWords>(
+    words: &W,
+    alloc: Global,
+    agents: usize,
+    log: usize,
+) -> Result<Wanted, AllocError>
     ensures { IfOk result IsServable }
 {
-    let Some(agents) = agents_at(rt, agents) else {
+    let Some(agents) = agents_at(words, agents) else {
         return Ok(Wanted::Nothing);
     };
-    match word_at(rt, alloc, log)? {
+    match word_at(words, alloc, log)? {
         Some(log) => Ok(Wanted::Serve(Wish { agents, log })),
         None => Ok(Wanted::Nothing),
     }
 }
 
 /// Whether there is no word at a place.
-fn is_end<R: Env>(rt: &R, place: usize) -> bool {
+fn is_end<W: CommandWords>(words: &W, place: usize) -> bool {
     let mut word = [0; LONGEST];
-    matches!(rt.arg(place, &mut word), Err(FillError::NotPresent))
+    matches!(words.word(place, &mut word), Err(FillError::NotPresent))
 }
 
 /// Whether this is the word at a place.
-fn is_word<R: Env>(rt: &R, place: usize, wanted: &[u8]) -> bool {
+fn is_word<W: CommandWords>(words: &W, place: usize, wanted: &[u8]) -> bool {
     let mut word = [0; LONGEST];
-    match rt.arg(place, &mut word) {
+    match words.word(place, &mut word) {
         Ok(length) => word.get(..length).unwrap_or(b"") == wanted,
         Err(_) => false,
     }
 }
 
 /// How many agents the word at a place says that there are.
-fn agents_at<R: Env>(rt: &R, place: usize) -> Option<u8>
+fn agents_at<W: CommandWords>(words: &W, place: usize) -> Option<u8>
     ensures { IfSome result (λ agents. (1 ≤ agents) × (agents ≤ MAX_AGENTS)) }
 {
     let mut word = [0; LONGEST];
-    let Ok(length) = rt.arg(place, &mut word) else {
+    let Ok(length) = words.word(place, &mut word) else {
         return None;
     };
     match read_number(word.get(..length).unwrap_or(b""), MAX_AGENTS as u64) {
@@ -90,9 +93,13 @@ fn agents_at<R: Env>(rt: &R, place: usize) -> Option<u8>
 }
 
 /// The word at a place, where there is one that is UTF-8 and no longer than a path.
-fn word_at<R: Env>(rt: &R, alloc: Global, place: usize) -> Result<Option<String>, AllocError> {
+fn word_at<W: CommandWords>(
+    words: &W,
+    alloc: Global,
+    place: usize,
+) -> Result<Option<String>, AllocError> {
     let mut word = [0; LONGEST];
-    let Ok(length) = rt.arg(place, &mut word) else {
+    let Ok(length) = words.word(place, &mut word) else {
         return Ok(None);
     };
     match str::from_utf8(word.get(..length).unwrap_or(b"")) {

@@ -1,7 +1,8 @@
 //! The command line: what is asked for.
 
+use byte_streams::CommandWords;
 use std::alloc::{AllocError, Global};
-use std::env::{Env, FillError};
+use std::env::FillError;
 
 /// The file of a journal, and whether what is appended is synced.
 #[derive(Drop)]
@@ -26,29 +27,29 @@ pub(crate) enum Wanted {
 }
 
 /// The most words that say something: each option once.
-const MOST: usize = 6;
+const MOST: usize = 5;
 
 /// The most bytes of a word, which is that of a path.
 const LONGEST: usize = 4_096;
 
 /// What the words of the command line ask for.
-pub(crate) fn read_words<R: Env>(rt: &R, alloc: Global) -> Result<Wanted, AllocError> {
+pub(crate) fn read_words<W: CommandWords>(words: &W, alloc: Global) -> Result<Wanted, AllocError> {
     let mut marks = false;
     let mut is_synced = true;
     let mut name = None;
-    let mut place = 1;
+    let mut place = 0;
     while place < MOST {
         let mut word = [0; LONGEST];
-        let option = match rt.arg(place, &mut word) {
+        let option = match words.word(place, &mut word) {
             Err(FillError::NotPresent) => return Ok(wished(marks, is_synced, name)),
             Err(FillError::TooLong) => return Ok(Wanted::Nothing),
             Ok(length) => word.get(..length).unwrap_or(b""),
         };
-        if place == 1 && option == b"--help".as_slice() {
+        if place == 0 && option == b"--help".as_slice() {
             return Ok(Wanted::Help);
         }
         if option == b"--journal".as_slice() && name.is_none() {
-            let Some(given) = word_at(rt, alloc, place + 1)? else {
+            let Some(given) = word_at(words, alloc, place + 1)? else {
                 return Ok(Wanted::Nothing);
             };
             name = Some(given);
@@ -88,9 +89,13 @@ fn wished(marks: bool, is_synced: bool, name: Option<String>) -> Wanted {
 }
 
 /// The word at a place, where there is one that is UTF-8 and no longer than a path.
-fn word_at<R: Env>(rt: &R, alloc: Global, place: usize) -> Result<Option<String>, AllocError> {
+fn word_at<W: CommandWords>(
+    words: &W,
+    alloc: Global,
+    place: usize,
+) -> Result<Option<String>, AllocError> {
     let mut word = [0; LONGEST];
-    let Ok(length) = rt.arg(place, &mut word) else {
+    let Ok(length) = words.word(place, &mut word) else {
         return Ok(None);
     };
     match str::from_utf8(word.get(..length).unwrap_or(b"")) {

@@ -1,30 +1,62 @@
 //! The program `suites`: a replicated file service, its plain table and its access lists, over standard input and
-//! output. It reads its words, hands them with the streams to `suite_cli::run`, and ends with the status that this
-//! answers. A word that is not UTF-8 is refused like any wrong word.
+//! output, and what is told about them.
+//!
+//! The first word is a command. Each of `commands` is a library of its own, which has the words behind it; all others
+//! are those of `suite_cli::run`, which has all words. The exit status is what that answers. A word that is not UTF-8
+//! is refused like any wrong word.
+//!
+//! **Files**: `commands`.
 #![tactic(auto)]
 
 ghost use Rattle.std.specs.Prelude.{◌≡◌, map, string_bytes, IfOk};
 
-use byte_streams::{SystemIn, SystemOut};
+mod commands;
+
+use byte_streams::{SystemIn, SystemOut, SystemWords};
+use commands::{Command, command};
 use std::alloc::{AllocError, Global};
 use std::env::{Env, FillError};
 use std::io;
 use std::process::ExitCode;
-use suite_cli::{lack_memory, run};
+use std::sync::Wait;
+use std::thread::Threads;
+use suite_cli::{ByteIn, ByteOut, lack_memory, run};
 
 fn main(rt: HostRuntime) -> ExitCode {
+    let alloc = rt.alloc();
+    let words = SystemWords::behind_command(&rt);
+    let mut reader = SystemIn::new(rt.reader());
     let mut writer = SystemOut::new(io::writer(&rt));
-    let status = match command_line(&rt, rt.alloc()) {
-        Ok(given) => match slices(rt.alloc(), &given) {
-            Ok(words) => {
-                let mut reader = SystemIn::new(rt.reader());
-                run(&rt, rt.alloc(), &words, &mut reader, &mut writer)
-            }
-            Err(_) => lack_memory(&mut writer),
-        },
-        Err(_) => lack_memory(&mut writer),
+    let status = match command(&SystemWords::new(&rt)) {
+        Some(Command::Explore) => {
+            let errors = SystemOut::new(rt.stderr());
+            explore::obey(alloc, &words, &mut reader, &mut writer, errors)
+        }
+        Some(Command::Forms) => forms::obey(alloc, &words, &mut reader, &mut writer),
+        Some(Command::Judge) => judge::obey(alloc, &words, &mut reader, &mut writer),
+        Some(Command::May) => may::obey(alloc, &words, &mut reader, &mut writer),
+        Some(Command::ServeLog) => serve_log::obey(&rt, alloc, &words, &mut reader, &mut writer),
+        Some(Command::Session) => session::obey(&rt, alloc, &words, reader, writer),
+        Some(Command::Trace) => trace::obey(alloc, &words, &mut reader, &mut writer),
+        None => run_own(&rt, alloc, &mut reader, &mut writer),
     };
     ExitCode::from(status)
+}
+
+/// Does what all words ask for.
+fn run_own<R: Env + Threads + Wait + Sync, I: ByteIn, O: ByteOut>(
+    rt: &R,
+    alloc: Global,
+    reader: &mut I,
+    writer: &mut O,
+) -> u8 {
+    match command_line(rt, alloc) {
+        Ok(given) => match slices(alloc, &given) {
+            Ok(words) => run(rt, alloc, &words, reader, writer),
+            Err(_) => lack_memory(writer),
+        },
+        Err(_) => lack_memory(writer),
+    }
 }
 
 /// The words after the program's name.

@@ -8,23 +8,23 @@
 //! The exit status is 0 where there is an order, 1 where there is none, 2 for other words, 3 for a fault, 4 out of
 //! memory. It is 6 where a stream failed or the input is above 128 MiB.
 //!
-//! **Promises.** `Runs` says what the program has done when it ends: of its input and its output.
+//! **Promises.** Of `obey` it is said (`Obeys`, `Does`) what is done of the words when it ends: of its input and its
+//! output (`Runs`).
 //!
 //! **Files**: `words`. **Definitions** (`specs/`): `Runs`.
 #![tactic(auto)]
 
-ghost use Rattle.std.specs.Prelude.{◌<◌, ◌^◌, length};
-ghost use Rattle.judge.specs.Runs.{Ends, Runs, Told};
+ghost use Rattle.std.specs.Prelude.{◌≡◌, ◌<◌, ◌^◌, length};
+ghost use Rattle.byte_streams.specs.Programs.{Obeys};
+ghost use Rattle.judge.specs.Runs.{Does, Ends, Runs, Told, wanted_by};
 
 mod words;
 
 use byte_streams::{
-    ByteIn, ByteOut, COMMAND_LINE, DONE, FAULTY, SystemIn, SystemOut, finish, finish_line,
-    lack_memory, read_all, tell_unread,
+    ByteIn, ByteOut, COMMAND_LINE, CommandWords, DONE, FAULTY, finish, finish_line, lack_memory,
+    read_all, tell_unread,
 };
 use std::alloc::Global;
-use std::io;
-use std::process::ExitCode;
 use suite_history::judge_text;
 use suite_script::{ScriptError, fault_text};
 use words::{Wanted, read_words};
@@ -37,19 +37,45 @@ const HELP: &[u8] = b"Tells whether a history is one plain table's.
   --order   the lines of its calls in such an order
 ";
 
-fn main(rt: HostRuntime) -> ExitCode {
-    let mut writer = SystemOut::new(io::writer(&rt));
-    let status = match read_words(&rt) {
-        Wanted::Judge { tells_order } => run(
-            rt.alloc(),
-            tells_order,
-            &mut SystemIn::new(rt.reader()),
-            &mut writer,
-        ),
-        Wanted::Help => finish(&mut writer, HELP, DONE),
-        Wanted::Nothing => finish(&mut writer, b"fault command line\n", COMMAND_LINE),
-    };
-    ExitCode::from(status)
+/// Does what the words behind the command ask for, and says the exit status.
+pub fn obey<W: CommandWords, I: ByteIn, O: ByteOut>(
+    alloc: Global,
+    words: &W,
+    reader: &mut I,
+    writer: &mut O,
+) -> u8
+    ensures { Obeys (λ given wanted. wanted ≡ wanted_by given) (λ wanted. Does wanted (record {
+      input = I.rest reader.old;
+      input_after = I.rest reader.new;
+      written = O.written writer.old;
+      written_after = O.written writer.new;
+      failed_reads = I.failed_reads reader.old;
+      failed_reads_after = I.failed_reads reader.new;
+      failed_writes = O.failed_writes writer.old;
+      failed_writes_after = O.failed_writes writer.new;
+    }) result) (W.words words.now) }
+{
+    work(alloc, read_words(words), reader, writer)
+}
+
+/// Does what words ask for, and says the exit status.
+fn work<I: ByteIn, O: ByteOut>(alloc: Global, wanted: Wanted, reader: &mut I, writer: &mut O) -> u8
+    ensures { Does wanted (record {
+      input = I.rest reader.old;
+      input_after = I.rest reader.new;
+      written = O.written writer.old;
+      written_after = O.written writer.new;
+      failed_reads = I.failed_reads reader.old;
+      failed_reads_after = I.failed_reads reader.new;
+      failed_writes = O.failed_writes writer.old;
+      failed_writes_after = O.failed_writes writer.new;
+    }) result }
+{
+    match wanted {
+        Wanted::Judge { tells_order } => run(alloc, tells_order, reader, writer),
+        Wanted::Help => finish(writer, HELP, DONE),
+        Wanted::Nothing => finish(writer, b"fault command line\n", COMMAND_LINE),
+    }
 }
 
 /// Judges the history that a reader gives, and says the exit status.

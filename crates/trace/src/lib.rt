@@ -8,15 +8,16 @@
 //! With `--json` the same is told as objects of JSON, one a line (`docs/EVENTS.md`, `event_json`). It takes no
 //! other word but `--help`.
 //!
-//! **Promises.** `Does` says what the program has done when it ends: of a script that has a fault nothing is told but its
-//! first one, by its line, as `play` tells it, and of one that has none no fault is.
+//! **Promises.** Of `obey` it is said (`Obeys`, `Does`) what is done of the words when it ends: of a script that has a
+//! fault nothing is told but its first one, by its line, as `play` tells it, and of one that has none no fault is.
 //!
 //! **Files**: `lines`, `words`, `asked`, `told`, `standing`, `agents`, `events`, `teller`, `tracer`.
 //! **Definitions** (`specs/`): `Runs`, `Traced`.
 #![tactic(auto)]
 
-ghost use Rattle.std.specs.Prelude.{◌<◌, ◌^◌, length};
-ghost use Rattle.trace.specs.Traced.{Does, Ends, Runs, TellsEnd};
+ghost use Rattle.std.specs.Prelude.{◌≡◌, ◌<◌, ◌^◌, IfSome, is_none, length, slice_get};
+ghost use Rattle.byte_streams.specs.Programs.{Obeys};
+ghost use Rattle.trace.specs.Traced.{Does, Ends, Runs, TellsEnd, wants_events, wish_of};
 
 mod agents;
 mod asked;
@@ -29,13 +30,11 @@ mod tracer;
 mod words;
 
 use byte_streams::{
-    ByteIn, ByteOut, COMMAND_LINE, DONE, FAULTY, MAX_INPUT, NO_STREAM, SystemIn, SystemOut,
-    SystemWords, Wanted, finish, finish_line, lack_memory, read_all, read_wanted, tell_unread,
+    ByteIn, ByteOut, COMMAND_LINE, CommandWords, DONE, FAULTY, MAX_INPUT, NO_STREAM, Wanted,
+    finish, finish_line, lack_memory, read_all, read_wanted, tell_unread,
 };
 use std::alloc::Global;
-use std::env::{Env, FillError};
-use std::io;
-use std::process::ExitCode;
+use std::env::FillError;
 use suite_script::{PlayError, fault_text};
 use teller::Form;
 use tracer::trace;
@@ -58,14 +57,25 @@ enum Wish {
     Nothing,
 }
 
-fn main(rt: HostRuntime) -> ExitCode {
-    let status = work(
-        rt.alloc(),
-        read_words(&rt),
-        &mut SystemIn::new(rt.reader()),
-        &mut SystemOut::new(io::writer(&rt)),
-    );
-    ExitCode::from(status)
+/// Does what the words behind the command ask for, and says the exit status.
+pub fn obey<W: CommandWords, I: ByteIn, O: ByteOut>(
+    alloc: Global,
+    words: &W,
+    reader: &mut I,
+    writer: &mut O,
+) -> u8
+    ensures { Obeys (λ given wanted. wanted ≡ wish_of given) (λ wanted. Does wanted (record {
+      input = I.rest reader.old;
+      input_after = I.rest reader.new;
+      written = O.written writer.old;
+      written_after = O.written writer.new;
+      failed_reads = I.failed_reads reader.old;
+      failed_reads_after = I.failed_reads reader.new;
+      failed_writes = O.failed_writes writer.old;
+      failed_writes_after = O.failed_writes writer.new;
+    }) result) (W.words words.now) }
+{
+    work(alloc, read_words(words), reader, writer)
 }
 
 /// Does what words ask for, and says the exit status.
@@ -89,27 +99,33 @@ fn work<I: ByteIn, O: ByteOut>(alloc: Global, wish: Wish, reader: &mut I, writer
 }
 
 /// What the words of the command line ask for.
-fn read_words<R: Env>(rt: &R) -> Wish {
-    match read_wanted(&SystemWords::new(rt)) {
+fn read_words<W: CommandWords>(words: &W) -> Wish
+    ensures { IfSome (W.words words.now) (λ given. result ≡ wish_of given) }
+{
+    match read_wanted(words) {
         Wanted::Work => Wish::Trace(Form::Lines),
         Wanted::Help => Wish::Help,
-        Wanted::Nothing if wants_events(rt) => Wish::Trace(Form::Events),
+        Wanted::Nothing if wants_events(words) => Wish::Trace(Form::Events),
         Wanted::Nothing => Wish::Nothing,
     }
 }
 
 /// Whether there is one word, which is `--json`.
-fn wants_events<R: Env>(rt: &R) -> bool {
+fn wants_events<W: CommandWords>(words: &W) -> bool
+    ensures { IfSome (W.words words.now) (λ given. result ≡ wants_events given) }
+{
     let mut word = [0; 8];
-    match rt.arg(1, &mut word) {
-        Ok(length) if word.get(..length) == Some(b"--json".as_slice()) => is_last(rt),
+    match words.word(0, &mut word) {
+        Ok(length) if word.get(..length) == Some(b"--json".as_slice()) => is_last(words),
         _ => false,
     }
 }
 
 /// Whether there is no second word.
-fn is_last<R: Env>(rt: &R) -> bool {
-    match rt.arg(2, &mut [0]) {
+fn is_last<W: CommandWords>(words: &W) -> bool
+    ensures { IfSome (W.words words.now) (λ given. result ≡ is_none (slice_get given 1)) }
+{
+    match words.word(1, &mut [0]) {
         Err(FillError::NotPresent) => true,
         _ => false,
     }

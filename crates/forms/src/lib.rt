@@ -46,9 +46,10 @@
 //! `word` (bytes and names), `fields`, `item` and `list`, `old` (form 1).
 #![tactic(auto)]
 
-ghost use Rattle.std.specs.Prelude.{IfOk};
+ghost use Rattle.std.specs.Prelude.{IfOk, IfSome};
 ghost use Rattle.forms.specs.Answers.{IsAnswer};
-ghost use Rattle.forms.specs.Runs.{Does, Ends, Runs};
+ghost use Rattle.byte_streams.specs.Programs.{Obeys};
+ghost use Rattle.forms.specs.Runs.{Asks, Does, Ends, Runs};
 
 mod above;
 mod fields;
@@ -70,16 +71,13 @@ mod whose;
 mod word;
 
 use byte_streams::{
-    ByteIn, ByteOut, COMMAND_LINE, DONE, MAX_INPUT, SystemIn, SystemOut, SystemWords, Wanted,
-    finish, finish_line, lack_memory, read_all, read_wanted, tell_unread,
+    ByteIn, ByteOut, COMMAND_LINE, CommandWords, DONE, MAX_INPUT, Wanted, finish, finish_line,
+    lack_memory, read_all, read_wanted, tell_unread,
 };
 use finding::found_in;
 use lists::found_in_list;
 use script_text::read_number;
 use std::alloc::{AllocError, Global};
-use std::env::Env;
-use std::io;
-use std::process::ExitCode;
 use suite_script::Forms;
 use table::{lines_of, table};
 use whose::found_of_all;
@@ -122,14 +120,25 @@ enum Wish {
     Nothing,
 }
 
-fn main(rt: HostRuntime) -> ExitCode {
-    let status = work(
-        rt.alloc(),
-        read_words(&rt),
-        &mut SystemIn::new(rt.reader()),
-        &mut SystemOut::new(io::writer(&rt)),
-    );
-    ExitCode::from(status)
+/// Does what the words behind the command ask for, and says the exit status.
+pub fn obey<W: CommandWords, I: ByteIn, O: ByteOut>(
+    alloc: Global,
+    words: &W,
+    reader: &mut I,
+    writer: &mut O,
+) -> u8
+    ensures { Obeys Asks (λ wish. Does wish (record {
+      input = I.rest reader.old;
+      input_after = I.rest reader.new;
+      written = O.written writer.old;
+      written_after = O.written writer.new;
+      failed_reads = I.failed_reads reader.old;
+      failed_reads_after = I.failed_reads reader.new;
+      failed_writes = O.failed_writes writer.old;
+      failed_writes_after = O.failed_writes writer.new;
+    }) result) (W.words words.now) }
+{
+    work(alloc, read_words(words), reader, writer)
 }
 
 /// Does what words ask for, and says the exit status.
@@ -154,11 +163,13 @@ fn work<I: ByteIn, O: ByteOut>(alloc: Global, wish: Wish, reader: &mut I, writer
 }
 
 /// What the words of the command line ask for.
-fn read_words<R: Env>(rt: &R) -> Wish {
-    match read_wanted(&SystemWords::new(rt)) {
+fn read_words<W: CommandWords>(words: &W) -> Wish
+    ensures { IfSome (W.words words.now) (λ given. Asks given result) }
+{
+    match read_wanted(words) {
         Wanted::Work => Wish::Table,
         Wanted::Help => Wish::Help,
-        Wanted::Nothing => match asked(rt) {
+        Wanted::Nothing => match asked(words) {
             Some(question) => Wish::Answer(question),
             None => Wish::Nothing,
         },
@@ -166,9 +177,9 @@ fn read_words<R: Env>(rt: &R) -> Wish {
 }
 
 /// What the two words of the command line ask.
-fn asked<R: Env>(rt: &R) -> Option<Question> {
+fn asked<W: CommandWords>(words: &W) -> Option<Question> {
     let mut word = [0; 24];
-    let length = rt.arg(1, &mut word).ok()?;
+    let length = words.word(0, &mut word).ok()?;
     let command = lines_of(word.get(..length)?);
     let is_script = word.get(..length)? == b"script".as_slice();
     let are_named = match word.get(..length)? {
@@ -176,7 +187,7 @@ fn asked<R: Env>(rt: &R) -> Option<Question> {
         b"unnamed" => Some(false),
         _ => None,
     };
-    let length = rt.arg(2, &mut word).ok()?;
+    let length = words.word(1, &mut word).ok()?;
     let number = read_number(word.get(..length)?, u64::MAX)?;
     match command {
         Some(forms) => Some(Question::Line(forms, number)),

@@ -24,15 +24,13 @@ mod refusal;
 mod words;
 
 use byte_streams::{
-    ByteIn, ByteOut, COMMAND_LINE, DONE, MAX_INPUT, SystemIn, SystemOut, finish, lack_memory,
+    ByteIn, ByteOut, COMMAND_LINE, CommandWords, MAX_INPUT, SystemOut, finish, lack_memory,
     read_all, write_all,
 };
 use logged::{Logged, serve_logged};
 use refusal::{Refusal, tell_refusal};
 use std::alloc::{AllocError, Global};
 use std::fs::{File, OpenOptions};
-use std::io;
-use std::process::ExitCode;
 use std::rt::Files;
 use std::sync::Wait;
 use std::thread::Threads;
@@ -41,27 +39,22 @@ use suite_prefix::MAX_AGENTS;
 use suite_serve::read_script;
 use words::{Wanted, Wish, read_words};
 
-const HELP: &[u8] = b"Serves a script of jobs, and writes what each job's caller saw as a history.
-
-  --agents N   how many agents there are: 1 to 64
-  --log FILE   the history is written into this file
-";
-
-fn main(rt: HostRuntime) -> ExitCode {
-    let mut writer = SystemOut::new(io::writer(&rt));
-    let status = match read_words(&rt, rt.alloc()) {
-        Ok(Wanted::Serve(wish)) => {
-            let mut reader = SystemIn::new(rt.reader());
-            match serve(&rt, rt.alloc(), &wish, &mut reader, &mut writer) {
-                Ok(status) => status,
-                Err(refusal) => tell_refusal(rt.alloc(), &mut writer, refusal),
-            }
-        }
-        Ok(Wanted::Help) => finish(&mut writer, HELP, DONE),
-        Ok(Wanted::Nothing) => finish(&mut writer, b"fault command line\n", COMMAND_LINE),
-        Err(AllocError) => lack_memory(&mut writer),
-    };
-    ExitCode::from(status)
+/// Does what the words behind the command ask for, and says the exit status.
+pub fn obey<R: Threads + Wait + Sync + Files<File = File>, W: CommandWords, I: ByteIn, O: ByteOut>(
+    rt: &R,
+    alloc: Global,
+    words: &W,
+    reader: &mut I,
+    writer: &mut O,
+) -> u8 {
+    match read_words(words, alloc) {
+        Ok(Wanted::Serve(wish)) => match serve(rt, alloc, &wish, reader, writer) {
+            Ok(status) => status,
+            Err(refusal) => tell_refusal(alloc, writer, refusal),
+        },
+        Ok(Wanted::Nothing) => finish(writer, b"fault command line\n", COMMAND_LINE),
+        Err(AllocError) => lack_memory(writer),
+    }
 }
 
 /// Serves the script that a reader gives, writes the history into its file, and says the exit status.

@@ -1,21 +1,23 @@
 //! Answers questions about access: may this caller have what it wants of a file with this list? If not, which entry
 //! decides?
 //!
-//! It is the example of a program over `acl_core` and `acl_text` alone; `./suites may` is it.
+//! It is the example of what stands on `acl_core` and `acl_text` alone; `./suites may` asks it.
 //!
 //! Standard input has one question a line, `OWNER GROUP UID GID[,GROUP..] WANTED LIST`, all numbers. Standard
 //! output has an answer for each, in order: `granted` or `denied WANTED by ENTRY`. If a line is faulty, nothing is
 //! printed but `fault line N: CODE`. The exit status is 0, or 2 for other words than `--help`, 3 for a fault, 4 out
 //! of memory. It is 6 where a stream failed or the input is above 16 MiB.
 //!
-//! **Promises.** Each answer is that of the access check (`specs/Answers.antt`); `Does` says what the program has
-//! done of its words when it ends, and with which exit status.
+//! **Promises.** Each answer is that of the access check (`specs/Answers.antt`); of `obey` it is said (`Obeys`, `Does`)
+//! what is done of the words when it ends, and with which exit status.
 //!
 //! **Files**: `fault`, `words`, `question`. **Definitions** (`specs/`): `Words`, `Questions`, `Faults`, `Answers`,
 //! `Runs`.
 #![tactic(auto)]
 
 ghost use Rattle.std.specs.Prelude.{◌≡◌, ◌<◌, ◌^◌, length, IfOk};
+ghost use Rattle.byte_streams.specs.Programs.{Obeys};
+ghost use Rattle.byte_streams.specs.Words.{wanted_by};
 ghost use Rattle.may.specs.Answers.{Comes, output_of};
 ghost use Rattle.may.specs.Faults.{fault_line};
 ghost use Rattle.may.specs.Runs.{Does, Ends, Runs, Told};
@@ -25,15 +27,13 @@ mod question;
 mod words;
 
 use byte_streams::{
-    ByteIn, ByteOut, COMMAND_LINE, DONE, FAULTY, MAX_INPUT, SystemIn, SystemOut, SystemWords,
-    Wanted, finish, finish_line, lack_memory, read_all, read_wanted, tell_unread,
+    ByteIn, ByteOut, COMMAND_LINE, CommandWords, DONE, FAULTY, MAX_INPUT, Wanted, finish,
+    finish_line, lack_memory, read_all, read_wanted, tell_unread,
 };
 use fault::{InputError, InputFault, push_fault};
 use question::{push_answer, read_question};
 use script_text::Lines;
 use std::alloc::{AllocError, Global};
-use std::io;
-use std::process::ExitCode;
 
 const HELP: &[u8] = b"Answers questions about access lists.
 
@@ -49,14 +49,25 @@ own group and its other groups (32 at most), what is wanted (as `r` or `wx`), an
 Where a line is faulty, nothing is printed but `fault line N: CODE`.
 ";
 
-fn main(rt: HostRuntime) -> ExitCode {
-    let status = work(
-        rt.alloc(),
-        read_wanted(&SystemWords::new(&rt)),
-        &mut SystemIn::new(rt.reader()),
-        &mut SystemOut::new(io::writer(&rt)),
-    );
-    ExitCode::from(status)
+/// Does what the words behind the command ask for, and says the exit status.
+pub fn obey<W: CommandWords, I: ByteIn, O: ByteOut>(
+    alloc: Global,
+    words: &W,
+    reader: &mut I,
+    writer: &mut O,
+) -> u8
+    ensures { Obeys (λ given wanted. wanted ≡ wanted_by given) (λ wanted. Does wanted (record {
+      input = I.rest reader.old;
+      input_after = I.rest reader.new;
+      written = O.written writer.old;
+      written_after = O.written writer.new;
+      failed_reads = I.failed_reads reader.old;
+      failed_reads_after = I.failed_reads reader.new;
+      failed_writes = O.failed_writes writer.old;
+      failed_writes_after = O.failed_writes writer.new;
+    }) result) (W.words words.now) }
+{
+    work(alloc, read_wanted(words), reader, writer)
 }
 
 /// Does what words ask for, and says the exit status.

@@ -29,7 +29,7 @@ ghost use Rattle.line_session.specs.Answers.{manner_of};
 ghost use Rattle.line_session.specs.InTime.{AnswersAll, Speaks};
 
 use byte_streams::{
-    ByteIn, ByteOut, COMMAND_LINE, DONE, NO_STREAM, SystemIn, SystemOut, finish, lack_memory,
+    ByteIn, ByteOut, COMMAND_LINE, CommandWords, DONE, NO_STREAM, finish, lack_memory,
 };
 use line_session::{Desk, SystemTalk, Talk, session};
 use opened::open_journal;
@@ -37,8 +37,6 @@ use refusal::tell_refusal;
 use script_text::push_number;
 use std::alloc::{AllocError, Global};
 use std::fs::File;
-use std::io;
-use std::process::ExitCode;
 use std::rt::Files;
 use suite_session::first_desk;
 use words::{Wanted, Wish, read_words};
@@ -50,21 +48,20 @@ const HELP: &[u8] = b"Answers each line of a script of events before it reads th
   --no-sync        what is kept is not synced: it is lost where the machine stops, not where the program does
 ";
 
-fn main(rt: HostRuntime) -> ExitCode {
-    let mut writer = SystemOut::new(io::writer(&rt));
-    let status = match read_words(&rt, rt.alloc()) {
-        Ok(Wanted::Session(wish)) => hold(
-            &rt,
-            rt.alloc(),
-            &wish,
-            SystemIn::new(rt.reader()),
-            writer,
-        ),
+/// Does what the words behind the command ask for, and says the exit status.
+pub fn obey<R: Files<File = File>, W: CommandWords, I: ByteIn + Drop, O: ByteOut + Drop>(
+    rt: &R,
+    alloc: Global,
+    words: &W,
+    reader: I,
+    mut writer: O,
+) -> u8 {
+    match read_words(words, alloc) {
+        Ok(Wanted::Session(wish)) => hold(rt, alloc, &wish, reader, writer),
         Ok(Wanted::Help) => finish(&mut writer, HELP, DONE),
         Ok(Wanted::Nothing) => finish(&mut writer, b"fault command line\n", COMMAND_LINE),
         Err(AllocError) => lack_memory(&mut writer),
-    };
-    ExitCode::from(status)
+    }
 }
 
 /// Restores the journal, where there is one, holds the session, and says the exit status.

@@ -25,8 +25,10 @@
 //! `Asked`, `Retold`, `Shown`, `Runs`.
 #![tactic(auto)]
 
-ghost use Rattle.std.specs.Prelude.{◌<◌, ◌^◌, length};
+ghost use Rattle.std.specs.Prelude.{◌≡◌, ◌<◌, ◌^◌, length};
+ghost use Rattle.byte_streams.specs.Programs.{Obeys};
 ghost use Rattle.explore.specs.Runs.{Does, Ends, Runs, Told};
+ghost use Rattle.explore.specs.Words.{wanted_by};
 
 mod awaited;
 mod explored;
@@ -43,15 +45,13 @@ mod ways;
 mod words;
 
 use byte_streams::{
-    ByteIn, ByteOut, COMMAND_LINE, DONE, FAULTY, MAX_INPUT, SystemIn, SystemOut, SystemWords,
-    finish, finish_line, lack_memory, read_all, tell_unread,
+    ByteIn, ByteOut, COMMAND_LINE, CommandWords, DONE, FAULTY, MAX_INPUT, finish, finish_line,
+    lack_memory, read_all, tell_unread,
 };
 use explored::show_script;
 use progress::Progress;
 use run_explore::Watch;
 use std::alloc::Global;
-use std::io;
-use std::process::ExitCode;
 use suite_script::{ScriptError, fault_text};
 use words::{Wanted, Wish, read_words};
 
@@ -71,20 +71,30 @@ const HELP: &[u8] =
   --progress    how many worlds were looked at, on standard error while it is at work
 ";
 
-fn main(rt: HostRuntime) -> ExitCode {
-    let errors = SystemOut::new(rt.stderr());
-    let status = work(
-        rt.alloc(),
-        read_words(&SystemWords::new(&rt)),
-        &mut SystemIn::new(rt.reader()),
-        &mut SystemOut::new(io::writer(&rt)),
-        errors,
-    );
-    ExitCode::from(status)
+/// Does what the words behind the command ask for, and says the exit status. Meanwhile it tells on a stream of its own
+/// how far it is, where that is asked for.
+pub fn obey<W: CommandWords, I: ByteIn, O: ByteOut, E: ByteOut + Drop>(
+    alloc: Global,
+    words: &W,
+    reader: &mut I,
+    writer: &mut O,
+    errors: E,
+) -> u8
+    ensures { Obeys (λ given wanted. wanted ≡ wanted_by given) (λ wanted. Does wanted (record {
+      input = I.rest reader.old;
+      input_after = I.rest reader.new;
+      written = O.written writer.old;
+      written_after = O.written writer.new;
+      failed_reads = I.failed_reads reader.old;
+      failed_reads_after = I.failed_reads reader.new;
+      failed_writes = O.failed_writes writer.old;
+      failed_writes_after = O.failed_writes writer.new;
+    }) result) (W.words words.now) }
+{
+    work(alloc, read_words(words), reader, writer, errors)
 }
 
-/// Does what words ask for, and says the exit status. Meanwhile it tells on a stream of its own how far it is, where
-/// that is asked for.
+/// Does what words ask for, and says the exit status.
 fn work<I: ByteIn, O: ByteOut, E: ByteOut + Drop>(
     alloc: Global,
     wanted: Wanted,
