@@ -121,7 +121,7 @@ def crash_each(tally: Tally) -> None:
     for server in (0, 7, 8, 31):
         votes = ",".join("1" if place == server else "0" for place in range(32))
         script = f"servers 32\nagents 1\nvotes {votes}/1/1\nroot 0 0 777\ncache 0 0 0\ntogether\nbegin 0 0 0 0 list /\n"
-        status, told = sampled(built.program("explore"), script, f"--sample {MANY_ORDERS} --crashes 1")
+        status, told = sampled(built.program(), script, f"--sample {MANY_ORDERS} --crashes 1")
         is_found = ("0.0 undecided U1 suite 0 got 0 of 1",) in ways_in(told)
         tally.holds(status == NOT_ALL and is_found, f"server {server} of 32: status {status}, ways {ways_in(told)}")
 

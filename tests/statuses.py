@@ -21,13 +21,12 @@ MOST, HEAD = 128 * 1024 * 1024, b"root 1 1 755\n#"
 ENDS: tuple[tuple[str, str, bytes, int, bytes], ...] = (
     ("trace", "", RUN, 0, b"> begin 0"),
     ("trace", "--json", RUN, 0, b'{"event":0'),
-    ("trace", "--help", b"", 0, b"Plays"),
     ("trace", "x", RUN, 2, b"fault command line\n"),
     ("trace", "", RUN + b"no\n", 3, b"fault line 8: S1\n"),
     ("trace", "", LONG, 6, b""),
     ("forms", "", b"", 0, b"place\t"),
     ("forms", "play 8", RUN + b"no\n", 0, b"1\tS1\t"),
-    ("forms", "--help", b"", 0, b"Prints"),
+    ("forms", "play 8 9", b"", 2, b"fault command line\n"),
     ("forms", "x", b"", 2, b"fault command line\n"),
     ("forms", "play 1", LONG, 6, b""),
 )

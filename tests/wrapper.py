@@ -92,7 +92,7 @@ printf '{EXPLORED}'
 TYPED = (b"hi\nbegin 0 1 1 0 list /\nsweep 0 1\nstep 1 3\nrun 0\n", b"\x04")
 SILENT = ("line 3 did nothing: agent 0 has a job (line 2)", "line 4 did nothing: agent 1 has no job",
           "agent 0 has a job that has not ended (line 2); run 0 ends it")
-KEEP = "from front import choose, sources; choose.keep_record('checked', sources.Sources(), sources.Kit())"
+KEEP = "from front import choose, sources; choose.keep_record('{}', sources.Sources(), sources.Kit())"
 WORLDS = re.compile(r"suites: explore is at work: [1-6]0,000 worlds, \d{1,2},\d00 a second, \d+ s")
 
 
@@ -145,8 +145,13 @@ class Copy(Tally):
             with open(path, "w", encoding="utf-8") as file:
                 file.write(told)
             os.chmod(path, 0o755)
+        self.asked(KEEP.format("checked"))
+
+    def asked(self, line: str) -> str:
+        """What a line of Python prints that takes from the tools of the copy."""
         settings = {**os.environ, "PYTHONPATH": os.path.join(self.top, "tools")}
-        subprocess.run([sys.executable, "-c", KEEP], cwd=self.top, env=settings, check=True)
+        words = [sys.executable, "-c", line]
+        return subprocess.run(words, cwd=self.top, env=settings, stdout=subprocess.PIPE, text=True, check=True).stdout
 
     def on_terminal(self, words: list[str], *pieces: bytes, stdin: int | None = None) -> str:
         """What a terminal shows of an answer, where these are typed, each once nothing more comes; or where this is the
@@ -315,6 +320,21 @@ def runs_a_build(copy: Copy) -> None:
     copy.holds(copy.answer(["play", "foo"])[:2] == (2, "fault command line\n"), "play foo with a build")
 
 
+def answers_first(copy: Copy) -> None:
+    """With the small build alone: it answers what `./suites` starts itself, and no tool."""
+    out = os.path.join(copy.top, "out")
+    copy.build("suites", PROGRAM)
+    os.rename(os.path.join(out, "suites"), os.path.join(out, "first_answer"))
+    os.unlink(os.path.join(out, "choice.sh"))
+    copy.asked(KEEP.format("first"))
+    for _ in range(2):
+        status, _, told = copy.answer(["serve", "--agents", "5"])
+        copy.holds(status == 5 and told.startswith("suites: checked build"), f"the small build answers {status} {told}")
+    version, choice = copy.answer(["--version"])[1], copy.asked("from common import built; print(built.kept_choice())")
+    copy.holds(version.endswith("\nbuild first, out/first_answer\n"), f"of the small build --version tells {version}")
+    copy.holds(choice == "None\n", f"a tool would ask {choice}")
+
+
 def tells_a_terminal(copy: Copy) -> None:
     """What a terminal is told besides, with a build."""
     reading = "suites: reading from the terminal"
@@ -364,6 +384,7 @@ def main() -> int:
             if os.path.exists("/dev/ptmx"):
                 tells_a_terminal(copy)
                 tells_worlds(copy)
+            answers_first(copy)
     return copy.told("answers")
 
 

@@ -25,8 +25,9 @@ def kept_choice() -> tuple[str, str] | None:
         said = dict(word.split("=", 1) for word in shlex.split(file.read()))
         names = [*said["files"].split("\n"), said["program"]]
         is_same_kit = os.environ.get("PATH") == said["searched"] or shutil.which("rt") == said["rt"]
+        is_whole = said["kind"] != "first"
         written = os.fstat(file.fileno()).st_mtime_ns
-        if is_same_kit and all(os.stat(os.path.join(TOP, one)).st_ctime_ns <= written for one in names):
+        if is_same_kit and is_whole and all(os.stat(os.path.join(TOP, one)).st_ctime_ns <= written for one in names):
             return said["kind"], said["program"]
     return None
 

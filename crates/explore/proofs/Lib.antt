@@ -8,4 +8,3 @@ pub mod LinesPlayed
 pub mod Finding
 pub mod WayLines
 pub mod BegunJobs
-pub mod WordByWord

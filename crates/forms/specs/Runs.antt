@@ -1,14 +1,11 @@
 -- What the program has done when it ends.
-use Rattle.std.specs.Prelude.{◌≡◌, ℕ, ◌⊎◌, Bool, true, false, List, Option}
+use Rattle.std.specs.Prelude.{◌≡◌, ℕ, ◌⊎◌, Bool, true, false, List, [], ◌∷◌, Option, Some}
 use Rattle.byte_streams.specs.Endings.{Finishes, Lacks, TellsLine, done}
-use Rattle.byte_streams.specs.Programs.{RefusesWords, RunsOn, Streams, WritesHelp}
-use Rattle.byte_streams.specs.Words.{wanted_by}
-use Rattle.byte_streams.specs.declared.wanted.Wanted.{Wanted}
-use Rattle.byte_streams.specs.declared.wanted.Wanted.TheVariants as given
+use Rattle.byte_streams.specs.Programs.{Obeys, RunsOn, Streams}
 use Rattle.forms.specs.Answers.{IsAnswer}
 use Rattle.forms.specs.declared.Question.{Question}
 use Rattle.forms.specs.declared.Wish.{Wish}
-use Rattle.forms.specs.declared.Wish.TheVariants.{Table, Help, Answer, Nothing}
+use Rattle.forms.specs.declared.Wish.TheVariants.{Table, Answer}
 
 -- the answer was written, or a write failed
 pub record WritesAnswer (question : Question) (given : List ℕ) (before after : Option (List ℕ)) (failures failures_after status : ℕ) : Type 0 where
@@ -31,27 +28,25 @@ pub record WritesTable (streams : Streams) (status : ℕ) : Type 0 where
   pub unread : streams.input_after ≡ streams.input
   pub written : TellsLine text done status streams.written streams.written_after streams.failed_writes streams.failed_writes_after
 
--- what the words of the command line ask for was done
+-- what words ask for was done
 abbrev pub Does : Wish → Streams → ℕ → Type 0
 Does Table streams status = WritesTable streams status
-Does Help streams status = WritesHelp streams status
 Does (Answer question) streams status = Runs question streams status
-Does Nothing streams status = RefusesWords streams status
 
 -- ---- what the words ask for
 
--- an answer, or nothing that there is
-abbrev pub is_other : Wish → Bool
-is_other Table = false
-is_other Help = false
-is_other (Answer question) = true
-is_other Nothing = true
+-- an answer, or nothing
+abbrev pub is_other : Option Wish → Bool
+is_other (Some Table) = false
+is_other wish = true
 
--- no word asks for the table, `--help` for help, and others for neither
-abbrev pub AsksAs : Wanted → Wish → Type 0
-AsksAs given.Work wish = wish ≡ Table
-AsksAs given.Help wish = wish ≡ Help
-AsksAs given.Nothing wish = is_other wish ≡ true
+-- no word asks for the table, and others do not
+abbrev pub Asks : List (List ℕ) → Option Wish → Type 0
+Asks [] wish = wish ≡ Some Table
+Asks (word ∷ words) wish = is_other wish ≡ true
 
-abbrev pub Asks : List (List ℕ) → Wish → Type 0
-Asks words wish = AsksAs (wanted_by words) wish
+-- what they ask for was done
+pub record DoesOf (words : List (List ℕ)) (streams : Streams) (status : ℕ) : Type 0 where
+  pub wish : Option Wish
+  pub is : Asks words wish
+  pub done : Obeys Does wish streams status

@@ -8,73 +8,51 @@
 //! The exit status is 0 where there is an order, 1 where there is none, 2 for other words, 3 for a fault, 4 out of
 //! memory. It is 6 where a stream failed or the input is above 128 MiB.
 //!
-//! **Promises.** Of `obey` it is said (`Obeys`, `Does`) what is done of the words when it ends: of its input and its
+//! **Promises.** Of `obey` it is said (`Obeys`) what is done of the words when it ends: of its input and its
 //! output (`Runs`).
 //!
-//! **Files**: `words`. **Definitions** (`specs/`): `Runs`.
+//! **Definitions** (`specs/`): `Runs`.
 #![tactic(auto)]
 
-ghost use Rattle.std.specs.Prelude.{◌≡◌, ◌<◌, ◌^◌, length};
-ghost use Rattle.byte_streams.specs.Programs.{Obeys};
-ghost use Rattle.judge.specs.Runs.{Does, Ends, Runs, Told, wanted_by};
-
-mod words;
+ghost use Rattle.std.specs.Prelude.{◌≡◌, ◌<◌, ◌^◌, length, map};
+ghost use Rattle.byte_streams.specs.Programs.{Obeys, streams_of};
+ghost use Rattle.judge.specs.Runs.{Ends, Runs, Told, wanted_by};
 
 use byte_streams::{
-    ByteIn, ByteOut, COMMAND_LINE, CommandWords, DONE, FAULTY, finish, finish_line, lack_memory,
-    read_all, tell_unread,
+    ByteIn, ByteOut, COMMAND_LINE, DONE, FAULTY, finish, finish_line, lack_memory, read_all,
+    tell_unread,
 };
 use std::alloc::Global;
 use suite_history::judge_text;
 use suite_script::{ScriptError, fault_text};
-use words::{Wanted, read_words};
 
 /// The most bytes of a history: 128 MiB, some two million calls.
 const MAX_HISTORY: usize = 1 << 27;
 
-const HELP: &[u8] = b"Tells whether a history is one plain table's.
-
-  --order   the lines of its calls in such an order
-";
-
 /// Does what the words behind the command ask for, and says the exit status.
-pub fn obey<W: CommandWords, I: ByteIn, O: ByteOut>(
+pub fn obey<I: ByteIn, O: ByteOut>(
     alloc: Global,
-    words: &W,
+    words: &[&str],
     reader: &mut I,
     writer: &mut O,
 ) -> u8
-    ensures { Obeys (λ given wanted. wanted ≡ wanted_by given) (λ wanted. Does wanted (record {
-      input = I.rest reader.old;
-      input_after = I.rest reader.new;
-      written = O.written writer.old;
-      written_after = O.written writer.new;
-      failed_reads = I.failed_reads reader.old;
-      failed_reads_after = I.failed_reads reader.new;
-      failed_writes = O.failed_writes writer.old;
-      failed_writes_after = O.failed_writes writer.new;
-    }) result) (W.words words.now) }
+    ensures { Obeys Runs (wanted_by (map (λ word. word.now) words.now))
+        (streams_of I.rest I.failed_reads O.written O.failed_writes reader.old reader.new writer.old writer.new) result }
 {
-    work(alloc, read_words(words), reader, writer)
+    match tells_order(words) {
+        Some(tells_order) => run(alloc, tells_order, reader, writer),
+        None => finish(writer, b"fault command line\n", COMMAND_LINE),
+    }
 }
 
-/// Does what words ask for, and says the exit status.
-fn work<I: ByteIn, O: ByteOut>(alloc: Global, wanted: Wanted, reader: &mut I, writer: &mut O) -> u8
-    ensures { Does wanted (record {
-      input = I.rest reader.old;
-      input_after = I.rest reader.new;
-      written = O.written writer.old;
-      written_after = O.written writer.new;
-      failed_reads = I.failed_reads reader.old;
-      failed_reads_after = I.failed_reads reader.new;
-      failed_writes = O.failed_writes writer.old;
-      failed_writes_after = O.failed_writes writer.new;
-    }) result }
+/// Whether words ask for an order beside the verdict, if they ask for something.
+fn tells_order(words: &[&str]) -> Option<bool>
+    ensures { result ≡ wanted_by (map (λ word. word.now) words.now) }
 {
-    match wanted {
-        Wanted::Judge { tells_order } => run(alloc, tells_order, reader, writer),
-        Wanted::Help => finish(writer, HELP, DONE),
-        Wanted::Nothing => finish(writer, b"fault command line\n", COMMAND_LINE),
+    match words {
+        [] => Some(false),
+        [word] if *word == "--order" => Some(true),
+        _ => None,
     }
 }
 
@@ -85,16 +63,7 @@ fn run<I: ByteIn, O: ByteOut>(
     reader: &mut I,
     writer: &mut O,
 ) -> u8
-    ensures { Runs tells_order (record {
-      input = I.rest reader.old;
-      input_after = I.rest reader.new;
-      written = O.written writer.old;
-      written_after = O.written writer.new;
-      failed_reads = I.failed_reads reader.old;
-      failed_reads_after = I.failed_reads reader.new;
-      failed_writes = O.failed_writes writer.old;
-      failed_writes_after = O.failed_writes writer.new;
-    }) result }
+    ensures { Runs tells_order (streams_of I.rest I.failed_reads O.written O.failed_writes reader.old reader.new writer.old writer.new) result }
 {
     match read_all(alloc, reader, MAX_HISTORY) {
         Ok(text) => judge_history(alloc, tells_order, &text, writer),

@@ -12,7 +12,7 @@ mod line;
 mod report;
 mod row;
 
-use byte_streams::{MemoryIn, MemoryOut, MemoryWords, SystemIn, SystemOut, read_all, write_all};
+use byte_streams::{MemoryIn, MemoryOut, SystemIn, SystemOut, read_all, write_all};
 use line::Unread;
 use report::{Report, RowAt};
 use row::Row;
@@ -100,7 +100,7 @@ fn compare<R: Threads + Wait + Sync>(
     let alloc = report.alloc();
     let words = row.words(alloc)?;
     let mut printed = MemoryOut::new(alloc);
-    let status = play(rt, alloc, &words, &mut input, &mut printed)?;
+    let status = play(rt, alloc, &words, &mut input, &mut printed);
     if !row.is_met_by(status, printed.bytes()) {
         report.add_difference(place, status, printed.bytes())?;
     }
@@ -114,26 +114,15 @@ fn play<R: Threads + Wait + Sync>(
     words: &[&str],
     input: &mut MemoryIn<'_>,
     printed: &mut MemoryOut,
-) -> Result<u8, AllocError> {
+) -> u8 {
     let Some((command, behind)) = words.split_first() else {
-        return Ok(run(rt, alloc, words, input, printed));
+        return run(rt, alloc, words, input, printed);
     };
-    let behind = bytes_of(alloc, behind)?;
-    let behind = MemoryWords::new(&behind);
-    Ok(match *command {
-        "explore" => explore::obey(alloc, &behind, input, printed, MemoryOut::new(alloc)),
-        "judge" => judge::obey(alloc, &behind, input, printed),
-        "may" => may::obey(alloc, &behind, input, printed),
-        "trace" => trace::obey(alloc, &behind, input, printed),
+    match *command {
+        "explore" => explore::obey(alloc, behind, input, printed, MemoryOut::new(alloc)),
+        "judge" => judge::obey(alloc, behind, input, printed),
+        "may" => may::obey(alloc, behind, input, printed),
+        "trace" => trace::obey(alloc, behind, input, printed),
         _ => run(rt, alloc, words, input, printed),
-    })
-}
-
-/// Words as bytes.
-fn bytes_of<'a>(alloc: Global, words: &[&'a str]) -> Result<Vec<&'a [u8]>, AllocError> {
-    let mut bytes = Vec::new(alloc);
-    for word in words {
-        bytes.push(word.as_bytes())?;
     }
-    Ok(bytes)
 }

@@ -24,12 +24,11 @@ mod refusal;
 mod words;
 
 use byte_streams::{
-    ByteIn, ByteOut, COMMAND_LINE, CommandWords, MAX_INPUT, SystemOut, finish, lack_memory,
-    read_all, write_all,
+    ByteIn, ByteOut, COMMAND_LINE, MAX_INPUT, SystemOut, finish, read_all, write_all,
 };
 use logged::{Logged, serve_logged};
 use refusal::{Refusal, tell_refusal};
-use std::alloc::{AllocError, Global};
+use std::alloc::Global;
 use std::fs::{File, OpenOptions};
 use std::rt::Files;
 use std::sync::Wait;
@@ -37,23 +36,38 @@ use std::thread::Threads;
 use suite_cli::report;
 use suite_prefix::MAX_AGENTS;
 use suite_serve::read_script;
-use words::{Wanted, Wish, read_words};
+use words::{Wish, read_words};
 
-/// Does what the words behind the command ask for, and says the exit status.
-pub fn obey<R: Threads + Wait + Sync + Files<File = File>, W: CommandWords, I: ByteIn, O: ByteOut>(
+/// Does what words ask for, and says the exit status: all but `serve` with a history as `suite_cli::run`.
+pub fn run<R: Threads + Wait + Sync + Files<File = File>, I: ByteIn, O: ByteOut>(
     rt: &R,
     alloc: Global,
-    words: &W,
+    words: &[&str],
     reader: &mut I,
     writer: &mut O,
 ) -> u8 {
-    match read_words(words, alloc) {
-        Ok(Wanted::Serve(wish)) => match serve(rt, alloc, &wish, reader, writer) {
-            Ok(status) => status,
-            Err(refusal) => tell_refusal(alloc, writer, refusal),
-        },
-        Ok(Wanted::Nothing) => finish(writer, b"fault command line\n", COMMAND_LINE),
-        Err(AllocError) => lack_memory(writer),
+    match words {
+        [command, behind @ ..] if *command == "serve" && behind.contains(&"--log") => {
+            obey(rt, alloc, behind, reader, writer)
+        }
+        _ => suite_cli::run(rt, alloc, words, reader, writer),
+    }
+}
+
+/// Does what the words behind `serve` ask for, and says the exit status.
+fn obey<R: Threads + Wait + Sync + Files<File = File>, I: ByteIn, O: ByteOut>(
+    rt: &R,
+    alloc: Global,
+    words: &[&str],
+    reader: &mut I,
+    writer: &mut O,
+) -> u8 {
+    let Some(wish) = read_words(words) else {
+        return finish(writer, b"fault command line\n", COMMAND_LINE);
+    };
+    match serve(rt, alloc, wish, reader, writer) {
+        Ok(status) => status,
+        Err(refusal) => tell_refusal(alloc, writer, refusal),
     }
 }
 
@@ -61,11 +75,11 @@ pub fn obey<R: Threads + Wait + Sync + Files<File = File>, W: CommandWords, I: B
 fn serve<R: Threads + Wait + Sync + Files<File = File>, I: ByteIn, O: ByteOut>(
     rt: &R,
     alloc: Global,
-    wish: &Wish,
+    wish: Wish<'_>,
     reader: &mut I,
     writer: &mut O,
 ) -> Result<u8, Refusal>
-    requires agents { (1 ≤ wish.now.agents) × (wish.now.agents ≤ MAX_AGENTS) }
+    requires agents { (1 ≤ wish.agents) × (wish.agents ≤ MAX_AGENTS) }
 {
     let text = read_all(alloc, reader, MAX_INPUT)?;
     let script = read_script(alloc, &text, usize::from(wish.agents))?;
@@ -74,7 +88,7 @@ fn serve<R: Threads + Wait + Sync + Files<File = File>, I: ByteIn, O: ByteOut>(
         .write(true)
         .create(true)
         .truncate(true)
-        .open(rt, wish.log.as_str())?;
+        .open(rt, wish.log)?;
     match serve_logged(rt, alloc, script) {
         Ok(logged) => tell(alloc, &logged, &mut SystemOut::new(file), writer),
         Err(fault) => Ok(report(alloc, Err(fault), writer)),

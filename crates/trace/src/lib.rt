@@ -6,18 +6,18 @@
 //! off the servers of the world. All other lines, and the exit status, are those of `suites play`.
 //!
 //! With `--json` the same is told as objects of JSON, one a line (`docs/EVENTS.md`, `event_json`). It takes no
-//! other word but `--help`.
+//! other word.
 //!
-//! **Promises.** Of `obey` it is said (`Obeys`, `Does`) what is done of the words when it ends: of a script that has a
+//! **Promises.** Of `obey` it is said (`Obeys`) what is done of the words when it ends: of a script that has a
 //! fault nothing is told but its first one, by its line, as `play` tells it, and of one that has none no fault is.
 //!
 //! **Files**: `lines`, `words`, `asked`, `told`, `standing`, `agents`, `events`, `teller`, `tracer`.
 //! **Definitions** (`specs/`): `Runs`, `Traced`.
 #![tactic(auto)]
 
-ghost use Rattle.std.specs.Prelude.{◌≡◌, ◌<◌, ◌^◌, IfSome, is_none, length, slice_get};
-ghost use Rattle.byte_streams.specs.Programs.{Obeys};
-ghost use Rattle.trace.specs.Traced.{Does, Ends, Runs, TellsEnd, wants_events, wish_of};
+ghost use Rattle.std.specs.Prelude.{◌≡◌, ◌<◌, ◌^◌, length, map};
+ghost use Rattle.byte_streams.specs.Programs.{Obeys, streams_of};
+ghost use Rattle.trace.specs.Traced.{Ends, Runs, TellsEnd, form_by};
 
 mod agents;
 mod asked;
@@ -30,119 +30,44 @@ mod tracer;
 mod words;
 
 use byte_streams::{
-    ByteIn, ByteOut, COMMAND_LINE, CommandWords, DONE, FAULTY, MAX_INPUT, NO_STREAM, Wanted,
-    finish, finish_line, lack_memory, read_all, read_wanted, tell_unread,
+    ByteIn, ByteOut, COMMAND_LINE, DONE, FAULTY, MAX_INPUT, NO_STREAM, finish, finish_line,
+    lack_memory, read_all, tell_unread,
 };
 use std::alloc::Global;
-use std::env::FillError;
 use suite_script::{PlayError, fault_text};
 use teller::Form;
 use tracer::trace;
 
-const HELP: &[u8] = b"Plays a script of events, as `suites play` does, and prints all that happens.
-
-  > LINE                      a line of the script, and below it what it does:
-    A -> sS  REQUEST : REPLY  a request of agent A to server S (`full`: it has no room, and served nothing)
-    nothing happens: WHY      the line does nothing
-  = server S up               what the server has at the end: copies, with their versions and votes, and locks
-
-All other lines are those of `suites play`. With the word --json it prints objects of JSON instead, one a line.
-";
-
-/// What words ask for: a script traced in some form, help, or nothing that there is.
-#[derive(Clone, Copy)]
-enum Wish {
-    Trace(Form),
-    Help,
-    Nothing,
-}
-
 /// Does what the words behind the command ask for, and says the exit status.
-pub fn obey<W: CommandWords, I: ByteIn, O: ByteOut>(
+pub fn obey<I: ByteIn, O: ByteOut>(
     alloc: Global,
-    words: &W,
+    words: &[&str],
     reader: &mut I,
     writer: &mut O,
 ) -> u8
-    ensures { Obeys (λ given wanted. wanted ≡ wish_of given) (λ wanted. Does wanted (record {
-      input = I.rest reader.old;
-      input_after = I.rest reader.new;
-      written = O.written writer.old;
-      written_after = O.written writer.new;
-      failed_reads = I.failed_reads reader.old;
-      failed_reads_after = I.failed_reads reader.new;
-      failed_writes = O.failed_writes writer.old;
-      failed_writes_after = O.failed_writes writer.new;
-    }) result) (W.words words.now) }
+    ensures { Obeys (λ _ streams. Runs streams) (form_by (map (λ word. word.now) words.now))
+        (streams_of I.rest I.failed_reads O.written O.failed_writes reader.old reader.new writer.old writer.new) result }
 {
-    work(alloc, read_words(words), reader, writer)
-}
-
-/// Does what words ask for, and says the exit status.
-fn work<I: ByteIn, O: ByteOut>(alloc: Global, wish: Wish, reader: &mut I, writer: &mut O) -> u8
-    ensures { Does wish (record {
-      input = I.rest reader.old;
-      input_after = I.rest reader.new;
-      written = O.written writer.old;
-      written_after = O.written writer.new;
-      failed_reads = I.failed_reads reader.old;
-      failed_reads_after = I.failed_reads reader.new;
-      failed_writes = O.failed_writes writer.old;
-      failed_writes_after = O.failed_writes writer.new;
-    }) result }
-{
-    match wish {
-        Wish::Trace(form) => run(alloc, form, reader, writer),
-        Wish::Help => finish(writer, HELP, DONE),
-        Wish::Nothing => finish(writer, b"fault command line\n", COMMAND_LINE),
+    match form_by(words) {
+        Some(form) => run(alloc, form, reader, writer),
+        None => finish(writer, b"fault command line\n", COMMAND_LINE),
     }
 }
 
-/// What the words of the command line ask for.
-fn read_words<W: CommandWords>(words: &W) -> Wish
-    ensures { IfSome (W.words words.now) (λ given. result ≡ wish_of given) }
+/// The form that words ask for, if they ask for one.
+fn form_by(words: &[&str]) -> Option<Form>
+    ensures { result ≡ form_by (map (λ word. word.now) words.now) }
 {
-    match read_wanted(words) {
-        Wanted::Work => Wish::Trace(Form::Lines),
-        Wanted::Help => Wish::Help,
-        Wanted::Nothing if wants_events(words) => Wish::Trace(Form::Events),
-        Wanted::Nothing => Wish::Nothing,
-    }
-}
-
-/// Whether there is one word, which is `--json`.
-fn wants_events<W: CommandWords>(words: &W) -> bool
-    ensures { IfSome (W.words words.now) (λ given. result ≡ wants_events given) }
-{
-    let mut word = [0; 8];
-    match words.word(0, &mut word) {
-        Ok(length) if word.get(..length) == Some(b"--json".as_slice()) => is_last(words),
-        _ => false,
-    }
-}
-
-/// Whether there is no second word.
-fn is_last<W: CommandWords>(words: &W) -> bool
-    ensures { IfSome (W.words words.now) (λ given. result ≡ is_none (slice_get given 1)) }
-{
-    match words.word(1, &mut [0]) {
-        Err(FillError::NotPresent) => true,
-        _ => false,
+    match words {
+        [] => Some(Form::Lines),
+        [word] if *word == "--json" => Some(Form::Events),
+        _ => None,
     }
 }
 
 /// Traces the script that a reader gives, and answers the exit status.
 fn run<I: ByteIn, O: ByteOut>(alloc: Global, form: Form, reader: &mut I, writer: &mut O) -> u8
-    ensures { Runs (record {
-      input = I.rest reader.old;
-      input_after = I.rest reader.new;
-      written = O.written writer.old;
-      written_after = O.written writer.new;
-      failed_reads = I.failed_reads reader.old;
-      failed_reads_after = I.failed_reads reader.new;
-      failed_writes = O.failed_writes writer.old;
-      failed_writes_after = O.failed_writes writer.new;
-    }) result }
+    ensures { Runs (streams_of I.rest I.failed_reads O.written O.failed_writes reader.old reader.new writer.old writer.new) result }
 {
     match read_all(alloc, reader, MAX_INPUT) {
         Ok(script) => trace_text(alloc, form, &script, writer),
