@@ -2,15 +2,14 @@
 """bench/harm.py [--only CRATE/EDIT] [--keep FOLDER]
 
 What wrong bodies would do, were they not refused: those of the crates that all runs go through (CRATES below). Builds
-`explore`, `trace` and `suites` without proof (bench/unproved.py), once with all of these edits: each function that an
-edit changes stands there a second time, changed, and is taken in the place of the first where the environment names
-that edit. Then has each tell the ways of the scripts of examples/explore and tests/explored, up to the first, of those
-with the fewest worlds, in which an answer that was decided is not that of the plain table, in the order of the
-decisions (tools/compare); where the ways are as they are to be, it plays their scripts. And it plays the rows of
-`play`.
+the program without proof (bench/unproved.py), once with all of these edits: each function that an edit changes stands
+there a second time, changed, and is taken in the place of the first where the environment names that edit. Then has
+each tell the ways of the scripts of examples/explore and tests/explored, up to the first, of those with the fewest
+worlds, in which an answer that was decided is not that of the plain table, in the order of the decisions
+(tools/compare); where the ways are as they are to be, it plays their scripts. And it plays the rows of `play`.
 
 Writes docs/wrong-bodies-shown.txt: of each edit what comes of it, in which story, and the fewest events that show it.
-`python3 tools wrong_bodies_page` tables that. With --keep the programs stay in this folder, and are taken from there
+`python3 tools wrong_bodies_page` tables that. With --keep the program stays in this folder, and is taken from there
 the next time. Takes some fifteen minutes of processor time; none of it is part of the gate.
 """
 import functools
@@ -34,7 +33,6 @@ from common import text_of
 from compare import compare
 import explored
 
-PROGRAMS = ("explore", "trace", "suites")
 # What is compared of a way.
 Shortening = typing.Callable[[tuple[str, ...]], tuple[str, ...]]
 SHOWN = os.path.join(measure.TOP, "docs", "wrong-bodies-shown.txt")
@@ -94,7 +92,7 @@ def asking(module: str) -> str:
 
 
 def build_here(out: str) -> None:
-    """Builds the program of the environment, of these crates."""
+    """Builds the program of these crates."""
     with tempfile.TemporaryDirectory() as folder:
         asks = os.path.join(folder, "asks.c")
         with open(asks, "w", encoding="utf-8") as file:
@@ -103,7 +101,7 @@ def build_here(out: str) -> None:
 
 
 def build(folder: str, tried: list[Edit]) -> None:
-    """Builds the programs with all these edits to a folder."""
+    """Builds the program with all these edits to a folder."""
     with tempfile.TemporaryDirectory(prefix="suites-") as room:
         for name in ("crates", "tools", "bench", "tests"):
             left = shutil.ignore_patterns("out", "must-fail", "wrong", "__pycache__")
@@ -113,23 +111,25 @@ def build(folder: str, tried: list[Edit]) -> None:
         with_switch(room)
         for number, edit in enumerate(tried, 1):
             twice.put_in(os.path.join(room, "crates"), edit, number)
-        for program in PROGRAMS:
-            words = [sys.executable, "-c", "import sys, harm; harm.build_here(sys.argv[1])"]
-            words.append(os.path.abspath(os.path.join(folder, program)))
-            environment = {**os.environ, "SUITES_PROGRAM": program}
-            subprocess.run(words, cwd=os.path.join(room, "bench"), env=environment, check=True)
+        words = [sys.executable, "-c", "import sys, harm; harm.build_here(sys.argv[1])"]
+        words.append(os.path.abspath(program_in(folder)))
+        subprocess.run(words, cwd=os.path.join(room, "bench"), check=True)
 
 
-class Programs:
-    """The programs in which one wrong body is taken, or none."""
+def program_in(folder: str) -> str:
+    return os.path.join(folder, "suites")
+
+
+class Program:
+    """The program in which one wrong body is taken, or none."""
 
     def __init__(self, folder: str, number: int) -> None:
         self.folder, self.number = folder, number
 
-    def run(self, program: str, words: typing.Sequence[str], given: bytes) -> tuple[int, bytes]:
-        """The status of a program and what it prints."""
+    def run(self, command: str, words: typing.Sequence[str], given: bytes) -> tuple[int, bytes]:
+        """The status of a command and what it prints."""
         done = subprocess.run(
-            [os.path.join(self.folder, program), *words],
+            [program_in(self.folder), command, *words],
             input=given,
             stdout=subprocess.PIPE,
             stderr=subprocess.DEVNULL,
@@ -173,9 +173,9 @@ def significant(text: str) -> list[str]:
     return [line for line in text.splitlines() if line.strip() and not line.lstrip().startswith("#")]
 
 
-def script_of(programs: Programs, words: list[str], story: str, way: int) -> tuple[str, list[str]]:
+def script_of(program: Program, words: list[str], story: str, way: int) -> tuple[str, list[str]]:
     """The script of a way, and those of its lines that stand in the place of what the story has below `together`."""
-    _, script = programs.run("explore", [*words, "--way", str(way)], story.encode())
+    _, script = program.run("explore", [*words, "--way", str(way)], story.encode())
     above = significant(story.partition("\ntogether")[0])
     return script.decode(), significant(script.decode())[len(above) :]
 
@@ -185,15 +185,15 @@ def brief(events: list[str]) -> str:
     return ", ".join(re.sub(r"^(begin \d+) .*", r"\1", line) for line in events)
 
 
-def wrong_answer(programs: Programs, script: str) -> str:
+def wrong_answer(program: Program, script: str) -> str:
     """Which decided answer of a script's run is not that of the plain table, if one is not."""
-    status, events = programs.run("trace", ["--json"], script.encode())
+    status, events = program.run("trace", ["--json"], script.encode())
     if status != 0:
         return f"the run ends with status {status}"
     try:
         run = compare.Run([*map(json.loads, events.splitlines())])
         table = compare.table_script(script, run)
-        _, printed = Programs(programs.folder, 0).run("suites", ["table"], table.encode("latin1"))
+        _, printed = Program(program.folder, 0).run("table", [], table.encode("latin1"))
         found, _ = compare.differences_of(run, printed.decode("latin1").splitlines())
     except (KeyError, IndexError, ValueError) as error:
         return f"no run of transactions: {error!r}"
@@ -228,7 +228,7 @@ def stories() -> list[Story]:
 @functools.cache
 def right_runs(folder: str, name: str) -> list[tuple[str, list[str], bytes]]:
     """Of the first ways of a story the script, its events, and what `trace` tells of it, with no wrong body."""
-    right, story = Programs(folder, 0), next(one for one in stories() if one.name == name)
+    right, story = Program(folder, 0), next(one for one in stories() if one.name == name)
     found = []
     for place in range(1, min(MOST_PLAYED, len(explored.read(story.ways))) + 1):
         script, events = script_of(right, story.words, story.text, place)
@@ -236,13 +236,13 @@ def right_runs(folder: str, name: str) -> list[tuple[str, list[str], bytes]]:
     return found
 
 
-def of_plays(programs: Programs, story: Story) -> Shown | None:
+def of_plays(program: Program, story: Story) -> Shown | None:
     """What the scripts of the ways of a story show, where they are played with a wrong body."""
     others = None
-    for script, events, lines in right_runs(programs.folder, story.name):
-        status, told = programs.run("trace", [], script.encode())
+    for script, events, lines in right_runs(program.folder, story.name):
+        status, told = program.run("trace", [], script.encode())
         if told != lines:
-            wrong = wrong_answer(programs, script)
+            wrong = wrong_answer(program, script)
             if wrong:
                 return Shown(ANSWER, explored.steps_in(events), f"played: {wrong}", story.title(), brief(events))
             if own_lines(told) != own_lines(lines):
@@ -256,30 +256,30 @@ def own_lines(told: bytes) -> list[bytes]:
     return [line for line in told.split(b"\n") if line[:1] not in (b">", b"=", b" ")]
 
 
-def of_story(programs: Programs, story: Story) -> Shown | None:
+def of_story(program: Program, story: Story) -> Shown | None:
     """What a story shows of a wrong body; nothing, where all that is told is as it is to be."""
     short: Shortening = tuple
     if "--brief" in story.words:
         short = shortened
     wanted = {short(way) for way in explored.read(story.ways)}
     words = [*story.words, "--worlds", str(MOST_TIMES * story.worlds())]
-    status, printed = programs.run("explore", words, story.text.encode())
+    status, printed = program.run("explore", words, story.text.encode())
     told = printed.decode("latin1")
     if (status, told) == (0, story.ways):
-        return of_plays(programs, story)
+        return of_plays(program, story)
     if status not in (0, NOT_ALL):
         what = "a run does not end" if status < 0 else f"the search ends with status {status}"
         return Shown(ENDS, 0, what, story.title())
     whole = [word for word in words if word != "--brief"]
     if whole != words:
-        told = programs.run("explore", whole, story.text.encode())[1].decode("latin1")
+        told = program.run("explore", whole, story.text.encode())[1].decode("latin1")
     found = explored.read(told)
     others = [place for place, way in enumerate(found, 1) if short(way) not in wanted]
     first = None
     for place in others[:MOST_PLAYED]:
-        script, events = script_of(programs, whole, story.text, place)
+        script, events = script_of(program, whole, story.text, place)
         first = first or events
-        wrong = wrong_answer(programs, script)
+        wrong = wrong_answer(program, script)
         if wrong:
             return Shown(ANSWER, explored.steps_in(events), wrong, story.title(), brief(events))
     gone = 0 if status == NOT_ALL else len(wanted - {short(way) for way in found})
@@ -296,17 +296,17 @@ def shortened(way: tuple[str, ...]) -> tuple[str, ...]:
     return tuple(explored.BEHIND.sub(r"\1", line) for line in way)
 
 
-def rows_that_differ(programs: Programs) -> int:
+def rows_that_differ(program: Program) -> int:
     """How many rows of `play` are answered otherwise."""
     rows = (row for row in played.rows() if row["words"] == [b"play"])
-    return sum(programs.run("suites", ["play"], row["input"]) != (row["status"], row["output"]) for row in rows)
+    return sum(program.run("play", [], row["input"]) != (row["status"], row["output"]) for row in rows)
 
 
-def best_of(programs: Programs, told: list[Story]) -> Shown:
+def best_of(program: Program, told: list[Story]) -> Shown:
     """What shows a wrong body best: the first story with a wrong answer, or else with other ways."""
     best = Shown(NOTHING, 0, NO_STORY)
     for story in told:
-        found = of_story(programs, story)
+        found = of_story(program, story)
         if found and (found.weight < best.weight or best.what == NO_STORY):
             best = found
         if best.weight == ANSWER or (found and found.weight == ENDS):
@@ -316,8 +316,8 @@ def best_of(programs: Programs, told: list[Story]) -> Shown:
 
 def shown(folder: str, edit: Edit, number: int) -> str:
     """What is told of a wrong body."""
-    programs = Programs(folder, number)
-    return f"{edit.crate}/{edit.name}\n{best_of(programs, stories()).told()}rows: {rows_that_differ(programs)}\n"
+    program = Program(folder, number)
+    return f"{edit.crate}/{edit.name}\n{best_of(program, stories()).told()}rows: {rows_that_differ(program)}\n"
 
 
 def main() -> None:
@@ -328,7 +328,7 @@ def main() -> None:
     tried = twice.edits()
     with tempfile.TemporaryDirectory() as room:
         folder = given.keep or room
-        if not all(os.path.exists(os.path.join(folder, name)) for name in PROGRAMS):
+        if not os.path.exists(program_in(folder)):
             build(folder, tried)
         if shown(folder, Edit("no", "wrong body", []), 0) != RIGHT:
             sys.exit("without a wrong body not all is as it is to be")

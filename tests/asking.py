@@ -157,7 +157,7 @@ def compare_ordered(dice: random.Random, tally: Tally) -> None:
     for name, words in ORDERED:
         path, ordered = os.path.join(explored.STORIES, name), [*words, "--order"]
         with open(path, encoding="utf-8") as file:
-            told = explored.explored(built.program("explore"), file.read(), " ".join(ordered))[1]
+            told = explored.explored(built.program(), file.read(), " ".join(ordered))[1]
         ways = explored.read(told)
         for _ in range(3):
             compare(path, ordered, ways, dice, tally)

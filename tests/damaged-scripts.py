@@ -4,7 +4,7 @@
 Damages scripts of tools/compare, and the same as scripts of `serve` and `table`, each in one known way in one
 line, and plays them by the program (out/suites, if none is named).
 
-The program `forms` has to tell the same code. The fault has to stay where all is cut off behind the word that `forms`
+Its command `forms` has to tell the same code. The fault has to stay where all is cut off behind the word that `forms`
 tells. Where it is that of a list's item, another item in its place has to have another fault, and none may have it
 where the item is left out.
 
@@ -25,7 +25,7 @@ import typing
 
 import played
 
-from common import built, console, forms
+from common import console, forms
 from compare import scenario
 from explain import explain
 from explain.faults import WORD
@@ -286,17 +286,16 @@ def printed_by(words: list[str], text: str) -> str:
     return done.stdout.decode("latin1").strip("\n")
 
 
-class Programs(typing.NamedTuple):
-    """The program with a command whose scripts it plays, and the program `forms`."""
+class Command(typing.NamedTuple):
+    """The program, and a command whose scripts it plays."""
 
-    suites: str
-    forms: str
+    program: str
     command: str
 
     def fault_of(self, lines: list[str]) -> str:
         """The fault that the program tells of a script; nothing where it tells none."""
         words = ["serve", "--agents", "2"] if self.command == "serve" else [self.command]
-        told = printed_by([self.suites, *words], "".join(f"{line}\n" for line in lines))
+        told = printed_by([self.program, *words], "".join(f"{line}\n" for line in lines))
         return told if told.startswith("fault line ") else ""
 
     def fault_below(self, above: list[str], words: list[str]) -> str:
@@ -306,7 +305,7 @@ class Programs(typing.NamedTuple):
     def item_differing(self, above: list[str], words: list[str], number: str, place: str) -> str:
         """What is wrong with the place that `forms` tells of an item of the last of these words; "" if nothing."""
         *front, word = words
-        if printed_by([self.forms, "list", number], word).split("\t")[0] != place:
+        if printed_by([self.program, "forms", "list", number], word).split("\t")[0] != place:
             return f"as a list its item {number} is not at {place}"
         before, rest = word[: int(place)], re.sub("^[^,#]*", "", word[int(place) :])
         for other, code in FAULTY.items():
@@ -325,7 +324,8 @@ class Programs(typing.NamedTuple):
             return None
         number, code = fault.removeprefix("fault line ").split(": ")
         above = lines[: int(number) - 1]
-        told = printed_by([self.forms, self.command, number], "".join(f"{line}\n" for line in lines)).split("\t")
+        script = "".join(f"{line}\n" for line in lines)
+        told = printed_by([self.program, "forms", self.command, number], script).split("\t")
         if told[1] != code:
             return f"{fault}: forms tells {told[1]}"
         words = WORD.findall(lines[int(number) - 1]) if int(number) <= len(lines) else []
@@ -352,8 +352,8 @@ def unnamed(damage: Damage, said: str) -> list[str | tuple[str, ...]]:
 
 def tried(program: str, path: str, damage: Damage) -> tuple[str, str]:
     """What comes of a damage: `none` where the program finds no fault in that line; and what `explain` says."""
-    programs = Programs(program, built.program("forms"), damage.command)
-    printed, differing = programs.fault_of(damage.lines), programs.differing(damage.lines)
+    command = Command(program, damage.command)
+    printed, differing = command.fault_of(damage.lines), command.differing(damage.lines)
     if differing:
         return "nothing found", differing
     if not printed.startswith(f"fault line {damage.at + 1}:"):

@@ -12,7 +12,7 @@ begun    the number of a job stands where it begins, and no names stand between 
 folded   with --fold each request stands in one arrow or dot
 chosen   --agent, --suite, --from and --to draw what they say, and --all all; what was so before is drawn as such
 many     above 2,000 requests nothing is drawn without --anyway, and it is said how many there are and how to choose
-told     a trace tells what the program `trace` prints in lines, with paths; of an agent and of a suite it tells what a
+told     a trace tells what the command `trace` prints in lines, with paths; of an agent and of a suite it tells what a
          slow reading of those lines finds
 slow     a terminal is told how far it is, and nothing else is
 """

@@ -21,11 +21,11 @@ import shown_page
 import traced
 from played import Tally
 
+from common import built
 from compare import scenario
 from explain import play_lines
 from show import show
 from trace import json_events, states
-from trace.events import program
 
 SCHEMA = os.path.join(played.TOP, "docs", "events.schema.json")
 # Words of an ending beside its parts.
@@ -256,7 +256,8 @@ def main() -> int:
         for own, told in zip([*lines_of(events), None], [*lines_in(lines), None]):
             tally.holds(own == told, name, "told otherwise", own, told)
     for words in (["--json", "x"], ["--json", ""], ["x", "--json"]):
-        done = subprocess.run([program(), *words], stdin=subprocess.DEVNULL, capture_output=True, check=False)
+        named = [built.program(), "trace", *words]
+        done = subprocess.run(named, stdin=subprocess.DEVNULL, capture_output=True, check=False)
         tally.holds((done.returncode, done.stdout) == (2, b"fault command line\n"), "words", words, done)
     typed(tally)
     return tally.told("looked at")

@@ -140,8 +140,9 @@ def lines() -> typing.Iterator[Line]:
     """All lines that are asked about."""
     for row in played.rows():
         words = [word.decode("latin1") for word in row["words"]]
-        is_help = {"--help", "-h", "help"} & set(words)
-        for text in row["output"].decode("latin1").splitlines() if not is_help else ():
+        # what the command `may` prints is read by its tool alone
+        is_left_out = {"--help", "-h", "help"} & set(words) or words[:1] == ["may"]
+        for text in row["output"].decode("latin1").splitlines() if not is_left_out else ():
             yield Line(" ".join(words[:1]), text)
     for script in stories("play"):
         yield from (Line("play", text, script) for text in printed("play", script=script))

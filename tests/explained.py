@@ -47,7 +47,7 @@ PUT = {
     "--servers N": "1,1,1/2/2 --servers 3",
 }
 # A constant of the sources, and where it is named: parts of the page with the words around it, and a place of the table
-# of forms or a constant of the program `forms`, whose crate cannot name that of another one.
+# of forms or a constant of the command `forms`, whose crate cannot name that of another one.
 LIMITS: tuple[tuple[str, str, list[tuple[str, str]], str | None], ...] = (
     ("acl_core/src/acl.rt", "MAX_ENTRIES", [("A8", "more than {} entries")], None),
     ("acl_text/src/names.rt", "MAX_NAME", [("N1", "1 to {} bytes")], None),
@@ -415,15 +415,12 @@ def untold_words() -> typing.Iterator[str]:
 
 
 def unexplained() -> typing.Iterator[str]:
-    """The lines that the rows print, and the trace, of which the page tells nothing."""
+    """The lines that rows print of which the page tells nothing."""
     parts = {code for _, _, code, _ in explain.page()}
-    rows = [
-        row for row in played.rows() if row["words"][:1] and row["words"][0] in (b"play", b"serve", b"table", b"acl")
-    ]
+    of = (b"play", b"serve", b"table", b"acl", b"trace")
+    rows = [row for row in played.rows() if row["words"][:1] and row["words"][0] in of]
     rows = [row for row in rows if not {b"--help", b"-h"} & set(row["words"])]
-    printed = {line for row in rows for line in row["output"].decode("latin1").splitlines()} | set(
-        source("trace", "stdout").splitlines()
-    )
+    printed = {line for row in rows for line in row["output"].decode("latin1").splitlines()}
     for line in sorted(printed):
         codes = explain.codes_in(" ".join(line.split()))
         if not codes or not set(codes) <= parts or codes == ["transaction"]:
@@ -433,7 +430,7 @@ def unexplained() -> typing.Iterator[str]:
 
 
 def untold_reasons() -> typing.Iterator[str]:
-    """The reasons that the program `forms` prints and for which the tools have no sentence."""
+    """The reasons that the command `forms` prints and for which the tools have no sentence."""
     files = glob.glob(os.path.join(TOP, "crates", "forms", "src", "*.rt"))
     named = re.compile(r'Reason::\w+(?:\([_, ]+\))? => b"([a-z-]+)"')
     printed = {name for path in files for name in named.findall(source(path))}

@@ -3,7 +3,7 @@
 tests/explored.py --against PROTOTYPE [--scripts N] [--from SEED] [--merged descent|state|history] [--waits]
 tests/explored.py --write PROTOTYPE [--merged descent|state|history]
 
-Compares what the program `explore` tells of the scripts of examples/explore and tests/explored with the ways that are
+Compares what the command `explore` tells of the scripts of examples/explore and tests/explored with the ways that are
 kept in tests/explored/NAME.ways: those which another program told, that shares no line with it. Plays the script of
 each N-th way by `suites play` (all by default), which has to print just the lines of the way; and compares each answer
 that was decided there with that of the plain table, in the order of the decisions, as tools/compare does. With
@@ -135,7 +135,7 @@ def prototype_ways(path: str, script: str, words: str, merged: str) -> Ways | No
 def explored(program: str, script: str, words: str) -> tuple[int, str]:
     """The exit status of `explore` for a script, and what it printed."""
     done = subprocess.run(
-        [program, *words.split()], input=script.encode(), stdout=subprocess.PIPE, stderr=subprocess.STDOUT
+        [program, "explore", *words.split()], input=script.encode(), stdout=subprocess.PIPE, stderr=subprocess.STDOUT
     )
     return done.returncode, done.stdout.decode()
 
@@ -186,7 +186,7 @@ def compare_progress(program: str, tally: Tally) -> None:
     with open(os.path.join(STORIES, WIDE), "rb") as file:
         script = file.read()
     silent, told = (
-        subprocess.run([program, *words.split()], input=script, capture_output=True)
+        subprocess.run([program, "explore", *words.split()], input=script, capture_output=True)
         for words in (WIDE_WORDS, f"{WIDE_WORDS} --progress")
     )
     is_same = (silent.returncode, silent.stdout) == (told.returncode, told.stdout) and silent.returncode == 7
@@ -205,7 +205,7 @@ def compare_alike(program: str, tally: Tally) -> None:
 
 def compare_kept(every: int) -> int:
     """Compares with the kept ways, and plays the scripts of ways."""
-    program, suites, tally = built.program("explore"), played.program(None), Tally()
+    program, suites, tally = built.program(), played.program(None), Tally()
     for name, words, text in kept():
         with open(os.path.join(KEPT, f"{name}.ways"), encoding="utf-8") as file:
             wanted = file.read()
@@ -279,7 +279,7 @@ def with_waits(script: str, ways: Ways, dice: random.Random) -> str:
 
 def compare_random(given: argparse.Namespace) -> int:
     """Compares with the other program for random scripts."""
-    program, tally, seed, count = built.program("explore"), Tally(), given.first, 0
+    program, tally, seed, count = built.program(), Tally(), given.first, 0
     while count < given.scripts:
         script, words = Explorable(seed).whole()
         seed += 1

@@ -1,10 +1,10 @@
 #!/usr/bin/env python3
 """tests/form-table.py [PROGRAM]
 
-Holds the table of forms (crates/forms/stdout) against the program (out/suites, if none is named). Each line and each
-operation of the table is written with a word in each of its places, and has no fault. It has fault S1 with a word too
-few, with a word too many and with another first word. Each number has no fault at its limits, and beyond them the fault
-that the table tells. Prints what differs; status 1 where something does.
+Holds the table of forms (crates/forms/table.txt) against the program (out/suites, if none is named), which has to print
+it. Each line and each operation of the table is written with a word in each of its places, and has no fault. It has
+fault S1 with a word too few, with a word too many and with another first word. Each number has no fault at its limits,
+and beyond them the fault that the table tells. Prints what differs; status 1 where something does.
 """
 from __future__ import annotations
 
@@ -14,7 +14,7 @@ import typing
 
 import played
 
-from common import console, forms
+from common import console, forms, text_of
 
 # A word that fits in each place, whatever fits in the others.
 SAMPLES = {**{name: place.sample for name, place in forms.PLACES.items()}, "OPERATIONS": "read /a"}
@@ -90,8 +90,10 @@ def main() -> int:
     read = console.words(__doc__)
     read.add_argument("program", nargs="?")
     program = played.program(read.parse_args().program)
-    cases = (case for command in forms.COMMANDS for case in cases_of(command))
-    return played.compared((differing(program, case) for case in cases), "lines")
+    cases = [case for command in forms.COMMANDS for case in cases_of(command)]
+    printed = subprocess.run([program, "forms"], stdin=subprocess.DEVNULL, stdout=subprocess.PIPE, text=True).stdout
+    other = "" if printed == text_of("crates", "forms", "table.txt") else "crates/forms/table.txt is another table"
+    return played.compared([other, *(differing(program, case) for case in cases)], "lines")
 
 
 if __name__ == "__main__":

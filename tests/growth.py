@@ -1,11 +1,11 @@
 #!/usr/bin/env python3
-"""tests/growth.py [--only NAME] [--seconds] [--programs FOLDER]
+"""tests/growth.py [--only NAME] [--seconds] [--program FILE]
 
-Looks whether some input makes a program slow: each program has inputs of several kinds, in three sizes of which each is
+Looks whether some input makes a program slow: each command has inputs of several kinds, in three sizes of which each is
 twice the one before, and takes at most 2.3 times as many instructions for twice as much, as valgrind counts them. (A
 folder's names are one content that is written whole: so no input of `play` has all its names in one folder.) With
 --seconds the time of a processor is told instead, of inputs that are 16 times as large, and nothing is held against it.
-FOLDER has builds of the programs; else they are those that `./suites` runs. Prints what grows more; status 1 where
+FILE is a build of the program; else it is the one that `./suites` runs. Prints what grows more; status 1 where
 something does. Without valgrind it prints "skipped: .." and ends with 0.
 """
 from __future__ import annotations
@@ -22,7 +22,7 @@ import typing
 
 import played
 
-from common import built, console
+from common import console
 
 MOST, TIMES = 2.3, 16
 # A count that is less than this is that of a program which only begins and ends.
@@ -317,9 +317,9 @@ def long_questions(count: int) -> str:
     return question(text, ",".join(map(str, range(33)))) * count
 
 
-Input = tuple[str, str, list[str], typing.Callable[[int], str], int]
+Input = tuple[str, list[str], typing.Callable[[int], str], int]
 ACL: tuple[Input, ...] = tuple(
-    (f"acl-{name}", "suites", ["acl"], make, size)
+    (f"acl-{name}", ["acl"], make, size)
     for name, make, size in (
         ("users", users, 1000), ("both-kinds", both_kinds, 1000), ("defaults", defaults, 1000),
         ("one-user", one_user, 1000), ("entries", entries, 1000), ("remarks", remarks, 4000),
@@ -329,7 +329,7 @@ ACL: tuple[Input, ...] = tuple(
     )
 )  # fmt: skip
 TABLE: tuple[Input, ...] = tuple(
-    (f"table-{name}", "suites", ["table"], make, size)
+    (f"table-{name}", ["table"], make, size)
     for name, make, size in (
         ("names-rise", names_rise, 1000), ("names-fall", names_fall, 1000), ("names-mixed", names_mixed, 1000),
         ("many-folders", many_folders, 1000), ("made-and-dropped", made_and_dropped, 500), ("named", named, 1000),
@@ -348,19 +348,19 @@ PLAYED = (
     ("moved-votes", moved_votes, 40), ("lists-set", lists_set, 20), ("silent", silent, 1000), ("faulty", faulty, 300),
     ("left-locks", left_locks, 60),
 )  # fmt: skip
-PLAY: tuple[Input, ...] = tuple((f"play-{name}", "suites", ["play"], make, size) for name, make, size in PLAYED)
+PLAY: tuple[Input, ...] = tuple((f"play-{name}", ["play"], make, size) for name, make, size in PLAYED)
 TRACE: tuple[Input, ...] = tuple(
-    (f"trace-{name}", "trace", list[str](), make, max(4, size // 4)) for name, make, size in PLAYED
+    (f"trace-{name}", ["trace"], make, max(4, size // 4)) for name, make, size in PLAYED
 )
 SERVE: tuple[Input, ...] = tuple(
-    (f"serve-{name}", "suites", ["serve", "--agents", "1"], make, size)
+    (f"serve-{name}", ["serve", "--agents", "1"], make, size)
     for name, make, size in (
         ("reads", served("do 1000 100 0 read /a"), 100), ("writes", served("do 1000 100 0 write /a 00"), 60),
         ("names", served_names, 200), ("sweeps", served("sweep 0"), 200),
     )
 )  # fmt: skip
 EXPLORE: tuple[Input, ...] = tuple(
-    (f"explore-{name}", "explore", words.split(), make, size)
+    (f"explore-{name}", ["explore", *words.split()], make, size)
     for name, words, make, size in (
         ("above", "", above, 20), ("content-above", "", content_above, 2000), ("files-above", "", files_above, 20),
         ("below", "", below, 10), ("drawn", "--sample 1", below_many, 128), ("waiting", "--sample 1", waiting, 256),
@@ -368,7 +368,7 @@ EXPLORE: tuple[Input, ...] = tuple(
     )
 )  # fmt: skip
 SESSION: tuple[Input, ...] = tuple(
-    (f"session-{name}", "session", ["--marks"], make, size)
+    (f"session-{name}", ["session", "--marks"], make, size)
     for name, make, size in (
         ("reads", reads, 100), ("writes", writes, 100), ("rows", asked_rows, 200), ("refused", refused_lines, 100),
         ("locks", listed_locks, 50), ("blanks", repeated(" ", header(), "\n"), 100_000),
@@ -376,7 +376,7 @@ SESSION: tuple[Input, ...] = tuple(
     )
 )  # fmt: skip
 JUDGE: tuple[Input, ...] = tuple(
-    (f"judge-{name}", "judge", list[str](), make, size)
+    (f"judge-{name}", ["judge"], make, size)
     for name, make, size in (
         ("in-turn", calls_in_turn, 200), ("at-once", calls_at_once, 100), ("names", names_called, 400),
         ("contents", contents_called, 50), ("denied", denied_calls, 400), ("no-order", fits_no_order, 200),
@@ -386,7 +386,7 @@ JUDGE: tuple[Input, ...] = tuple(
 )  # fmt: skip
 # Two words: a command, and a line of its script.
 FORMS: tuple[Input, ...] = tuple(
-    (f"forms-{name}", "forms", words, make, size)
+    (f"forms-{name}", ["forms", *words], make, size)
     for name, words, make, size in (
         ("script", ["script", "1"], reads, 200), ("play", ["play", "1000000"], reads, 1000),
         ("list", ["list", "0"], users, 500), ("item", ["list", "700"], users, 1000),
@@ -395,7 +395,7 @@ FORMS: tuple[Input, ...] = tuple(
     )
 )  # fmt: skip
 MAY: tuple[Input, ...] = tuple(
-    (f"may-{name}", "may", list[str](), make, size)
+    (f"may-{name}", ["may"], make, size)
     for name, make, size in (
         ("questions", questions, 500), ("same", repeated(question("u::r,g::r,o::r")), 500),
         ("long", long_questions, 20), ("blanks", repeated(" ", "1 1 1 1 r", "u::r,g::r,o::r\n"), 50_000),
@@ -404,12 +404,6 @@ MAY: tuple[Input, ...] = tuple(
     )
 )  # fmt: skip
 INPUTS: tuple[Input, ...] = (*ACL, *TABLE, *PLAY, *SERVE, *TRACE, *EXPLORE, *SESSION, *JUDGE, *FORMS, *MAY)
-
-
-def path_of(program: str, folder: str | None) -> str:
-    if folder:
-        return os.path.join(folder, program)
-    return played.program() if program == "suites" else built.program(program)
 
 
 def ran(words: list[str], text: str) -> bytes:
@@ -433,10 +427,10 @@ def seconds(words: list[str], text: str) -> float:
     return after.ru_utime + after.ru_stime - before.ru_utime - before.ru_stime
 
 
-def grows(one: Input, folder: str | None) -> str:
+def grows(one: Input, program: str) -> str:
     """What is told of an input that grows too much, or is too small to say so; nothing of others."""
-    name, program, words, make, size = one
-    counts = [counted([path_of(program, folder), *words], make(size * times)) for times in (1, 2, 4)]
+    name, words, make, size = one
+    counts = [counted([program, *words], make(size * times)) for times in (1, 2, 4)]
     if counts[0] < LEAST:
         return f"{name}: {counts[0]:,} instructions are too few to tell"
     most = max(after / before for before, after in zip(counts, counts[1:]))
@@ -448,13 +442,13 @@ def main() -> int:
     read = console.words(__doc__)
     read.add_argument("--only")
     read.add_argument("--seconds", action="store_true")
-    read.add_argument("--programs")
+    read.add_argument("--program")
     given = read.parse_args()
+    program = played.program(given.program)
     some = [one for one in INPUTS if not given.only or one[0].startswith(given.only)]
     if given.seconds:
-        for name, program, words, make, size in some:
-            command = [path_of(program, given.programs), *words]
-            taken = [seconds(command, make(size * times * TIMES)) for times in (1, 2, 4)]
+        for name, words, make, size in some:
+            taken = [seconds([program, *words], make(size * times * TIMES)) for times in (1, 2, 4)]
             print(name, *(f"{one:.2f}" for one in taken), "s", flush=True)
         return 0
     if not shutil.which("valgrind"):
@@ -462,7 +456,7 @@ def main() -> int:
         return 0
     tally = played.Tally()
     for one in some:
-        told = grows(one, given.programs)
+        told = grows(one, program)
         tally.holds(not told, told)
     return tally.told("inputs")
 

@@ -68,7 +68,7 @@ class Run:
         self.lines, self.alone = script(chosen)
         self.agents = chosen.choice(AGENTS)
         log = os.path.join(folder, "history")
-        words = [built.program("serve_log"), "--agents", str(self.agents), "--log", log]
+        words = [built.program(), "serve", "--agents", str(self.agents), "--log", log]
         text = "\n".join([*self.lines, ""]).encode()
         done = subprocess.run(words, input=text, stdout=subprocess.PIPE, check=False)
         self.status, self.printed = done.returncode, done.stdout.decode().splitlines()
@@ -114,10 +114,10 @@ def ends(tally: played.Tally, folder: str) -> None:
     log = os.path.join(folder, "log")
     good = b"servers 1\nvotes 1/1/1\nroot 1000 100 777\ncache 0 0 0\ndo 1000 100 0 list /\n"
     cases = (
-        (["--agents", "2", "--log", log], good, 0), (["--log", log, "--agents=2"], good, 0),
+        (["--agents", "2", "--log", log], good, 0), (["--log", log, "--agents", "2"], good, 0),
         ([f"--log={log}", "--agents", "65"], good, 2), (["--log", log], good, 2), (["--agents", "2", "--log"], good, 2),
         (["--agents", "2", "--log", log, "more"], good, 2), (["--agents", "2", "--log", log], b"servers x\n", 3),
-        (["--agents", "2", "--log", os.path.join(folder, "no", "log")], good, 1),
+        (["--agents", "2", "--log", os.path.join(folder, "no", "log")], good, 6),
         (["--agents", "2", "--log", "/dev/full"], good, 6),
     )  # fmt: skip
     for words, given, status in cases:

@@ -5,7 +5,7 @@
 Compares what `./suites may` tells with what this Linux does, on random trees of files, folders, links, pipes, devices
 and scripts with random lists and default lists. Each question is put to `may` by its words, and then tried as that
 user, in a process that takes its groups and its number: by opening, executing, making and taking away, of a folder by
-access(2). tests/kernel_trees.py does that, and shares no code with `may`. PROGRAM is a build of the program `may`.
+access(2). tests/kernel_trees.py does that, and shares no code with `may`. PROGRAM is a build of the program.
 FORM is one of those below; without it all are asked, N questions each. KIND is tmpfs, ext4, xfs or btrfs, or all, each
 but the first in a loop file; the questions are shared out. With --mounts parts of each tree are mounts with random
 flags of ro, noexec, nodev and nosymfollow. What is told as not judged is counted. Before the questions the cases of

@@ -1,7 +1,7 @@
 #!/usr/bin/env python3
 """tests/may.py [PROGRAM]
 
-Plays rows of the program `may` (lines of questions, and the status and the output that are wanted), and `./suites
+Plays rows of the command `may` (lines of questions, and the status and the output that are wanted), and `./suites
 may` on
 a few files of its own. Looks whether the Rust code that docs/LIBRARY.md shows stands in crates/may/src, which the gate
 proves. PROGRAM
@@ -62,20 +62,19 @@ ROWS = [
 
 def plays_rows(tally: Tally) -> None:
     for given, status, printed in ROWS:
-        done = subprocess.run([program.program()], input=given.encode(), stdout=subprocess.PIPE)
+        done = subprocess.run([program.program(), "may"], input=given.encode(), stdout=subprocess.PIPE)
         tally.holds(
             (done.returncode, done.stdout.decode()) == (status, printed),
             f"{given!r}: {done.returncode} {done.stdout!r}, and not {status} {printed!r}",
         )
-    for words, status, printed in ((["--help"], 0, "Answers questions"), (["-x"], 2, "fault command line\n")):
-        done = subprocess.run([program.program(), *words], stdin=subprocess.DEVNULL, stdout=subprocess.PIPE)
-        tally.holds(done.returncode == status and done.stdout.decode().startswith(printed), f"{words}: {done}")
+    done = subprocess.run([program.program(), "may", "-x"], stdin=subprocess.DEVNULL, stdout=subprocess.PIPE)
+    tally.holds((done.returncode, done.stdout) == (2, b"fault command line\n"), f"a word: {done}")
     with open("/dev/full", "wb") as full:
-        done = subprocess.run([program.program()], input=f"1 1 1 1 r {LIST}\n".encode(), stdout=full)
+        done = subprocess.run([program.program(), "may"], input=f"1 1 1 1 r {LIST}\n".encode(), stdout=full)
     tally.holds(done.returncode == 6, f"a write that fails: {done.returncode}")
-    done = subprocess.run([program.program()], stdin=os.open("/", os.O_RDONLY), stdout=subprocess.PIPE)
+    done = subprocess.run([program.program(), "may"], stdin=os.open("/", os.O_RDONLY), stdout=subprocess.PIPE)
     tally.holds((done.returncode, done.stdout) == (6, b""), f"a read that fails: {done}")
-    done = subprocess.run([program.program()], input=b"\n" * (MOST + 1), stdout=subprocess.PIPE)
+    done = subprocess.run([program.program(), "may"], input=b"\n" * (MOST + 1), stdout=subprocess.PIPE)
     tally.holds((done.returncode, done.stdout) == (6, b""), f"an input that is too long: {done}")
 
 

@@ -27,7 +27,7 @@ import scratch
 
 from common import built
 
-PROGRAM, AGENTS, RUN = "serve_log", 4, 5_000
+PROGRAM, AGENTS, RUN = "suites", 4, 5_000
 
 
 class Planted(typing.NamedTuple):
@@ -68,8 +68,8 @@ def program_with(planted: Planted, folder: str) -> str:
     with open(path, "w", encoding="utf-8") as file:
         file.write(text.replace(planted.old, planted.new))
     target = os.path.join(folder, PROGRAM)
-    environment = {**os.environ, "SUITES_PROGRAM": PROGRAM, "PYTHONPATH": os.path.join(folder, "tools")}
-    words = [sys.executable, "-c", scratch.BUILD, target]
+    environment = {**os.environ, "PYTHONPATH": os.path.join(folder, "tools")}
+    words = [sys.executable, "-c", scratch.BUILD, target, PROGRAM]
     if subprocess.run(words, env=environment, stdin=subprocess.DEVNULL).returncode != 0:
         sys.exit(f"{PROGRAM} was not built")
     return target
@@ -103,7 +103,7 @@ def script(seed: int, sweeps: float) -> str:
 def judged(program: str, seed: int, sweeps: float, folder: str) -> tuple[str, str]:
     """What the program prints last of a script, and what the judge says of what its callers saw."""
     log = os.path.join(folder, "history")
-    words = [program, "--agents", str(AGENTS), "--log", log]
+    words = [program, "serve", "--agents", str(AGENTS), "--log", log]
     done = subprocess.run(words, input=script(seed, sweeps).encode(), stdout=subprocess.PIPE, check=False)
     with open(log, "rb") as file:
         said = built.asked("judge", file.read())[1]
@@ -128,7 +128,7 @@ def main() -> int:
     given = read.parse_args()
     tally = played.Tally()
     with tempfile.TemporaryDirectory(prefix="suites-") as folder:
-        said = found(built.program(PROGRAM), given.calls, 0.02, folder)
+        said = found(built.program(), given.calls, 0.02, folder)
         tally.holds(not said, f"as it is: {said}")
     for error in given.errors or ERRORS:
         with tempfile.TemporaryDirectory(prefix="suites-") as folder:

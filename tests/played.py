@@ -20,7 +20,7 @@ def program(named: str | None = None) -> str:
     """The program that the words of a test name, or the one that `./suites` runs, which is built where there is none;
     ends the test without it.
     """
-    path = os.path.abspath(named) if named else built.chosen("suites")[1]
+    path = os.path.abspath(named) if named else built.chosen()[1]
     if not os.path.exists(path):
         sys.exit(f"there is no program to be played{': ' + path if path else ''}")
     return path

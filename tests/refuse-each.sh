@@ -13,21 +13,17 @@
 # Under `serve` a refusal ends a job otherwise, and later ones with it, and chance decides whose allocation is refused:
 # there tests/served.awk says which lines are allowed; never a mismatch.
 #
-# The first word `trace` stands for the program of `./suites trace`, which takes the words behind it.
-#
 # Without words: every command on every file of examples/, and what else the command line has, with counts at the end.
-# The programs are those that `./suites` runs; SUITES and TRACE name others, MOST another number of allocations to look at (default 2000), EVERY looks at each
+# The program is the one that `./suites` runs; SUITES names another, MOST another number of allocations to look at (default 2000), EVERY looks at each
 # so many-th of them, AGENTS is another number of agents (default 4), ONLY a part of the files' names.
 set -u
 here=$(cd "$(dirname "$0")/.." && pwd)
-# The program that `./suites` runs, or with `trace` the one of `./suites trace`: proved, or a checked build, which is made where it is wanting.
-chosen() { SUITES_PROGRAM=$1 python3 "$here/tools" choose < /dev/null | while read -r kind path; do [ "$kind" = trial ] || echo "$here/$path"; done; }
+# The program that `./suites` runs: proved, or a checked build, which is made where it is wanting.
+chosen() { python3 "$here/tools" choose < /dev/null | while read -r kind path; do [ "$kind" = trial ] || echo "$here/$path"; done; }
 most=${MOST:-2000} every=${EVERY:-1}
 [ $# -ne 1 ] || { sed -n '2s/^# /usage: /p' "$0" >&2; exit 2; }
-program=${SUITES:-$(chosen suites)} tracer=
-[ "${2-trace}" != trace ] || tracer=${TRACE:-$(chosen trace)}
+program=${SUITES:-$(chosen)}
 [ -x "$program" ] || { echo "there is no program '$program': ./suites --prove makes it, or SUITES names another one" >&2; exit 2; }
-[ "${2-trace}" != trace ] || [ -x "$tracer" ] || { echo "there is no program '$tracer': ./suites --prove trace makes it, or TRACE names another one" >&2; exit 2; }
 work=$(mktemp -d) || exit 2
 trap 'rm -rf "$work"' EXIT
 
@@ -97,10 +93,9 @@ refuse_each() {
     known=0
     has_row "$input" "$@" && known=1
     case $1 in
-    serve) served=1 agents=$3 && set -- "$program" "$@" ;;
-    trace) shift && set -- "$tracer" "$@" ;;
-    *) set -- "$program" "$@" ;;
+    serve) served=1 agents=$3 ;;
     esac
+    set -- "$program" "$@"
     "$@" < "$input" > "$work/full" 2> "$work/errors"
     full_status=$? status=$?
     commands=$((commands + 1)) rows=$((rows + known))

@@ -56,7 +56,7 @@ class Refused:
         reach = {"REFUSE_FROM": str(first), "REFUSE_TO": str(last), "REFUSE_MARK": self.mark}
         setting = {"LD_PRELOAD": self.library, **reach}
         done = subprocess.run(
-            [built.program("explore"), *words],
+            [built.program(), "explore", *words],
             input=script,
             capture_output=True,
             env={**os.environ, **(setting if first else {})},

@@ -44,7 +44,8 @@ FIRST, EVERY, LATEST = 60, 97, 4000
 def sampled(program: str, script: str, words: str, **more: typing.Any) -> tuple[int, str]:
     """The exit status of `explore` for a script, and what it printed."""
     done = subprocess.run(
-        [program, *words.split()], input=script.encode(), stdout=subprocess.PIPE, stderr=subprocess.STDOUT, **more
+        [program, "explore", *words.split()], input=script.encode(), stdout=subprocess.PIPE, stderr=subprocess.STDOUT,
+        **more,
     )
     return done.returncode, done.stdout.decode()
 
@@ -56,7 +57,7 @@ def ways_in(text: str) -> list[tuple[str, ...]]:
 
 def compare(name: str, script: str, words: str, all_ways: list[tuple[str, ...]], tally: Tally) -> bool:
     """Compares the ways of orders with all ways. Tells whether another seed tells something else."""
-    program, suites = built.program("explore"), played.program(None)
+    program, suites = built.program(), played.program(None)
     asked = f"{words} --sample {ORDERS}"
     status, told = sampled(program, script, f"{asked} --seed 7")
     last, ways = LAST.search(told), ways_in(told)
@@ -84,7 +85,7 @@ def compare_kept(tally: Tally) -> int:
 
 def compare_random(scripts: int, first: int, tally: Tally) -> int:
     """Compares with the whole search for random scripts."""
-    program, seed, count, others = built.program("explore"), first, 0, 0
+    program, seed, count, others = built.program(), first, 0, 0
     while count < scripts:
         script, words = explored.Explorable(seed).whole()
         seed += 1
@@ -105,7 +106,7 @@ def many() -> str:
 
 def play_many(tally: Tally) -> None:
     """An order of many jobs is played to its end, and its script is that of `play`."""
-    program, script = built.program("explore"), many()
+    program, script = built.program(), many()
     status, told = sampled(program, script, "--sample 1 --seed 3")
     ways = ways_in(told)
     is_whole = len(ways) == 1 and len(ways[0]) == 1000 and not any(line.endswith(" -") for line in ways[0])
@@ -120,7 +121,7 @@ def crash_each(tally: Tally) -> None:
     for server in (0, 7, 8, 31):
         votes = ",".join("1" if place == server else "0" for place in range(32))
         script = f"servers 32\nagents 1\nvotes {votes}/1/1\nroot 0 0 777\ncache 0 0 0\ntogether\nbegin 0 0 0 0 list /\n"
-        status, told = sampled(built.program("explore"), script, f"--sample {MANY_ORDERS} --crashes 1")
+        status, told = sampled(built.program(), script, f"--sample {MANY_ORDERS} --crashes 1")
         is_found = ("0.0 undecided U1 suite 0 got 0 of 1",) in ways_in(told)
         tally.holds(status == NOT_ALL and is_found, f"server {server} of 32: status {status}, ways {ways_in(told)}")
 
@@ -130,7 +131,7 @@ def refuse(tally: Tally) -> None:
     with open(STORY, encoding="utf-8") as file:
         script = file.read()
     words, hits = "--sample 20 --seed 1 --crashes 1", 0
-    full = sampled(built.program("explore"), script, words)
+    full = sampled(built.program(), script, words)
     with tempfile.TemporaryDirectory() as folder:
         library = played.library("refuse", folder)
         if not library:
@@ -140,7 +141,7 @@ def refuse(tally: Tally) -> None:
             for last in (first, 10**9):
                 reach = {"REFUSE_FROM": str(first), "REFUSE_TO": str(last), "REFUSE_MARK": mark}
                 told = sampled(
-                    built.program("explore"), script, words, env={**os.environ, "LD_PRELOAD": library, **reach}
+                    built.program(), script, words, env={**os.environ, "LD_PRELOAD": library, **reach}
                 )
                 is_less = told[0] == NOT_ALL and set(ways_in(told[1])) <= set(ways_in(full[1]))
                 tally.holds(told == (4, "fault memory\n") or is_less, f"allocation {first} to {last}: {told}")
@@ -152,7 +153,7 @@ def refuse(tally: Tally) -> None:
 
 def tell_wrong(tally: Tally) -> None:
     """Wrong words and streams that fail."""
-    program = built.program("explore")
+    program = built.program()
     with open(STORY, encoding="utf-8") as file:
         script = file.read()
     for words in WRONG:
@@ -165,9 +166,9 @@ def tell_wrong(tally: Tally) -> None:
     missing = sampled(program, script, "--sample 1 --way 2")
     tally.holds(missing == (WORDS, "sampled 1 orders: 1 ways\n"), f"way 2 of one: {missing}")
     with open("/dev/full", "wb") as full, open(STORY, "rb") as file:
-        done = subprocess.run([program, "--sample", "5"], stdin=file, stdout=full, stderr=subprocess.DEVNULL)
+        done = subprocess.run([program, "explore", "--sample", "5"], stdin=file, stdout=full, stderr=subprocess.DEVNULL)
     tally.holds(done.returncode == 6, f"a full disk: status {done.returncode}")
-    closed = subprocess.run(["sh", "-c", '"$0" --sample 5 <&- 2>/dev/null', program], stdout=subprocess.PIPE)
+    closed = subprocess.run(["sh", "-c", '"$0" explore --sample 5 <&- 2>/dev/null', program], stdout=subprocess.PIPE)
     tally.holds(closed.returncode == 6, f"no input: status {closed.returncode}")
 
 

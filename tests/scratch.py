@@ -16,7 +16,7 @@ import tempfile
 import typing
 
 TOP = os.path.realpath(os.path.join(os.path.dirname(os.path.abspath(__file__)), ".."))
-BUILD = "import sys; from front import trial; trial.build(sys.argv[1], lambda: None)"
+BUILD = "import sys; from front import trial; trial.build(sys.argv[1], lambda: None, sys.argv[2])"
 PARTS = ("src", "specs", "proofs")
 
 
@@ -109,8 +109,8 @@ def built(program: str, direct: list[str], modules: typing.Sequence[str] = ()) -
     with tempfile.TemporaryDirectory(prefix="suites-") as copy:
         shutil.copytree(os.path.join(TOP, "tools"), os.path.join(copy, "tools"))
         placed(copy, program, direct, sources)
-        environment = {**os.environ, "SUITES_PROGRAM": program, "PYTHONPATH": os.path.join(copy, "tools")}
-        done = subprocess.run([sys.executable, "-c", BUILD, target], env=environment, stdin=subprocess.DEVNULL)
+        environment = {**os.environ, "PYTHONPATH": os.path.join(copy, "tools")}
+        done = subprocess.run([sys.executable, "-c", BUILD, target, program], env=environment, stdin=subprocess.DEVNULL)
     if done.returncode != 0:
         sys.exit(f"{program} was not built")
     with open(mark, "w", encoding="utf-8") as file:

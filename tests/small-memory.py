@@ -1,5 +1,5 @@
 #!/usr/bin/env python3
-"""tests/small-memory.py [--program EXPLORE]
+"""tests/small-memory.py [--program FILE]
 
 Explores with little memory: a limit of address space, as `./suites explore` sets one, has to end a search by `not all`
 with status 7, before a signal ends it. A script whose ways are kept in tests/explored is explored under limits that
@@ -37,7 +37,7 @@ def limited(program: str, words: list[str], script: str, most: int) -> tuple[int
     """The status of the program with so much address space, and what it printed."""
     limit = (most << 10, most << 10)
     done = subprocess.run(
-        [program, *words],
+        [program, "explore", *words],
         input=script.encode(),
         stdout=subprocess.PIPE,
         stderr=subprocess.DEVNULL,
@@ -92,7 +92,7 @@ def by_the_tool(program: str, tally: played.Tally) -> None:
     """`./suites explore`, in a copy of the repository, runs the program under the limit of its shell."""
     with tempfile.TemporaryDirectory() as room:
         copy = wrapper.Copy(room)
-        copy.build("explore", f'#!/bin/sh\nexec {os.path.abspath(program)} "$@"\n')
+        copy.build("explore", f'#!/bin/sh\nexec {os.path.abspath(program)} explore "$@"\n')
         path = os.path.join(explored.STORIES, f"{WIDE}.script")
         line = f"ulimit -v {LITTLE}; exec ./suites explore {WIDE_WORDS} < {path} | tail -n 1"
         done = subprocess.run(["bash", "-o", "pipefail", "-c", line], cwd=copy.top, capture_output=True, text=True)
@@ -103,7 +103,7 @@ def by_the_tool(program: str, tally: played.Tally) -> None:
 def main() -> int:
     read = console.words(__doc__)
     read.add_argument("--program")
-    program, tally = read.parse_args().program or built.program("explore"), played.Tally()
+    program, tally = read.parse_args().program or built.program(), played.Tally()
     rising(program, tally)
     by_the_tool(program, tally)
     return tally.told("answers")

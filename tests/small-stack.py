@@ -70,17 +70,17 @@ def compare_rows(tally: Tally) -> None:
 
 def compare_explored(tally: Tally) -> None:
     """Ways are told as they are kept, and of long scripts."""
-    program = built.program("explore")
+    program = built.program()
     for name, words, text in explored.kept():
         with open(os.path.join(explored.KEPT, f"{name}.ways"), "rb") as file:
             wanted = file.read()
-        status, told = answer([program, *words.split()], text.encode())
+        status, told = answer([program, "explore", *words.split()], text.encode())
         tally.holds((status, told) == (0, wanted), f"explore of {name} ends with {status}, and tells other ways")
-    last = [answer([program], two_below(above))[1].splitlines()[-1:] for above in (1, ABOVE)]
+    last = [answer([program, "explore"], two_below(above))[1].splitlines()[-1:] for above in (1, ABOVE)]
     is_same = last[0] == last[1] and last[0][0].startswith(b"all ")
     tally.holds(is_same, f"with {ABOVE} jobs above together it is {last[1]}, with one {last[0]}")
     for servers, count in ((SERVERS, 4), (3, BELOW)):
-        status, told = answer([program], one_below(servers, count))
+        status, told = answer([program, "explore"], one_below(servers, count))
         lines = told.splitlines()
         is_one = lines[0] == b"way 1 in 1 of 1 ends" and lines[1:-1] == [
             b"0.%d answered read -" % number for number in range(1, count + 1)
@@ -91,7 +91,7 @@ def compare_explored(tally: Tally) -> None:
 def compare_long(tally: Tally) -> None:
     """A long script is answered as with a stack of any size."""
     long = script(*head(3, 2), *jobs(LONG))
-    for words in ([played.program(None), "play"], [built.program("trace")], [built.program("forms")]):
+    for words in ([played.program(None), command] for command in ("play", "trace", "forms")):
         small, large = (answer(words, long, is_small) for is_small in (True, False))
         about = f"{words}: status {small[0]} for a long script, and not {large[0]}"
         tally.holds(small == large and small[0] >= 0, about)

@@ -18,7 +18,7 @@ PATIENCE = 60
 
 
 def program(named: str | None = None) -> str:
-    return os.path.abspath(named) if named else built.program("session")
+    return os.path.abspath(named) if named else built.program()
 
 
 def text_of(lines: Iterable[bytes]) -> bytes:
@@ -30,7 +30,7 @@ def ran(
 ) -> tuple[int, bytes]:
     """The status of a session that hears these bytes and then the end, and what it told."""
     settings = {**os.environ, **(environment or {})}
-    done = subprocess.run([path, *words], input=given, stdout=subprocess.PIPE, env=settings, timeout=600)
+    done = subprocess.run([path, "session", *words], input=given, stdout=subprocess.PIPE, env=settings, timeout=600)
     return done.returncode, done.stdout
 
 
@@ -39,7 +39,7 @@ class Talk:
 
     def __init__(self, path: str, *words: str) -> None:
         self.child = subprocess.Popen(
-            [path, "--marks", *words], stdin=subprocess.PIPE, stdout=subprocess.PIPE, bufsize=0
+            [path, "session", "--marks", *words], stdin=subprocess.PIPE, stdout=subprocess.PIPE, bufsize=0
         )
         assert self.child.stdin and self.child.stdout
         self.heard, self.told = self.child.stdin, self.child.stdout

@@ -1,4 +1,4 @@
-"""The lines of a trace as the program `trace` prints them. Tests read them by patterns, and hold what tools tell of
+"""The lines of a trace as the program prints them. Tests read them by patterns, and hold what tools tell of
 its events against them.
 """
 import re
@@ -8,7 +8,7 @@ from collections.abc import Iterable, Iterator
 
 import played  # noqa: F401
 
-from trace import events
+from common import built
 
 REQUEST = re.compile(r"  (\d+) -> s(\d+)  (.*?) +: (.*)")
 OUTCOME = re.compile(r"(\d+)\.(\d+) (\d+) (.*)")
@@ -19,7 +19,7 @@ NAMES = re.compile(r"suite (\d+)\b[^;:]*(?:: given, content \d+)? names((?: \S+=
 
 def lines_of(script: str) -> list[str]:
     """The lines that the program prints of a script; ends the test where it does not play it to its end."""
-    done = subprocess.run([events.program()], input=script.encode("latin1"), stdout=subprocess.PIPE)
+    done = subprocess.run([built.program(), "trace"], input=script.encode("latin1"), stdout=subprocess.PIPE)
     if done.returncode != 0:
         sys.exit(f"trace ends with status {done.returncode}: {done.stdout[:200]!r} of\n{script}")
     return done.stdout.decode("latin1").split("\n")[:-1]

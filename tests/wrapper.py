@@ -37,6 +37,14 @@ for word; do :; done
 [ $# = 1 ] && { read -r line; cat > /dev/null; echo "read $line"; exit 0; }
 exit "$word"
 """
+# In place of the program: each command that has a script is that, with the words behind it.
+COMMANDS = """#!/bin/sh
+own=${0%/*}/commands
+[ -x "$own/$1" ] || exec "$own/suites" "$@"
+own=$own/$1
+shift
+exec "$own" "$@"
+"""
 # Words that ask for help.
 HELP = (
     "help votes",
@@ -84,7 +92,7 @@ printf '{EXPLORED}'
 TYPED = (b"hi\nbegin 0 1 1 0 list /\nsweep 0 1\nstep 1 3\nrun 0\n", b"\x04")
 SILENT = ("line 3 did nothing: agent 0 has a job (line 2)", "line 4 did nothing: agent 1 has no job",
           "agent 0 has a job that has not ended (line 2); run 0 ends it")
-KEEP = "from front import choose, sources; choose.keep_record('checked', sources.Sources(), sources.Kit())"
+KEEP = "from front import choose, sources; choose.keep_record('{}', sources.Sources(), sources.Kit())"
 WORLDS = re.compile(r"suites: explore is at work: [1-6]0,000 worlds, \d{1,2},\d00 a second, \d+ s")
 
 
@@ -130,18 +138,20 @@ class Copy(Tally):
         return given
 
     def build(self, name: str, text: str) -> None:
-        """Puts a script in the place of the checked build of a program."""
-        os.makedirs(os.path.join(self.top, "out"), exist_ok=True)
-        path = os.path.join(self.top, "out", name)
-        with open(path, "w", encoding="utf-8") as file:
-            file.write(text)
-        os.chmod(path, 0o755)
-        subprocess.run(
-            [sys.executable, "-c", KEEP],
-            cwd=self.top,
-            env={**os.environ, "PYTHONPATH": os.path.join(self.top, "tools"), "SUITES_PROGRAM": name},
-            check=True,
-        )
+        """Puts a script in the place of a command of the checked build, or under `suites` of all that have none."""
+        folder = os.path.join(self.top, "out", "commands")
+        os.makedirs(folder, exist_ok=True)
+        for path, told in ((os.path.join(folder, name), text), (os.path.join(self.top, "out", "suites"), COMMANDS)):
+            with open(path, "w", encoding="utf-8") as file:
+                file.write(told)
+            os.chmod(path, 0o755)
+        self.asked(KEEP.format("checked"))
+
+    def asked(self, line: str) -> str:
+        """What a line of Python prints that takes from the tools of the copy."""
+        settings = {**os.environ, "PYTHONPATH": os.path.join(self.top, "tools")}
+        words = [sys.executable, "-c", line]
+        return subprocess.run(words, cwd=self.top, env=settings, stdout=subprocess.PIPE, text=True, check=True).stdout
 
     def on_terminal(self, words: list[str], *pieces: bytes, stdin: int | None = None) -> str:
         """What a terminal shows of an answer, where these are typed, each once nothing more comes; or where this is the
@@ -242,12 +252,16 @@ def says_once_a_day(copy: Copy) -> None:
 
 
 def tells_all_commands(copy: Copy) -> None:
-    """Help tells each word that `./suites` knows."""
+    """Help tells each word that `./suites` knows, and so does README.md."""
     with open(os.path.join(copy.top, "suites"), encoding="utf-8") as file:
-        known = re.findall(r"^([a-z|-]+)\)", file.read().split("\ncase $1 in\n")[1], re.M)
+        known = " ".join(re.findall(r"\b(?:own|tools|options)='([^']*)'", file.read())).split()
+    with open(os.path.join(copy.top, "README.md"), encoding="utf-8") as file:
+        page = file.read()
     text = copy.answer(["--help"])[1]
-    for word in "|".join([*known, "play|table|acl|serve"]).split("|"):
+    copy.holds(len(known) > 20, f"of ./suites are known: {known}")
+    for word in known:
         copy.holds(re.search(rf"^  {word}\b", text, re.M), f"--help tells nothing of {word}")
+        copy.holds(re.search(rf"`(?:\./suites )?{word}\b", page), f"README.md tells nothing of {word}")
     for line in ("./suites play < examples/play/server-down.script", "./suites --test"):
         copy.holds(f"  {line} " in text, f"--help does not show {line}")
 
@@ -306,6 +320,21 @@ def runs_a_build(copy: Copy) -> None:
     copy.holds(copy.answer(["play", "foo"])[:2] == (2, "fault command line\n"), "play foo with a build")
 
 
+def answers_first(copy: Copy) -> None:
+    """With the small build alone: it answers what `./suites` starts itself, and no tool."""
+    out = os.path.join(copy.top, "out")
+    copy.build("suites", PROGRAM)
+    os.rename(os.path.join(out, "suites"), os.path.join(out, "first_answer"))
+    os.unlink(os.path.join(out, "choice.sh"))
+    copy.asked(KEEP.format("first"))
+    for _ in range(2):
+        status, _, told = copy.answer(["serve", "--agents", "5"])
+        copy.holds(status == 5 and told.startswith("suites: checked build"), f"the small build answers {status} {told}")
+    version, choice = copy.answer(["--version"])[1], copy.asked("from common import built; print(built.kept_choice())")
+    copy.holds(version.endswith("\nbuild first, out/first_answer\n"), f"of the small build --version tells {version}")
+    copy.holds(choice == "None\n", f"a tool would ask {choice}")
+
+
 def tells_a_terminal(copy: Copy) -> None:
     """What a terminal is told besides, with a build."""
     reading = "suites: reading from the terminal"
@@ -355,6 +384,7 @@ def main() -> int:
             if os.path.exists("/dev/ptmx"):
                 tells_a_terminal(copy)
                 tells_worlds(copy)
+            answers_first(copy)
     return copy.told("answers")
 
 

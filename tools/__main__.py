@@ -16,7 +16,7 @@ ROOMS = {
     "show": "show",
     "votes": "votes",
     "explore": "explore",
-    "judge": "judge log record",
+    "judge": "judge record",
     "mount": "mount",
     "shell": "shell",
     "compare": "compare scenario",

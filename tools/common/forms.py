@@ -1,5 +1,5 @@
-"""The table of forms: what may stand in the lines of scripts. The program `forms` prints it (crates/forms/stdout, which
-the gate holds against the program); what the tools know of lines, operations and places comes from it.
+"""The table of forms: what may stand in the lines of scripts. The command `forms` prints it (crates/forms/table.txt,
+which tests/form-table.py holds against it); what the tools know of lines, operations and places comes from it.
 """
 import functools
 import os
@@ -7,7 +7,7 @@ import typing
 
 from common import TOP
 
-TABLE = os.path.join(TOP, "crates", "forms", "stdout")
+TABLE = os.path.join(TOP, "crates", "forms", "table.txt")
 # Places as people write them in a form.
 SHOWN = {"SERVERS": "N", "AGENTS": "N", "OLD": "S,S,..", "OPERATIONS": "OPERATION ; .."}
 

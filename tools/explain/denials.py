@@ -28,7 +28,7 @@ class Asked(typing.NamedTuple):
 def table(lines: list[str]) -> list[str]:
     """What `suites table` prints of a script; nothing where it has a fault."""
     text = "".join(f"{line}\n" for line in lines)
-    status, printed = built.asked("suites", text, "table", path=built.chosen("suites")[1])
+    status, printed = built.asked("table", text, path=built.chosen()[1])
     return printed.splitlines() if status == 0 else []
 
 

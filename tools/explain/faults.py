@@ -1,6 +1,6 @@
 """How an answer about a faulty line of a script is laid out, or about a faulty item of a list.
 
-The program's line and code are given. What does not fit, why, and what would mend it is told by the program `forms`
+The program's line and code are given. What does not fit, why, and what would mend it is told by the command `forms`
 (misfits.py), and said with the sentences of reasons.py. Where its code is not the one that was given,
 nothing is told.
 """

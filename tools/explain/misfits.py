@@ -1,4 +1,4 @@
-"""What keeps a line of a script from its form, and a text from being a list, as the program `forms` tells it. No tool
+"""What keeps a line of a script from its form, and a text from being a list, as the command `forms` tells it. No tool
 reads a line or a list by its form itself.
 """
 import functools

@@ -149,7 +149,7 @@ class Played:
 
 @functools.cache
 def played(script: bytes, name: str) -> Played:
-    """The run of a script, by the program `trace`."""
+    """The run of a script, by the command `trace`."""
     with events.Run(script, name) as run:
         return Played(run.play(), run)
 

@@ -1,4 +1,4 @@
-"""The sentences about words that do not fit: one for each reason that the program `forms` tells."""
+"""The sentences about words that do not fit: one for each reason that the command `forms` tells."""
 from common import forms
 from explain.misfits import Why
 from common.quoted import LONG, either, letters, nearest, quoted, short

@@ -1,7 +1,7 @@
 """./suites explore [OPTIONS] < SCRIPT
 
 Tells every way in which the jobs below the line `together` of a script of events may end; help/explore.txt tells all
-of it. The program `explore` does the work. Here its words are looked at, questions of the ways that it tells are
+of it. The program does the work. Here its words are looked at, questions of the ways that it tells are
 answered (`asked`), and on a terminal it is told how many worlds it has looked at, and what its exit status means.
 """
 import argparse
@@ -170,7 +170,7 @@ def status_of(options: list[str], printed: typing.IO[bytes], script: typing.IO[b
     watched.
     """
     is_watched = sys.stderr.isatty()
-    words = [built.program("explore"), *options, *([PROGRESS] if is_watched else [])]
+    words = [built.program(), "explore", *options, *([PROGRESS] if is_watched else [])]
     errors = subprocess.PIPE if is_watched else None
     process = subprocess.Popen(words, stdin=script, stdout=printed, stderr=errors, preexec_fn=memory.limit)
     try:

@@ -18,7 +18,7 @@ BEGINS = ("begin", "sweep")
 def outcomes(lines: typing.Sequence[str], jobs: typing.Collection[str]) -> dict[str, str] | None:
     """How some jobs end where these lines are played; nothing, where they are not."""
     done = subprocess.run(
-        [built.program("suites"), "play"], input="\n".join([*lines, ""]).encode("latin1"), capture_output=True
+        [built.program(), "play"], input="\n".join([*lines, ""]).encode("latin1"), capture_output=True
     )
     told = (OUTCOME.match(line) for line in done.stdout.decode("latin1").splitlines())
     found = {one[1]: one[2] for one in told if one and one[1] in jobs}

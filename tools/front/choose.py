@@ -1,11 +1,12 @@
 """Chooses the program that `./suites` runs, and prints of what kind it is and where.
 
 `proved`: it was proved and built of this code with these claims (prove.py). `checked`: it was compiled of the
-same code without a proof, with its checks at run time, which is done here where it is wanting. `trial`: the kit gives
-no such build, so `rt try` is run each time. The choice is kept in out/choice.sh with all files that it was made from,
-so that `./suites` makes it again only where one of them has changed. With the word --is-fresh: status 0 where the
-proved program is that of these sources, and their proofs are those that proved it. With --version: tells the version,
-the commit, the kit, and the kinds of builds that would run; builds nothing.
+same code without a proof, with its checks at run time, which is done here where it is wanting. `first`: so was a
+program of the commands that `./suites` starts itself, which is built sooner; with the word --first alone. `trial`: the
+kit gives no such build, so `rt try` is run each time. The choice is kept in out/choice.sh with all files that it was
+made from, so that `./suites` makes it again only where one of them has changed. With the word --is-fresh: status 0
+where the proved program is that of these sources, and their proofs are those that proved it. With --version: tells the
+version, the commit, the kit, and the kinds of builds that would run; builds nothing.
 """
 import json
 import os
@@ -17,15 +18,14 @@ import typing
 from common import TOP, built, console
 from front import sources, trial
 
-CHOICE = built.kept(sources.PROGRAM, "choice.sh")
+CHOICE = built.kept("choice.sh")
 PROGRAMS = {
     "proved": f"crates/{sources.PROGRAM}/out/{sources.PROGRAM}",
     "checked": f"out/{sources.PROGRAM}",
+    "first": f"out/{sources.FIRST}",
     "trial": "tools/front/trial.sh",
 }
 STOPPED = "stopped; there is no checked build yet"
-# The programs beside it that tools use.
-BESIDE = ("trace", "explore", "may", "forms", "judge", "session", "serve_log")
 CHANGES = os.path.join(TOP, "CHANGELOG.md")
 
 
@@ -44,7 +44,7 @@ def record_of(kind: str, now: sources.Sources, kit: sources.Kit) -> dict[str, st
 
 
 def record_path(kind: str) -> str:
-    return built.kept(sources.PROGRAM, f"{kind}.json")
+    return built.kept(f"{kind}.json")
 
 
 def keep_record(kind: str, now: sources.Sources, kit: sources.Kit) -> None:
@@ -66,8 +66,8 @@ def is_fresh(kind: str, now: sources.Sources, kit: sources.Kit, with_proofs: boo
     return kept == wanted and os.path.exists(path_of(kind))
 
 
-def fresh_kind(now: sources.Sources, kit: sources.Kit) -> str | None:
-    return next((kind for kind in PROGRAMS if is_fresh(kind, now, kit)), None)
+def fresh_kind(now: sources.Sources, kit: sources.Kit, first: bool) -> str | None:
+    return next((kind for kind in PROGRAMS if (first or kind != "first") and is_fresh(kind, now, kit)), None)
 
 
 def keep_choice(kind: str, now: sources.Sources, kit: sources.Kit, begun: int) -> None:
@@ -91,33 +91,31 @@ def keep_choice(kind: str, now: sources.Sources, kit: sources.Kit, begun: int) -
     sources.write_whole(CHOICE, "".join(f"{name}={shlex.quote(value)}\n" for name, value in kept.items()), begun)
 
 
-def choose() -> str | None:
+def choose(first: bool = False) -> str | None:
     """The kind of build that these sources have; keeps the choice."""
     begun = sources.time_of_files()
     now, kit = sources.Sources(), sources.Kit()
-    kind = fresh_kind(now, kit)
+    kind = fresh_kind(now, kit, first)
     if kind and begun:
         keep_choice(kind, now, kit, begun)
     return kind
 
 
-def build() -> None:
+def build(first: bool) -> None:
     """Makes the checked build, or finds that this kit gives none."""
     teller = console.Teller()
     sources.Kit().wanted()
     sources.make_folder()
-    with console.alone(built.kept(sources.PROGRAM, "checked.lock"), teller) as has_waited:
-        if has_waited and choose():
+    with console.alone(built.kept("checked.lock"), teller) as has_waited:
+        if has_waited and choose(first):
             return
         teller = console.Teller()
         now, kit = sources.Sources(), sources.Kit()
-        teller.say(
-            f"the program {sources.PROGRAM} of these sources is not built yet: making a checked build of it, some two"
-            " minutes"
-        )
-        kind, part = "checked", f"{path_of('checked')}.part"
+        kind, name, time = ("first", sources.FIRST, "two") if first else ("checked", sources.PROGRAM, "three")
+        teller.say(f"the program of these sources is not built yet: making a checked build of it, some {time} minutes")
+        part = f"{path_of(kind)}.part"
         try:
-            trial.build(part, lambda: teller.say(f"checked build, {teller.seconds()} s", False))
+            trial.build(part, lambda: teller.say(f"checked build, {teller.seconds()} s", False), name)
             os.replace(part, path_of(kind))
             teller.say(f"built in {teller.seconds()} s")
         except trial.Hidden:
@@ -146,11 +144,7 @@ def version() -> typing.Iterator[str]:
     kit = sources.Kit()
     is_there = "which is on the path" if sources.KIT_LOGIC in kit.name.split() else "which is not on the path"
     yield f"kit logic {sources.KIT_LOGIC}, {is_there}"
-    others = [(name, built.kept_choice(name)) for name in BESIDE]
-    told = [f"{name} {choice[0]}" for name, choice in others if choice]
-    if told:
-        yield f"beside it {', '.join(told)}"
-    kind = any(map(os.path.exists, map(record_path, PROGRAMS))) and fresh_kind(sources.Sources(), kit)
+    kind = any(map(os.path.exists, map(record_path, PROGRAMS))) and fresh_kind(sources.Sources(), kit, True)
     yield (
         f"build {kind}, {PROGRAMS[kind]}"
         if kind
@@ -163,15 +157,16 @@ def main() -> int:
     form = read.add_mutually_exclusive_group()
     form.add_argument("--version", action="store_true")
     form.add_argument("--is-fresh", action="store_true")
+    form.add_argument("--first", action="store_true")
     given = read.parse_args()
     if given.version:
         print("\n".join(version()))
         return 0
     if given.is_fresh:
         return 0 if is_fresh("proved", sources.Sources(), sources.Kit(), True) else 1
-    kind = choose()
+    kind = choose(given.first)
     while not kind:
-        build()
-        kind = choose()
+        build(given.first)
+        kind = choose(given.first)
     print(kind, PROGRAMS[kind])
     return 0

@@ -1,5 +1,4 @@
-"""Proves and builds the program `suites`, or the one that the environment names (sources.py), and says on
-standard error how far it is. `./suites --prove` calls it.
+"""Proves and builds the program, and says on standard error how far it is. `./suites --prove` calls it.
 
 The crates that the program stands on are proved, and the laws of all runs, side by side where they do not stand on
 each other. What is proved stays in each crate's out/, so a build that was interrupted goes on where it was. Two
@@ -81,8 +80,6 @@ def prove_laws(teller: console.Teller) -> tuple[str, str] | None:
     """Proves what is promised to who plays: the laws of all runs, of which the program uses some and a caller may want
     the others.
     """
-    if PROGRAM != "suites":
-        return None
     each = (prove(top, sources.crates_below(top), teller) for top in LAWS)
     return next((failed for failed in each if failed), None)
 
@@ -108,7 +105,7 @@ def build(needs: dict[str, list[str]], teller: console.Teller) -> tuple[str, str
 
 def main() -> int:
     read = console.words(__doc__)
-    read.usage = "./suites --prove [trace|may|explore|judge|session|serve_log|forms]"
+    read.usage = "./suites --prove"
     read.parse_args()
     kit = sources.Kit()
     kit.wanted()

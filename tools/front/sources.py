@@ -16,8 +16,10 @@ import typing
 from common import TOP, console
 
 CRATES = os.path.join(TOP, "crates")
-# The program that is built or run: `suites`, or the one that `./suites` names here.
-PROGRAM = os.environ.get("SUITES_PROGRAM", "suites")
+# The program.
+PROGRAM = "suites"
+# The program of the commands that `./suites` starts itself, which is built sooner.
+FIRST = "first_answer"
 LIST = "crates.txt"
 # The logic of the kit that these sources are proved with, as README.md names it.
 KIT_LOGIC = "dac8208d650f15bf"
@@ -157,7 +159,8 @@ class Sources:
 
     def __init__(self) -> None:
         self.crates = crates_below(PROGRAM)
-        self.sums = self.summed([f"crates/{name}/{part}" for name in self.crates for part in (CODE, CLAIMS, PROOFS)])
+        names = [*self.crates, FIRST]
+        self.sums = self.summed([f"crates/{name}/{part}" for name in names for part in (CODE, CLAIMS, PROOFS)])
         self.files = sorted(self.sums)
         self.code_files = [file for file in self.files if file.split("/")[2] == CODE]
         self.claim_files = [file for file in self.files if file.split("/")[2] != PROOFS]

@@ -17,10 +17,7 @@ import typing
 from common import console
 from front import sources
 
-FOLDER = os.path.join(sources.CRATES, sources.PROGRAM)
 MODULE = "module.bc"
-# What is in the module of the program, and not in the small one with which `rt try` tries its compiler.
-MARK = f"{sources.PROGRAM}::main".encode()
 # As the kit itself compiles: these keep passes of clang out that are known to err.
 CAREFUL = [
     "-no-trap-after-noreturn",
@@ -41,15 +38,21 @@ class Hidden(console.Stop):
         super().__init__(f"this kit has no {what}")
 
 
-def is_whole(module: bytes) -> bool:
-    """Whether bytes are a module to its end: blocks, each with its length behind four bytes, until they are used up."""
+def folder_of(program: str) -> str:
+    return os.path.join(sources.CRATES, program)
+
+
+def is_whole(module: bytes, program: str) -> bool:
+    """Whether bytes are the module of a program to its end: blocks, each with its length behind four bytes, until they
+    are used up. The small one with which `rt try` tries its compiler has no such function.
+    """
     place = 4
     while place + 8 <= len(module):
         place += 8 + 4 * int.from_bytes(module[place + 4 : place + 8], "little")
-    return place == len(module) and MARK in module
+    return place == len(module) and f"{program}::main".encode() in module
 
 
-def found(scratch: str) -> bytes | None:
+def found(scratch: str, program: str) -> bytes | None:
     """The program's module below this folder, once it is whole."""
     for place, _, names in os.walk(scratch):
         if MODULE in names:
@@ -58,32 +61,33 @@ def found(scratch: str) -> bytes | None:
                     module = file.read()
             except FileNotFoundError:
                 continue
-            if is_whole(module):
+            if is_whole(module, program):
                 return module
     return None
 
 
-def module_into(folder: str, tick: typing.Callable[[], None]) -> str:
+def module_into(folder: str, tick: typing.Callable[[], None], program: str = sources.PROGRAM) -> str:
     """Writes the program's module into this folder; `tick` is called while that lasts. Answers its path. A kit that
     shows none shows none a second time: on a busy machine one may be missed."""
     try:
-        return module_once(folder, "scratch", tick)
+        return module_once(folder, "scratch", tick, program)
     except Hidden:
-        return module_once(folder, "again", tick)
+        return module_once(folder, "again", tick, program)
 
 
-def module_once(folder: str, name: str, tick: typing.Callable[[], None]) -> str:
+def module_once(folder: str, name: str, tick: typing.Callable[[], None], program: str) -> str:
     """Looks for the module once."""
     scratch = os.path.join(folder, name)
     os.mkdir(scratch)
     with tempfile.TemporaryFile() as log:
-        trial = console.start(["rt", "try", "--", "--help"], FOLDER, log, env={**os.environ, "TMPDIR": scratch})
+        settings = {**os.environ, "TMPDIR": scratch}
+        trial = console.start(["rt", "try", "--", "--help"], folder_of(program), log, env=settings)
         try:
             module = None
             while module is None and trial.poll() is None:
                 tick()
                 time.sleep(0.2)
-                module = found(scratch)
+                module = found(scratch, program)
         finally:
             console.stop(trial)
         if module is None:
@@ -136,15 +140,15 @@ def done(words: list[str], folder: str, tick: typing.Callable[[], None]) -> None
         raise console.Stop(f"the checked build failed, and the next time it is tried again: {why}\n{said}".rstrip())
 
 
-def build(target: str, tick: typing.Callable[[], None]) -> None:
-    """Builds the program to this file, with its checks at run time, and looks whether it runs."""
+def build(target: str, tick: typing.Callable[[], None], name: str = sources.PROGRAM) -> None:
+    """Builds the program, or one of tests, to this file, with its checks at run time, and looks whether it runs."""
     home = kit()
     with tempfile.TemporaryDirectory(prefix="suites-") as folder:
         lacking = next((path for path in libraries() if not os.path.exists(path)), None)
         if lacking:
             raise Hidden(lacking)
-        module = module_into(folder, tick)
-        made, program = os.path.join(folder, "module.o"), os.path.join(folder, sources.PROGRAM)
+        module = module_into(folder, tick, name)
+        made, program = os.path.join(folder, "module.o"), os.path.join(folder, name)
         done([clang(), LEVEL, "-fPIE", *CAREFUL, "-w", "-c", module, "-o", made], folder, tick)
         link = [os.path.join(home, "bin", "rattle-link"), "--target", "x86_64-unknown-linux-gnu"]
         link += ["--toolchain", os.path.join(home, "toolchain"), "-o", program, made, *libraries()]
@@ -161,7 +165,7 @@ def main() -> int:
         "this kit hands out no module, so `rt try` compiles the program anew for this run, some four minutes; not"
         " proved"
     )
-    process = subprocess.Popen(["rt", "try", "--", *sys.argv[1:]], cwd=FOLDER)
+    process = subprocess.Popen(["rt", "try", "--", *sys.argv[1:]], cwd=folder_of(sources.PROGRAM))
     try:
         return process.wait()
     except KeyboardInterrupt:

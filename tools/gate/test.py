@@ -44,11 +44,10 @@ class Part:
         words: list[str],
         after: typing.Sequence[str] = (),
         folder: str = ".",
-        program: str = "suites",
         settings: typing.Mapping[str, str] | None = None,
     ) -> None:
         self.title, self.words, self.after, self.settings = title, words, after, dict(settings or {})
-        self.folder, self.program = os.path.join(TOP, folder), program
+        self.folder = os.path.join(TOP, folder)
         self.counts: tuple[int, int] | None = None
         self.process: subprocess.Popen[bytes] | None = None
         self.log: typing.IO[bytes] | None = None
@@ -56,9 +55,7 @@ class Part:
 
     def start(self) -> None:
         self.log, self.begun = tempfile.TemporaryFile(), time.monotonic()
-        self.process = console.start(
-            self.words, self.folder, self.log, env={**os.environ, **self.settings, "SUITES_PROGRAM": self.program}
-        )
+        self.process = console.start(self.words, self.folder, self.log, env={**os.environ, **self.settings})
 
     def has_ended(self) -> bool:
         """Whether it has ended; counts what passed and failed."""
@@ -98,9 +95,7 @@ def tried(crate: str) -> dict[str, typing.Any]:
     return {"words": TRY, "folder": os.path.join("crates", crate)}
 
 
-PROGRAM, TRACE, MAY = "the program", "the program of trace", "the program of may"
-FORMS, EXPLORE, JUDGE = "the program of forms", "the program of explore", "the program of judge"
-SESSION, SERVE_LOG = "the program of session", "the program of serve --log"
+PROGRAM = "the program"
 # What takes longest stands first, but for what tells at once that something is wrong.
 PARTS = (
     Part("what pages show", tool("shown")),
@@ -120,71 +115,64 @@ PARTS = (
     Part("tests of runs", **tried("run_tests")),
     Part("tests of libraries", **tried("library_tests")),
     Part(PROGRAM, tool("choose")),
-    Part(TRACE, tool("choose"), program="trace"),
-    Part(MAY, tool("choose"), program="may"),
-    Part(FORMS, tool("choose"), program="forms"),
-    Part(EXPLORE, tool("choose"), program="explore"),
-    Part(JUDGE, tool("choose"), program="judge"),
-    Part(SESSION, tool("choose"), program="session"),
-    Part(SERVE_LOG, tool("choose"), program="serve_log"),
     Part("tests of commands", **tried("command_tests")),
     Part("rows", test("checked-build.py"), [PROGRAM]),
     Part("the table of forms", test("form-table.py"), [PROGRAM]),
-    Part("everything that can happen", test("explored.py"), [PROGRAM, TRACE, EXPLORE]),
-    Part("orders that are drawn", test("sampled.py"), [PROGRAM, TRACE, EXPLORE]),
-    Part("questions of everything that can happen", test("asking.py"), [EXPLORE]),
-    Part("orders of decisions", test("ordered.py"), [PROGRAM, TRACE, EXPLORE]),
-    Part("little memory", test("small-memory.py"), [EXPLORE]),
-    Part("a stack of 1 MiB", test("small-stack.py"), [PROGRAM, TRACE, FORMS, EXPLORE]),
-    Part("examples of FAULTS", test("explained.py"), [PROGRAM, TRACE, FORMS, EXPLORE]),
-    Part("what explain says of every line", test("every_line.py"), [PROGRAM, TRACE, FORMS, EXPLORE, MAY]),
-    Part("what explain says of damaged scripts", test("damaged-scripts.py", "--cases", "1000"), [PROGRAM, FORMS]),
-    Part("command lines of documents", test("typed.py"), [PROGRAM, TRACE, FORMS, EXPLORE, MAY]),
-    Part("verdicts on histories", test("judged.py"), [JUDGE]),
-    Part("verdicts on what callers saw", test("logged.py"), [JUDGE, SERVE_LOG]),
-    Part("how programs end", test("statuses.py"), [TRACE, FORMS]),
-    Part("answers of may", test("may.py"), [MAY]),
+    Part("everything that can happen", test("explored.py"), [PROGRAM]),
+    Part("orders that are drawn", test("sampled.py"), [PROGRAM]),
+    Part("questions of everything that can happen", test("asking.py"), [PROGRAM]),
+    Part("orders of decisions", test("ordered.py"), [PROGRAM]),
+    Part("little memory", test("small-memory.py"), [PROGRAM]),
+    Part("a stack of 1 MiB", test("small-stack.py"), [PROGRAM]),
+    Part("examples of FAULTS", test("explained.py"), [PROGRAM]),
+    Part("what explain says of every line", test("every_line.py"), [PROGRAM]),
+    Part("what explain says of damaged scripts", test("damaged-scripts.py", "--cases", "1000"), [PROGRAM]),
+    Part("command lines of documents", test("typed.py"), [PROGRAM]),
+    Part("verdicts on histories", test("judged.py"), [PROGRAM]),
+    Part("verdicts on what callers saw", test("logged.py"), [PROGRAM]),
+    Part("how programs end", test("statuses.py"), [PROGRAM]),
+    Part("answers of may", test("may.py"), [PROGRAM]),
     Part(
         "may against the kernel",
         test("may-against-the-kernel.py", "--questions", "100", "--mounts", "--if-possible"),
-        [MAY],
+        [PROGRAM],
     ),
-    Part("the mount", test("mount.py"), [PROGRAM, SESSION]),
-    Part("the mount against the kernel", test("mount-against-the-kernel.py"), [PROGRAM, SESSION]),
-    Part("the shell, import and stories", test("shell.py"), [PROGRAM, TRACE, FORMS, SESSION]),
-    Part("programs on the mount", test("mount-programs.py", "--well"), [PROGRAM, SESSION]),
-    Part("sessions and their journals", test("session.py"), [PROGRAM, TRACE, SESSION]),
-    Part("what votes tells", test("votes.py"), [PROGRAM, TRACE]),
-    Part("what votes tells of scripts", test("votes-left.py"), [PROGRAM, TRACE]),
-    Part("pictures", test("drawn.py"), [TRACE]),
-    Part("events", test("events.py"), [TRACE]),
-    Part("pages in a browser", test("shown_page.py"), [TRACE]),
-    Part("the page of all ways", test("ways_shown.py"), [PROGRAM, TRACE, EXPLORE]),
-    Part("the page of a session", test("live_page.py"), [PROGRAM, TRACE, SESSION]),
+    Part("the mount", test("mount.py"), [PROGRAM]),
+    Part("the mount against the kernel", test("mount-against-the-kernel.py"), [PROGRAM]),
+    Part("the shell, import and stories", test("shell.py"), [PROGRAM]),
+    Part("programs on the mount", test("mount-programs.py", "--well"), [PROGRAM]),
+    Part("sessions and their journals", test("session.py"), [PROGRAM]),
+    Part("what votes tells", test("votes.py"), [PROGRAM]),
+    Part("what votes tells of scripts", test("votes-left.py"), [PROGRAM]),
+    Part("pictures", test("drawn.py"), [PROGRAM]),
+    Part("events", test("events.py"), [PROGRAM]),
+    Part("pages in a browser", test("shown_page.py"), [PROGRAM]),
+    Part("the page of all ways", test("ways_shown.py"), [PROGRAM]),
+    Part("the page of a session", test("live_page.py"), [PROGRAM]),
     Part("work done anew", test("work.py"), [PROGRAM]),
-    Part("random scripts", tool("compare", "--seeds", "200"), [PROGRAM, TRACE]),
+    Part("random scripts", tool("compare", "--seeds", "200"), [PROGRAM]),
 )
 # What --long adds; of allocations each 61st is refused, and inputs are cut at each 29th byte.
 LONG = (
     Part("programs of tests and measurements", test("compiled.py")),
     Part("instructions", test("instructions.py")),
     Part("crates in another repository", test("taken.py")),
-    Part("slow inputs", test("growth.py"), [PROGRAM, TRACE, MAY, FORMS, EXPLORE, SESSION, JUDGE]),
+    Part("slow inputs", test("growth.py"), [PROGRAM]),
     Part("races", test("races.py", "1")),
-    Part("planted errors", test("planted.py"), [JUDGE, SERVE_LOG]),
-    Part("the mount, long", test("mount-against-the-kernel.py", "--calls", "200000"), [PROGRAM, SESSION]),
-    Part("programs on the mount, and servers that crash", test("mount-programs.py"), [PROGRAM, SESSION]),
-    Part("faults of the mount", test("mount-faults.py"), [PROGRAM, SESSION]),
-    Part("the mount, judged", test("mount-judged.py"), [SESSION, JUDGE]),
-    Part("sessions that are killed", test("session.py", "--long"), [PROGRAM, TRACE, SESSION]),
-    Part("lies about runs", test("lies.py", "1000"), [TRACE]),
+    Part("planted errors", test("planted.py"), [PROGRAM]),
+    Part("the mount, long", test("mount-against-the-kernel.py", "--calls", "200000"), [PROGRAM]),
+    Part("programs on the mount, and servers that crash", test("mount-programs.py"), [PROGRAM]),
+    Part("faults of the mount", test("mount-faults.py"), [PROGRAM]),
+    Part("the mount, judged", test("mount-judged.py"), [PROGRAM]),
+    Part("sessions that are killed", test("session.py", "--long"), [PROGRAM]),
+    Part("lies about runs", test("lies.py", "1000"), [PROGRAM]),
     Part(
         "refused allocations",
         ["sh", os.path.join(TOP, "tests/refuse-each.sh")],
-        [PROGRAM, TRACE],
+        [PROGRAM],
         settings={"EVERY": "61"},
     ),
-    Part("refused allocations of explore", test("refuse-explore.py", "--every", "61"), [EXPLORE]),
+    Part("refused allocations of explore", test("refuse-explore.py", "--every", "61"), [PROGRAM]),
     Part(
         "refused allocations in tests",
         ["sh", os.path.join(TOP, "tests/refuse-in-test.sh")],

@@ -1,6 +1,6 @@
 """./suites judge [--order | --small] < HISTORY
 
-Tells whether a history is one plain table's; help/judge.txt tells all of it. The program `judge` does the work. Here
+Tells whether a history is one plain table's; help/judge.txt tells all of it. The program does the work. Here
 its words are looked at, and it is told what stands around the line that fits no order, and what one table could have
 told there (--small: in as few calls as may be), or the script that answers so.
 """
@@ -170,7 +170,7 @@ def played(watch: Watch, lines: list[str], order: list[int]) -> list[tuple[Told,
     calls = {call.made: call for call in calls_of(lines)}
     placed = [calls[place] for place in order]
     jobs = [f"do {call.asks}" for call in placed if not is_test(call)]
-    status, said = watch.asked("suites", "\n".join([root_of(lines), *jobs, ""]), "table")
+    status, said = watch.asked("table", "\n".join([root_of(lines), *jobs, ""]))
     if status != DONE:
         raise Ended("suites", status)
     answers = iter(said.splitlines())
@@ -274,7 +274,7 @@ def judged(given: argparse.Namespace, watch: Watch) -> int:
 
 
 def run(given: argparse.Namespace) -> int:
-    built.program("judge")
+    built.program()
     try:
         with Watch() as watch:
             return judged(given, watch)

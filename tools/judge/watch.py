@@ -1,4 +1,4 @@
-"""Asks programs about a history, and says on a terminal how far that is where it takes its time. The program `judge`
+"""Asks the program about a history, and says on a terminal how far that is where it takes its time. The program `judge`
 tells nothing before its verdict: of it is said how many lines it was given, how much memory it took, and the seconds.
 """
 from __future__ import annotations
@@ -58,15 +58,13 @@ class Watch:
                 self.progress.say(f"{size:,} bytes of the history are read")
         return b"".join(parts)
 
-    def asked(self, name: str, given: str | bytes, *words: str) -> tuple[int, str]:
-        """With which status the program of this name ends for an input, and what it prints. It may take the memory that
+    def asked(self, command: str, given: str | bytes, *words: str) -> tuple[int, str]:
+        """With which status a command of the program ends for an input, and what it prints. It may take the memory that
         is free.
         """
         text = given if isinstance(given, bytes) else given.encode("latin1")
-        how: dict[str, typing.Any] = {"env": built.setting(name), "preexec_fn": memory.limit}
-        with subprocess.Popen(
-            [built.program(name), *words], stdin=subprocess.PIPE, stdout=subprocess.PIPE, **how
-        ) as process:
+        how: dict[str, typing.Any] = {"stdin": subprocess.PIPE, "stdout": subprocess.PIPE, "preexec_fn": memory.limit}
+        with subprocess.Popen([built.program(), command, *words], **how) as process:
             try:
                 printed = self.printed(process, text)
             except BaseException:

@@ -1,4 +1,4 @@
-"""The program `may`, which answers all questions about lists: many at once, and each question once."""
+"""The command `may`, which answers all questions about lists: many at once, and each question once."""
 from __future__ import annotations
 
 import functools
@@ -55,9 +55,9 @@ def program() -> str:
     if os.environ.get("MAY"):
         return os.environ["MAY"]
     try:
-        return built.program("may")
+        return built.program()
     except SystemExit:
-        raise Unread("there is no program `may`") from None
+        raise Unread("there is no program") from None
 
 
 def asked(lines: list[str]) -> dict[str, str]:
@@ -66,10 +66,7 @@ def asked(lines: list[str]) -> dict[str, str]:
     left = list(dict.fromkeys(lines))
     while left:
         done = subprocess.run(
-            [program()],
-            input="".join(f"{line}\n" for line in left).encode(),
-            stdout=subprocess.PIPE,
-            env=built.setting("may"),
+            [program(), "may"], input="".join(f"{line}\n" for line in left).encode(), stdout=subprocess.PIPE
         )
         given = done.stdout.decode().splitlines()
         faulty = re.fullmatch(r"fault line (\d+): (.*)", given[0]) if done.returncode == 3 and len(given) == 1 else None

@@ -1,8 +1,8 @@
 """python3 tools forms_page [--check]
 
-Writes the tables of operations, events and jobs in docs/SCRIPTS.md from the table of forms (crates/forms/stdout). With
---check it writes nothing, and tells what differs. In both it tells where a text of help/, which the program prints,
-says a form or a sentence otherwise than the table. Status 1 where something differs.
+Writes the tables of operations, events and jobs in docs/SCRIPTS.md from the table of forms (crates/forms/table.txt).
+With --check it writes nothing, and tells what differs. In both it tells where a text of help/, which the program
+prints, says a form or a sentence otherwise than the table. Status 1 where something differs.
 """
 import os
 import re

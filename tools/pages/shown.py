@@ -20,7 +20,6 @@ from common import TOP, console, read_rows
 from front import sources
 from votes import votes
 
-STORY = "examples/play/revocation.script"
 PAGES = ("README.md", "docs/SCRIPTS.md")
 HELP, OF_TOOLS = "help", ("tools.txt", "explore.txt", "judge.txt", "session.txt")
 # What is shown of an output.
@@ -151,8 +150,6 @@ def main() -> int:
                 wrong.append(f"{name} is the input of no row")
     for page in PAGES:
         wrong += differing(page, known)
-    if content("crates/trace/stdin") != content(STORY):
-        wrong.append(f"crates/trace/stdin is not {STORY}")
     if not any(story in content(HELD) for story in FENCED.findall(content("README.md"))):
         wrong.append(f"README.md shows another end of the mount's story than {HELD} holds")
     if f"`{sources.KIT_LOGIC}`".encode() not in content("README.md"):

@@ -1,7 +1,7 @@
 """./suites session [--marks] [--journal FILE [--no-sync] [--compact]]
 
 Answers each line of a script of events before it reads the next one; help/session.txt tells all of it. The program
-`session` does the work, and takes the place of this tool. With --compact the journal is first made as short as its
+does the work, and takes the place of this tool. With --compact the journal is first made as short as its
 tree can be made (dump.py).
 """
 import os
@@ -28,7 +28,7 @@ def main() -> int:
     words = sys.argv[1:]
     if words[:1] in (["--help"], ["-h"]):
         return console.print_help("session")
-    program = built.program("session")
+    program = built.program()
     if COMPACT in words:
         rest = compacted(words)
         if rest is None:
@@ -38,4 +38,4 @@ def main() -> int:
         words = rest
     if sys.stdin.isatty():
         console.Teller().say("each line is answered, from `servers N` on; Ctrl-D ends it (./suites session --help)")
-    os.execv(program, [program, *words])
+    os.execv(program, [program, "session", *words])

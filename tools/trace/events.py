@@ -1,7 +1,6 @@
-"""The events of a run (docs/EVENTS.md), as the program `trace` tells them of a script, one after another."""
+"""The events of a run (docs/EVENTS.md), as the command `trace` tells them of a script, one after another."""
 from __future__ import annotations
 
-import functools
 import json
 import subprocess
 import sys
@@ -18,11 +17,6 @@ OF_SERVERS, BEGIN, STEP = ("crash", "return"), ("begin", "sweep"), ("step", "run
 FAULTY = 3
 # What a terminal is told where the program ends so (as `./suites` tells it of the other commands).
 EXPLAINED = {6: "the input is above 16 MiB, or a read or a write failed (./suites explain 'status 6')"}
-ENV = built.setting("trace")
-
-
-# The path of the program `trace`.
-program = functools.partial(built.program, "trace")
 
 
 def event_of(line: bytes) -> Event:
@@ -31,14 +25,14 @@ def event_of(line: bytes) -> Event:
 
 
 class Player:
-    """The program `trace`, which plays a script, or else what is read from standard input, and tells its events."""
+    """The program, which plays a script, or else what is read from standard input, and tells its events."""
 
     def __init__(self, script: bytes | None, name: str = "") -> None:
         self.given, self.name = None if script is None else tempfile.TemporaryFile(), name
         if self.given:
             self.given.write(script)
             self.given.seek(0)
-        self.run = subprocess.Popen([program(), "--json"], stdin=self.given, stdout=subprocess.PIPE, env=ENV)
+        self.run = subprocess.Popen([built.program(), "trace", "--json"], stdin=self.given, stdout=subprocess.PIPE)
 
     def __enter__(self: Own) -> Own:
         return self

@@ -1,4 +1,4 @@
-"""The lines of a trace, as the program `trace` prints them, of what events tell (docs/EVENTS.md)."""
+"""The lines of a trace, as the command `trace` prints them, of what events tell (docs/EVENTS.md)."""
 from collections.abc import Iterable, Iterator
 
 from trace.events import Event, word_of

@@ -84,7 +84,7 @@ Votes = collections.namedtuple("Votes", "shares r w")
 
 
 class Fault(Exception):
-    """What is asked has a fault, of this code; and why, in the words of the program `forms`."""
+    """What is asked has a fault, of this code; and why, in the words of the command `forms`."""
 
     def __init__(self, code: str, reason: str, *data: int, part: str = "") -> None:
         super().__init__(code)

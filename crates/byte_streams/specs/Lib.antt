@@ -2,4 +2,3 @@ pub mod Streams
 pub mod Whole
 pub mod Endings
 pub mod Programs
-pub mod Words

@@ -6,15 +6,14 @@
 //!
 //! **Promises.** `read_all` gives all bytes of a stream, or says why not (`IsWhole`, `Explains`). `write_all` adds
 //! a text whole, or fails with one failure more (`Adds`). A system read that a signal broke off is made again.
-//! `read_wanted` answers what words ask for, where they are told (`wanted_by`).
 //! `finish`, `finish_line`, `lack_memory` and `tell_unread` end a program: its last line, and its exit status
 //! (`specs/Endings.antt`, `specs/Programs.antt`).
 //!
 //! **The caller owes** a limit below 2^62 for `read_all`, and a buffer with room for `read`.
 //!
 //! **Files**: `traits`, `memory` (streams of tests, where a given call can fail), `system`, `reading`, `writing`,
-//! `ending`, `wanted` (the words of a program that takes none but `--help`). **Definitions** (`specs/`): `Streams`,
-//! `Whole`, `Endings`, `Programs` (a program's two streams, before and after), `Words`.
+//! `ending`. **Definitions** (`specs/`): `Streams`, `Whole`, `Endings`, `Programs` (a program's two streams, before and
+//! after, and what a command does of its words).
 #![tactic(auto)]
 
 mod ending;
@@ -22,7 +21,6 @@ mod memory;
 mod reading;
 mod system;
 mod traits;
-mod wanted;
 mod writing;
 
 pub use ending::{
@@ -32,5 +30,4 @@ pub use memory::{MemoryIn, MemoryOut};
 pub use reading::{ReadError, read_all};
 pub use system::{SystemIn, SystemOut};
 pub use traits::{ByteIn, ByteOut, ReadFailed, WriteFailed};
-pub use wanted::{CommandWords, MemoryWords, SystemWords, Wanted, read_wanted};
 pub use writing::write_all;

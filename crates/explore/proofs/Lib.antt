@@ -7,4 +7,3 @@ pub mod LinesPlayed
 pub mod Finding
 pub mod WayLines
 pub mod BegunJobs
-pub mod WordByWord

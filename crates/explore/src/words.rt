@@ -1,12 +1,10 @@
 //! The command line: what is asked for.
 
-ghost use Rattle.std.specs.Prelude.{◌≡◌, IfSome, option_map, slice_get};
-ghost use Rattle.explore.specs.Words.{asks_help, choice_in, first_reading, from_one, is_at_odds, is_ordered, is_sampled, large, small, wanted_behind};
-ghost use Rattle.explore.specs.Words.{wanted_by, wide, with_number, with_option, with_word, with_word_behind};
+ghost use Rattle.std.specs.Prelude.{◌≡◌, map};
+ghost use Rattle.explore.specs.Words.{choice_in, first_reading, from_one, is_at_odds, is_ordered, is_sampled, large, small};
+ghost use Rattle.explore.specs.Words.{wanted_by, wanted_of, wide, with_number, with_option, with_word};
 
-use byte_streams::{CommandWords, read_wanted};
 use script_text::read_number;
-use std::env::FillError;
 
 /// How much may happen; how many worlds are looked at, or how many orders are played, and by which seed they are drawn;
 /// and whether it is told in which order jobs are decided.
@@ -55,12 +53,11 @@ impl Bounds {
     }
 }
 
-/// What the words of the command line ask for.
-pub(crate) enum Wanted {
-    /// To explore a script, and perhaps to tell meanwhile how far that is.
-    Explore { wish: Wish, tells_progress: bool },
-    Help,
-    Nothing,
+/// What the words of the command line ask for: to explore a script, and perhaps to tell meanwhile how far that is.
+#[derive(Clone, Copy)]
+pub(crate) struct Wanted {
+    pub(crate) wish: Wish,
+    pub(crate) tells_progress: bool,
 }
 
 /// An option that takes a number.
@@ -79,44 +76,21 @@ pub(crate) enum Choice {
 /// What words asked for so far, and the option whose number comes next.
 #[derive(Clone, Copy)]
 pub(crate) struct Reading {
-    pub(crate) wish: Wish,
-    pub(crate) tells_progress: bool,
+    pub(crate) wanted: Wanted,
     pub(crate) option: Option<Choice>,
 }
 
-/// The most words that say something: each option once.
-const MOST: usize = 19;
-
-/// The most bytes of a word.
-const LONGEST: usize = 20;
-
-/// What the words of the command line ask for.
-pub(crate) fn read_words<W: CommandWords>(words: &W) -> Wanted
-    ensures { IfSome (W.words words.now) (λ given. result ≡ wanted_by given) }
+/// What the words of the command line ask for, if they ask for something.
+pub(crate) fn read_words(words: &[&str]) -> Option<Wanted>
+    ensures { result ≡ wanted_by (map (λ word. word.now) words.now) }
 {
-    if asks_help(words) {
-        return Wanted::Help;
-    }
     let mut reading = first_reading();
-    let mut place = 0;
-    while place <= MOST {
-        let Some(said) = read_word(words, place, reading) else {
-            return wanted_of(reading);
-        };
-        let Some(next) = said else {
-            return Wanted::Nothing;
-        };
-        reading = next;
-        place += 1;
+    let mut rest = words;
+    while let Some((word, later)) = rest.split_first() {
+        reading = with_word(reading, word.as_bytes())?;
+        rest = later;
     }
-    Wanted::Nothing
-}
-
-/// Whether the first word asks for help.
-fn asks_help<W: CommandWords>(words: &W) -> bool
-    ensures { IfSome (W.words words.now) (λ given. result ≡ asks_help given) }
-{
-    matches!(read_wanted(words), byte_streams::Wanted::Help)
+    wanted_of(reading)
 }
 
 /// All ways, where nothing crashes and nobody stops.
@@ -124,45 +98,37 @@ fn first_reading() -> Reading
     ensures { result ≡ first_reading }
 {
     Reading {
-        wish: Wish {
-            bounds: Bounds {
-                crashes: 0,
-                returns: 0,
-                forgets: 0,
-                stops: 0,
-                worlds: u32::MAX,
-                orders: None,
-                seed: None,
-                ordered: false,
+        wanted: Wanted {
+            wish: Wish {
+                bounds: Bounds {
+                    crashes: 0,
+                    returns: 0,
+                    forgets: 0,
+                    stops: 0,
+                    worlds: u32::MAX,
+                    orders: None,
+                    seed: None,
+                    ordered: false,
+                },
+                is_brief: false,
+                way: None,
             },
-            is_brief: false,
-            way: None,
+            tells_progress: false,
         },
-        tells_progress: false,
         option: None,
-    }
-}
-
-/// What is asked for with the word at a place, if that says something; nothing, where no word is.
-fn read_word<W: CommandWords>(words: &W, place: usize, reading: Reading) -> Option<Option<Reading>>
-    ensures { IfSome (W.words words.now) (λ given. result ≡ option_map (with_word reading) (slice_get given place)) }
-{
-    let mut word = [0; LONGEST];
-    match words.word(place, &mut word) {
-        Err(FillError::NotPresent) => None,
-        Err(FillError::TooLong) => Some(None),
-        Ok(length) => Some(with_word(reading, word.get(..length).unwrap_or(b""))),
     }
 }
 
 /// What is asked for with a word more, if it says something.
 fn with_word(reading: Reading, word: &[u8]) -> Option<Reading>
-    ensures { result ≡ with_word_behind reading.option reading word.now }
+    ensures { result ≡ with_word reading word.now }
 {
     match reading.option {
         Some(choice) => Some(Reading {
-            wish: with_number(reading.wish, choice, word)?,
-            tells_progress: reading.tells_progress,
+            wanted: Wanted {
+                wish: with_number(reading.wanted.wish, choice, word)?,
+                tells_progress: reading.wanted.tells_progress,
+            },
             option: None,
         }),
         None => with_option(reading, word),
@@ -175,11 +141,11 @@ fn with_option(reading: Reading, word: &[u8]) -> Option<Reading>
 {
     let mut next = reading;
     if word == b"--brief".as_slice() {
-        next.wish.is_brief = true;
+        next.wanted.wish.is_brief = true;
     } else if word == b"--progress".as_slice() {
-        next.tells_progress = true;
+        next.wanted.tells_progress = true;
     } else if word == b"--order".as_slice() {
-        next.wish.bounds.ordered = true;
+        next.wanted.wish.bounds.ordered = true;
     } else {
         next.option = Some(choice_in(word)?);
     }
@@ -264,15 +230,11 @@ fn wide(word: &[u8]) -> Option<u64>
 }
 
 /// What is asked for where no more words come: no option is left without its number.
-fn wanted_of(reading: Reading) -> Wanted
-    ensures { result ≡ wanted_behind reading.option reading }
+fn wanted_of(reading: Reading) -> Option<Wanted>
+    ensures { result ≡ wanted_of reading }
 {
-    match reading.option {
-        None if reading.wish.is_at_odds() => Wanted::Nothing,
-        None => Wanted::Explore {
-            wish: reading.wish,
-            tells_progress: reading.tells_progress,
-        },
-        Some(_) => Wanted::Nothing,
+    if reading.option.is_some() || reading.wanted.wish.is_at_odds() {
+        return None;
     }
+    Some(reading.wanted)
 }

@@ -1,11 +1,11 @@
 -- What the program has done when it ends.
-use Rattle.std.specs.Prelude.{◌≡◌, ℕ, ◌⊎◌, List, [], ◌∷◌, ◌++◌, codes, Option}
-use Rattle.byte_streams.specs.Endings.{Finishes, Lacks, TellsLine, bad_words, done}
-use Rattle.byte_streams.specs.Programs.{RunsOn, Streams}
+use Rattle.std.specs.Prelude.{◌≡◌, ℕ, ◌⊎◌, Bool, true, false, List, [], ◌∷◌, Option, Some}
+use Rattle.byte_streams.specs.Endings.{Finishes, Lacks, TellsLine, done}
+use Rattle.byte_streams.specs.Programs.{Obeys, RunsOn, Streams}
 use Rattle.forms.specs.Answers.{IsAnswer}
 use Rattle.forms.specs.declared.Question.{Question}
 use Rattle.forms.specs.declared.Wish.{Wish}
-use Rattle.forms.specs.declared.Wish.TheVariants.{Table, Help, Answer, Nothing}
+use Rattle.forms.specs.declared.Wish.TheVariants.{Table, Answer}
 
 -- the answer was written, or a write failed
 pub record WritesAnswer (question : Question) (given : List ℕ) (before after : Option (List ℕ)) (failures failures_after status : ℕ) : Type 0 where
@@ -22,26 +22,31 @@ abbrev pub Runs : Question → Streams → ℕ → Type 0
 Runs question streams status =
     RunsOn (λ given. Ends question given streams.written streams.written_after streams.failed_writes streams.failed_writes_after status) streams status streams.input
 
--- nothing was read, and a text was written with its status, or a write failed
-abbrev pub WritesAlone : List ℕ → ℕ → Streams → ℕ → Type 0
-WritesAlone text status streams result =
-    (streams.input_after ≡ streams.input)
-    × Finishes text status result streams.written streams.written_after streams.failed_writes streams.failed_writes_after
-
--- the same, of some text
-pub record WritesHelp (streams : Streams) (status : ℕ) : Type 0 where
-  pub text : List ℕ
-  pub written : WritesAlone text done streams status
-
 -- the same, or memory ran out
 pub record WritesTable (streams : Streams) (status : ℕ) : Type 0 where
   pub text : List ℕ
   pub unread : streams.input_after ≡ streams.input
   pub written : TellsLine text done status streams.written streams.written_after streams.failed_writes streams.failed_writes_after
 
--- what the words of the command line ask for was done
+-- what words ask for was done
 abbrev pub Does : Wish → Streams → ℕ → Type 0
 Does Table streams status = WritesTable streams status
-Does Help streams status = WritesHelp streams status
 Does (Answer question) streams status = Runs question streams status
-Does Nothing streams status = WritesAlone (codes "fault command line" ++ 10 ∷ []) bad_words streams status
+
+-- ---- what the words ask for
+
+-- an answer, or nothing
+abbrev pub is_other : Option Wish → Bool
+is_other (Some Table) = false
+is_other wish = true
+
+-- no word asks for the table, and others do not
+abbrev pub Asks : List (List ℕ) → Option Wish → Type 0
+Asks [] wish = wish ≡ Some Table
+Asks (word ∷ words) wish = is_other wish ≡ true
+
+-- what they ask for was done
+pub record DoesOf (words : List (List ℕ)) (streams : Streams) (status : ℕ) : Type 0 where
+  pub wish : Option Wish
+  pub is : Asks words wish
+  pub done : Obeys Does wish streams status

@@ -100,9 +100,29 @@ fn compare<R: Threads + Wait + Sync>(
     let alloc = report.alloc();
     let words = row.words(alloc)?;
     let mut printed = MemoryOut::new(alloc);
-    let status = run(rt, alloc, &words, &mut input, &mut printed);
+    let status = play(rt, alloc, &words, &mut input, &mut printed);
     if !row.is_met_by(status, printed.bytes()) {
         report.add_difference(place, status, printed.bytes())?;
     }
     Ok(())
+}
+
+/// Does what words ask for over an input, and answers the exit status.
+fn play<R: Threads + Wait + Sync>(
+    rt: &R,
+    alloc: Global,
+    words: &[&str],
+    input: &mut MemoryIn<'_>,
+    printed: &mut MemoryOut,
+) -> u8 {
+    let Some((command, behind)) = words.split_first() else {
+        return run(rt, alloc, words, input, printed);
+    };
+    match *command {
+        "explore" => explore::obey(alloc, behind, input, printed, MemoryOut::new(alloc)),
+        "judge" => judge::obey(alloc, behind, input, printed),
+        "may" => may::obey(alloc, behind, input, printed),
+        "trace" => trace::obey(alloc, behind, input, printed),
+        _ => run(rt, alloc, words, input, printed),
+    }
 }

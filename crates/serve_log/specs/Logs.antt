@@ -6,14 +6,11 @@ use Rattle.suite_serve.specs.Served.{Came, IsServed, endings_of}
 use Rattle.job_history.specs.declared.event.Span.{Span}
 use Rattle.job_history.specs.Calls.{calls_of}
 use Rattle.job_history.specs.Histories.{IsHistory}
-use Rattle.serve_log.specs.declared.words.Wanted.{Wanted}
-use Rattle.serve_log.specs.declared.words.Wanted.TheVariants.{Serve, Help, Nothing}
+use Rattle.serve_log.specs.declared.words.Wish.{Wish}
 
--- where a script is to be served, there are as many agents as there may be
-abbrev pub IsServable : Wanted → Type 0
-IsServable (Serve wish) = (1 ≤ wish.agents) × (wish.agents ≤ max_agents)
-IsServable Help = Unit {0}
-IsServable Nothing = Unit {0}
+-- there are as many agents as there may be
+abbrev pub IsServable : Wish → Type 0
+IsServable wish = (1 ≤ wish.agents) × (wish.agents ≤ max_agents)
 
 -- What came of a script's jobs is what came of them in one run, and the history is of these jobs and of what came of them: numbers were drawn for each
 -- job, where it was called and, above that, where it was told.

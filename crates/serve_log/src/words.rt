@@ -1,102 +1,44 @@
 //! The command line: what is asked for.
 
-ghost use Rattle.std.specs.Prelude.{◌≤◌, IfOk, IfSome};
+ghost use Rattle.std.specs.Prelude.{◌≤◌, IfSome};
 ghost use Rattle.serve_log.specs.Logs.{IsServable};
 
 use script_text::read_number;
-use std::alloc::{AllocError, Global};
-use std::env::{Env, FillError};
 use suite_prefix::MAX_AGENTS;
 
 /// How many agents there are, 1 to 64, and the file of the history.
-#[derive(Drop)]
-pub(crate) struct Wish {
+#[derive(Clone, Copy)]
+pub(crate) struct Wish<'a> {
     pub(crate) agents: u8,
-    pub(crate) log: String,
+    pub(crate) log: &'a str,
 }
 
-/// What the words of the command line ask for.
-#[derive(Drop)]
-pub(crate) enum Wanted {
-    Serve(Wish),
-    Help,
-    Nothing,
-}
-
-/// The most bytes of a word, which is that of a path.
-const LONGEST: usize = 4_096;
-
-const AGENTS: &[u8] = b"--agents";
-
-const LOG: &[u8] = b"--log";
-
-/// What the words of the command line ask for: both options, each with its value, in any order.
-pub(crate) fn read_words<R: Env>(rt: &R, alloc: Global) -> Result<Wanted, AllocError>
-    ensures { IfOk result IsServable }
+/// What the words of the command line ask for, if they ask for a history: both options, each with its value, in any
+/// order.
+pub(crate) fn read_words<'a>(words: &[&'a str]) -> Option<Wish<'a>>
+    ensures { IfSome result IsServable }
 {
-    if is_word(rt, 1, b"--help") && is_end(rt, 2) {
-        Ok(Wanted::Help)
-    } else if !is_end(rt, 5) {
-        Ok(Wanted::Nothing)
-    } else if is_word(rt, 1, AGENTS) && is_word(rt, 3, LOG) {
-        wanted_at(rt, alloc, 2, 4)
-    } else if is_word(rt, 1, LOG) && is_word(rt, 3, AGENTS) {
-        wanted_at(rt, alloc, 4, 2)
-    } else {
-        Ok(Wanted::Nothing)
-    }
-}
-
-/// What is asked for by the values at these places: of how many agents there are, and of the file.
-fn wanted_at<R: Env>(rt: &R, alloc: Global, agents: usize, log: usize) -> Result<Wanted, AllocError>
-    ensures { IfOk result IsServable }
-{
-    let Some(agents) = agents_at(rt, agents) else {
-        return Ok(Wanted::Nothing);
-    };
-    match word_at(rt, alloc, log)? {
-        Some(log) => Ok(Wanted::Serve(Wish { agents, log })),
-        None => Ok(Wanted::Nothing),
-    }
-}
-
-/// Whether there is no word at a place.
-fn is_end<R: Env>(rt: &R, place: usize) -> bool {
-    let mut word = [0; LONGEST];
-    matches!(rt.arg(place, &mut word), Err(FillError::NotPresent))
-}
-
-/// Whether this is the word at a place.
-fn is_word<R: Env>(rt: &R, place: usize, wanted: &[u8]) -> bool {
-    let mut word = [0; LONGEST];
-    match rt.arg(place, &mut word) {
-        Ok(length) => word.get(..length).unwrap_or(b"") == wanted,
-        Err(_) => false,
-    }
-}
-
-/// How many agents the word at a place says that there are.
-fn agents_at<R: Env>(rt: &R, place: usize) -> Option<u8>
-    ensures { IfSome result (λ agents. (1 ≤ agents) × (agents ≤ MAX_AGENTS)) }
-{
-    let mut word = [0; LONGEST];
-    let Ok(length) = rt.arg(place, &mut word) else {
+    let [first, value, second, other] = words else {
         return None;
     };
-    match read_number(word.get(..length).unwrap_or(b""), MAX_AGENTS as u64) {
-        Some(agents) if agents > 0 => Some(agents as u8),
-        _ => None,
+    if *first == "--agents" && *second == "--log" {
+        wish(*value, *other)
+    } else if *first == "--log" && *second == "--agents" {
+        wish(*other, *value)
+    } else {
+        None
     }
 }
 
-/// The word at a place, where there is one that is UTF-8 and no longer than a path.
-fn word_at<R: Env>(rt: &R, alloc: Global, place: usize) -> Result<Option<String>, AllocError> {
-    let mut word = [0; LONGEST];
-    let Ok(length) = rt.arg(place, &mut word) else {
-        return Ok(None);
-    };
-    match str::from_utf8(word.get(..length).unwrap_or(b"")) {
-        Ok(text) => Ok(Some(String::from_str(alloc, text)?)),
-        Err(_) => Ok(None),
+/// What is asked for by a number of agents and a file.
+fn wish<'a>(agents: &str, log: &'a str) -> Option<Wish<'a>>
+    ensures { IfSome result IsServable }
+{
+    match read_number(agents.as_bytes(), MAX_AGENTS as u64) {
+        Some(agents) if agents > 0 => Some(Wish {
+            agents: agents as u8,
+            log,
+        }),
+        _ => None,
     }
 }

@@ -22,14 +22,14 @@ pub(crate) struct Opened {
 pub(crate) fn open_journal<R: Files<File = File>, D: Desk>(
     rt: &R,
     alloc: Global,
-    wish: &JournalWish,
+    wish: JournalWish<'_>,
     desk: &mut D,
 ) -> Result<Opened, Refusal> {
     let mut file = OpenOptions::new()
         .read(true)
         .append(true)
         .create(true)
-        .open(rt, wish.name.as_str())?;
+        .open(rt, wish.name)?;
     match file.try_lock() {
         Ok(()) => {}
         Err(TryLockError::WouldBlock) => return Err(Refusal::InUse),

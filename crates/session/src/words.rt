@@ -1,100 +1,47 @@
 //! The command line: what is asked for.
 
-use std::alloc::{AllocError, Global};
-use std::env::{Env, FillError};
-
 /// The file of a journal, and whether what is appended is synced.
-#[derive(Drop)]
-pub(crate) struct JournalWish {
-    pub(crate) name: String,
+#[derive(Clone, Copy)]
+pub(crate) struct JournalWish<'a> {
+    pub(crate) name: &'a str,
     pub(crate) is_synced: bool,
 }
 
 /// A session: whether marks are told, and where lines are kept.
-#[derive(Drop)]
-pub(crate) struct Wish {
+#[derive(Clone, Copy)]
+pub(crate) struct Wish<'a> {
     pub(crate) marks: bool,
-    pub(crate) journal: Option<JournalWish>,
+    pub(crate) journal: Option<JournalWish<'a>>,
 }
 
-/// What the words of the command line ask for.
-#[derive(Drop)]
-pub(crate) enum Wanted {
-    Session(Wish),
-    Help,
-    Nothing,
-}
-
-/// The most words that say something: each option once.
-const MOST: usize = 6;
-
-/// The most bytes of a word, which is that of a path.
-const LONGEST: usize = 4_096;
-
-/// What the words of the command line ask for.
-pub(crate) fn read_words<R: Env>(rt: &R, alloc: Global) -> Result<Wanted, AllocError> {
+/// What the words of the command line ask for, if they ask for a session.
+pub(crate) fn read_words<'a>(words: &[&'a str]) -> Option<Wish<'a>> {
     let mut marks = false;
     let mut is_synced = true;
     let mut name = None;
-    let mut place = 1;
-    while place < MOST {
-        let mut word = [0; LONGEST];
-        let option = match rt.arg(place, &mut word) {
-            Err(FillError::NotPresent) => return Ok(wished(marks, is_synced, name)),
-            Err(FillError::TooLong) => return Ok(Wanted::Nothing),
-            Ok(length) => word.get(..length).unwrap_or(b""),
-        };
-        if place == 1 && option == b"--help".as_slice() {
-            return Ok(Wanted::Help);
-        }
-        if option == b"--journal".as_slice() && name.is_none() {
-            let Some(given) = word_at(rt, alloc, place + 1)? else {
-                return Ok(Wanted::Nothing);
-            };
-            name = Some(given);
-            place += 2;
-        } else if stands_alone(option, &mut marks, &mut is_synced) {
-            place += 1;
-        } else {
-            return Ok(Wanted::Nothing);
+    let mut rest = words;
+    while let Some((word, later)) = rest.split_first() {
+        rest = later;
+        match *word {
+            "--marks" => marks = true,
+            "--no-sync" => is_synced = false,
+            "--journal" if name.is_none() => {
+                let (given, later) = rest.split_first()?;
+                name = Some(*given);
+                rest = later;
+            }
+            _ => return None,
         }
     }
-    Ok(Wanted::Nothing)
-}
-
-/// Takes an option that stands alone; tells whether it is one.
-fn stands_alone(option: &[u8], marks: &mut bool, is_synced: &mut bool) -> bool {
-    match option {
-        b"--marks" => *marks = true,
-        b"--no-sync" => *is_synced = false,
-        _ => return false,
-    }
-    true
-}
-
-/// What options ask for.
-fn wished(marks: bool, is_synced: bool, name: Option<String>) -> Wanted {
     match name {
-        Some(name) => Wanted::Session(Wish {
-            marks,
-            journal: Some(JournalWish { name, is_synced }),
-        }),
-        None if is_synced => Wanted::Session(Wish {
+        None if !is_synced => None,
+        None => Some(Wish {
             marks,
             journal: None,
         }),
-        None => Wanted::Nothing,
-    }
-}
-
-/// The word at a place, where there is one that is UTF-8 and no longer than a path.
-fn word_at<R: Env>(rt: &R, alloc: Global, place: usize) -> Result<Option<String>, AllocError> {
-    let mut word = [0; LONGEST];
-    let Ok(length) = rt.arg(place, &mut word) else {
-        return Ok(None);
-    };
-    match str::from_utf8(word.get(..length).unwrap_or(b"")) {
-        Ok(text) => Ok(Some(String::from_str(alloc, text)?)),
-        Err(_) => Ok(None),
+        Some(name) => Some(Wish {
+            marks,
+            journal: Some(JournalWish { name, is_synced }),
+        }),
     }
 }

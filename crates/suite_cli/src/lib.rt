@@ -3,7 +3,7 @@
 //! **Promises.** `run` does what the words ask for, and answers the exit status. Its one clause, `Does`
 //! (`specs/Runs.antt`), says by cases of the words what the command has done when it ended, also where a stream
 //! failed or memory ran out. `report` tells how `serve` was certified, and `lack_memory` that there was no memory
-//! for the words.
+//! for the words. `command_line` gives the words of the system, of which nothing is known to contracts.
 //!
 //! An input is read whole, at most 16 MiB. A script is played as it is read. Nothing is written before it is known
 //! to have no fault, at its end or by a look through the lines that are left.
@@ -11,7 +11,7 @@
 //! **The caller owes** nothing.
 //!
 //! **Files**: `command_error`, `telling` (last lines and statuses), `acl`, `job`, `language`, `table`,
-//! `scripts`, `serve`, `commands`. **Definitions** (`specs/`): `Names`, `Scripts` (of `table`), `Outputs`, `Runs`.
+//! `scripts`, `serve`, `commands`, `words`. **Definitions** (`specs/`): `Names`, `Scripts` (of `table`), `Outputs`, `Runs`.
 #![tactic(auto)]
 
 mod acl;
@@ -23,7 +23,9 @@ mod scripts;
 mod serve;
 mod table;
 mod telling;
+mod words;
 
 pub use byte_streams::{ByteIn, ByteOut, lack_memory};
 pub use commands::run;
 pub use serve::report;
+pub use words::{command_line, slices};

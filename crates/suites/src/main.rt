@@ -1,70 +1,52 @@
 //! The program `suites`: a replicated file service, its plain table and its access lists, over standard input and
-//! output. It reads its words, hands them with the streams to `suite_cli::run`, and ends with the status that this
-//! answers. A word that is not UTF-8 is refused like any wrong word.
+//! output, and what is told about them.
+//!
+//! The first word is a command. Most commands are libraries of their own, which have the words behind it; the others
+//! are those of `serve_log::run`, which has all words. The exit status is what that answers. Where a word is not UTF-8
+//! the words ask for nothing.
 #![tactic(auto)]
 
-ghost use Rattle.std.specs.Prelude.{◌≡◌, map, string_bytes, IfOk};
-
-use byte_streams::{SystemIn, SystemOut};
-use std::alloc::{AllocError, Global};
-use std::env::{Env, FillError};
+use byte_streams::{COMMAND_LINE, SystemIn, SystemOut, finish};
+use std::alloc::AllocError;
 use std::io;
 use std::process::ExitCode;
-use suite_cli::{lack_memory, run};
+use suite_cli::{command_line, lack_memory, slices};
 
 fn main(rt: HostRuntime) -> ExitCode {
-    let mut writer = SystemOut::new(io::writer(&rt));
-    let status = match command_line(&rt, rt.alloc()) {
-        Ok(given) => match slices(rt.alloc(), &given) {
-            Ok(words) => {
-                let mut reader = SystemIn::new(rt.reader());
-                run(&rt, rt.alloc(), &words, &mut reader, &mut writer)
-            }
-            Err(_) => lack_memory(&mut writer),
-        },
-        Err(_) => lack_memory(&mut writer),
+    match work(&rt) {
+        Ok(status) => ExitCode::from(status),
+        Err(AllocError) => ExitCode::from(lack_memory(&mut SystemOut::new(io::writer(&rt)))),
+    }
+}
+
+/// Does what the words of the command line ask for, and says the exit status.
+fn work(rt: &HostRuntime) -> Result<u8, AllocError> {
+    let Some(given) = command_line(rt, rt.alloc())? else {
+        let mut writer = SystemOut::new(io::writer(rt));
+        return Ok(finish(&mut writer, b"fault command line\n", COMMAND_LINE));
     };
-    ExitCode::from(status)
+    let words = slices(rt.alloc(), &given)?;
+    Ok(obey(rt, &words))
 }
 
-/// The words after the program's name.
-fn command_line<R: Env>(rt: &R, alloc: Global) -> Result<Vec<String>, AllocError> {
-    let mut words = Vec::new(alloc);
-    for place in 1..usize::MAX {
-        match word(rt, alloc, place)? {
-            Some(word) => words.push(word)?,
-            None => break,
+/// Does what words ask for.
+fn obey(rt: &HostRuntime, words: &[&str]) -> u8 {
+    let alloc = rt.alloc();
+    let mut reader = SystemIn::new(rt.reader());
+    let mut writer = SystemOut::new(io::writer(rt));
+    let Some((command, behind)) = words.split_first() else {
+        return serve_log::run(rt, alloc, words, &mut reader, &mut writer);
+    };
+    match *command {
+        "explore" => {
+            let errors = SystemOut::new(rt.stderr());
+            explore::obey(alloc, behind, &mut reader, &mut writer, errors)
         }
+        "forms" => forms::obey(alloc, behind, &mut reader, &mut writer),
+        "judge" => judge::obey(alloc, behind, &mut reader, &mut writer),
+        "may" => may::obey(alloc, behind, &mut reader, &mut writer),
+        "session" => session::obey(rt, alloc, behind, reader, writer),
+        "trace" => trace::obey(alloc, behind, &mut reader, &mut writer),
+        _ => serve_log::run(rt, alloc, words, &mut reader, &mut writer),
     }
-    Ok(words)
-}
-
-/// The word at a place, or none after the last. What is not UTF-8 in it is replaced by U+FFFD, which no
-/// command and no name may have, so that it is refused like any other wrong word.
-fn word<R: Env>(rt: &R, alloc: Global, place: usize) -> Result<Option<String>, AllocError> {
-    let mut buffer = Vec::new(alloc);
-    let mut room = 256usize;
-    for _ in 0..usize::BITS {
-        buffer.resize(room, 0)?;
-        match rt.arg(place, &mut buffer) {
-            Ok(length) => {
-                let bytes = buffer.get(..length).unwrap_or_default();
-                return Ok(Some(String::from_utf8_lossy(alloc, bytes)?));
-            }
-            Err(FillError::NotPresent) => return Ok(None),
-            Err(FillError::TooLong) => room = room.saturating_mul(2),
-        }
-    }
-    Err(AllocError)
-}
-
-/// The words as slices, each word in its place.
-fn slices<'a>(alloc: Global, words: &'a [String]) -> Result<Vec<&'a str>, AllocError>
-    ensures { IfOk result (λ slices. map (λ slice. slice.now) slices.items ≡ map string_bytes words.entry.now) }
-{
-    let mut slices = Vec::with_capacity(alloc, words.len())?;
-    for word in words {
-        slices.push(word.as_str())?;
-    }
-    Ok(slices)
 }

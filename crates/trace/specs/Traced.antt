@@ -1,15 +1,16 @@
 -- What is told of a script that is traced: the fault that `play` tells, and nothing else; or what it does, where it has none.
-use Rattle.std.specs.Prelude.{◌≡◌, ℕ, true, List, [], ◌++◌, codes, Option, Result, Ok, Err}
-use Rattle.byte_streams.specs.Endings.{Finishes, Lacks, TellsLine, bad_words, done, faulty, no_stream}
+use Rattle.std.specs.Prelude.{◌≡◌, ℕ, true, if◌then◌else◌, List, [], ◌∷◌, codes, Option, Some, None, Result, Ok, Err}
+use Rattle.std.specs.Str.{bytes_eq}
+use Rattle.byte_streams.specs.Endings.{Lacks, TellsLine, done, faulty, no_stream}
 use Rattle.byte_streams.specs.Programs.{RunsOn, Streams}
 use Rattle.byte_streams.specs.Streams.{Adds, one_more}
 use Rattle.suite_play.specs.Outputs.{play_output}
-use Rattle.suite_script.specs.Faults.{fault_line, line_feed}
+use Rattle.suite_script.specs.Faults.{fault_line}
 use Rattle.suite_script.specs.Outputs.{Output, Done, Faulty, is_done}
 use Rattle.suite_script.specs.declared.play_error.PlayError.{PlayError}
 use Rattle.suite_script.specs.declared.play_error.PlayError.TheVariants as play
-use Rattle.trace.specs.declared.Wish.{Wish}
-use Rattle.trace.specs.declared.Wish.TheVariants.{Trace, Help, Nothing}
+use Rattle.trace.specs.declared.teller.Form.{Form}
+use Rattle.trace.specs.declared.teller.Form.TheVariants.{Lines, Events}
 
 -- what may be told of a script before memory runs out: nothing, where it has a fault
 abbrev pub MayTell : Output → List ℕ → Type 0
@@ -49,19 +50,8 @@ abbrev pub Runs : Streams → ℕ → Type 0
 Runs streams status =
     RunsOn (λ text. Ends text streams.written streams.written_after streams.failed_writes streams.failed_writes_after status) streams status streams.input
 
--- nothing was read, and a text was written with its status, or a write failed
-abbrev pub WritesAlone : List ℕ → ℕ → Streams → ℕ → Type 0
-WritesAlone text status streams result =
-    (streams.input_after ≡ streams.input)
-    × Finishes text status result streams.written streams.written_after streams.failed_writes streams.failed_writes_after
-
--- the same, of some text
-pub record WritesHelp (streams : Streams) (status : ℕ) : Type 0 where
-  pub text : List ℕ
-  pub written : WritesAlone text done streams status
-
--- what the program has done when it ends: what the words of the command line ask for
-abbrev pub Does : Wish → Streams → ℕ → Type 0
-Does (Trace form) streams status = Runs streams status
-Does Help streams status = WritesHelp streams status
-Does Nothing streams status = WritesAlone (codes "fault command line" ++ line_feed) bad_words streams status
+-- the form that words ask for: lines, or with `--json` objects
+abbrev pub form_by : List (List ℕ) → Option Form
+form_by [] = Some Lines
+form_by (word ∷ []) = if bytes_eq word (codes "--json") then Some Events else None
+form_by words = None

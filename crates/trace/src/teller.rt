@@ -12,7 +12,7 @@ use suite_play::{push_audit, push_ended};
 /// How a run is told.
 #[derive(Clone, Copy)]
 pub(crate) enum Form {
-    /// In lines, as the head of `main.rt` says.
+    /// In lines, as the head of `lib.rt` says.
     Lines,
     /// In objects of JSON, one a line.
     Events,

@@ -8,48 +8,52 @@
 //! The exit status is 0 where there is an order, 1 where there is none, 2 for other words, 3 for a fault, 4 out of
 //! memory. It is 6 where a stream failed or the input is above 128 MiB.
 //!
-//! **Promises.** `Runs` says what the program has done when it ends: of its input and its output.
+//! **Promises.** Of `obey` it is said (`Obeys`) what is done of the words when it ends: of its input and its
+//! output (`Runs`).
 //!
-//! **Files**: `words`. **Definitions** (`specs/`): `Runs`.
+//! **Definitions** (`specs/`): `Runs`.
 #![tactic(auto)]
 
-ghost use Rattle.std.specs.Prelude.{◌<◌, ◌^◌, length};
-ghost use Rattle.judge.specs.Runs.{Ends, Runs, Told};
-
-mod words;
+ghost use Rattle.std.specs.Prelude.{◌≡◌, ◌<◌, ◌^◌, length, map};
+ghost use Rattle.byte_streams.specs.Programs.{Obeys, streams_of};
+ghost use Rattle.judge.specs.Runs.{Ends, Runs, Told, wanted_by};
 
 use byte_streams::{
-    ByteIn, ByteOut, COMMAND_LINE, DONE, FAULTY, SystemIn, SystemOut, finish, finish_line,
-    lack_memory, read_all, tell_unread,
+    ByteIn, ByteOut, COMMAND_LINE, DONE, FAULTY, finish, finish_line, lack_memory, read_all,
+    tell_unread,
 };
 use std::alloc::Global;
-use std::io;
-use std::process::ExitCode;
 use suite_history::judge_text;
 use suite_script::{ScriptError, fault_text};
-use words::{Wanted, read_words};
 
 /// The most bytes of a history: 128 MiB, some two million calls.
 const MAX_HISTORY: usize = 1 << 27;
 
-const HELP: &[u8] = b"Tells whether a history is one plain table's.
+/// Does what the words behind the command ask for, and says the exit status.
+pub fn obey<I: ByteIn, O: ByteOut>(
+    alloc: Global,
+    words: &[&str],
+    reader: &mut I,
+    writer: &mut O,
+) -> u8
+    ensures { Obeys Runs (wanted_by (map (λ word. word.now) words.now))
+        (streams_of I.rest I.failed_reads O.written O.failed_writes reader.old reader.new writer.old writer.new) result }
+{
+    match tells_order(words) {
+        Some(tells_order) => run(alloc, tells_order, reader, writer),
+        None => finish(writer, b"fault command line\n", COMMAND_LINE),
+    }
+}
 
-  --order   the lines of its calls in such an order
-";
-
-fn main(rt: HostRuntime) -> ExitCode {
-    let mut writer = SystemOut::new(io::writer(&rt));
-    let status = match read_words(&rt) {
-        Wanted::Judge { tells_order } => run(
-            rt.alloc(),
-            tells_order,
-            &mut SystemIn::new(rt.reader()),
-            &mut writer,
-        ),
-        Wanted::Help => finish(&mut writer, HELP, DONE),
-        Wanted::Nothing => finish(&mut writer, b"fault command line\n", COMMAND_LINE),
-    };
-    ExitCode::from(status)
+/// Whether words ask for an order beside the verdict, if they ask for something.
+fn tells_order(words: &[&str]) -> Option<bool>
+    ensures { result ≡ wanted_by (map (λ word. word.now) words.now) }
+{
+    match words {
+        [] => Some(false),
+        [word] if *word == "--order" => Some(true),
+        _ => None,
+    }
 }
 
 /// Judges the history that a reader gives, and says the exit status.
@@ -59,16 +63,7 @@ fn run<I: ByteIn, O: ByteOut>(
     reader: &mut I,
     writer: &mut O,
 ) -> u8
-    ensures { Runs tells_order (record {
-      input = I.rest reader.old;
-      input_after = I.rest reader.new;
-      written = O.written writer.old;
-      written_after = O.written writer.new;
-      failed_reads = I.failed_reads reader.old;
-      failed_reads_after = I.failed_reads reader.new;
-      failed_writes = O.failed_writes writer.old;
-      failed_writes_after = O.failed_writes writer.new;
-    }) result }
+    ensures { Runs tells_order (streams_of I.rest I.failed_reads O.written O.failed_writes reader.old reader.new writer.old writer.new) result }
 {
     match read_all(alloc, reader, MAX_HISTORY) {
         Ok(text) => judge_history(alloc, tells_order, &text, writer),

@@ -16,7 +16,7 @@
 //! The exit status is else 0, or 2 for other words, 3 for a fault, 4 out of memory. It is 6 where a stream failed or
 //! the input is above 16 MiB.
 //!
-//! **Promises.** What the words ask for (`specs/Words.antt`) is done (`Does`): what is printed is the text of ways that
+//! **Promises.** What the words ask for (`specs/Words.antt`) is done (`Obeys`): what is printed is the text of ways that
 //! the search tells (`specs/Shown.antt`); `Runs` says what the program has done when it ends: of its input and its
 //! output. Of what `--progress` tells nothing is promised, nor how many worlds were looked at.
 //!
@@ -25,8 +25,10 @@
 //! `Asked`, `Retold`, `Shown`, `Runs`.
 #![tactic(auto)]
 
-ghost use Rattle.std.specs.Prelude.{◌<◌, ◌^◌, length};
-ghost use Rattle.explore.specs.Runs.{Does, Ends, Runs, Told};
+ghost use Rattle.std.specs.Prelude.{◌<◌, ◌^◌, length, map};
+ghost use Rattle.byte_streams.specs.Programs.{Obeys, streams_of};
+ghost use Rattle.explore.specs.Runs.{Ends, Runs, Told};
+ghost use Rattle.explore.specs.Words.{wanted_by};
 
 mod awaited;
 mod explored;
@@ -43,76 +45,34 @@ mod ways;
 mod words;
 
 use byte_streams::{
-    ByteIn, ByteOut, COMMAND_LINE, DONE, FAULTY, MAX_INPUT, SystemIn, SystemOut, SystemWords,
-    finish, finish_line, lack_memory, read_all, tell_unread,
+    ByteIn, ByteOut, COMMAND_LINE, DONE, FAULTY, MAX_INPUT, finish, finish_line, lack_memory,
+    read_all, tell_unread,
 };
 use explored::show_script;
 use progress::Progress;
 use run_explore::Watch;
 use std::alloc::Global;
-use std::io;
-use std::process::ExitCode;
 use suite_script::{ScriptError, fault_text};
-use words::{Wanted, Wish, read_words};
+use words::{Wish, read_words};
 
-const HELP: &[u8] =
-    b"Tells every way in which the jobs below the line `together` of a script of events may end.
-
-  --crashes N   so many servers may crash
-  --returns N   so many may restart
-  --forgets N   so often an agent may forget a site
-  --stops N     so many agents may stop for good
-  --worlds N    so many worlds are looked at, at most
-  --sample N    so many orders are played instead, which are drawn
-  --seed S      others are drawn
-  --brief       ways that differ only behind the code of what is undecided are one
-  --order       ways that differ only in the order in which jobs were decided are not one, and tell it
-  --way K       the script that leads to way K
-  --progress    how many worlds were looked at, on standard error while it is at work
-";
-
-fn main(rt: HostRuntime) -> ExitCode {
-    let errors = SystemOut::new(rt.stderr());
-    let status = work(
-        rt.alloc(),
-        read_words(&SystemWords::new(&rt)),
-        &mut SystemIn::new(rt.reader()),
-        &mut SystemOut::new(io::writer(&rt)),
-        errors,
-    );
-    ExitCode::from(status)
-}
-
-/// Does what words ask for, and says the exit status. Meanwhile it tells on a stream of its own how far it is, where
-/// that is asked for.
-fn work<I: ByteIn, O: ByteOut, E: ByteOut + Drop>(
+/// Does what the words behind the command ask for, and says the exit status. Meanwhile it tells on a stream of its own
+/// how far it is, where that is asked for.
+pub fn obey<I: ByteIn, O: ByteOut, E: ByteOut + Drop>(
     alloc: Global,
-    wanted: Wanted,
+    words: &[&str],
     reader: &mut I,
     writer: &mut O,
     errors: E,
 ) -> u8
-    ensures { Does wanted (record {
-      input = I.rest reader.old;
-      input_after = I.rest reader.new;
-      written = O.written writer.old;
-      written_after = O.written writer.new;
-      failed_reads = I.failed_reads reader.old;
-      failed_reads_after = I.failed_reads reader.new;
-      failed_writes = O.failed_writes writer.old;
-      failed_writes_after = O.failed_writes writer.new;
-    }) result }
+    ensures { Obeys (λ wanted. Runs wanted.wish) (wanted_by (map (λ word. word.now) words.now))
+        (streams_of I.rest I.failed_reads O.written O.failed_writes reader.old reader.new writer.old writer.new) result }
 {
-    match wanted {
-        Wanted::Explore {
-            wish,
-            tells_progress,
-        } => {
-            let mut progress = Progress::new(alloc, errors, tells_progress);
-            run(alloc, wish, reader, writer, &mut progress)
+    match read_words(words) {
+        Some(wanted) => {
+            let mut progress = Progress::new(alloc, errors, wanted.tells_progress);
+            run(alloc, wanted.wish, reader, writer, &mut progress)
         }
-        Wanted::Help => finish(writer, HELP, DONE),
-        Wanted::Nothing => finish(writer, b"fault command line\n", COMMAND_LINE),
+        None => finish(writer, b"fault command line\n", COMMAND_LINE),
     }
 }
 
@@ -124,16 +84,7 @@ fn run<I: ByteIn, O: ByteOut, W: Watch>(
     writer: &mut O,
     watch: &mut W,
 ) -> u8
-    ensures { Runs wish (record {
-      input = I.rest reader.old;
-      input_after = I.rest reader.new;
-      written = O.written writer.old;
-      written_after = O.written writer.new;
-      failed_reads = I.failed_reads reader.old;
-      failed_reads_after = I.failed_reads reader.new;
-      failed_writes = O.failed_writes writer.old;
-      failed_writes_after = O.failed_writes writer.new;
-    }) result }
+    ensures { Runs wish (streams_of I.rest I.failed_reads O.written O.failed_writes reader.old reader.new writer.old writer.new) result }
 {
     match read_all(alloc, reader, MAX_INPUT) {
         Ok(script) => explore_script(alloc, wish, &script, writer, watch),

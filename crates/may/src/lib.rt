@@ -1,21 +1,22 @@
 //! Answers questions about access: may this caller have what it wants of a file with this list? If not, which entry
 //! decides?
 //!
-//! It is the example of a program over `acl_core` and `acl_text` alone; `./suites may` is it.
+//! It is the example of what stands on `acl_core` and `acl_text` alone; `./suites may` asks it.
 //!
 //! Standard input has one question a line, `OWNER GROUP UID GID[,GROUP..] WANTED LIST`, all numbers. Standard
 //! output has an answer for each, in order: `granted` or `denied WANTED by ENTRY`. If a line is faulty, nothing is
-//! printed but `fault line N: CODE`. The exit status is 0, or 2 for other words than `--help`, 3 for a fault, 4 out
+//! printed but `fault line N: CODE`. The exit status is 0, or 2 for words, 3 for a fault, 4 out
 //! of memory. It is 6 where a stream failed or the input is above 16 MiB.
 //!
-//! **Promises.** Each answer is that of the access check (`specs/Answers.antt`); `Does` says what the program has
-//! done of its words when it ends, and with which exit status.
+//! **Promises.** Each answer is that of the access check (`specs/Answers.antt`); of `obey` it is said (`Does`)
+//! what is done of the words when it ends, and with which exit status.
 //!
 //! **Files**: `fault`, `words`, `question`. **Definitions** (`specs/`): `Words`, `Questions`, `Faults`, `Answers`,
 //! `Runs`.
 #![tactic(auto)]
 
-ghost use Rattle.std.specs.Prelude.{◌≡◌, ◌<◌, ◌^◌, length, IfOk};
+ghost use Rattle.std.specs.Prelude.{◌≡◌, ◌<◌, ◌^◌, length, map, IfOk};
+ghost use Rattle.byte_streams.specs.Programs.{streams_of};
 ghost use Rattle.may.specs.Answers.{Comes, output_of};
 ghost use Rattle.may.specs.Faults.{fault_line};
 ghost use Rattle.may.specs.Runs.{Does, Ends, Runs, Told};
@@ -25,72 +26,33 @@ mod question;
 mod words;
 
 use byte_streams::{
-    ByteIn, ByteOut, COMMAND_LINE, DONE, FAULTY, MAX_INPUT, SystemIn, SystemOut, SystemWords,
-    Wanted, finish, finish_line, lack_memory, read_all, read_wanted, tell_unread,
+    ByteIn, ByteOut, COMMAND_LINE, DONE, FAULTY, MAX_INPUT, finish, finish_line, lack_memory,
+    read_all, tell_unread,
 };
 use fault::{InputError, InputFault, push_fault};
 use question::{push_answer, read_question};
 use script_text::Lines;
 use std::alloc::{AllocError, Global};
-use std::io;
-use std::process::ExitCode;
 
-const HELP: &[u8] = b"Answers questions about access lists.
-
-  OWNER GROUP UID GID[,GROUP..] WANTED LIST
-
-is a line of standard input: the owner and the group of a file, the user who asks, with its
-own group and its other groups (32 at most), what is wanted (as `r` or `wx`), and the list, as
-`u::rw,u:1001:rw,g::r,m::r,o::-`. The answer is a line of standard output:
-
-  granted
-  denied WANTED by ENTRY
-
-Where a line is faulty, nothing is printed but `fault line N: CODE`.
-";
-
-fn main(rt: HostRuntime) -> ExitCode {
-    let status = work(
-        rt.alloc(),
-        read_wanted(&SystemWords::new(&rt)),
-        &mut SystemIn::new(rt.reader()),
-        &mut SystemOut::new(io::writer(&rt)),
-    );
-    ExitCode::from(status)
-}
-
-/// Does what words ask for, and says the exit status.
-fn work<I: ByteIn, O: ByteOut>(alloc: Global, wanted: Wanted, reader: &mut I, writer: &mut O) -> u8
-    ensures { Does wanted (record {
-      input = I.rest reader.old;
-      input_after = I.rest reader.new;
-      written = O.written writer.old;
-      written_after = O.written writer.new;
-      failed_reads = I.failed_reads reader.old;
-      failed_reads_after = I.failed_reads reader.new;
-      failed_writes = O.failed_writes writer.old;
-      failed_writes_after = O.failed_writes writer.new;
-    }) result }
+/// Does what the words behind the command ask for, and says the exit status.
+pub fn obey<I: ByteIn, O: ByteOut>(
+    alloc: Global,
+    words: &[&str],
+    reader: &mut I,
+    writer: &mut O,
+) -> u8
+    ensures { Does (map (λ word. word.now) words.now)
+        (streams_of I.rest I.failed_reads O.written O.failed_writes reader.old reader.new writer.old writer.new) result }
 {
-    match wanted {
-        Wanted::Work => run(alloc, reader, writer),
-        Wanted::Help => finish(writer, HELP, DONE),
-        Wanted::Nothing => finish(writer, b"fault command line\n", COMMAND_LINE),
+    match words {
+        [] => run(alloc, reader, writer),
+        _ => finish(writer, b"fault command line\n", COMMAND_LINE),
     }
 }
 
 /// Answers the questions that a reader gives, and says the exit status.
 fn run<I: ByteIn, O: ByteOut>(alloc: Global, reader: &mut I, writer: &mut O) -> u8
-    ensures { Runs (record {
-      input = I.rest reader.old;
-      input_after = I.rest reader.new;
-      written = O.written writer.old;
-      written_after = O.written writer.new;
-      failed_reads = I.failed_reads reader.old;
-      failed_reads_after = I.failed_reads reader.new;
-      failed_writes = O.failed_writes writer.old;
-      failed_writes_after = O.failed_writes writer.new;
-    }) result }
+    ensures { Runs (streams_of I.rest I.failed_reads O.written O.failed_writes reader.old reader.new writer.old writer.new) result }
 {
     match read_all(alloc, reader, MAX_INPUT) {
         Ok(input) => answer_all(alloc, &input, writer),

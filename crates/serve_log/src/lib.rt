@@ -24,55 +24,62 @@ mod refusal;
 mod words;
 
 use byte_streams::{
-    ByteIn, ByteOut, COMMAND_LINE, DONE, MAX_INPUT, SystemIn, SystemOut, finish, lack_memory,
-    read_all, write_all,
+    ByteIn, ByteOut, COMMAND_LINE, MAX_INPUT, SystemOut, finish, read_all, write_all,
 };
 use logged::{Logged, serve_logged};
 use refusal::{Refusal, tell_refusal};
-use std::alloc::{AllocError, Global};
+use std::alloc::Global;
 use std::fs::{File, OpenOptions};
-use std::io;
-use std::process::ExitCode;
 use std::rt::Files;
 use std::sync::Wait;
 use std::thread::Threads;
 use suite_cli::report;
 use suite_prefix::MAX_AGENTS;
 use suite_serve::read_script;
-use words::{Wanted, Wish, read_words};
+use words::{Wish, read_words};
 
-const HELP: &[u8] = b"Serves a script of jobs, and writes what each job's caller saw as a history.
-
-  --agents N   how many agents there are: 1 to 64
-  --log FILE   the history is written into this file
-";
-
-fn main(rt: HostRuntime) -> ExitCode {
-    let mut writer = SystemOut::new(io::writer(&rt));
-    let status = match read_words(&rt, rt.alloc()) {
-        Ok(Wanted::Serve(wish)) => {
-            let mut reader = SystemIn::new(rt.reader());
-            match serve(&rt, rt.alloc(), &wish, &mut reader, &mut writer) {
-                Ok(status) => status,
-                Err(refusal) => tell_refusal(rt.alloc(), &mut writer, refusal),
-            }
+/// Does what words ask for, and says the exit status: all but `serve` with a history as `suite_cli::run`.
+pub fn run<R: Threads + Wait + Sync + Files<File = File>, I: ByteIn, O: ByteOut>(
+    rt: &R,
+    alloc: Global,
+    words: &[&str],
+    reader: &mut I,
+    writer: &mut O,
+) -> u8 {
+    match words {
+        [command, behind @ ..] if *command == "serve" && behind.contains(&"--log") => {
+            obey(rt, alloc, behind, reader, writer)
         }
-        Ok(Wanted::Help) => finish(&mut writer, HELP, DONE),
-        Ok(Wanted::Nothing) => finish(&mut writer, b"fault command line\n", COMMAND_LINE),
-        Err(AllocError) => lack_memory(&mut writer),
+        _ => suite_cli::run(rt, alloc, words, reader, writer),
+    }
+}
+
+/// Does what the words behind `serve` ask for, and says the exit status.
+fn obey<R: Threads + Wait + Sync + Files<File = File>, I: ByteIn, O: ByteOut>(
+    rt: &R,
+    alloc: Global,
+    words: &[&str],
+    reader: &mut I,
+    writer: &mut O,
+) -> u8 {
+    let Some(wish) = read_words(words) else {
+        return finish(writer, b"fault command line\n", COMMAND_LINE);
     };
-    ExitCode::from(status)
+    match serve(rt, alloc, wish, reader, writer) {
+        Ok(status) => status,
+        Err(refusal) => tell_refusal(alloc, writer, refusal),
+    }
 }
 
 /// Serves the script that a reader gives, writes the history into its file, and says the exit status.
 fn serve<R: Threads + Wait + Sync + Files<File = File>, I: ByteIn, O: ByteOut>(
     rt: &R,
     alloc: Global,
-    wish: &Wish,
+    wish: Wish<'_>,
     reader: &mut I,
     writer: &mut O,
 ) -> Result<u8, Refusal>
-    requires agents { (1 ≤ wish.now.agents) × (wish.now.agents ≤ MAX_AGENTS) }
+    requires agents { (1 ≤ wish.agents) × (wish.agents ≤ MAX_AGENTS) }
 {
     let text = read_all(alloc, reader, MAX_INPUT)?;
     let script = read_script(alloc, &text, usize::from(wish.agents))?;
@@ -81,7 +88,7 @@ fn serve<R: Threads + Wait + Sync + Files<File = File>, I: ByteIn, O: ByteOut>(
         .write(true)
         .create(true)
         .truncate(true)
-        .open(rt, wish.log.as_str())?;
+        .open(rt, wish.log)?;
     match serve_logged(rt, alloc, script) {
         Ok(logged) => tell(alloc, &logged, &mut SystemOut::new(file), writer),
         Err(fault) => Ok(report(alloc, Err(fault), writer)),

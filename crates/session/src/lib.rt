@@ -28,55 +28,41 @@ ghost use Rattle.byte_streams.specs.Endings.{no_stream};
 ghost use Rattle.line_session.specs.Answers.{manner_of};
 ghost use Rattle.line_session.specs.InTime.{AnswersAll, Speaks};
 
-use byte_streams::{
-    ByteIn, ByteOut, COMMAND_LINE, DONE, NO_STREAM, SystemIn, SystemOut, finish, lack_memory,
-};
+use byte_streams::{ByteIn, ByteOut, COMMAND_LINE, DONE, NO_STREAM, finish, lack_memory};
 use line_session::{Desk, SystemTalk, Talk, session};
 use opened::open_journal;
 use refusal::tell_refusal;
 use script_text::push_number;
 use std::alloc::{AllocError, Global};
 use std::fs::File;
-use std::io;
-use std::process::ExitCode;
 use std::rt::Files;
 use suite_session::first_desk;
-use words::{Wanted, Wish, read_words};
+use words::{Wish, read_words};
 
-const HELP: &[u8] = b"Answers each line of a script of events before it reads the next one.
-
-  --marks          a line `= N` behind what is printed for line N
-  --journal FILE   each line is kept in this file before it is carried out; those in it are carried out first
-  --no-sync        what is kept is not synced: it is lost where the machine stops, not where the program does
-";
-
-fn main(rt: HostRuntime) -> ExitCode {
-    let mut writer = SystemOut::new(io::writer(&rt));
-    let status = match read_words(&rt, rt.alloc()) {
-        Ok(Wanted::Session(wish)) => hold(
-            &rt,
-            rt.alloc(),
-            &wish,
-            SystemIn::new(rt.reader()),
-            writer,
-        ),
-        Ok(Wanted::Help) => finish(&mut writer, HELP, DONE),
-        Ok(Wanted::Nothing) => finish(&mut writer, b"fault command line\n", COMMAND_LINE),
-        Err(AllocError) => lack_memory(&mut writer),
-    };
-    ExitCode::from(status)
+/// Does what the words behind the command ask for, and says the exit status.
+pub fn obey<R: Files<File = File>, I: ByteIn + Drop, O: ByteOut + Drop>(
+    rt: &R,
+    alloc: Global,
+    words: &[&str],
+    reader: I,
+    mut writer: O,
+) -> u8 {
+    match read_words(words) {
+        Some(wish) => hold(rt, alloc, wish, reader, writer),
+        None => finish(&mut writer, b"fault command line\n", COMMAND_LINE),
+    }
 }
 
 /// Restores the journal, where there is one, holds the session, and says the exit status.
 fn hold<R: Files<File = File>, I: ByteIn + Drop, O: ByteOut + Drop>(
     rt: &R,
     alloc: Global,
-    wish: &Wish,
+    wish: Wish<'_>,
     reader: I,
     mut writer: O,
 ) -> u8 {
     let mut desk = first_desk(alloc);
-    let Some(given) = &wish.journal else {
+    let Some(given) = wish.journal else {
         let mut talk = SystemTalk::new(reader, writer, None);
         return speak(alloc, &mut desk, &mut talk, wish.marks);
     };
@@ -88,7 +74,7 @@ fn hold<R: Files<File = File>, I: ByteIn + Drop, O: ByteOut + Drop>(
             }
             status => status,
         },
-        Err(refusal) => tell_refusal(alloc, &mut writer, &given.name, &refusal),
+        Err(refusal) => tell_refusal(alloc, &mut writer, given.name, &refusal),
     }
 }
 

@@ -46,9 +46,10 @@
 //! `word` (bytes and names), `fields`, `item` and `list`, `old` (form 1).
 #![tactic(auto)]
 
-ghost use Rattle.std.specs.Prelude.{IfOk};
+ghost use Rattle.std.specs.Prelude.{IfOk, map};
+ghost use Rattle.byte_streams.specs.Programs.{Obeys, streams_of};
 ghost use Rattle.forms.specs.Answers.{IsAnswer};
-ghost use Rattle.forms.specs.Runs.{Does, Ends, Runs};
+ghost use Rattle.forms.specs.Runs.{Asks, Does, DoesOf, Ends, Runs};
 
 mod above;
 mod fields;
@@ -70,39 +71,16 @@ mod whose;
 mod word;
 
 use byte_streams::{
-    ByteIn, ByteOut, COMMAND_LINE, DONE, MAX_INPUT, SystemIn, SystemOut, SystemWords, Wanted,
-    finish, finish_line, lack_memory, read_all, read_wanted, tell_unread,
+    ByteIn, ByteOut, COMMAND_LINE, DONE, MAX_INPUT, finish, finish_line, lack_memory, read_all,
+    tell_unread,
 };
 use finding::found_in;
 use lists::found_in_list;
 use script_text::read_number;
 use std::alloc::{AllocError, Global};
-use std::env::Env;
-use std::io;
-use std::process::ExitCode;
 use suite_script::Forms;
 use table::{lines_of, table};
 use whose::found_of_all;
-
-const HELP: &[u8] =
-    b"Prints the forms of lines and operations, a line each, with tabs between its fields.
-
-  forms                          the table: places, lines of each command, operations
-  forms COMMAND NUMBER < SCRIPT  what keeps the line of this number from its form:
-                                 WORD CODE EXPECTED FORM ITEM ENDS INSTEAD BEFORE SHIFT HIDDEN
-                                 REASON DATA PART, with a hyphen for what there is not; ITEM
-                                 is how many bytes of the word stand before the item of a list
-                                 that has the fault, INSTEAD and BEFORE words that mend the
-                                 line, PART the part of the word of which REASON speaks
-  forms script NUMBER < SCRIPT   the same of each command, behind COMMAND LIKENESS ABOVE: how
-                                 like the script is to one of it, and the first line above
-                                 with a fault, or 0
-  forms list NUMBER < LIST       ITEM ENDS CODE REASON DATA PART of the item of this number, of
-                                 0 of the whole list; each name is taken for one with a number
-  forms unnamed NUMBER < LIST    the same where no name has a number
-
-COMMAND is play, serve or table.
-";
 
 /// What is asked: what keeps a line of a command's script from its form, or of each command's; or what is wrong with a
 /// list or an item of it, where each name has a number or none has.
@@ -113,75 +91,61 @@ enum Question {
     List(bool, u64),
 }
 
-/// What words ask for: the table, help, an answer, or nothing that there is.
+/// What words ask for: the table, or an answer.
 #[derive(Clone, Copy)]
 enum Wish {
     Table,
-    Help,
     Answer(Question),
-    Nothing,
 }
 
-fn main(rt: HostRuntime) -> ExitCode {
-    let status = work(
-        rt.alloc(),
-        read_words(&rt),
-        &mut SystemIn::new(rt.reader()),
-        &mut SystemOut::new(io::writer(&rt)),
-    );
-    ExitCode::from(status)
+/// Does what the words behind the command ask for, and says the exit status.
+pub fn obey<I: ByteIn, O: ByteOut>(
+    alloc: Global,
+    words: &[&str],
+    reader: &mut I,
+    writer: &mut O,
+) -> u8
+    ensures { DoesOf (map (λ word. word.now) words.now)
+        (streams_of I.rest I.failed_reads O.written O.failed_writes reader.old reader.new writer.old writer.new) result }
+{
+    work(alloc, read_words(words), reader, writer)
 }
 
 /// Does what words ask for, and says the exit status.
-fn work<I: ByteIn, O: ByteOut>(alloc: Global, wish: Wish, reader: &mut I, writer: &mut O) -> u8
-    ensures { Does wish (record {
-      input = I.rest reader.old;
-      input_after = I.rest reader.new;
-      written = O.written writer.old;
-      written_after = O.written writer.new;
-      failed_reads = I.failed_reads reader.old;
-      failed_reads_after = I.failed_reads reader.new;
-      failed_writes = O.failed_writes writer.old;
-      failed_writes_after = O.failed_writes writer.new;
-    }) result }
+fn work<I: ByteIn, O: ByteOut>(
+    alloc: Global,
+    wish: Option<Wish>,
+    reader: &mut I,
+    writer: &mut O,
+) -> u8
+    ensures { Obeys Does wish (streams_of I.rest I.failed_reads O.written O.failed_writes reader.old reader.new writer.old writer.new) result }
 {
     match wish {
-        Wish::Table => finish_line(writer, table(alloc), DONE),
-        Wish::Help => finish(writer, HELP, DONE),
-        Wish::Answer(question) => answer(alloc, question, reader, writer),
-        Wish::Nothing => finish(writer, b"fault command line\n", COMMAND_LINE),
+        Some(Wish::Table) => finish_line(writer, table(alloc), DONE),
+        Some(Wish::Answer(question)) => answer(alloc, question, reader, writer),
+        None => finish(writer, b"fault command line\n", COMMAND_LINE),
     }
 }
 
-/// What the words of the command line ask for.
-fn read_words<R: Env>(rt: &R) -> Wish {
-    match read_wanted(&SystemWords::new(rt)) {
-        Wanted::Work => Wish::Table,
-        Wanted::Help => Wish::Help,
-        Wanted::Nothing => match asked(rt) {
-            Some(question) => Wish::Answer(question),
-            None => Wish::Nothing,
-        },
-    }
-}
-
-/// What the two words of the command line ask.
-fn asked<R: Env>(rt: &R) -> Option<Question> {
-    let mut word = [0; 24];
-    let length = rt.arg(1, &mut word).ok()?;
-    let command = lines_of(word.get(..length)?);
-    let is_script = word.get(..length)? == b"script".as_slice();
-    let are_named = match word.get(..length)? {
-        b"list" => Some(true),
-        b"unnamed" => Some(false),
+/// What words ask for, if they ask for something.
+fn read_words(words: &[&str]) -> Option<Wish>
+    ensures { Asks (map (λ word. word.now) words.now) result }
+{
+    match words {
+        [] => Some(Wish::Table),
+        [what, number] => Some(Wish::Answer(asked(what.as_bytes(), number.as_bytes())?)),
         _ => None,
-    };
-    let length = rt.arg(2, &mut word).ok()?;
-    let number = read_number(word.get(..length)?, u64::MAX)?;
-    match command {
-        Some(forms) => Some(Question::Line(forms, number)),
-        None if is_script => Some(Question::Script(number)),
-        None => Some(Question::List(are_named?, number)),
+    }
+}
+
+/// What two words ask.
+fn asked(what: &[u8], number: &[u8]) -> Option<Question> {
+    let number = read_number(number, u64::MAX)?;
+    match what {
+        b"script" => Some(Question::Script(number)),
+        b"list" => Some(Question::List(true, number)),
+        b"unnamed" => Some(Question::List(false, number)),
+        command => Some(Question::Line(lines_of(command)?, number)),
     }
 }
 
@@ -192,16 +156,7 @@ fn answer<I: ByteIn, O: ByteOut>(
     reader: &mut I,
     writer: &mut O,
 ) -> u8
-    ensures { Runs question (record {
-      input = I.rest reader.old;
-      input_after = I.rest reader.new;
-      written = O.written writer.old;
-      written_after = O.written writer.new;
-      failed_reads = I.failed_reads reader.old;
-      failed_reads_after = I.failed_reads reader.new;
-      failed_writes = O.failed_writes writer.old;
-      failed_writes_after = O.failed_writes writer.new;
-    }) result }
+    ensures { Runs question (streams_of I.rest I.failed_reads O.written O.failed_writes reader.old reader.new writer.old writer.new) result }
 {
     match read_all(alloc, reader, MAX_INPUT) {
         Ok(given) => tell(alloc, question, &given, writer),
