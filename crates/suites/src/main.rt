@@ -7,31 +7,45 @@
 #![tactic(auto)]
 
 use byte_streams::{COMMAND_LINE, SystemIn, SystemOut, finish};
-use std::alloc::AllocError;
-use std::io;
+use std::alloc::{AllocError, Global};
+use std::env::Env;
+use std::fs::File;
+use std::io::{self, Input, Print, Stderr};
 use std::process::ExitCode;
+use std::rt::Files;
+use std::sync::Wait;
+use std::thread::Threads;
 use suite_cli::{command_line, lack_memory, slices};
 
 fn main(rt: HostRuntime) -> ExitCode {
-    match work(&rt) {
-        Ok(status) => ExitCode::from(status),
-        Err(AllocError) => ExitCode::from(lack_memory(&mut SystemOut::new(io::writer(&rt)))),
-    }
+    let status = match work(&rt, rt.alloc(), rt.stderr()) {
+        Ok(status) => status,
+        Err(AllocError) => lack_memory(&mut SystemOut::new(io::writer(&rt))),
+    };
+    ExitCode::from(status)
 }
 
 /// Does what the words of the command line ask for, and says the exit status.
-fn work(rt: &HostRuntime) -> Result<u8, AllocError> {
-    let Some(given) = command_line(rt, rt.alloc())? else {
+fn work<R: Threads + Wait + Sync + Files<File = File> + Env + Input + Print>(
+    rt: &R,
+    alloc: Global,
+    errors: Stderr,
+) -> Result<u8, AllocError> {
+    let Some(given) = command_line(rt, alloc)? else {
         let mut writer = SystemOut::new(io::writer(rt));
         return Ok(finish(&mut writer, b"fault command line\n", COMMAND_LINE));
     };
-    let words = slices(rt.alloc(), &given)?;
-    Ok(obey(rt, &words))
+    let words = slices(alloc, &given)?;
+    Ok(obey(rt, alloc, &words, errors))
 }
 
 /// Does what words ask for.
-fn obey(rt: &HostRuntime, words: &[&str]) -> u8 {
-    let alloc = rt.alloc();
+fn obey<R: Threads + Wait + Sync + Files<File = File> + Input + Print>(
+    rt: &R,
+    alloc: Global,
+    words: &[&str],
+    errors: Stderr,
+) -> u8 {
     let mut reader = SystemIn::new(rt.reader());
     let mut writer = SystemOut::new(io::writer(rt));
     let Some((command, behind)) = words.split_first() else {
@@ -39,7 +53,7 @@ fn obey(rt: &HostRuntime, words: &[&str]) -> u8 {
     };
     match *command {
         "explore" => {
-            let errors = SystemOut::new(rt.stderr());
+            let errors = SystemOut::new(errors);
             explore::obey(alloc, behind, &mut reader, &mut writer, errors)
         }
         "forms" => forms::obey(alloc, behind, &mut reader, &mut writer),
