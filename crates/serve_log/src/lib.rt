@@ -36,7 +36,7 @@ use std::thread::Threads;
 use suite_cli::report;
 use suite_prefix::MAX_AGENTS;
 use suite_serve::read_script;
-use words::{Wish, read_words};
+use words::{Wish, is_log, read_words};
 
 /// Does what words ask for, and says the exit status: all but `serve` with a history as `suite_cli::run`.
 pub fn run<R: Threads + Wait + Sync + Files<File = File>, I: ByteIn, O: ByteOut>(
@@ -47,7 +47,7 @@ pub fn run<R: Threads + Wait + Sync + Files<File = File>, I: ByteIn, O: ByteOut>
     writer: &mut O,
 ) -> u8 {
     match words {
-        [command, behind @ ..] if *command == "serve" && behind.contains(&"--log") => {
+        [command, behind @ ..] if *command == "serve" && behind.iter().any(|word| is_log(word)) => {
             obey(rt, alloc, behind, reader, writer)
         }
         _ => suite_cli::run(rt, alloc, words, reader, writer),

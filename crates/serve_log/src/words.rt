@@ -18,16 +18,39 @@ pub(crate) struct Wish<'a> {
 pub(crate) fn read_words<'a>(words: &[&'a str]) -> Option<Wish<'a>>
     ensures { IfSome result IsServable }
 {
-    let [first, value, second, other] = words else {
-        return None;
+    let (agents, log, rest) = match option("--agents", words) {
+        Some((agents, rest)) => {
+            let (log, rest) = option("--log", rest)?;
+            (agents, log, rest)
+        }
+        None => {
+            let (log, rest) = option("--log", words)?;
+            let (agents, rest) = option("--agents", rest)?;
+            (agents, log, rest)
+        }
     };
-    if *first == "--agents" && *second == "--log" {
-        wish(*value, *other)
-    } else if *first == "--log" && *second == "--agents" {
-        wish(*other, *value)
+    if rest.is_empty() {
+        wish(agents, log)
     } else {
         None
     }
+}
+
+/// The value of an option with which words begin, as `--log FILE` or `--log=FILE`, and the words behind it.
+fn option<'a, 'w>(name: &str, words: &'w [&'a str]) -> Option<(&'a str, &'w [&'a str])> {
+    let (word, rest) = words.split_first()?;
+    let behind = word.strip_prefix(name)?;
+    if behind.is_empty() {
+        let (value, rest) = rest.split_first()?;
+        Some((*value, rest))
+    } else {
+        Some((behind.strip_prefix("=")?, rest))
+    }
+}
+
+/// Whether a word is the option of the history's file.
+pub(crate) fn is_log(word: &str) -> bool {
+    word == "--log" || word.starts_with("--log=")
 }
 
 /// What is asked for by a number of agents and a file.
