@@ -116,7 +116,7 @@ def ends(tally: played.Tally, folder: str) -> None:
     cases = (
         (["--agents", "2", "--log", log], good, 0), (["--log", log, "--agents", "2"], good, 0),
         ([f"--log={log}", "--agents=2"], good, 0), (["--log", log, "--agents", "65"], good, 2),
-       (["--log", log], good, 2), (["--agents", "2", "--log"], good, 2),
+        (["--log", log], good, 2), (["--agents", "2", "--log"], good, 2),
         (["--agents", "2", "--log", log, "more"], good, 2), (["--agents", "2", "--log", log], b"servers x\n", 3),
         (["--agents", "2", "--log", os.path.join(folder, "no", "log")], good, 6),
         (["--agents", "2", "--log", "/dev/full"], good, 6),
