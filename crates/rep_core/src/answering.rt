@@ -32,18 +32,10 @@ impl ServerState {
             return Err(Lack::Full);
         }
         reply.stamp = self.stamp.max(request.stamp) + 1;
-        self.tell(&request.value, &mut reply.value)
-    }
-
-    fn tell(&self, request: &Request, reply: &mut Reply) -> Result<(), Lack>
-        ensures reply { OnOk result (reply.new ≡ service.reply_of (state_of self.now) request.now) }
-        ensures full { (result ≡ Err Full) ↔ IsTrue ((state_of self.now).up && serving.asks_too_much (state_of self.now) request.now) }
-        ensures bare { IsTrue (serving.is_bare (service.reply_of (state_of self.now) request.now)) → result ≢ Err Memory }
-    {
         if self.up {
-            self.tell_up(request, reply)
+            self.tell_up(&request.value, &mut reply.value)
         } else {
-            fill_down(request, reply);
+            fill_down(&request.value, &mut reply.value);
             Ok(())
         }
     }

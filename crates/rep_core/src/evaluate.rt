@@ -48,26 +48,14 @@ impl ServerState {
             return Err(Lack::Full);
         }
         let stamp = self.stamp.max(request.stamp) + 1;
-        let change = self.fill(&request.value, &mut reply.value)?;
+        let filled = if self.up {
+            self.fill_up(&request.value, &mut reply.value)
+        } else {
+            Ok(fill_down(&request.value, &mut reply.value))
+        };
+        let change = filled?;
         reply.stamp = stamp;
         Ok(change)
-    }
-
-    #[inline(always)]
-    fn fill<'a>(&mut self, request: &'a Request, reply: &mut Reply) -> Result<Change<'a>, Lack>
-        ensures reply { OnOk result (reply.new ≡ service.reply_of (state_of self.old) request.now) }
-        ensures same { state_of self.new ≡ state_of self.old }
-        ensures room { IfOk result (λ change. stepping.HasRoom change (stepping.roomed_of self.new)) }
-        ensures change { IfOk result (λ change. applied change (state_of self.old) ≡ service.after (state_of self.old) request.now) }
-        ensures full { (result ≡ Err Full) ↔ IsTrue ((state_of self.old).up && serving.asks_too_much (state_of self.old) request.now) }
-        ensures place { OnErr result (reply.new ≡ reply.old) }
-        ensures bare { IsTrue (serving.is_bare (service.reply_of (state_of self.old) request.now)) → result ≢ Err Memory }
-    {
-        if self.up {
-            self.fill_up(request, reply)
-        } else {
-            Ok(fill_down(request, reply))
-        }
     }
 
     /// Of a server that is up.

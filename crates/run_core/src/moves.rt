@@ -56,7 +56,7 @@ pub(crate) fn ask(
         return Ok(false);
     };
     asked.request.stamp = seat.stamp();
-    let Some(server) = seat.ask(&mut asked.request.value)? else {
+    let Some(server) = seat.agent().next(&mut asked.request.value)? else {
         return Ok(false);
     };
     asked.server = server;
@@ -80,7 +80,7 @@ pub(crate) fn lack(
     let Some(seat) = seats.get_mut(usize::from(number)) else {
         return;
     };
-    let Some(_server) = seat.asked() else {
+    let Some(_server) = seat.agent().asked() else {
         return;
     };
     seat.lack(number, lack, ended);

@@ -1,6 +1,6 @@
 //! An agent in a world.
 
-ghost use Rattle.std.specs.Prelude.{◌≡◌, ◌<◌, IfNone, IfOk, IfErr, IsTrue, OnOk, OnErr, Some, option_map};
+ghost use Rattle.std.specs.Prelude.{◌≡◌, ◌<◌, IfOk, IfErr, IsTrue, OnOk, OnErr, Some, option_map};
 ghost use Rattle.std.specs.Option.{option_or};
 ghost use Rattle.txn_core.specs.Agents as agents;
 ghost use Rattle.txn_core.specs.Wanting as wanting;
@@ -9,7 +9,7 @@ ghost use Rattle.run_core.specs.Worlds.{steps_after};
 ghost use Rattle.run_core.specs.code.Seats as seats;
 
 use crate::done::EndedJob;
-use rep_core::{Lack, Reply, Request, Stamped};
+use rep_core::{Lack, Reply, Stamped};
 use std::alloc::{AllocError, Global};
 use std::marker::Model;
 use suite_prefix::Settings;
@@ -64,30 +64,6 @@ impl WorldAgent {
         ensures { result ≡ self.now.actor.stamp }
     {
         self.stamp
-    }
-
-    /// Whether it has no job.
-    pub(crate) fn is_idle(&self) -> bool
-        ensures { result ≡ agents.is_idle self.now.actor.agent.doing }
-    {
-        self.agent.is_idle()
-    }
-
-    /// Of which server it asks next. It takes no memory.
-    pub(crate) fn asked(&self) -> Option<u8>
-        ensures { result ≡ option_map (λ asked. asked.0) (agents.next_of self.now.fixed self.now.actor.agent) }
-    {
-        self.agent.asked()
-    }
-
-    /// Of which server it asks next, and what: that is put into a place of the caller's.
-    pub(crate) fn ask(&self, request: &mut Request) -> Result<Option<u8>, AllocError>
-        ensures ok { IfOk result (λ server. option_map (λ server. (server, request.new)) server ≡ agents.next_of self.now.fixed self.now.actor.agent) }
-        ensures none { IfOk result (λ server. IfNone server (request.new ≡ request.old)) }
-        ensures err { OnErr result (request.new ≡ request.old) }
-        ensures memory { IfErr result (λ _. IsTrue (wanting.by_asking (agents.next_of self.now.fixed self.now.actor.agent))) }
-    {
-        self.agent.next(request)
     }
 
     /// Begins a job.
@@ -158,25 +134,19 @@ impl WorldAgent {
         ensures ended { ended.new ≡ option_or (option_map (seats.ended_with agent count self.old.actor.steps) ending) ended.old }
         ensures state { self.new ≡ record self.old { actor = record self.old.actor { steps = steps_after self.old.actor.steps ending } } }
     {
-        match ending {
-            None => self.steps = self.steps.saturating_add(1),
-            Some(ending) => self.end(agent, count, ending, ended),
-        }
-    }
-
-    /// Its job ended, with a step more.
-    fn end(&mut self, agent: u8, count: u64, ending: Ending, ended: &mut Option<EndedJob>)
-        ensures ended { ended.new ≡ Some (seats.ended_with agent count self.old.actor.steps ending) }
-        ensures state { self.new ≡ record self.old { actor = record self.old.actor { steps = 0 } } }
-    {
         let steps = self.steps.saturating_add(1);
-        self.steps = 0;
-        let outcome = EndedJob {
-            agent,
-            count,
-            steps,
-            ending,
-        };
-        *ended = Some(outcome);
+        match ending {
+            None => self.steps = steps,
+            Some(ending) => {
+                let outcome = EndedJob {
+                    agent,
+                    count,
+                    steps,
+                    ending,
+                };
+                self.steps = 0;
+                *ended = Some(outcome);
+            }
+        }
     }
 }

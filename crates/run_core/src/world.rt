@@ -205,7 +205,7 @@ impl World {
         ensures { result ≡ asked_at (fixed_of self.now.given) self.now.world agent }
     {
         match self.seats.get(usize::from(agent)) {
-            Some(seat) => seat.asked(),
+            Some(seat) => seat.agent().asked(),
             None => None,
         }
     }
@@ -215,7 +215,7 @@ impl World {
         ensures { result ≡ worlds.has_no_job (worlds.actor_at self.now.world agent) }
     {
         match self.seats.get(usize::from(agent)) {
-            Some(seat) => seat.is_idle(),
+            Some(seat) => seat.agent().is_idle(),
             None => true,
         }
     }

@@ -13,7 +13,6 @@ ghost use Rattle.txn_core.specs.Wanting as wanting;
 ghost use Rattle.txn_core.specs.code.Asking.{Asks, Wants, fixed_on};
 ghost use Rattle.txn_core.specs.code.Goings.{ending_of};
 ghost use Rattle.txn_core.specs.code.Telling.{Tells, carrying_out};
-ghost use Rattle.txn_core.specs.declared.job.Job.TheVariants.{Sweep};
 ghost use Rattle.txn_core.specs.declared.response.Response.TheVariants.{Replied, Lacked};
 
 use crate::ending::{Ending, Flow};
@@ -162,7 +161,8 @@ impl Agent {
                 self.carry_out(task)
             }
             Job::Sweep { server } => {
-                self.sweep(*server);
+                let sweep_run = SweepRun::new(self.resources.alloc, *server);
+                self.doing = Some(Doing::RunningSweep(sweep_run));
                 Ok(())
             }
         }
@@ -177,14 +177,6 @@ impl Agent {
         let txn_run = TransactionRun::begin(&mut self.resources, task)?;
         self.doing = txn_run.map(Doing::Running);
         Ok(())
-    }
-
-    /// A sweep starts.
-    fn sweep(&mut self, server: u8)
-        ensures { self.new ≡ record self.old { state = agents.started self.old.fixed self.old.state (Sweep server) } }
-    {
-        let sweep_run = SweepRun::new(self.resources.alloc, server);
-        self.doing = Some(Doing::RunningSweep(sweep_run));
     }
 
     /// Of which server it asks next, and what, which is put into a place of the caller's: nothing is, where
@@ -229,26 +221,11 @@ impl Agent {
         ensures err { OnErr result ((self.new ≡ self.old) × (ended.new ≡ ended.old)) }
         ensures memory { IfErr result (λ _. IsTrue (wanting.by_taking (agents.next_of self.old.fixed self.old.state) (response_of came.entry))) }
     {
-        match came {
-            Ok(said) => self.hear(said, ended),
-            Err(lack) => {
-                self.lack(lack, ended);
-                Ok(())
-            }
-        }
-    }
-
-    /// The server that it asks next replied. The ending of its job, where that is at its end, is put into a
-    /// place, which else keeps what it has.
-    #[inline(always)]
-    fn hear(&mut self, said: &Reply, ended: &mut Option<Ending>) -> Result<(), AllocError>
-        requires fits { FitsAsked (agents.next_of self.old.fixed self.old.state) (Replied said.now) }
-        ensures ok { OnOk result (ended.new ≡ option_or (agents.take self.old.fixed self.old.state (Replied said.now)).ending ended.old) }
-        ensures new { OnOk result (self.new ≡ record self.old { state = (agents.take self.old.fixed self.old.state (Replied said.now)).agent }) }
-        ensures err { OnErr result ((self.new ≡ self.old) × (ended.new ≡ ended.old)) }
-        ensures memory { IfErr result (λ _. IsTrue (wanting.by_taking (agents.next_of self.old.fixed self.old.state) (Replied said.now))) }
-    {
-        if let Flow::Ended(ending) = self.on_reply(said)? {
+        let flow = match came {
+            Ok(said) => self.on_reply(said),
+            Err(lack) => Ok(self.on_lack(lack)),
+        };
+        if let Flow::Ended(ending) = flow? {
             self.doing = None;
             *ended = Some(ending);
         }
@@ -268,18 +245,6 @@ impl Agent {
                 sweep_run.on_reply(self.resources.alloc, &self.resources.fixed_parts, said)
             }
             None => Ok(Flow::On),
-        }
-    }
-
-    /// Its request was not served. The ending of its job, where that is at its end, is put into a place, which
-    /// else keeps what it has.
-    fn lack(&mut self, lack: Lack, ended: &mut Option<Ending>)
-        ensures ending { ended.new ≡ option_or (agents.take self.old.fixed self.old.state (Lacked lack)).ending ended.old }
-        ensures new { self.new ≡ record self.old { state = (agents.take self.old.fixed self.old.state (Lacked lack)).agent } }
-    {
-        if let Flow::Ended(ending) = self.on_lack(lack) {
-            self.doing = None;
-            *ended = Some(ending);
         }
     }
 

@@ -50,7 +50,7 @@ impl Servers {
     pub(crate) fn same(&self, other: &Servers) -> bool
         ensures { IsTrue result → self.now ≡ other.now }
     {
-        same_numbers(self.as_slice(), other.as_slice())
+        self.as_slice() == other.as_slice()
     }
 
     /// Those that are left.
@@ -87,13 +87,6 @@ fn copied(all: &ArrayVec<u8, MAX_SERVERS>) -> Result<ArrayVec<u8, MAX_SERVERS>, 
 {
     let copy = all.clone()?;
     Ok(copy)
-}
-
-/// Whether two lists are the same.
-fn same_numbers(own: &[u8], theirs: &[u8]) -> bool
-    ensures { IsTrue result → own.now ≡ theirs.now }
-{
-    own == theirs
 }
 
 /// The servers that answered that they hold a lock, which rise.
