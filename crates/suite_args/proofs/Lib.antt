@@ -1,12 +1,8 @@
 mod Vocabulary
-mod RequestLemmas
 mod Meanings
-mod WordShapes
-mod OptionWords
-mod BuiltCommands
-mod NameWalks
-mod FirstWords
-mod Levels
-mod ServeWalks
-mod WholeLines
+mod RequestLemmas
+mod Words
+mod Walks
+mod Stands
+mod Lines
 mod Verdicts

@@ -34,9 +34,6 @@ pub use Rattle.clap.specs.declared.parser.matches.ArgMatches.TheViews.{out-SubCo
 pub use Rattle.clap.specs.declared.parser.matches.SubCommand.{SubCommand}
 pub use Rattle.script_text.specs.Numbers.{number_up_to}
 pub use Rattle.suite_args.specs.Answering.{Answers, AnswersServe, AnswersTo, asked_in}
-pub use Rattle.suite_args.specs.CommandLine.{Asked, acl, agents_of, asked_by, asked_by_option, asked_of_acl, asked_of_script, asked_of_serve, at_least_one}
-pub use Rattle.suite_args.specs.CommandLine.{ends_options, flag_of, help, is_help_option, is_option, max_agents, nothing, nothing_more, plays, serves, topic}
-pub use Rattle.suite_args.specs.CommandLine.{untold, with_name}
 pub use Rattle.suite_args.specs.code.Commands.{acl_command, agents_rule, any_number, name_rule, no_commands, script_command, script_word, serve_command}
 pub use Rattle.suite_args.specs.code.Commands.{suites}
 pub use Rattle.suite_args.specs.declared.request.ArgsError.{ArgsError}
@@ -45,3 +42,9 @@ pub use Rattle.suite_args.specs.declared.request.Invocation.{Invocation}
 pub use Rattle.suite_args.specs.declared.request.Invocation.TheVariants.{Acl, Help, Plays, Serve}
 pub use Rattle.suite_args.specs.declared.script.Script.{Script}
 pub use Rattle.suite_args.specs.declared.script.Script.TheVariants.{Play, Table}
+pub use Rattle.suite_args.specs.CommandLine.{Asked, Known, Token, acl, agents, agents_of, asked_after, asked_at_end, asked_by, asked_of, at_least_one, awaited, commands, ends, help, helps}
+pub use Rattle.suite_args.specs.CommandLine.{long_option, max_agents, names, nothing, operand, option_or_operand, plays, script, serves, short_option, short_or_operand, told, tokens, topic}
+pub use Rattle.suite_args.specs.CommandLine.{unknown, unnamed, untold, with_token}
+pub use Rattle.clap.specs.Faults.{short_fault}
+pub use Rattle.clap.specs.Walk.{long_met, used}
+pub use Rattle.std.specs.Prelude.{find, not}

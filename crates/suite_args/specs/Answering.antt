@@ -43,10 +43,6 @@ asked_in (Some command) =
 
 -- what a parse without matches comes to
 abbrev pub AnswersTo : ErrorKind → Result Invocation ArgsError → Type 0
-AnswersTo DisplayHelp (Ok (Help text)) = ⊤
-AnswersTo DisplayHelp (Err Memory) = ⊤
-AnswersTo DisplayHelp answer = ⊥
-AnswersTo OutOfMemory (Err Memory) = ⊤
-AnswersTo OutOfMemory answer = ⊥
-AnswersTo kind (Err CommandLine) = ⊤
-AnswersTo kind answer = ⊥
+AnswersTo OutOfMemory answer = answer ≡ Err Memory
+AnswersTo DisplayHelp answer = Answers help answer
+AnswersTo kind answer = Answers nothing answer
