@@ -4,11 +4,11 @@
 //! What stands above `together` is played as `suites play` does. Below it stand `begin` and `sweep` alone, where
 //! `after A.C` or `after A.C answered` may stand before them: such a job is begun only once job C of agent A has ended, or
 //! was answered. Each way is printed once, the shortest script first: `way K in E of F ends`, and a line a job. Ways that
-//! are printed alike are one, with the script of the first. The last line is `all W ways, N worlds`, or
-//! `not all: W ways, N worlds` with exit status 7, where memory ran out or as many worlds as `--worlds` allows were looked
-//! at. With `--sample N` so many orders are played that are drawn, by `--seed S`; the last line is
-//! `sampled N orders: W ways`, with exit status 7, and above a way stands `way K` alone. With `--way K` the script that
-//! leads to way K is printed instead, for `play`.
+//! are printed alike are one, with the script of the first. The last line counts worlds found: `all W ways, N worlds`, or
+//! `not all: W ways, N worlds` with exit status 7, where memory ran out or `--worlds` of them were looked at. With
+//! `--sample N` so many orders are played that are drawn, by `--seed S`; the last line is `sampled N orders: W ways`, with
+//! exit status 7, and above a way stands `way K` alone. With `--way K` the script that leads to way K is printed instead,
+//! for `play`.
 //! With `--order` each way has a line `decided` and the jobs that were decided, in the order in which they were.
 //! With `--progress` it writes to standard error, while it is at work, how many worlds it has looked at: `N worlds`, a
 //! line each time. Without it nothing goes there. A line that cannot be written is left out.

@@ -18,10 +18,10 @@ all_by P p each (x ∷ xs) is =
     let parts = and_parts (p x) (list_all p xs) is in
     (each x parts.0, all_by P p each xs parts.1)
 
-abbrev votes_fit : Configuration → Bool
+abbrev pub votes_fit : Configuration → Bool
 votes_fit votes = not (is_some (first_fault max_servers votes)) && list_all (λ rep. nat_lt rep.1 256) votes.reps
 
-valid_votes : (votes : Configuration) → votes_fit votes ≡ true → IsValid votes
+pub valid_votes : (votes : Configuration) → votes_fit votes ≡ true → IsValid votes
 valid_votes votes is =
     let parts = and_parts (not (is_some (first_fault max_servers votes))) (list_all (λ rep. nat_lt rep.1 256) votes.reps) is in
     let few = all_by (λ (rep : Representative). rep.1 < 256) (λ rep. nat_lt rep.1 256) (λ rep. below rep.1 256) votes.reps parts.1 in
@@ -45,11 +45,11 @@ valid_action (action.Make kind init None) is = tt
 valid_action (action.SetVotes votes) is = valid_votes votes is
 valid_action _ is = tt
 
-abbrev event_fits : Event → Bool
+abbrev pub event_fits : Event → Bool
 event_fits (Begin number (Transaction caller site ops)) = list_all (λ (op : Op). action_fits op.action) ops
 event_fits _ = true
 
-valid_event : (event : Event) → event_fits event ≡ true → EventGivesValidVotes event
+pub valid_event : (event : Event) → event_fits event ≡ true → EventGivesValidVotes event
 valid_event (Begin number (Transaction caller site ops)) is = all_by (λ (op : Op). GivesValidVotes op.action) (λ op. action_fits op.action) (λ op. valid_action op.action) ops is
 valid_event (Begin number (Sweep server)) is = tt
 valid_event (Step number) is = tt

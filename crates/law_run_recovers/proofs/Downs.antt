@@ -5,12 +5,9 @@ use Rattle.law_run_recovers.proofs.Vocabulary.{Gathering, Fetching, Widening, Pr
 use Rattle.law_run_recovers.proofs.Vocabulary.{next_in, Exchange, was_held, says_held, locks, asks_same, asked_as, fetched_as, answer_in}
 use Rattle.rep_core.specs.declared.request.Request.TheVariants as request
 use Rattle.txn_core.specs.Sweeps as sweep
+use Rattle.law_run_alone.proofs.Own.{is_return}
 
 -- ---- what a transaction asks
-
-abbrev pub is_return : Request → Bool
-is_return request.Return = true
-is_return other = false
 
 no_return : (fixed : Fixed) (task : Task) (suites : Suites) (phase : Phase) (server : ℕ) (asked : Request) → request_in fixed task suites phase ≡ Some (server, asked) → is_return asked ≡ false
 no_return fixed task suites (Gathering number) server asked is = asked_as is_return false task number (suite_of suites number) server asked (λ mode. refl) refl is

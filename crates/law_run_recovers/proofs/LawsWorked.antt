@@ -1,15 +1,14 @@
 -- Runs that the laws are about, by computation.
-use Rattle.law_run_recovers.proofs.Vocabulary.{◌≡◌, ⊎_elim, ℕ, zero, suc, ◌<◌, Bool, true, false, List, [], ◌∷◌, ◌++◌, Option, Some, None, is_some, refl, sym, ap, subst, ◌∙◌, arith, ◌==◌, ◌&&◌, ◌||◌, not, nat_lt, Contains, list_all, list_any}
-use Rattle.law_run_recovers.proofs.Vocabulary.{false≢true, and_parts, eqb-true, nat_tests, slice_get, nat_cmp, LockMode, Identity, Op, Opening, State, all_at, at_has, has_from, Transaction, Sweep, Event, Begin}
+use Rattle.law_run_recovers.proofs.Vocabulary.{◌≡◌, ⊎_elim, ℕ, zero, suc, ◌<◌, Bool, true, false, List, [], ◌∷◌, ◌++◌, Option, Some, None, is_some, refl, sym, ap, subst, ◌∙◌, arith, ◌==◌, ◌&&◌, ◌||◌, not, Contains, list_all, list_any}
+use Rattle.law_run_recovers.proofs.Vocabulary.{false≢true, and_parts, eqb-true, slice_get, nat_cmp, LockMode, Identity, Op, Opening, State, all_at, at_has, has_from, Transaction, Sweep, Event, Begin}
 use Rattle.law_run_recovers.proofs.Vocabulary.{Actor, World, server_at, actor_at, step, after, run, fixed_of, Fixed, owner, a, Cache, EventGivesValidVotes, CanBe, is_up, up_in, asks_for, way_in, way_at}
-use Rattle.law_run_recovers.proofs.Vocabulary.{is_way_met, in_its_way, StandsOpen, StandsStill, AreNear, is_running, Configuration, Representative, IsValid, max_servers, hinders_itself, robs, begun_world, world_after}
+use Rattle.law_run_recovers.proofs.Vocabulary.{is_way_met, in_its_way, StandsOpen, StandsStill, AreNear, is_running, Representative, hinders_itself, robs, begun_world, world_after}
 use Rattle.law_run_recovers.proofs.Vocabulary.{turns, puts, sweeps, GoesUnmet, GoesAmongLocks, SweepsAll, spoils, opening}
 use Rattle.std.proofs.Common.{lit<}
 use Rattle.std.proofs.lemmas.List.Elements.{All-from_recursion}
 use Rattle.std.specs.FinSet.{contains-empty}
 use Rattle.vote_core.proofs.Faults.{accepted_without_fault}
-use Rattle.vote_core.specs.Validity.{IsAccepted as VotesAccepted, first_fault}
-use Rattle.vote_core.specs.declared.fault.VotesFault.{VotesFault}
+use Rattle.vote_core.specs.Validity.{IsAccepted as VotesAccepted}
 use Rattle.suite_prefix.specs.SettingsRules.{IsAccepted}
 use Rattle.law_run_recovers.specs.Blocking.{WasItsHome}
 use Rattle.law_run_recovers.specs.Contending.{both_made, one_server}
@@ -19,6 +18,7 @@ use Rattle.law_run_recovers.specs.Sweeping.{SweepsAlone}
 use Rattle.law_run_recovers.specs.Worked.{in_the_dark, stopped}
 use Rattle.law_runs.specs.Worked.{two_agents, so_many}
 use Rattle.law_run_alone.proofs.Worked.{some_runs_go_alone}
+use Rattle.law_headline.proofs.Worked.{valid_votes}
 use Rattle.law_run_recovers.proofs.AloneLaws.{ends_are_by_votes}
 use Rattle.law_run_recovers.proofs.AmongCourse.{head_or, tail_or}
 use Rattle.law_run_recovers.proofs.AmongLaws.{among_locks_end_by_votes}
@@ -161,22 +161,6 @@ met_not w t asked all one has server = of (server_at w server) refl
     of (Some st) at = not_so (is_way_met (way_in t one.0 one.1 (Some st))) (all_at (λ (st : State). not (is_way_met (way_in t one.0 one.1 (Some st)))) w.servers st each (at_has w.servers server st at))
 
 -- ---- they can be
-
-abbrev pub votes_fit : Configuration → Bool
-votes_fit votes = not (is_some (first_fault max_servers votes)) && list_all (λ rep. nat_lt rep.1 256) votes.reps
-
-pub valid_votes : (votes : Configuration) → votes_fit votes ≡ true → IsValid votes
-valid_votes votes is =
-    let parts = and_parts (not (is_some (first_fault max_servers votes))) (list_all (λ rep. nat_lt rep.1 256) votes.reps) is in
-    let few = all_by (λ (rep : Representative). rep.1 < 256) (λ rep. nat_lt rep.1 256) (λ rep. below rep.1 256) votes.reps parts.1 in
-    (accepted_without_fault max_servers votes (none (first_fault max_servers votes) parts.0) (All-from_recursion (λ (rep : Representative). rep.1 < 256) votes.reps few)).valid
-  where
-    below : (a b : ℕ) → nat_lt a b ≡ true → a < b
-    below a b is = grind (arith, nat_tests)
-
-    none : (o : Option VotesFault) → not (is_some o) ≡ true → o ≡ None
-    none None is = refl
-    none (Some fault) is = absurd (false≢true is)
 
 one_server_accepted : IsAccepted one_server
 one_server_accepted = record {

@@ -2,13 +2,13 @@
 use Rattle.law_run_recovers.proofs.Vocabulary.{◌≡◌, ◌⊎◌, inl, inr, ℕ, List, [], ◌∷◌, ◌++◌, refl, sym, ap, subst, ◌∙◌, ◌+◌, Contains, list_all, LockMode, Shared, Exclusive, Configuration, total_votes, needed_of, row_of, has_from}
 use Rattle.law_run_recovers.proofs.Vocabulary.{Transaction, fixed_of, owner, a, Event, Begin, opening, run, Decided, decisions, decisions_from, table_after_all, decisions_from-append, EventGivesValidVotes, CanBe, with_caches}
 use Rattle.law_run_recovers.proofs.Vocabulary.{some_run_revokes, Begun, two_made, turns, puts, HasFirstVotes, VotesNeverMovedOf, two_meet, SomeRunsMeet, votes_moved, SomeRunsMeetByRows}
-use Rattle.law_run_recovers.proofs.Vocabulary.{Bool, true, Some, None, Action, Op, Sweep, Step, Crash, Return, Forget, Lack, GivesValidVotes, ⊎_elim, table_of, Opening}
+use Rattle.law_run_recovers.proofs.Vocabulary.{⊎_elim, table_of, Opening}
 use Rattle.file_ops.specs.Rows as rows
-use Rattle.file_ops.specs.declared.operation.Action.TheVariants as action
 use Rattle.law_run_recovers.proofs.AmongCourse.{head_or, tail_or}
 use Rattle.law_run_recovers.proofs.BesideWorked.{is_step, none_begins, they_can}
 use Rattle.law_run_recovers.proofs.ValidEvents.{all_by}
-use Rattle.law_run_recovers.proofs.LawsWorked.{none_spoils_it, votes_fit, valid_votes}
+use Rattle.law_run_recovers.proofs.LawsWorked.{none_spoils_it}
+use Rattle.law_headline.proofs.Worked.{event_fits, valid_event}
 use Rattle.law_run_recovers.specs.Contending.{at_the_last}
 use Rattle.law_run_recovers.specs.Meets.{TheyMeet}
 use Rattle.law_run_recovers.specs.MeetsByRows.{TheyMeetByRows}
@@ -116,33 +116,8 @@ some_runs_meet = record {
 
 -- ---- where votes were moved
 
-abbrev action_fits : Action → Bool
-action_fits (action.Make kind init None) = true
-action_fits (action.Make kind init (Some votes)) = votes_fit votes
-action_fits (action.SetVotes votes) = votes_fit votes
-action_fits _ = true
-
-fits_valid : (one : Action) → action_fits one ≡ true → GivesValidVotes one
-fits_valid (action.Make kind init None) is = tt
-fits_valid (action.Make kind init (Some votes)) is = valid_votes votes is
-fits_valid (action.SetVotes votes) is = valid_votes votes is
-fits_valid _ is = tt
-
-abbrev event_fits : Event → Bool
-event_fits (Begin number (Transaction caller site ops)) = list_all (λ (op : Op). action_fits op.action) ops
-event_fits _ = true
-
-event_valid : (event : Event) → event_fits event ≡ true → EventGivesValidVotes event
-event_valid (Begin number (Transaction caller site ops)) is = all_by (λ (op : Op). GivesValidVotes op.action) (λ op. action_fits op.action) (λ op. fits_valid op.action) ops is
-event_valid (Begin number (Sweep server)) is = tt
-event_valid (Step number) is = tt
-event_valid (Crash server) is = tt
-event_valid (Return server) is = tt
-event_valid (Forget number site) is = tt
-event_valid (Lack number why) is = tt
-
 moved_can : CanBe with_caches (votes_moved ++ two_meet)
-moved_can = record { accepted = some_run_revokes.can_be.accepted; c0 = some_run_revokes.can_be.c0; votes = all_by EventGivesValidVotes event_fits event_valid (votes_moved ++ two_meet) refl }
+moved_can = record { accepted = some_run_revokes.can_be.accepted; c0 = some_run_revokes.can_be.c0; votes = all_by EventGivesValidVotes event_fits valid_event (votes_moved ++ two_meet) refl }
 
 abbrev first_then : Begun with_caches votes_moved two_meet
 first_then = record { before = []; after = second ∷ turns 16; agent = 0; t = 128; caller = owner; site = 0; ops = puts a 0 ∷ []; parts = refl; begins = refl }

@@ -5,7 +5,8 @@ use Rattle.law_run_recovers.proofs.Vocabulary.{was_held, says_held, locks, after
 use Rattle.law_run_recovers.proofs.Vocabulary.{take_keeps, puts_in, same_or, up_in, is_up, hinders, unhindered_from}
 use Rattle.txn_core.specs.Agents as agents
 use Rattle.law_run_recovers.proofs.Aside.{Aside, event_aside}
-use Rattle.law_run_recovers.proofs.Downs.{is_return, never_returns, was_up, held_up, held-append, three}
+use Rattle.law_run_alone.proofs.Own.{is_return}
+use Rattle.law_run_recovers.proofs.Downs.{never_returns, was_up, held_up, held-append, three}
 
 module _ (given : Opening) (first : World) (agent : ℕ) (begun : Agent) where
   abbrev fixed : Fixed

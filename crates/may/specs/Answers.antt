@@ -7,12 +7,13 @@ use Rattle.acl_core.specs.declared.check.Check.{Check}
 use Rattle.acl_core.specs.declared.check.Check.TheVariants.{Granted, Denied}
 use Rattle.acl_core.specs.declared.perms.Perms.{Perms}
 use Rattle.acl_text.specs.Writing.{decider_text, permission_text}
-use Rattle.may.specs.declared.fault.InputError.{InputError}
-use Rattle.may.specs.declared.fault.InputError.TheVariants as input
-use Rattle.may.specs.declared.fault.LineFault.{LineFault}
-use Rattle.may.specs.declared.question.Question.{Question}
-use Rattle.may.specs.Faults.{fault_line, line_feed}
+use Rattle.suite_script.specs.Faults.{fault_line, line_feed}
+use Rattle.suite_script.specs.Outputs.{Output, Done, Faulty}
+use Rattle.suite_script.specs.declared.fault.LineFault.{LineFault}
+use Rattle.suite_script.specs.declared.fault.ScriptError.{ScriptError}
+use Rattle.suite_script.specs.declared.fault.ScriptError.TheVariants as script
 use Rattle.may.specs.Questions.{question_in}
+use Rattle.may.specs.declared.question.Question.{Question}
 
 -- the answer of the access check
 abbrev pub verdict : Question → Check
@@ -25,11 +26,6 @@ verdict_text wanted (Denied decider) = codes "denied " ++ permission_text wanted
 -- the line of a question that was answered
 abbrev pub answer_line : Question → List ℕ
 answer_line question = verdict_text question.wanted (verdict question) ++ line_feed
-
--- all that is written
-pub data Output : Type 0 where
-  Done : List ℕ → Output
-  Faulty : List ℕ → Output
 
 -- what comes after the answer to a line; or the line of its fault alone
 abbrev pub answered_or : ℕ → Result Question LineFault → (List ℕ → Output) → Output
@@ -47,7 +43,7 @@ abbrev pub output_of : List ℕ → Output
 output_of text = answers_from 1 [] (lines text)
 
 -- what the program has gathered of an output, or why it stopped
-abbrev pub Comes : Result (Vec ℕ Global) InputError → Output → Type 0
+abbrev pub Comes : Result (Vec ℕ Global) ScriptError → Output → Type 0
 Comes (Ok text) output = output ≡ Done text.items
-Comes (Err (input.Faulty fault)) output = output ≡ Faulty (fault_line fault)
-Comes (Err input.Memory) output = Unit {0}
+Comes (Err (script.Faulty fault)) output = output ≡ Faulty (fault_line fault)
+Comes (Err script.Memory) output = Unit {0}

@@ -1,5 +1,4 @@
 pub mod Words
 pub mod Questions
-pub mod Faults
 pub mod Answers
 pub mod Runs

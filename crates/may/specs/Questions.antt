@@ -1,18 +1,11 @@
 -- A question, as the words of its line ask it.
 use Rattle.std.specs.Prelude.{ℕ, List, Result, Ok}
-use Rattle.acl_core.specs.Identity.{Identity}
+use Rattle.file_ops.specs.Steps.{◌>>=◌}
 use Rattle.script_text.specs.Words.{words}
-use Rattle.may.specs.declared.fault.LineFault.{LineFault}
+use Rattle.suite_script.specs.Words.{Word, at_end, caller, id, word}
+use Rattle.suite_script.specs.declared.fault.LineFault.{LineFault}
+use Rattle.may.specs.Words.{list_in, wanted_in}
 use Rattle.may.specs.declared.question.Question.{Question}
-use Rattle.may.specs.Words.{Taken, Word, ◌>>=◌, at_end, caller_in, id, list_in, wanted_in, word}
-
--- who asks: a user, and between commas its own group and its other groups
-abbrev pub caller : List Word → Result (Taken Identity) LineFault
-caller words = do
-  uid ← id words
-  next ← word uid.rest
-  caller ← caller_in uid.value next.value
-  Ok (record { value = caller; rest = next.rest })
 
 -- `OWNER GROUP UID GID[,GROUP..] WANTED LIST`
 abbrev pub asked : List Word → Result Question LineFault

@@ -1,63 +1,18 @@
--- The words of a question, read from the left: what they say, and the words after it; or what is wrong.
-use Rattle.std.specs.Prelude.{ℕ, ◌==◌, Bool, ◌||◌, if◌then◌else◌, List, [], ◌∷◌, Option, Some, None, Result, Ok, Err}
+-- What is wanted, and of which list: what a word says, or what is wrong.
+use Rattle.std.specs.Prelude.{ℕ, ◌==◌, Bool, ◌||◌, if◌then◌else◌, List, [], Option, Some, None, Result, Ok, Err}
 use Rattle.std.specs.List.{list_all, list_any}
 use Rattle.acl_core.specs.Entries.{entry_of}
-use Rattle.acl_core.specs.Identity.{Identity}
 use Rattle.acl_core.specs.Permissions.{digit_of}
 use Rattle.acl_core.specs.declared.entry.Entry.{Entry}
 use Rattle.acl_core.specs.declared.entry.Tag.TheVariants.{Other}
 use Rattle.acl_core.specs.declared.perms.Perms.{Perms}
-use Rattle.acl_text.specs.Callers as callers
-use Rattle.acl_text.specs.Qualifiers.{max_id}
 use Rattle.acl_text.specs.Sides.{lists_of}
 use Rattle.acl_text.specs.Tables.{Tables}
 use Rattle.acl_text.specs.Texts.{fault, said_in}
 use Rattle.acl_text.specs.declared.read.TextFault.{TextFault}
-use Rattle.script_text.specs.Numbers.{number_up_to}
-use Rattle.may.specs.declared.fault.LineFault.{LineFault}
-use Rattle.may.specs.declared.fault.LineFault.TheVariants.{Form, List as no_list}
-
-abbrev pub Word : Type 0
-Word = List ℕ
-
--- what the second step gives of what the first one gave; the first fault is the answer
-abbrev pub ◌>>=◌ : {A B : Type 0} → Result A LineFault → (A → Result B LineFault) → Result B LineFault
-◌>>=◌ (Ok given) next = next given
-◌>>=◌ (Err fault) next = Err fault
-
--- what is there, or a fault where nothing is
-abbrev pub found : {A : Type 0} → Option A → Result A LineFault
-found (Some given) = Ok given
-found None = Err Form
-
--- what some words say, and the words after them
-pub record Taken (A : Type 0) : Type 0 where
-  pub value : A
-  pub rest : List Word
-
--- the next word
-abbrev pub word : List Word → Result (Taken Word) LineFault
-word [] = Err Form
-word (first ∷ words) = Ok (record { value = first; rest = words })
-
--- nothing more
-abbrev pub at_end : List Word → Result (Unit {0}) LineFault
-at_end [] = Ok tt
-at_end (first ∷ words) = Err Form
-
--- the number of a user or a group
-abbrev pub id_in : Word → Result ℕ LineFault
-id_in text = found (number_up_to max_id text)
-
-abbrev pub id : List Word → Result (Taken ℕ) LineFault
-id words = do
-  next ← word words
-  number ← id_in next.value
-  Ok (record { value = number; rest = next.rest })
-
--- a caller of some user: between commas its own group and its other groups
-abbrev pub caller_in : ℕ → Word → Result Identity LineFault
-caller_in uid text = found (callers.caller_in uid text)
+use Rattle.suite_script.specs.Words.{Word}
+use Rattle.suite_script.specs.declared.fault.LineFault.{LineFault}
+use Rattle.suite_script.specs.declared.fault.LineFault.TheVariants.{Form, List as no_list}
 
 -- what is wanted: letters of r, w and x, with or without hyphens, as an entry grants it
 abbrev pub letter_r : ℕ

@@ -1,7 +1,8 @@
 //! Answers questions about access: may this caller have what it wants of a file with this list? If not, which entry
 //! decides?
 //!
-//! It is the example of what stands on `acl_core` and `acl_text` alone; `./suites may` asks it.
+//! It is the example of what asks `acl_core` and `acl_text`; `./suites may` asks it. Lines, words and faults are read
+//! and told as those of a script (`suite_script`).
 //!
 //! Standard input has one question a line, `OWNER GROUP UID GID[,GROUP..] WANTED LIST`, all numbers. Standard
 //! output has an answer for each, in order: `granted` or `denied WANTED by ENTRY`. If a line is faulty, nothing is
@@ -11,17 +12,14 @@
 //! **Promises.** Each answer is that of the access check (`specs/Answers.antt`); of `obey` it is said (`Does`)
 //! what is done of the words when it ends, and with which exit status.
 //!
-//! **Files**: `fault`, `words`, `question`. **Definitions** (`specs/`): `Words`, `Questions`, `Faults`, `Answers`,
-//! `Runs`.
+//! **Files**: `words`, `question`. **Definitions** (`specs/`): `Words`, `Questions`, `Answers`, `Runs`.
 #![tactic(auto)]
 
-ghost use Rattle.std.specs.Prelude.{◌≡◌, ◌<◌, ◌^◌, length, map, IfOk};
+ghost use Rattle.std.specs.Prelude.{◌≡◌, ◌<◌, ◌^◌, length, map};
 ghost use Rattle.byte_streams.specs.Programs.{streams_of};
 ghost use Rattle.may.specs.Answers.{Comes, output_of};
-ghost use Rattle.may.specs.Faults.{fault_line};
 ghost use Rattle.may.specs.Runs.{Does, Ends, Runs, Told};
 
-mod fault;
 mod question;
 mod words;
 
@@ -29,10 +27,10 @@ use byte_streams::{
     ByteIn, ByteOut, COMMAND_LINE, DONE, FAULTY, MAX_INPUT, finish, finish_line, lack_memory,
     read_all, tell_unread,
 };
-use fault::{InputError, InputFault, push_fault};
 use question::{push_answer, read_question};
 use script_text::Lines;
-use std::alloc::{AllocError, Global};
+use std::alloc::Global;
+use suite_script::{ScriptError, fault_text};
 
 /// Does what the words behind the command ask for, and says the exit status.
 pub fn obey<I: ByteIn, O: ByteOut>(
@@ -73,7 +71,7 @@ fn answer_all<O: ByteOut>(alloc: Global, input: &[u8], writer: &mut O) -> u8
 }
 
 /// The answers to all lines, or the first fault.
-fn answers(alloc: Global, input: &[u8]) -> Result<Vec<u8>, InputError>
+fn answers(alloc: Global, input: &[u8]) -> Result<Vec<u8>, ScriptError>
     requires { length input.now < 2 ^ 60 }
     ensures { Comes result (output_of input.now) }
 {
@@ -90,21 +88,12 @@ fn answers(alloc: Global, input: &[u8]) -> Result<Vec<u8>, InputError>
 }
 
 /// Tells why the input was not answered.
-fn tell<O: ByteOut>(alloc: Global, error: InputError, writer: &mut O) -> u8
+fn tell<O: ByteOut>(alloc: Global, error: ScriptError, writer: &mut O) -> u8
     ensures { Told error result (O.written writer.old) (O.written writer.new)
         (O.failed_writes writer.old) (O.failed_writes writer.new) }
 {
     match error {
-        InputError::Faulty(fault) => finish_line(writer, fault_text(alloc, fault), FAULTY),
-        InputError::Memory => lack_memory(writer),
+        ScriptError::Faulty(fault) => finish_line(writer, fault_text(alloc, fault), FAULTY),
+        ScriptError::Memory => lack_memory(writer),
     }
-}
-
-/// The line of a fault.
-fn fault_text(alloc: Global, fault: InputFault) -> Result<Vec<u8>, AllocError>
-    ensures { IfOk result (λ line. line.items ≡ fault_line fault) }
-{
-    let mut line = Vec::new(alloc);
-    push_fault(&mut line, fault)?;
-    Ok(line)
 }

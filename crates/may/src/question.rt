@@ -1,16 +1,16 @@
 //! A question, and its answer.
 
 ghost use Rattle.std.specs.Prelude.{◌≡◌, ◌++◌, OnOk};
+ghost use Rattle.suite_script.specs.Readings.{Gives};
 ghost use Rattle.may.specs.Answers.{answer_line, verdict};
-ghost use Rattle.may.specs.Faults.{Gives};
 ghost use Rattle.may.specs.Questions.{question_in};
 
-use crate::fault::LineError;
-use crate::words::{at_end, next_word, read_caller, read_id, read_list, read_wanted};
+use crate::words::{read_list, read_wanted};
 use acl_core::{Acl, Caller, Check, Perms};
 use acl_text::{append_decider, permission_text};
 use script_text::Words;
 use std::alloc::{AllocError, Global};
+use suite_script::{LineError, at_end, next_word, read_caller, read_id};
 
 /// Whether a caller is granted what it wants, of a file of this owner and group with this list.
 #[derive(Drop)]

@@ -1,48 +1,14 @@
-//! What single words say.
+//! What is wanted, and of which list.
 
-ghost use Rattle.std.specs.Prelude.{◌≡◌, ◌∷◌, [], MatchResult};
+ghost use Rattle.std.specs.Prelude.{◌≡◌};
 ghost use Rattle.std.specs.List.{list_all};
-ghost use Rattle.may.specs.Faults.{Gives};
-ghost use Rattle.may.specs.Words.{at_end, caller_in, id_in, is_letter, list_in, stands_in, wanted_in};
+ghost use Rattle.suite_script.specs.Readings.{Gives};
+ghost use Rattle.may.specs.Words.{is_letter, list_in, stands_in, wanted_in};
 
-use crate::fault::{LineError, LineFault};
-use acl_core::{Acl, Caller, Entry, Perms, Tag};
+use acl_core::{Acl, Entry, Perms, Tag};
 use acl_text::{Names, read_acl};
-use script_text::{Words, read_number};
 use std::alloc::Global;
-
-/// The next word of a line.
-pub(crate) fn next_word<'a>(words: &mut Words<'a>) -> Result<&'a [u8], LineFault>
-    ensures { MatchResult result (λ first. words.old ≡ first.now ∷ words.new)
-        (λ fault. (fault ≡ LineFault.Form) × (words.old ≡ [])) }
-{
-    words.next().ok_or(LineFault::Form)
-}
-
-/// Nothing more on the line.
-pub(crate) fn at_end(words: &mut Words<'_>) -> Result<(), LineFault>
-    ensures { result ≡ at_end words.old }
-{
-    match words.next() {
-        Some(_) => Err(LineFault::Form),
-        None => Ok(()),
-    }
-}
-
-/// The number of a user or a group.
-pub(crate) fn read_id(word: &[u8]) -> Result<u32, LineFault>
-    ensures { result ≡ id_in word.now }
-{
-    let number = read_number(word, u64::from(u32::MAX)).ok_or(LineFault::Form)?;
-    Ok(number as u32)
-}
-
-/// A caller of some user, with the numbers of its groups between commas, its own first.
-pub(crate) fn read_caller(uid: u32, word: &[u8]) -> Result<Caller, LineFault>
-    ensures { result ≡ caller_in uid word.now }
-{
-    acl_text::read_caller(uid, word).ok_or(LineFault::Form)
-}
+use suite_script::{LineError, LineFault};
 
 fn is_letter(byte: u8) -> bool
     ensures { result ≡ is_letter byte }

@@ -9,6 +9,7 @@ use Rattle.rep_core.specs.declared.reply.Reply.TheVariants as reply
 use Rattle.rep_core.specs.declared.reply.Verdict.TheVariants as verdict
 use Rattle.txn_core.specs.Agents as agents
 use Rattle.law_runs.specs.Claims.{ended}
+use Rattle.law_runs.proofs.Answering.{none_at}
 use Rattle.law_runs.proofs.Worlds.{agent_of}
 
 -- ---- the job that an agent began last
@@ -218,15 +219,6 @@ module _ (given : Opening) (accepted : IsAccepted given) (world : World) (jobs :
 abbrev pub is_step : Event → Bool
 is_step (Step number) = true
 is_step other = false
-
-none_at : (found : Option State) (t : Option ℕ) → decided_at found t None ≡ None
-none_at found None = refl
-none_at None (Some t) = refl
-none_at (Some st) (Some t) = of (is_some (record_of st t))
-  where
-    of : (b : Bool) → ◌≡◌ {A = Option Decided} (cond b None None) None
-    of true = refl
-    of false = refl
 
 no_task : (world : World) (what : Option Served) → decided_by world None what ≡ None
 no_task world None = refl

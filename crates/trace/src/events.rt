@@ -3,7 +3,7 @@
 use crate::agents::{AgentTold, push_agent};
 use event_json::{Before, push_denials, push_reply, push_request, push_server, push_string};
 use file_ops::AuditItem;
-use rep_core::Request;
+use rep_core::{Request, Server};
 use run_core::{Done, EndedJob, Event, Served, World};
 use script_text::push_number;
 use std::alloc::{AllocError, Global};
@@ -19,7 +19,7 @@ pub(crate) struct Events {
     alloc: Global,
     count: u64,
     line: u64,
-    before: Before,
+    before: Vec<Before>,
     asked: Request,
     servers: u8,
     told: Vec<AgentTold>,
@@ -32,7 +32,7 @@ impl Events {
             alloc,
             count: 0,
             line: 0,
-            before: Before::new(alloc),
+            before: Vec::new(alloc),
             asked: Request::Locks,
             servers: 0,
             told: Vec::new(alloc),
@@ -90,11 +90,13 @@ impl Events {
         agents: u8,
         servers: u8,
     ) -> Result<(), AllocError> {
+        self.before.clear();
         let mut before: &[u8] = b",\"servers\":[";
         for number in 0..servers {
             if let Some(server) = world.server(number) {
                 text.extend_from_slice(before)?;
                 push_server(self.alloc, text, number, server)?;
+                self.keep(number, server)?;
                 before = b",";
             }
         }
@@ -108,6 +110,14 @@ impl Events {
             }
         }
         text.extend_from_slice(b"]}\n")
+    }
+
+    /// Keeps what was told of a server.
+    fn keep(&mut self, number: u8, server: &Server) -> Result<(), AllocError> {
+        let mut told = Before::new(self.alloc);
+        told.look(number, server)?;
+        self.before.push(told)?;
+        Ok(())
     }
 
     /// Begins to tell a line of the script.
@@ -127,14 +137,6 @@ impl Events {
     pub(crate) fn nothing(&mut self, text: &mut Vec<u8>, why: &[u8]) -> Result<(), AllocError> {
         text.extend_from_slice(b",\"nothing\":")?;
         push_string(self.alloc, text, why.trim_ascii())
-    }
-
-    /// Looks at a server before it is asked something.
-    pub(crate) fn look(&mut self, world: &World, number: u8) -> Result<(), AllocError> {
-        match world.server(number) {
-            Some(server) => self.before.look(number, server),
-            None => Ok(()),
-        }
     }
 
     /// Tells what became of an event that is a line by itself, and ends the line.
@@ -200,13 +202,13 @@ impl Events {
         world: &World,
         served: &Served,
     ) -> Result<(), AllocError> {
-        match world.server(served.server) {
-            Some(server) => {
+        let number = usize::from(served.server);
+        match (world.server(served.server), self.before.get_mut(number)) {
+            (Some(server), Some(before)) => {
                 text.extend_from_slice(b",\"at\":")?;
-                self.before
-                    .push_changes(self.alloc, text, server, &served.request.value)
+                before.push_changes(self.alloc, text, server, &served.request.value)
             }
-            None => Ok(()),
+            _ => Ok(()),
         }
     }
 
