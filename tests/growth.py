@@ -187,10 +187,6 @@ def left_locks(count: int) -> str:
     return names_made(count) + left + job("getvotes /") * count
 
 
-def prepared_locks(count: int) -> str:
-    return header() + "begin 0 1000 100 0 list /\nstep 0 4\ncrash 0\nrun 0\nreturn 0\n" * count
-
-
 def silent(count: int) -> str:
     return header(1, 2) + "begin 0 1000 100 0 list /\n" * count + "run 0\n" + "step 1 3\nrun 1\n" * count
 
@@ -353,9 +349,8 @@ PLAYED = (
     ("left-locks", left_locks, 60),
 )  # fmt: skip
 PLAY: tuple[Input, ...] = tuple((f"play-{name}", ["play"], make, size) for name, make, size in PLAYED)
-TRACE: tuple[Input, ...] = (
-    *((f"trace-{name}", ["trace"], make, max(4, size // 4)) for name, make, size in PLAYED),
-    ("trace-json-prepared-locks", ["trace", "--json"], prepared_locks, 500),
+TRACE: tuple[Input, ...] = tuple(
+    (f"trace-{name}", ["trace"], make, max(4, size // 4)) for name, make, size in PLAYED
 )
 SERVE: tuple[Input, ...] = tuple(
     (f"serve-{name}", ["serve", "--agents", "1"], make, size)
