@@ -1,7 +1,7 @@
 -- Changes between two lists, as far as they are looked through.
-use Rattle.std.proofs.Common.{◌≡◌, ◌∙◌, List, [], ◌∷◌, ◌++◌, append-nil, append_assoc, ap, inl, inr, refl, subst, sym}
+use Rattle.std.proofs.Common.{◌≡◌, ◌∙◌, List, [], ◌∷◌, ◌++◌, append_assoc, ap, inl, inr, refl, subst, sym}
 use Rattle.event_json.specs.Changes.{IsChange, IsParted}
-use Rattle.event_json.specs.code.Going.{GoesOn, Meets, Passes}
+use Rattle.event_json.specs.code.Going.{GoesOn, Meets}
 use Rattle.event_json.proofs.Parting.{parted_all, parted_go, parted_stay}
 
 -- of the old list this is left, and of the new one this was looked at
@@ -16,7 +16,7 @@ pub changing_first : {A : Type 0} (old : List A) → IsChanging old old [] [] []
 changing_first old = record { front = []; kept = []; parts = refl; before = (refl, refl); after = (refl, refl) }
 
 -- some of what is left went
-changing_goes : {A : Type 0} (old rest later seen was now came : List A) → IsChanging old rest seen was came → GoesOn rest later was now → IsChanging old later seen now came
+pub changing_goes : {A : Type 0} (old rest later seen was now came : List A) → IsChanging old rest seen was came → GoesOn rest later was now → IsChanging old later seen now came
 changing_goes old rest later seen was now came so on = record {
   front = so.front ++ on.front;
   kept = so.kept;
@@ -26,7 +26,7 @@ changing_goes old rest later seen was now came so on = record {
 }
 
 -- the next of the new one is the first of what is left, or it came
-changing_meets : {A : Type 0} (old rest later seen gone was now : List A) (x : A) → IsChanging old rest seen gone was → Meets rest x later was now
+pub changing_meets : {A : Type 0} (old rest later seen gone was now : List A) (x : A) → IsChanging old rest seen gone was → Meets rest x later was now
     → IsChanging old later (seen ++ x ∷ []) gone now
 changing_meets old rest later seen gone was now x so meets = elim meets [
   | inl a ↦ record {
@@ -44,20 +44,6 @@ changing_meets old rest later seen gone was now x so meets = elim meets [
     after = subst (λ cs. IsParted (seen ++ x ∷ []) so.kept cs) (sym b.1) (parted_go seen so.kept was x so.after);
   }
 ]
-
--- the same where what stood before it went first
-pub changing_passes : {A : Type 0} (old rest later seen gone gone_now came came_now : List A) (x : A) → IsChanging old rest seen gone came
-    → Passes rest x later gone gone_now came came_now → IsChanging old later (seen ++ x ∷ []) gone_now came_now
-changing_passes old rest later seen gone gone_now came came_now x so passes =
-    changing_meets old passes.rest later seen gone_now came came_now x (changing_goes old rest passes.rest seen gone gone_now came so passes.goes) passes.meets
-
--- it is the first of what is left
-pub passes_first : {A : Type 0} (all later gone came : List A) (x : A) → all ≡ x ∷ later → Passes all x later gone gone came came
-passes_first all later gone came x is = record {
-  rest = all;
-  goes = record { front = []; parts = refl; went = sym (append-nil gone) };
-  meets = inl (is, refl);
-}
 
 -- all was looked at, and what is left went
 pub changed : {A : Type 0} (old rest new was now came : List A) → IsChanging old rest new was came → now ≡ was ++ rest → IsChange old new now came

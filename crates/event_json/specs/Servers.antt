@@ -74,7 +74,7 @@ abbrev pub came_denials : List AuditItem → List ℕ
 came_denials [] = []
 came_denials (item ∷ items) = codes ",\"denials\":" ++ denials_text (item ∷ items)
 
--- What changed at a server since it was told last is told: its number, whether it is up, which locks went and which came, the copies that a Finish left, and
+-- What changed at a server since it was looked at is told: its number, whether it is up, which locks went and which came, the copies that a Finish left, and
 -- the denials behind those that it had recorded.
 pub record TellsChanges (old : Before) (asked : Request) (st : State) (before after : List ℕ) : Type 0 where
   pub gone : List Lock

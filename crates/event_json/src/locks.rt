@@ -4,7 +4,7 @@ ghost use Rattle.std.specs.Prelude.{◌≡◌, ◌≤◌, ◌++◌, ◌∷◌, I
 ghost use Rattle.std.specs.List.{flat_map};
 ghost use Rattle.event_json.specs.Changes.{IsChange};
 ghost use Rattle.event_json.specs.Locks.{TellsLockChange, came_text, freed_text, gone_lock_text, lock_text, locks_text, mode_text};
-ghost use Rattle.event_json.specs.code.Going.{GoesOn, Meets, Passes};
+ghost use Rattle.event_json.specs.code.Going.{GoesOn, Meets};
 ghost use Rattle.event_json.specs.Strings.{listed};
 
 use crate::strings::{push_member, truth};
@@ -78,26 +78,11 @@ fn lock_change(alloc: Global, old: &[Lock], new: &[Lock]) -> Result<LockChange, 
     let mut came = Vec::new(alloc);
     let mut rest = old;
     for lock in new {
-        rest = pass(rest, *lock, &mut gone, &mut came)?;
+        rest = go_before(rest, *lock, &mut gone)?;
+        rest = meet(rest, *lock, &mut came)?;
     }
     gone.extend_from_slice(rest)?;
     Ok(LockChange { gone, came })
-}
-
-/// What is left of locks once one of the new list is met: mostly it is the first, and else those before it went.
-fn pass<'a>(
-    locks: &'a [Lock],
-    lock: Lock,
-    gone: &mut Vec<Lock>,
-    came: &mut Vec<Lock>,
-) -> Result<&'a [Lock], AllocError>
-    ensures { IfOk result (λ later. Passes locks.now lock later.now gone.old.items gone.new.items came.old.items came.new.items) }
-{
-    if let Some(more) = behind(locks, lock) {
-        return Ok(more);
-    }
-    let rest = go_before(locks, lock, gone)?;
-    meet(rest, lock, came)
 }
 
 /// What is left of locks behind those that stand before another: those went.

@@ -17,7 +17,7 @@ use std::alloc::{AllocError, Global};
 use suite_prefix::StoredCopy;
 use suite_script::push_denial;
 
-/// What was told last of a server: its locks, and how many denials it had recorded.
+/// What a server had before a request: its locks, and how many denials it had recorded.
 #[derive(Drop)]
 pub struct Before {
     number: u8,
@@ -39,7 +39,7 @@ impl Before {
         }
     }
 
-    /// All that the server of this number has is told.
+    /// From now on it is what the server of this number has.
     pub fn look(&mut self, number: u8, server: &Server) -> Result<(), AllocError>
         ensures number { OnOk result (self.new.number ≡ number) }
         ensures locks { OnOk result (self.new.locks.items ≡ server.now.state.locks) }
@@ -51,29 +51,36 @@ impl Before {
         Ok(())
     }
 
-    /// What the server has after a request of what was not told, or was told otherwise: the locks that went and those
-    /// that came, the copies that a Finish left, and denials that came. Then all that it has is told.
+    /// What the server has after a request of what it had not before, or had otherwise: the locks that went and those that
+    /// came, the copies that a Finish left, and denials that came.
     pub fn push_changes(
-        &mut self,
+        &self,
         alloc: Global,
         text: &mut Vec<u8>,
         server: &Server,
         request: &Request,
     ) -> Result<(), AllocError>
-        ensures told { OnOk result (TellsChanges self.old request.now server.now.state text.old.items text.new.items) }
-        ensures number { OnOk result (self.new.number ≡ self.old.number) }
-        ensures locks { OnOk result (self.new.locks.items ≡ server.now.state.locks) }
-        ensures denials { OnOk result (self.new.denials ≡ length server.now.state.audit) }
+        ensures { OnOk result (TellsChanges self.now request.now server.now.state text.old.items text.new.items) }
     {
-        let locks = server.locks()?;
         push_up(text, self.number, server)?;
-        push_changed_locks(alloc, text, &self.locks, &locks)?;
+        self.push_locks_since(alloc, text, server)?;
         self.push_left(alloc, text, server, finished(request))?;
         self.push_denials_since(text, server)?;
         text.extend_from_slice(b"}")?;
-        self.locks = locks;
-        self.denials = server.audit().len();
         Ok(())
+    }
+
+    /// Which locks went, and which came.
+    fn push_locks_since(
+        &self,
+        alloc: Global,
+        text: &mut Vec<u8>,
+        server: &Server,
+    ) -> Result<(), AllocError>
+        ensures { OnOk result (TellsLockChange self.now.locks.items server.now.state.locks text.old.items text.new.items) }
+    {
+        let locks = server.locks()?;
+        push_changed_locks(alloc, text, self.locks.as_slice(), locks.as_slice())
     }
 
     /// The denials that came.

@@ -3,7 +3,7 @@
 use crate::agents::{AgentTold, push_agent};
 use event_json::{Before, push_denials, push_reply, push_request, push_server, push_string};
 use file_ops::AuditItem;
-use rep_core::{Request, Server};
+use rep_core::Request;
 use run_core::{Done, EndedJob, Event, Served, World};
 use script_text::push_number;
 use std::alloc::{AllocError, Global};
@@ -19,7 +19,7 @@ pub(crate) struct Events {
     alloc: Global,
     count: u64,
     line: u64,
-    before: Vec<Before>,
+    before: Before,
     asked: Request,
     servers: u8,
     told: Vec<AgentTold>,
@@ -32,7 +32,7 @@ impl Events {
             alloc,
             count: 0,
             line: 0,
-            before: Vec::new(alloc),
+            before: Before::new(alloc),
             asked: Request::Locks,
             servers: 0,
             told: Vec::new(alloc),
@@ -90,13 +90,11 @@ impl Events {
         agents: u8,
         servers: u8,
     ) -> Result<(), AllocError> {
-        self.before.clear();
         let mut before: &[u8] = b",\"servers\":[";
         for number in 0..servers {
             if let Some(server) = world.server(number) {
                 text.extend_from_slice(before)?;
                 push_server(self.alloc, text, number, server)?;
-                self.keep(number, server)?;
                 before = b",";
             }
         }
@@ -110,14 +108,6 @@ impl Events {
             }
         }
         text.extend_from_slice(b"]}\n")
-    }
-
-    /// Keeps what was told of a server.
-    fn keep(&mut self, number: u8, server: &Server) -> Result<(), AllocError> {
-        let mut told = Before::new(self.alloc);
-        told.look(number, server)?;
-        self.before.push(told)?;
-        Ok(())
     }
 
     /// Begins to tell a line of the script.
@@ -137,6 +127,14 @@ impl Events {
     pub(crate) fn nothing(&mut self, text: &mut Vec<u8>, why: &[u8]) -> Result<(), AllocError> {
         text.extend_from_slice(b",\"nothing\":")?;
         push_string(self.alloc, text, why.trim_ascii())
+    }
+
+    /// Looks at a server before it is asked something.
+    pub(crate) fn look(&mut self, world: &World, number: u8) -> Result<(), AllocError> {
+        match world.server(number) {
+            Some(server) => self.before.look(number, server),
+            None => Ok(()),
+        }
     }
 
     /// Tells what became of an event that is a line by itself, and ends the line.
@@ -202,13 +200,13 @@ impl Events {
         world: &World,
         served: &Served,
     ) -> Result<(), AllocError> {
-        let number = usize::from(served.server);
-        match (world.server(served.server), self.before.get_mut(number)) {
-            (Some(server), Some(before)) => {
+        match world.server(served.server) {
+            Some(server) => {
                 text.extend_from_slice(b",\"at\":")?;
-                before.push_changes(self.alloc, text, server, &served.request.value)
+                self.before
+                    .push_changes(self.alloc, text, server, &served.request.value)
             }
-            _ => Ok(()),
+            None => Ok(()),
         }
     }
 

@@ -68,6 +68,14 @@ impl Teller {
         }
     }
 
+    /// Looks at what changes next.
+    pub(crate) fn look(&mut self, world: &World, server: Option<u8>) -> Result<(), AllocError> {
+        match (&mut self.events, server) {
+            (Some(events), Some(server)) => events.look(world, server),
+            _ => Ok(()),
+        }
+    }
+
     /// Tells what became of an event that is a line by itself.
     pub(crate) fn happened(
         &mut self,

@@ -10,9 +10,3 @@ pub record GoesOn {A : Type 0} (all rest was now : List A) : Type 0 where
 -- it is the first of what is left, or one more of those that are not there
 abbrev pub Meets : {A : Type 0} → List A → A → List A → List A → List A → Type 0
 Meets rest x later was now = ((rest ≡ x ∷ later) × (now ≡ was)) ⊎ ((later ≡ rest) × (now ≡ was ++ x ∷ []))
-
--- what stood before it is gone, and then it is met
-pub record Passes {A : Type 0} (all : List A) (x : A) (later gone_was gone_now came_was came_now : List A) : Type 0 where
-  pub rest : List A
-  pub goes : GoesOn all rest gone_was gone_now
-  pub meets : Meets rest x later came_was came_now
