@@ -1,4 +1,5 @@
 mod Vocabulary
+mod WordByWord
 pub mod Places
 pub mod Joining
 pub mod Taken

@@ -1,14 +1,14 @@
 -- The names that the proofs of this crate take from elsewhere, each with one meaning here.
-pub use Rattle.std.proofs.Common.{Bool, Err, Global, List, None, Ok, Option, Result, Some, Vec, [], ap, append_assoc, arith, cond, drop, false, fold, get_or}
+pub use Rattle.std.proofs.Common.{Bool, Bor, Err, Global, List, None, Ok, Option, Result, Some, Vec, [], ap, append_assoc, arith, cond, drop, false, fold, get_or}
 pub use Rattle.std.proofs.Common.{if◌then◌else◌, inl, inr, length, map, min, nat_lt, not, option_map, refl, slice_index, slice_set, suc, sym, take}
 pub use Rattle.std.proofs.Common.{true, zero, ℕ, ◌&&◌, ◌++◌, ◌+◌, ◌-◌, ◌<◌, ◌∙◌, ◌∷◌, ◌≡◌, ◌≤◌}
 pub use Rattle.std.proofs.Math.Seq.{map-set_same}
-pub use Rattle.std.proofs.lemmas.List.{drop-map, get_or-map, get_or-replicate, get_or_default, length-map, map-append, map-set, take-map}
+pub use Rattle.std.proofs.lemmas.List.{drop-map, drop_more, get_or-map, get_or-replicate, get_or_default, length-map, map-append, map-set, take-map}
 pub use Rattle.std.proofs.lemmas.List.FromFn.{length-map-range_with_len, map-range_with_len_more}
 pub use Rattle.std.proofs.lemmas.List.Quantifiers.{position-Some}
 pub use Rattle.std.proofs.lemmas.Result.{on_ok_weaker}
 pub use Rattle.std.specs.List.{list_any, position, prefix_len, remove}
-pub use Rattle.std.specs.Prelude.{is_some}
+pub use Rattle.std.specs.Prelude.{is_some, option_and_then}
 pub use Rattle.std.specs.Str.{bytes_eq}
 pub use Rattle.std.specs.Vec.Iter.{into_iter_items}
 pub use Rattle.acl_text.specs.Tables.{Tables}
@@ -54,7 +54,8 @@ pub use Rattle.explore.specs.Shown.{Shown, Shows, printed_all, printed_of, shown
 pub use Rattle.explore.specs.Tasks.{IsRun, Led, after_event, jobs_for, jobs_in, led_by, led_in, line_events, step_events, steps_with, with_line}
 pub use Rattle.explore.specs.Waits.{line_of, number_behind, number_below, waits_from}
 pub use Rattle.explore.specs.Ways.{decided_jobs, first_in, job_line, job_lines, joined, joined_at, more_ends, numbers_from, rest_in, way_lines, ways_from}
-pub use Rattle.explore.specs.Words.{first_reading, read_from}
+pub use Rattle.explore.specs.Words.{first_reading, read_from, wanted_by, wanted_of, with_word}
+pub use Rattle.explore.specs.declared.words.Reading.{Reading}
 pub use Rattle.explore.specs.code.Printing.{AreTexts, printed_in, retelling_of, ways_in}
 pub use Rattle.explore.specs.code.Reading.{GivesHalves, in_lists}
 pub use Rattle.explore.specs.code.Searches.{Finds}

@@ -85,10 +85,8 @@ pub(crate) fn read_words(words: &[&str]) -> Option<Wanted>
     ensures { result ≡ wanted_by (map (λ word. word.now) words.now) }
 {
     let mut reading = first_reading();
-    let mut rest = words;
-    while let Some((word, later)) = rest.split_first() {
+    for word in words {
         reading = with_word(reading, word.as_bytes())?;
-        rest = later;
     }
     wanted_of(reading)
 }

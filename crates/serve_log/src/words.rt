@@ -30,7 +30,7 @@ pub(crate) fn read_words<'a>(words: &[&'a str]) -> Option<Wish<'a>>
         }
     };
     if rest.is_empty() {
-        wish(agents, log)
+        wanted(agents, log)
     } else {
         None
     }
@@ -54,7 +54,7 @@ pub(crate) fn is_log(word: &str) -> bool {
 }
 
 /// What is asked for by a number of agents and a file.
-fn wish<'a>(agents: &str, log: &'a str) -> Option<Wish<'a>>
+fn wanted<'a>(agents: &str, log: &'a str) -> Option<Wish<'a>>
     ensures { IfSome result IsServable }
 {
     match read_number(agents.as_bytes(), MAX_AGENTS as u64) {

@@ -19,17 +19,12 @@ pub(crate) fn read_words<'a>(words: &[&'a str]) -> Option<Wish<'a>> {
     let mut marks = false;
     let mut is_synced = true;
     let mut name = None;
-    let mut rest = words;
-    while let Some((word, later)) = rest.split_first() {
-        rest = later;
+    let mut rest = words.iter();
+    while let Some(word) = rest.next() {
         match *word {
             "--marks" => marks = true,
             "--no-sync" => is_synced = false,
-            "--journal" if name.is_none() => {
-                let (given, later) = rest.split_first()?;
-                name = Some(*given);
-                rest = later;
-            }
+            "--journal" if name.is_none() => name = Some(*rest.next()?),
             _ => return None,
         }
     }
