@@ -22,6 +22,7 @@ MADE_OF = {
     "liar": ("lies", "story", "telling", "trace/src/asked", "trace/src/told", "trace/src/words"),
     "damaged_copies": (),
 }
+FEWEST = 7
 # The program of which the others become modules, and what a measurement takes in place of the runtime that only a
 # `main` has.
 ROOT, RUNTIME = "liar", "&(impl AllocGlobal + Print + std::rt::Clock + std::sync::Wait)"
@@ -84,10 +85,8 @@ def main() -> int:
         done = subprocess.run(["rt", "try"], cwd=own, stdin=subprocess.DEVNULL, capture_output=True, text=True)
     if done.returncode != 0:
         wrong.append((done.stdout + done.stderr)[-4000:])
-    for line in wrong:
-        print(line)
-    print(f"{count} programs, {len(wrong)} differ")
-    return 1 if wrong or count < 7 else 0
+    wrong += [f"only {count} programs are found"] if count < FEWEST else []
+    return played.verdict(count, "programs", wrong)
 
 
 if __name__ == "__main__":

@@ -24,9 +24,6 @@ from concurrent.futures import ThreadPoolExecutor
 import played
 import reading
 
-from common import console
-
-HERE = os.path.dirname(os.path.abspath(__file__))
 # Looks at each so many-th byte alone, where the variable says so.
 EVERY = int(os.environ.get("EVERY", "1"))
 
@@ -163,15 +160,10 @@ def failed(program: str, rows: list[played.Row]) -> list[str]:
 
 
 def main() -> int:
-    read = console.words(__doc__)
-    read.add_argument("program", nargs="?")
-    program, rows = played.program(read.parse_args().program), played.examples()
+    program, rows = played.named_program(__doc__), played.examples()
     rows += [row for row in played.rows() if row["title"] == "Transactions and sweeps"]
     wrong = failed(program, [*rows, long_row()]) + cut(program, rows)
-    for one in wrong[:20]:
-        print(one)
-    print(f"{len(rows)} inputs, {len(wrong)} differ")
-    return 1 if wrong or not rows else 0
+    return played.verdict(len(rows), "inputs", wrong, 20)
 
 
 if __name__ == "__main__":

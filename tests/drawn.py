@@ -28,31 +28,29 @@ import xml.etree.ElementTree as etree
 import played
 import traced
 from played import Tally
+from scripting import header, job
 
-from common import console, tool
+from common import built, text_of, tool
 from compare import scenario
 from trace import draw, trace
 from trace.events import Run, events_of
 from trace.paths import paths
 
-STORIES = os.path.join(played.TOP, "examples", "play")
-PICTURE = os.path.join(played.TOP, "docs", "revocation.svg")
 # An em of these fonts has 2,048 units, and each letter 1,233 (DejaVu Sans Mono; the others have less). A letter reaches
 # so far above and below its line.
 SIZE, LETTER, ABOVE, BELOW = 11, 1233 / 2048, 9, 2
 # What a browser shows of a page on a small screen.
 SCREEN = 700
 SVG = "{http://www.w3.org/2000/svg}"
-HEADER = ["root 1000 100 777", "cache 4096 4096 16"]
 LONG = "/a-name-of-more-letters-than-there-is-room-for-between-two-lines"
 
 
 def script_of(servers: int, agents: int, votes: str, *lines: str) -> str:
-    return "\n".join([f"servers {servers}", f"agents {agents}", f"votes {votes}", *HEADER, *lines]) + "\n"
+    return header(servers, agents, votes, cache="4096 4096 16") + "".join(f"{line}\n" for line in lines)
 
 
 def begun(agent: int, asked: str, uid: int = 1000) -> str:
-    return f"begin {agent} {uid} 100 0 {asked}\nrun {agent}"
+    return job(asked, agent, f"{uid} 100").rstrip("\n")
 
 
 SCRIPTS = {
@@ -167,16 +165,14 @@ def drawn(script: str, *words: str) -> Picture:
 
 def jobs(program: str, script: str) -> list[int]:
     """How many requests each job took, as `play` tells."""
-    done = subprocess.run([program, "play"], input=script.encode(), stdout=subprocess.PIPE, check=True)
-    return [int(found[1]) for found in re.finditer(r"^\d+\.\d+ (\d+) ", done.stdout.decode(), re.M)]
+    printed = built.asked("play", script, path=program)[1]
+    return [int(found) for found in re.findall(r"^\d+\.\d+ (\d+) ", printed, re.M)]
 
 
 def scripts() -> typing.Iterator[tuple[str, str]]:
     """The scripts above, the stories, and random ones."""
     yield from SCRIPTS.items()
-    for name in sorted(os.listdir(STORIES)):
-        with open(os.path.join(STORIES, name), encoding="utf-8") as file:
-            yield name, file.read()
+    yield from played.stories().items()
     for seed in range(12):
         yield f"seed {seed}", scenario.Scenario(seed, 160).script()
 
@@ -429,7 +425,7 @@ def slow(tally: Tally) -> None:
         own, terminal = pty.openpty()
         done = subprocess.run(words, input=script, stdout=subprocess.PIPE, stderr=terminal, cwd=folder)
         os.close(terminal)
-        said = read_all(own)
+        said = played.shown_on(own)
         tally.holds(
             done.returncode == 0 and " % of the script is played, 0 s" in said, name, "a terminal is told", said
         )
@@ -440,24 +436,8 @@ def slow(tally: Tally) -> None:
         )
 
 
-def read_all(terminal: int) -> str:
-    """What was written to a terminal that nobody writes to any more."""
-    parts: list[bytes] = []
-    while True:
-        try:
-            part = os.read(terminal, 4096)
-        except OSError:
-            part = b""
-        if not part:
-            os.close(terminal)
-            return b"".join(parts).decode()
-        parts.append(part)
-
-
 def main() -> int:
-    read = console.words(__doc__)
-    read.add_argument("program", nargs="?")
-    program, tally = played.program(read.parse_args().program), Tally(most=20)
+    program, tally = played.named_program(__doc__), Tally(most=20)
     cut = 0
     for name, script in scripts():
         lines, events = traced.lines_of(script), events_of(script.encode())
@@ -475,9 +455,9 @@ def main() -> int:
         cut += sum(text.is_cut for text in picture.texts)
     tally.holds(cut > 0, "no label was cut")
     unordered(tally)
-    with open(PICTURE, encoding="utf-8") as file:
-        own = run(dict(scripts())["revocation.script"])[1]
-        tally.holds(file.read() == own, "the picture in docs/ is another one: ./suites draw makes it anew")
+    own = run(played.stories()["revocation.script"])[1]
+    is_same = text_of("docs", "revocation.svg") == own
+    tally.holds(is_same, "the picture in docs/ is another one: ./suites draw makes it anew")
     everybody(tally)
     chosen(tally)
     stands(tally)

@@ -28,7 +28,7 @@ import played
 from played import Tally
 from shown_page import SEEN
 
-from common import tool
+from common import built, text_of, tool
 from show import show
 
 DOOR = tool("show", "--live")
@@ -188,8 +188,8 @@ def tells(tally: Tally, folder: str) -> None:
             tally.holds(told[line][0].startswith("row /plan file") and line not in script, "a question", told[line])
         lines = [one for line, answer in zip(STORY, answers) if line not in told for one in answer["told"]]
         text = "".join(f"{line}\n" for line in script).encode()
-        done = subprocess.run([played.program(), "play"], input=text, stdout=subprocess.PIPE)
-        tally.holds(done.stdout.decode().splitlines() == lines, "what is saved, played", done.stdout, lines)
+        printed = built.asked("play", text)[1].splitlines()
+        tally.holds(printed == lines, "what is saved, played", printed, lines)
         tally.holds(any("denied op 1" in one for one in lines), "the story", lines)
         events = show.shown_of(text, 0, sys.maxsize).events[:-1]
         early = STORY.index("user lisa 2000")
@@ -205,8 +205,8 @@ def tells(tally: Tally, folder: str) -> None:
         tally.holds(sorted(again) == sorted(line for line in script if not line.startswith("#")), "the journal", again)
         tally.holds("nothing" not in live.tell("row /plan")["told"][0], "the journal's file", again)
     path = os.path.join(played.TOP, "examples", "play", "swept-clean.script")
-    with Live("--script", path) as live, open(path, encoding="utf-8") as file:
-        tally.holds(live.script() == file.read().splitlines(), "a script is begun with", live.script())
+    with Live("--script", path) as live:
+        tally.holds(live.script() == text_of(path).splitlines(), "a script is begun with", live.script())
 
 
 def ends(tally: Tally) -> None:

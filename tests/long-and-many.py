@@ -194,10 +194,7 @@ def main() -> int:
     given = read.parse_args()
     program, runs = played.program(given.program), given.runs
     wrong = often(program, runs) + many(program) + long(program) + busy(program)
-    for one in wrong[:20]:
-        print(one)
-    print(f"{runs + 3} runs, {len(wrong)} differ")
-    return 1 if wrong or runs < 1 else 0
+    return played.verdict(runs + 3, "runs", wrong if runs else ["nothing was run often"], 20)
 
 
 if __name__ == "__main__":

@@ -12,7 +12,7 @@ signal.signal(signal.SIGINT, signal.default_int_handler)
 TOP = os.path.realpath(os.path.join(os.path.dirname(os.path.abspath(__file__)), ".."))
 # What tests import of the tools, before what of tests has the same name: the one edit of where modules are looked for.
 sys.path.insert(0, os.path.join(TOP, "tools"))
-from common import built  # noqa: E402
+from common import built, console, text_of  # noqa: E402
 from common.read_rows import Row, examples, rows, said  # noqa: E402, F401
 
 
@@ -24,6 +24,29 @@ def program(named: str | None = None) -> str:
     if not os.path.exists(path):
         sys.exit(f"there is no program to be played{': ' + path if path else ''}")
     return path
+
+
+def named_program(doc: str) -> str:
+    """The program of a test whose words name it or nothing."""
+    read = console.words(doc)
+    read.add_argument("program", nargs="?")
+    return program(read.parse_args().program)
+
+
+def stories(folder: str = "play") -> dict[str, str]:
+    """The scripts of a folder of examples/, by their names."""
+    top = os.path.join(TOP, "examples", folder)
+    return {name: text_of(top, name) for name in sorted(os.listdir(top)) if name.endswith(".script")}
+
+
+def shown_on(terminal: int) -> str:
+    """What was written to a terminal to which nobody writes any more; closes it."""
+    shown = b""
+    with contextlib.suppress(OSError):
+        while piece := os.read(terminal, 4096):
+            shown += piece
+    os.close(terminal)
+    return shown.decode()
 
 
 def library(name: str, folder: str) -> str | None:
@@ -60,13 +83,15 @@ class Tally:
 
     def told(self, what: str) -> int:
         """The status of a test: 1 where something differs, or nothing was looked at. Prints the counts."""
-        print(f"{self.count} {what}, {self.wrong} differ")
+        print(f"{self.count} {what}, {self.wrong} differ", flush=True)
         return 1 if self.wrong or not self.count else 0
 
 
-def compared(told: typing.Iterable[str], what: str) -> int:
-    """The status of a test: 1 where a comparison says what differs, or there was none. Prints that, and the counts."""
-    tally = Tally()
-    for text in told:
-        tally.holds(not text, text)
-    return tally.told(what)
+def verdict(count: int, what: str, wrong: typing.Sequence[str], most: int = sys.maxsize) -> int:
+    """The status of a test that looked at so many: 1 where something is wrong, or there was nothing to look at. Prints
+    the first of what is wrong, as many as `most`, and the counts.
+    """
+    for line in wrong[:most]:
+        print(line)
+    print(f"{count} {what}, {len(wrong)} differ", flush=True)
+    return 1 if wrong or not count else 0

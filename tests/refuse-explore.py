@@ -20,7 +20,7 @@ import explored
 import played
 from played import Tally
 
-from common import built, console
+from common import built, console, text_of
 
 # The scripts that are explored, each with its words, where none is named.
 STORIES = (
@@ -79,8 +79,7 @@ def kind(told: Run, full: Run) -> str | None:
 
 def refuse_each(refused: Refused, path: str, words: list[str], every: int, tally: Tally) -> collections.Counter[str]:
     """Refuses each allocation in turn. Answers how often each kind of answer was given."""
-    with open(os.path.join(played.TOP, path), "rb") as file:
-        script = file.read()
+    script = text_of(path).encode()
     full, counts = refused.run(words, script), collections.Counter[str]()
     for is_alone in (True, False):
         number = 1

@@ -19,7 +19,6 @@ import subprocess
 import sys
 import tempfile
 
-import played
 import voted
 
 from common import console, tool

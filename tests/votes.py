@@ -27,7 +27,6 @@ import subprocess
 import sys
 import typing
 
-import played
 import voted
 
 from explain import explain
