@@ -43,7 +43,7 @@ def users() -> bytes:
 def denials() -> bytes:
     """Jobs of a user who may not do what he asks."""
     jobs = "".join(f"begin 0 2000 100 0 write /f {number:032x}\nrun 0\n" for number in range(1_000))
-    return (left.HEAD.format(1).replace("777", "700") + jobs).encode()
+    return (left.head(1, "700") + jobs).encode()
 
 
 INPUTS: tuple[tuple[str, str, typing.Callable[[], bytes]], ...] = (

@@ -22,3 +22,14 @@ def equal_votes(servers: int) -> str:
 def job(asked: str, agent: int = 0, who: str = "1000 100", site: int = 0) -> str:
     """A job of an agent, from its beginning to its end: what is asked, for which user and groups, and at which site."""
     return f"begin {agent} {who} {site} {asked}\nrun {agent}\n"
+
+
+# Eight folders in one another, eight times; and one transaction that goes down all of them.
+DEEP = ["".join(f"/{branch}{depth}" for depth in range(8)) for branch in "abcdefgh"]
+READ_ALL = " ; ".join(f"getacl {path}" for path in DEEP)
+
+
+def deep_folders(who: str) -> str:
+    """Jobs that make them."""
+    made = (f"folder {path[:end]} 777" for path in DEEP for end in range(3, len(DEEP[0]) + 1, 3))
+    return "".join(job(asked, who=who) for asked in made)

@@ -7,34 +7,28 @@ else the machine does, and holds the first against some times the second. Prints
 differs from what is wanted; status 1 where one does. The program is the one that `./suites` runs, or the one that is
 named. Without valgrind, and where the kit makes no program but runs it itself, it prints "skipped: .." and ends with 0.
 """
-import re
-import shutil
-import subprocess
 import sys
 import typing
 
+import counting
 import played
-
-from common import console
+import scripting
+from scripting import DEEP, READ_ALL
 
 # A script with so many jobs to be counted.
 Script = typing.Callable[[int], str]
-# Eight folders in one another, eight times.
-DEEP = ["".join(f"/{branch}{depth}" for depth in range(8)) for branch in "abcdefgh"]
-READ_ALL = " ; ".join(f"getacl {path}" for path in DEEP)
 
 
 def head(servers: int, agents: int, votes: str) -> str:
-    return f"servers {servers}\nagents {agents}\nvotes {votes}\nroot 1 1 777\ncache 0 0 0\n"
+    return scripting.header(servers, agents, votes, "1 1 777")
 
 
 def job(agent: int, words: str) -> str:
-    return f"begin {agent} 1 1 0 {words}\nrun {agent}\n"
+    return scripting.job(words, agent, "1 1")
 
 
 def folders() -> str:
-    made = (f"folder {path[:end]} 777" for path in DEEP for end in range(3, len(DEEP[0]) + 1, 3))
-    return head(1, 1, "1/1/1") + "".join(job(0, words) for words in made)
+    return head(1, 1, "1/1/1") + scripting.deep_folders("1 1")
 
 
 def at_once(jobs: int) -> str:
@@ -105,18 +99,9 @@ PAIRS: tuple[tuple[str, Script, Script, int, float], ...] = (
 )
 
 
-def instructions(program: str, script: str) -> int:
-    """How many instructions the program takes for a script."""
-    words = ["valgrind", "--tool=callgrind", "--callgrind-out-file=/dev/null", program, "play"]
-    done = subprocess.run(words, input=script.encode(), stdout=subprocess.PIPE, stderr=subprocess.PIPE)
-    found = re.search(rb"Collected : (\d+)", done.stderr)
-    if done.returncode != 0 or not found:
-        sys.exit(f"status {done.returncode} of a script:\n{(done.stdout + done.stderr).decode()[-600:]}")
-    return int(found[1])
-
-
 def of_a_job(program: str, script: Script, jobs: int) -> float:
-    return (instructions(program, script(jobs)) - instructions(program, script(0))) / jobs
+    more, less = (counting.instructions([program, "play"], script(count), True) for count in (jobs, 0))
+    return (more - less) / jobs
 
 
 def is_compiled(program: str) -> bool:
@@ -125,26 +110,18 @@ def is_compiled(program: str) -> bool:
 
 
 def main() -> int:
-    read = console.words(__doc__)
-    read.add_argument("program", nargs="?")
-    given = read.parse_args()
-    if not shutil.which("valgrind"):
-        print("skipped: no valgrind")
+    if counting.skipped():
         return 0
-    program = played.program(given.program)
+    program = played.named_program(__doc__)
     if not is_compiled(program):
         print("skipped: the kit runs the program itself")
         return 0
-    wrong = 0
+    tally = played.Tally()
     for title, more, less, jobs, bound in PAIRS:
         first, second = of_a_job(program, more, jobs), of_a_job(program, less, jobs)
-        fits = first <= bound * second
-        wrong += not fits
         print(f"{title}: {first:.0f} and {second:.0f} instructions a job, {first / second:.2f} times")
-        if not fits:
-            print(f"  which is above {bound} times")
-    print(f"{len(PAIRS)} pairs, {wrong} differ")
-    return 1 if wrong else 0
+        tally.holds(first <= bound * second, f"  which is above {bound} times")
+    return tally.told("pairs")
 
 
 if __name__ == "__main__":
