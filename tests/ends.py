@@ -21,12 +21,13 @@ import typing
 
 import played
 import wrapper
+from scripting import header, job
 
 from front import sources
 
 # In place of a program: it ends by the signal of this number.
 KILLED = "#!/bin/sh\ncat > /dev/null\nkill -{0} $$\n"
-SCRIPT = b"servers 1\nagents 1\nvotes 1/1/1\nroot 1 1 777\ncache 0 0 0\nbegin 0 1 1 0 list /\nrun 0\n"
+SCRIPT = (header(1, 1, "1/1/1", "1 1 777") + job("list /", who="1 1")).encode()
 # In place of a program: tells how much memory it may have, in KiB.
 LIMITED = "#!/bin/sh\ncat > /dev/null\necho \"limit $(ulimit -v)\"\n"
 # In place of a program that is at work.
