@@ -20,6 +20,8 @@ import typing
 import played
 from played import Tally
 
+from common import text_of
+
 COPIED = ("suites", "crates", "crates.txt", "docs", "help", "tools", "CHANGELOG.md", "README.md")
 LEFT_OUT = ("out", "__pycache__", "specs", "proofs", "must-fail", "wrong")
 # What `./suites` itself uses besides python3, git and rt.
@@ -47,20 +49,9 @@ exec "$own" "$@"
 """
 # Words that ask for help.
 HELP = (
-    "help votes",
-    "help trace",
-    "help show",
-    "help --test",
-    "--help",
-    "-h",
-    "help",
-    "play --help",
-    "help play",
-    "serve -h",
-    "acl --help",
-    "explain --help",
-    "trace --help",
-)
+    "help votes", "help trace", "help show", "help --test", "--help", "-h", "help", "play --help", "help play",
+    "serve -h", "acl --help", "explain --help", "trace --help",
+)  # fmt: skip
 # Words that ask for nothing, and what is said of them.
 NEAR = {
     "plai": "play is near",
@@ -173,17 +164,14 @@ class Copy(Tally):
 
 def needs_program(words: list[str]) -> bool:
     """Whether it is the program that tells what these words ask for."""
-    return (
-        words[:1] == ["acl"]
-        and words[1:] != ["--help"]
-        or words[:1] == ["serve"]
-        and "".join(words[1:2]).partition("=")[0] == "--agents"
-    )
+    if words[:1] == ["serve"]:
+        return "".join(words[1:2]).partition("=")[0] == "--agents"
+    return words[:1] == ["acl"] and words[1:] != ["--help"]
 
 
 def plays_rows(copy: Copy) -> None:
     """Rows of words that ask for nothing, and of help, where there is neither a build nor python3 to make one."""
-    tools = open(os.path.join(copy.top, "help", "tools.txt"), encoding="utf-8").read()
+    tools = text_of(copy.top, "help", "tools.txt")
     for row in played.rows():
         if row["status"] != 2 and row["title"] != "Help":
             continue
@@ -253,10 +241,8 @@ def says_once_a_day(copy: Copy) -> None:
 
 def tells_all_commands(copy: Copy) -> None:
     """Help tells each word that `./suites` knows, and so does README.md."""
-    with open(os.path.join(copy.top, "suites"), encoding="utf-8") as file:
-        known = " ".join(re.findall(r"\b(?:own|tools|options)='([^']*)'", file.read())).split()
-    with open(os.path.join(copy.top, "README.md"), encoding="utf-8") as file:
-        page = file.read()
+    known = " ".join(re.findall(r"\b(?:own|tools|options)='([^']*)'", text_of(copy.top, "suites"))).split()
+    page = text_of(copy.top, "README.md")
     text = copy.answer(["--help"])[1]
     copy.holds(len(known) > 20, f"of ./suites are known: {known}")
     for word in known:
@@ -276,10 +262,8 @@ def tells_version(copy: Copy) -> None:
     """The version is that of CHANGELOG.md, the commit that of git, the kit that of README.md, and the build what is
     there.
     """
-    with open(os.path.join(copy.top, "CHANGELOG.md"), encoding="utf-8") as file:
-        version = next(line[3:].strip() for line in file if line.startswith("## "))
-    with open(os.path.join(played.TOP, "README.md"), encoding="utf-8") as file:
-        logic = re.search(r"\(logic `(\w+)`\)", file.read())[1]
+    version = re.search("^## (.*)", text_of(copy.top, "CHANGELOG.md"), re.M)[1].strip()
+    logic = re.search(r"\(logic `(\w+)`\)", text_of("README.md"))[1]
     status, printed, _ = copy.at_once(["--version"])
     lines = printed.splitlines()
     copy.holds(
