@@ -15,7 +15,7 @@ import tempfile
 import played
 import scratch
 
-from common import text_of
+from common import crates, text_of
 
 # Programs of tests/programs: with each, the modules of which it is made, here and in crates/.
 MADE_OF = {
@@ -58,7 +58,7 @@ def modules() -> tuple[dict[str, str], int]:
 
 def named(texts: dict[str, str]) -> list[str]:
     """The crates that the texts name, those of the kit too."""
-    needs = scratch.needs_of_crates()
+    needs = crates.listed()
     known = {*needs, *(name for names in needs.values() for name in names)}
     return sorted({name for text in texts.values() for name in re.findall(r"^use (\w+)::", text, re.M)} & known)
 

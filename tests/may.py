@@ -210,9 +210,9 @@ def asks_of_changes(tally: Tally, callers: list[Caller], twice: str) -> None:
 def asks_of_lint(tally: Tally, callers: list[Caller], room: str) -> None:
     """What a lint of a folder finds, and what once nobody may search it."""
     people.accounts, kept = (lambda: callers), people.accounts
-    found, _ = lint.lint(room)
+    found = list(lint.Lint(room).lines())
     os.chmod(room, 0o700)
-    stopped, _ = lint.lint(room)
+    stopped = list(lint.Lint(room).lines())
     people.accounts = kept
     many, twice = os.path.join(room, "many"), os.path.join(room, "twice")
     tally.holds(any(f"{many}: its list has 154 entries" in line for line in found), f"lint: {found[:3]}")
