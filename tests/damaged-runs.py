@@ -124,38 +124,32 @@ def cut(program: str, rows: list[played.Row]) -> list[str]:
     return wrong
 
 
-def failing(program: str, row: played.Row, library: str, name: str) -> tuple[int, list[str]]:
+def failing(program: str, row: played.Row, library: played.Library, name: str) -> tuple[int, list[str]]:
     """How many calls of a stream there are, each of which failed once, and what is wrong."""
     calls, wrong, before = 0, list[str](), -1
-    with tempfile.TemporaryDirectory() as folder:
-        mark = os.path.join(folder, "mark")
-        while True:
-            environment = {**os.environ, "LD_PRELOAD": library, name: str(calls + 1), "FAIL_MARK": mark}
-            status, output, errors = ran(program, row, row["input"], environment)
-            if not os.path.exists(mark):
-                return calls, wrong
-            os.remove(mark)
-            calls += 1
-            begins = (
-                row["output"].startswith(output)
-                and before < len(output) < len(row["output"])
-                and (calls > 1 or not output)
-            )
-            before = len(output)
-            if (status, errors) != (6, b"") or not (begins if name == "FAIL_WRITE" else output == b""):
-                wrong.append(f"{row['title']}: {name} {calls}: status {status}")
+    while True:
+        status, output, errors = ran(program, row, row["input"], library.env(**{name: calls + 1}))
+        if not library.was_met():
+            return calls, wrong
+        calls += 1
+        is_longer = before < len(output) < len(row["output"]) and (calls > 1 or not output)
+        begins, before = row["output"].startswith(output) and is_longer, len(output)
+        if (status, errors) != (6, b"") or not (begins if name == "WRITE" else output == b""):
+            wrong.append(f"{row['title']}: {name} {calls}: status {status}")
 
 
 def failed(program: str, rows: list[played.Row]) -> list[str]:
     wrong, calls = list[str](), collections.Counter[str]()
     with tempfile.TemporaryDirectory() as folder:
-        library = played.library("fail", folder) or sys.exit("tests/fail.c is not compiled")
+        library = played.Library("fail", folder)
+        if not library.is_made:
+            sys.exit("tests/fail.c is not compiled")
         for row in rows:
-            for name in ("FAIL_READ", "FAIL_WRITE"):
+            for name in ("READ", "WRITE"):
                 count, found = failing(program, row, library, name)
                 wrong += found if count else [f"{row['title']}: no call of {name}"]
                 calls[name] += count
-    print(f"failed: {len(rows)} inputs: {calls['FAIL_READ']} reads and {calls['FAIL_WRITE']} writes, each in turn")
+    print(f"failed: {len(rows)} inputs: {calls['READ']} reads and {calls['WRITE']} writes, each in turn")
     return wrong
 
 

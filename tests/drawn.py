@@ -182,12 +182,8 @@ def whole(tally: Tally, name: str, picture: Picture) -> None:
         is_on = 0 <= text.left and text.right <= picture.width and 0 <= text.top and text.bottom <= picture.height
         tally.holds(is_on, name, "off the canvas", text.shown)
         tally.holds(text.is_cut == text.shown.endswith("…"), name, "cut, and not there whole", text.shown)
-        tally.holds(
-            not text.is_cut or text.whole.startswith(text.shown[:-1]) and len(text.whole) > len(text.shown),
-            name,
-            "cut",
-            text.shown,
-        )
+        is_so = not text.is_cut or text.whole.startswith(text.shown[:-1]) and len(text.whole) > len(text.shown)
+        tally.holds(is_so, name, "cut", text.shown)
     for path in picture.paths:
         x, y, end = map(int, re.findall(r"\d+", path))
         is_on = x <= picture.width and y <= picture.height
@@ -200,9 +196,8 @@ def whole(tally: Tally, name: str, picture: Picture) -> None:
         for other in texts[place + 1 :]:
             if other.top >= one.bottom:
                 break
-            tally.holds(
-                other.left >= one.right or one.left >= other.right, name, "on one another", one.shown, other.shown
-            )
+            is_so = other.left >= one.right or one.left >= other.right
+            tally.holds(is_so, name, "on one another", one.shown, other.shown)
     for style, arrows in ((None, picture.arrows[::2]), ("reply", picture.arrows[1::2])):
         labels = [text for text in picture.texts if text.style == style]
         tally.holds(len(labels) == len(arrows), name, "labels and arrows", style, len(labels), len(arrows))
@@ -250,25 +245,15 @@ def begun_there(tally: Tally, name: str, picture: Picture, lines: list[str]) -> 
             else None
         )
         is_near = first is not None and first - text.y < draw.NEAR * draw.BAND
-        tally.holds(
-            not is_near or not any(text.y < row < first for row in rows),
-            name,
-            "names between a job and its first arrow",
-            text.whole,
-        )
+        is_so = not is_near or not any(text.y < row < first for row in rows)
+        tally.holds(is_so, name, "names between a job and its first arrow", text.whole)
 
 
 def folded(tally: Tally, name: str, script: str, lines: list[str]) -> None:
     picture = drawn(script, "--fold", "--anyway")
     count = sum("->" in line for line in lines if line.startswith("  "))
-    tally.holds(
-        len(picture.arrows) // 2 + len(picture.dots) == count,
-        name,
-        "--fold leaves out requests",
-        len(picture.arrows) // 2,
-        len(picture.dots),
-        count,
-    )
+    is_so = len(picture.arrows) // 2 + len(picture.dots) == count
+    tally.holds(is_so, name, "--fold leaves out requests", len(picture.arrows) // 2, len(picture.dots), count)
     for one in picture.texts:
         tally.holds(0 <= one.left and one.right <= picture.width, name, "--fold: off the canvas", one.shown)
 
@@ -290,16 +275,12 @@ def chosen(tally: Tally) -> None:
     own = drawn(two, "--agent", "1")
     tally.holds(own.requests() == [one for one in every if one[0] == "agent 1"], "--agent 1")
     tally.holds(("agent 1", "forgets its cache of site 0") in own.said(), "forget of an agent is not drawn")
-    tally.holds(
-        {("server 1", "crashes"), ("server 1", "restarts")} <= set(own.said()),
-        "servers are left out for an agent",
-        own.said(),
-    )
+    is_so = {("server 1", "crashes"), ("server 1", "restarts")} <= set(own.said())
+    tally.holds(is_so, "servers are left out for an agent", own.said())
     part = drawn(two, "--agent", "1", "--from", "2", "--to", "4").requests()
     tally.holds(part == own.requests()[1:4], "--agent 1 --from 2 --to 4")
-    tally.holds(
-        drawn(two, "--suite", "/d/f").requests() == drawn(two, "--suite", "2").requests() != [], "a path and its number"
-    )
+    is_so = drawn(two, "--suite", "/d/f").requests() == drawn(two, "--suite", "2").requests() != []
+    tally.holds(is_so, "a path and its number")
     status, text, said = run(two, "--from", "1000")
     tally.holds(status == 1 and text == "" and f"{len(every)} requests" in said, "--from behind the last", said)
     tally.holds(run(two, "--from", "3", "--to", "2")[:2] == (1, ""), "--from above --to")
@@ -349,10 +330,8 @@ def about(tally: Tally, program: str) -> None:
     own = counts[1] + counts[3] + counts[4]
     # of a job is drawn what it asks of the suite itself, and of its transaction
     tally.holds(0 < len(picture.requests()) <= own, "requests about /b", len(picture.requests()), own)
-    tally.holds(
-        all("/b" in asked or asked.startswith(("decide", "finish")) for _, _, asked in picture.requests()),
-        "--suite /b draws others",
-    )
+    is_so = all("/b" in asked or asked.startswith(("decide", "finish")) for _, _, asked in picture.requests())
+    tally.holds(is_so, "--suite /b draws others")
 
 
 def many(tally: Tally, program: str) -> None:
@@ -426,14 +405,12 @@ def slow(tally: Tally) -> None:
         done = subprocess.run(words, input=script, stdout=subprocess.PIPE, stderr=terminal, cwd=folder)
         os.close(terminal)
         said = played.shown_on(own)
-        tally.holds(
-            done.returncode == 0 and " % of the script is played, 0 s" in said, name, "a terminal is told", said
-        )
+        is_so = done.returncode == 0 and " % of the script is played, 0 s" in said
+        tally.holds(is_so, name, "a terminal is told", said)
         tally.holds(said.endswith("\r\033[K"), name, "what was said last stays", said[-60:])
         silent = subprocess.run(words, input=script, capture_output=True, cwd=folder)
-        tally.holds(
-            "%" not in silent.stderr.decode() and silent.stdout == done.stdout, name, "not on a terminal", silent.stderr
-        )
+        is_so = "%" not in silent.stderr.decode() and silent.stdout == done.stdout
+        tally.holds(is_so, name, "not on a terminal", silent.stderr)
 
 
 def main() -> int:
@@ -447,11 +424,8 @@ def main() -> int:
         told(tally, name, script, lines)
         begun_there(tally, name, picture, lines)
         folded(tally, name, script, lines)
-        tally.holds(
-            len(picture.requests()) == sum("->" in line for line in lines if line.startswith("  ")),
-            name,
-            "requests that are drawn",
-        )
+        is_so = len(picture.requests()) == sum("->" in line for line in lines if line.startswith("  "))
+        tally.holds(is_so, name, "requests that are drawn")
         cut += sum(text.is_cut for text in picture.texts)
     tally.holds(cut > 0, "no label was cut")
     unordered(tally)

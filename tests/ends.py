@@ -77,10 +77,8 @@ def holds(copy: wrapper.Copy, words: str, status: int, told: str, **how: typing.
     """A line of a shell has this status, and standard error this sentence and no other but that of a checked build."""
     done = asked(copy, words, **how)
     lines = [line for line in done.stderr.decode("latin1").splitlines() if not line.startswith("suites: checked build")]
-    copy.holds(
-        done.returncode == status and any(told in line for line in lines) and "Traceback" not in "\n".join(lines),
-        f"{words}: {done.returncode}, and not {status} with {told!r}: {lines}",
-    )
+    is_so = done.returncode == status and any(told in line for line in lines) and "Traceback" not in "\n".join(lines)
+    copy.holds(is_so, f"{words}: {done.returncode}, and not {status} with {told!r}: {lines}")
 
 
 def by_signals(copy: wrapper.Copy) -> None:

@@ -79,10 +79,8 @@ def asks(tally: Tally, words: list[str], status: int, last: str, strict: bool = 
     done = subprocess.run(tool("may", *words), env=env, stdin=subprocess.DEVNULL, capture_output=True, text=True)
     # a checked build says so
     lines = [line for line in (done.stdout + done.stderr).splitlines() if not line.startswith("suites: checked build")]
-    tally.holds(
-        done.returncode == status and lines and last in lines[-1],
-        f"may {words}: {done.returncode}, and not {status} with {last!r}: {lines}",
-    )
+    is_so = done.returncode == status and lines and last in lines[-1]
+    tally.holds(is_so, f"may {words}: {done.returncode}, and not {status} with {last!r}: {lines}")
 
 
 # Words that are refused, each with where to read.
@@ -239,10 +237,8 @@ def asks_of_lists(tally: Tally) -> None:
         asks(tally, [*other, "r", many, plain_one], 3, f"{many}: not judged here")
         asks_of_changes(tally, callers, twice)
         asks_of_lint(tally, callers, room)
-    tally.holds(
-        lists.fault(tuple(lists.Entry(lists.USER, 7, 4) for _ in range(2))) == "its list names user 7 twice",
-        "a user twice",
-    )
+    is_so = lists.fault(tuple(lists.Entry(lists.USER, 7, 4) for _ in range(2))) == "its list names user 7 twice"
+    tally.holds(is_so, "a user twice")
 
 
 def reads_mounts(tally: Tally) -> None:
@@ -258,10 +254,8 @@ def reads_mounts(tally: Tally) -> None:
     )
     found = mounts.read_mounts(text)
     tally.holds([one.point for one in found] == ["/proc", "/a b", "/f", "/n", "/t"], f"mounts: {found}")
-    tally.holds(
-        [bool(one.unjudged(f"{one.point}/x")) for one in found] == [True, True, True, True, False],
-        "mounts that are not judged",
-    )
+    is_so = [bool(one.unjudged(f"{one.point}/x")) for one in found] == [True, True, True, True, False]
+    tally.holds(is_so, "mounts that are not judged")
     tally.holds(found[1].has("noexec") and found[1].has("ro") and found[4].has("nosymfollow"), "flags of mounts")
     tally.holds(people.caller_of("0", "5,6") == Caller("root", 0, 5, (6,)), "a caller by its number")
 

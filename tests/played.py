@@ -49,13 +49,28 @@ def shown_on(terminal: int) -> str:
     return shown.decode()
 
 
-def library(name: str, folder: str) -> str | None:
-    """The library that stands before calls of the system, made of a file here: tests/fail.c has them fail,
-    tests/refuse.c refuses memory; none where there is no compiler.
+class Library:
+    """A library that stands before calls of the system, made of a file here: tests/fail.c has them fail, tests/refuse.c
+    refuses memory. None is made where there is no compiler.
     """
-    path = os.path.join(folder, f"{name}.so")
-    words = ["cc", "-shared", "-fPIC", "-O1", "-o", path, os.path.join(TOP, "tests", f"{name}.c"), "-ldl"]
-    return path if shutil.which("cc") and subprocess.run(words, stderr=subprocess.DEVNULL).returncode == 0 else None
+
+    def __init__(self, name: str, folder: str) -> None:
+        self.front, self.path = name.upper(), os.path.join(folder, f"{name}.so")
+        self.mark = os.path.join(folder, "mark")
+        words = ["cc", "-shared", "-fPIC", "-O1", "-o", self.path, os.path.join(TOP, "tests", f"{name}.c"), "-ldl"]
+        self.is_made = bool(shutil.which("cc")) and subprocess.run(words, stderr=subprocess.DEVNULL).returncode == 0
+
+    def env(self, **which: int) -> dict[str, str]:
+        """The environment of a program of which these calls fail."""
+        told = {f"{self.front}_{name}": str(number) for name, number in which.items()}
+        return {**os.environ, "LD_PRELOAD": self.path, f"{self.front}_MARK": self.mark, **told}
+
+    def was_met(self) -> bool:
+        """Whether such a call was made since this was asked last."""
+        is_met = os.path.exists(self.mark)
+        if is_met:
+            os.remove(self.mark)
+        return is_met
 
 
 def is_alive(process: int) -> bool:

@@ -117,19 +117,15 @@ def refuse(tally: Tally) -> None:
     words, hits = "--sample 20 --seed 1 --crashes 1", 0
     full = explored.explored(script, words)
     with tempfile.TemporaryDirectory() as folder:
-        library = played.library("refuse", folder)
-        if not library:
+        library = played.Library("refuse", folder)
+        if not library.is_made:
             return
-        mark = os.path.join(folder, "mark")
         for first in [*range(1, FIRST), *range(FIRST, LATEST, EVERY)]:
             for last in (first, 10**9):
-                reach = {"REFUSE_FROM": str(first), "REFUSE_TO": str(last), "REFUSE_MARK": mark}
-                told = explored.explored(script, words, env={**os.environ, "LD_PRELOAD": library, **reach})
+                told = explored.explored(script, words, env=library.env(FROM=first, TO=last))
                 is_less = told[0] == NOT_ALL and set(ways_in(told[1])) <= set(ways_in(full[1]))
                 tally.holds(told == (4, "fault memory\n") or is_less, f"allocation {first} to {last}: {told}")
-                hits += os.path.exists(mark)
-                if os.path.exists(mark):
-                    os.remove(mark)
+                hits += library.was_met()
     tally.holds(hits > FIRST, f"only {hits} allocations were refused")
 
 
