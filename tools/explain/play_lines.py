@@ -70,9 +70,7 @@ class Job:
 
     def about(self) -> str:
         """Who began it and what it was to do."""
-        if self.words[0] == "sweep":
-            return f"line {self.number}, a sweep of server {self.words[2]}"
-        return f"line {self.number}, for user {self.words[2]} of groups {self.words[3]}: {' ; '.join(self.operations)}"
+        return faults.about(self.number, self.words, 2, 5)
 
 
 class Played:

@@ -16,29 +16,28 @@ FIRST = {"table": 3, "serve": 4}
 
 
 class Job(typing.NamedTuple):
-    """A transaction or a sweep of a script, and the number of its line."""
+    """A transaction or a sweep of a script, the number of its line, and the place of its first operation in that."""
 
     number: int
     words: list[str]
     operations: list[str]
     script: str
+    first: int
 
     def asked(self) -> denials.Asked:
         return denials.Asked(self.words[1], self.words[2], self.operations)
 
     def about(self) -> str:
-        if self.words[0] == "sweep":
-            return f"line {self.number}, a sweep of server {self.words[1]}"
-        return f"line {self.number}, for user {self.words[1]} of groups {self.words[2]}: {' ; '.join(self.operations)}"
+        return faults.about(self.number, self.words, 1, self.first)
 
 
 def jobs_of(script: str, language: str) -> list[Job]:
     """The transactions and sweeps of a script, in their order."""
-    found = []
+    found, first = [], FIRST[language]
     for number, line in enumerate(faults.lines_of(script), 1):
         words = line.split()
         if words[:1] == ["do"] or (words[:1] == ["sweep"] and language == "serve"):
-            found.append(Job(number, words, " ".join(words[FIRST[language] :]).split(" ; "), script))
+            found.append(Job(number, words, " ".join(words[first:]).split(" ; "), script, first))
     return found
 
 
