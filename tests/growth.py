@@ -18,7 +18,7 @@ import typing
 
 import counting
 import played
-from scripting import header, job
+from scripting import Make, header, job, repeated
 
 from common import console
 
@@ -27,13 +27,6 @@ MOST, TIMES = 2.3, 16
 LEAST = 600_000
 # Inputs that grow more, as is known: a world has with it how each job ended so far.
 KNOWN = {"explore-below": 3.0}
-# Makes an input of a size.
-Make = typing.Callable[[int], str]
-
-
-def repeated(text: str, before: str = "", after: str = "") -> Make:
-    """The same text again and again."""
-    return lambda count: before + text * count + after
 
 
 def numbered(text: str, before: str = "", numbers: typing.Callable[[int], typing.Iterable[int]] = range) -> Make:

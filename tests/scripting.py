@@ -1,4 +1,13 @@
 """Scripts as tests and benches write them: a header, and jobs below it."""
+import typing
+
+# Makes a text of a size.
+Make = typing.Callable[[int], str]
+
+
+def repeated(text: str, before: str = "", after: str = "") -> Make:
+    """The same text again and again."""
+    return lambda count: before + text * count + after
 
 
 def header(
