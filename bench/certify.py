@@ -10,6 +10,7 @@ The program (bench/certify.rattle) is no crate of the repository: it is built in
 import sys
 
 from measure import console, scratch
+import scripting
 
 FILES, ROUNDS = 100, 20
 CRATES = "acl_core file_ops rep_core run_certify run_core server_lock suite_content suite_prefix txn_core vote_core"
@@ -17,12 +18,11 @@ CRATES = "acl_core file_ops rep_core run_certify run_core server_lock suite_cont
 
 def script() -> str:
     """The same jobs as a script."""
-    lines = ["servers 3", "votes 1,1,1/2/2", "root 1000 100 777", "cache 0 0 0"]
-    lines += [f"do 1000 100 0 file /f{number} 644" for number in range(FILES)]
+    lines = [f"do 1000 100 0 file /f{number} 644" for number in range(FILES)]
     for _ in range(ROUNDS):
         for number in range(FILES):
             lines += [f"do 1000 100 0 write /f{number} 6869", f"do 1000 100 0 read /f{number}"]
-    return "".join(line + "\n" for line in lines)
+    return scripting.header(agents=None) + "".join(f"{line}\n" for line in lines)
 
 
 def main() -> None:

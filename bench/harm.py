@@ -218,10 +218,7 @@ class Story(typing.NamedTuple):
 
 def stories() -> list[Story]:
     """All stories, those with few worlds first."""
-    found = []
-    for name, words, text in explored.kept():
-        with open(os.path.join(explored.KEPT, f"{name}.ways"), encoding="utf-8") as file:
-            found.append(Story(name, words.split(), text, file.read()))
+    found = (Story(one.name, one.words.split(), one.text, one.ways) for one in explored.kept())
     return sorted(found, key=Story.worlds)
 
 

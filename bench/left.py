@@ -22,29 +22,27 @@ peak of memory (MiB) too: it is an error where that is above 1.5 times the one o
 import sys
 
 import measure
+import scripting
+from scripting import DEEP, READ_ALL
 
-HEAD = "servers 1\nagents {}\nvotes 1/1/1\nroot 1 1 777\ncache 0 0 0\n"
 LIST = "begin {0} 1 1 0 list /\n"
 # A transaction that is prepared and decided at a server that then crashes: its lock stays.
 LEFT = LIST + "step {0} 4\ncrash 0\nrun {0}\nreturn 0\n"
-# Eight folders in one another, eight times.
-DEEP = ["".join(f"/{branch}{depth}" for depth in range(8)) for branch in "abcdefgh"]
-READ_ALL = " ; ".join(f"getacl {path}" for path in DEEP)
 READ_TOPS = " ; ".join(f"getacl {path[:3]}" for path in DEEP)
 # How many steps until the transaction that reads all is prepared, and the one that reads the tops is decided.
 HOLDS_ALL, DECIDED = 80, 12
 
 
+def head(agents: int, mode: str = "777") -> str:
+    return scripting.header(1, agents, "1/1/1", f"1 1 {mode}")
+
+
 def job(agent: int, words: str) -> str:
-    return f"begin {agent} 1 1 0 {words}\nrun {agent}\n"
-
-
-def folders() -> str:
-    return "".join(job(0, f"folder {path[:end]} 777") for path in DEEP for end in range(3, len(DEEP[0]) + 1, 3))
+    return scripting.job(words, agent, "1 1")
 
 
 def left(count: int) -> str:
-    return HEAD.format(1) + LEFT.format(0) * count
+    return head(1) + LEFT.format(0) * count
 
 
 def swept(count: int) -> str:
@@ -56,8 +54,8 @@ def relisted(count: int) -> str:
     leaves = f"begin 1 1 1 0 {READ_TOPS}\nstep 1 {DECIDED}\ncrash 0\nrun 1\nreturn 0\n"
     # agent 1 numbers its transactions above those of agent 0 that follow
     return (
-        HEAD.format(2)
-        + folders()
+        head(2)
+        + scripting.deep_folders("1 1")
         + job(1, "read x") * (rounds + 99)
         + leaves * (count // 9)
         + job(0, READ_ALL) * rounds
@@ -68,8 +66,8 @@ def in_flight(count: int) -> str:
     begins = [f"begin {agent} 1 1 0 {READ_ALL}\nstep {agent} {HOLDS_ALL}\n" for agent in range(64)]
     later = "".join(job(agent, "read x") * 64 for agent in range(1, 64))
     return (
-        HEAD.format(64)
-        + folders()
+        head(64)
+        + scripting.deep_folders("1 1")
         + later
         + "".join(begins)
         + "".join(f"run {turn % 64}\n{begins[turn % 64]}" for turn in range(count))
@@ -78,20 +76,20 @@ def in_flight(count: int) -> str:
 
 def verdicts(count: int) -> str:
     recorded = LIST.format(1) + "step 1 3\ncrash 0\nrun 1\nreturn 0\n"
-    return HEAD.format(2) + recorded * count + job(1, "read x") * count + "sweep 0 0\nrun 0\n"
+    return head(2) + recorded * count + job(1, "read x") * count + "sweep 0 0\nrun 0\n"
 
 
 def crashes(count: int) -> str:
-    return HEAD.format(2) + LEFT.format(1) * count + (LIST.format(1) + "step 1 1\ncrash 0\nrun 1\nreturn 0\n") * count
+    return head(2) + LEFT.format(1) * count + (LIST.format(1) + "step 1 1\ncrash 0\nrun 1\nreturn 0\n") * count
 
 
 def among(count: int) -> str:
-    return HEAD.format(2) + LEFT.format(1) * count + (LIST.format(0) + "run 0\n") * count
+    return head(2) + LEFT.format(1) * count + (LIST.format(0) + "run 0\n") * count
 
 
 def thousand() -> str:
     """Makes a thousand files."""
-    return HEAD.format(1) + "".join(
+    return head(1) + "".join(
         job(0, " ; ".join(f"file /{'n' * 20}{number} 666" for number in range(first, first + 8)))
         for first in range(0, 1_000, 8)
     )

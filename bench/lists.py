@@ -9,8 +9,8 @@ does not grow with the names.
 import sys
 
 import measure
+import scripting
 
-HEAD = "servers 3\nvotes 1,1,1/2/2\nroot 1 1 777\ncache 1000000 1000000 64\n"
 LISTS = 4000
 COUNTS = [10, 100, 1000]
 
@@ -20,7 +20,7 @@ def script(count: int) -> bytes:
     names = [f"{number:04d}".ljust(64, "x") for number in range(count)]
     lines = [" ; ".join(f"file /{name} 644" for name in names[at:at + 8]) for at in range(0, count, 8)]
     jobs = [f"do 1 1 0 {line}" for line in lines] + ["together"] + ["do 1 1 0 list /"] * LISTS
-    return (HEAD + "\n".join(jobs) + "\n").encode()
+    return (scripting.header(3, None, root="1 1 777", cache="1000000 1000000 64") + "\n".join([*jobs, ""])).encode()
 
 
 def timed(program: str, count: int) -> float:

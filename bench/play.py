@@ -15,14 +15,15 @@ With --servers: the steps a second of one agent that reads a file, once and eigh
 import sys
 
 import measure
+from scripting import equal_votes, header, job
 
-HEADER = ["servers 3", "agents 2", "votes 1,1,1/2/2", "root 1000 100 777", "cache 65536 65536 64"]
+CACHE = "65536 65536 64"
 FILES = 100
 
 
 def events(steps: int) -> tuple[bytes, int]:
     """Lines of events that take about so many steps, and how many jobs they begin."""
-    lines, taken, number = list(HEADER), 0, 0
+    lines, taken, number = list[str](), 0, 0
     while taken < steps:
         name = f"/file-{number * 7 % FILES}"
         if number < FILES:
@@ -33,21 +34,16 @@ def events(steps: int) -> tuple[bytes, int]:
             asked = f"write {name} {number:032x}"
         else:
             asked = f"read {name}"
-        lines += [f"begin {number % 2} 1000 100 0 {asked}", f"run {number % 2}"]
+        lines.append(job(asked, number % 2))
         taken += 10
         number += 1
-    return "\n".join(lines).encode() + b"\n", number
+    return (header(cache=CACHE) + "".join(lines)).encode(), number
 
 
 def reads(servers: int, operations: int, jobs: int) -> bytes:
     """A script of transactions that read a file so many times each."""
-    quorum = servers // 2 + 1
-    votes = ",".join(["1"] * servers) + f"/{quorum}/{quorum}"
-    lines = [f"servers {servers}", "agents 1", f"votes {votes}", "root 1000 100 777", "cache 65536 65536 64"]
-    lines += ["begin 0 1000 100 0 file /a 644 ; write /a 6869", "run 0"]
-    for _ in range(jobs):
-        lines += ["begin 0 1000 100 0 " + " ; ".join(["read /a"] * operations), "run 0"]
-    return "\n".join(lines).encode() + b"\n"
+    above = header(servers, 1, equal_votes(servers), cache=CACHE) + job("file /a 644 ; write /a 6869")
+    return (above + job(" ; ".join(["read /a"] * operations)) * jobs).encode()
 
 
 def steps_of(status: int, output: bytes, jobs: int) -> int:

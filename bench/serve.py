@@ -9,8 +9,8 @@ that is not certified ends the bench.
 import sys
 
 import measure
+import scripting
 
-HEADER = ["servers 3", "votes 1,1,1/2/2", "root 1000 100 777", "cache 0 0 0"]
 FILES = 8
 
 
@@ -18,7 +18,7 @@ def script(jobs: int, files: int) -> bytes:
     """A script of so many writes, on so many of the files in turn."""
     made = [f"do 1000 100 0 file /file-{number} 644" for number in range(FILES)]
     written = [f"do 1000 100 0 write /file-{number % files} 00" for number in range(jobs)]
-    return "\n".join([*HEADER, *made, "together", *written]).encode() + b"\n"
+    return (scripting.header(agents=None) + "\n".join([*made, "together", *written, ""])).encode()
 
 
 def main() -> None:

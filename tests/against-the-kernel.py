@@ -21,7 +21,6 @@ All else has to agree. Status 1 where it does not.
 
 It needs root, Debian's package acl, and a file system with lists, here /dev/shm (tmpfs). It is no part of the gate.
 """
-import argparse
 import ctypes
 import os
 import random
@@ -32,8 +31,13 @@ import sys
 import tempfile
 import typing
 
-TOP = os.path.join(os.path.dirname(os.path.abspath(__file__)), "..")
+import played
+from kernel_trees import User, as_user
+
+from common import console
+
 UIDS, GIDS = [1001, 1002, 1003, 1004, 65534], [200, 201, 202, 203, 65533]
+COUNTED = "answers, agree, mask, texts, taken, refused, last id, octal, past, nothing, hyphens, mended, wrong"
 LETTERS = {"u": "user", "g": "group", "m": "mask", "o": "other"}
 # What is asked of Linux, and how `table` is asked the same.
 ASKED = [
@@ -94,20 +98,11 @@ def run(words: list[str], text: str = "") -> subprocess.CompletedProcess[str]:
 
 def kernel_answers(place: str, callers: typing.Any) -> list[list[bool]]:
     """What access(2) answers to each caller."""
-    answers = []
-    for uid, groups in callers:
-        reads, writes = os.pipe()
-        if os.fork() == 0:
-            os.setgroups(groups[1:])
-            os.setgid(groups[0])
-            os.setuid(uid)
-            os.write(writes, bytes(os.access(os.path.join(place, name), mode) for name, mode, _ in ASKED))
-            os._exit(0)
-        os.close(writes)
-        answers.append([bool(byte) for byte in os.read(reads, len(ASKED))])
-        os.close(reads)
-        os.wait()
-    return answers
+
+    def answers() -> list[bool]:
+        return [os.access(os.path.join(place, name), mode) for name, mode, _ in ASKED]
+
+    return [as_user(User(uid, groups[0], tuple(groups[1:])), answers) for uid, groups in callers]
 
 
 def table_answers(program: str, owner: int, group: int, items: list[str], callers: typing.Any) -> list[list[bool]]:
@@ -121,12 +116,10 @@ def table_answers(program: str, owner: int, group: int, items: list[str], caller
         script += [f"do {uid} {','.join(map(str, groups))} {op.format(number)}" for _, _, op in ASKED]
     done = run([program, "table"], "\n".join(script) + "\n")
     words = [line.split()[1] for line in done.stdout.splitlines()[1:]]
-    assert (
-        done.returncode == 0 and set(words) <= {"answered", "denied"} and len(words) == len(callers) * len(ASKED)
-    ), done
-    return [
-        [word == "answered" for word in words[place : place + len(ASKED)]] for place in range(0, len(words), len(ASKED))
-    ]
+    are_all = len(words) == len(callers) * len(ASKED)
+    assert done.returncode == 0 and set(words) <= {"answered", "denied"} and are_all, done
+    own = [word == "answered" for word in words]
+    return [own[place : place + len(ASKED)] for place in range(0, len(own), len(ASKED))]
 
 
 def is_masked_out(owner: int, group: int, items: list[str], caller: tuple[int, list[int]]) -> bool:
@@ -178,10 +171,8 @@ def is_valid(text: str) -> bool:
     libacl = ctypes.CDLL("libacl.so.1")
     libacl.acl_from_text.restype = ctypes.c_void_p
     lines = text.splitlines()
-    lists = [
-        [line for line in lines if not line.startswith("d")],
-        [line[2:] for line in lines if line.startswith("d:")],
-    ]
+    own = [line for line in lines if not line.startswith("d")]
+    lists = [own, [line[2:] for line in lines if line.startswith("d:")]]
     acls = [libacl.acl_from_text("\n".join(lines).encode()) for lines in lists if lines]
     return all(acl and libacl.acl_valid(ctypes.c_void_p(acl)) == 0 for acl in acls)
 
@@ -219,40 +210,21 @@ def check_text(program: str, place: str, dice: Dice, tally: dict[str, int]) -> N
         tally[known_oddity(text, own.stdout.strip())] += 1
     else:
         tally["wrong"] += 1
-        print(
-            f"{text!r}: Linux {'takes it as ' + repr(told) if taken else 'refuses it'}, suites {own.returncode},"
-            f" {own.stdout!r}"
-        )
+        theirs = f"takes it as {told!r}" if taken else "refuses it"
+        print(f"{text!r}: Linux {theirs}, suites {own.returncode}, {own.stdout!r}")
 
 
 def main() -> int:
-    read = argparse.ArgumentParser(description=__doc__, formatter_class=argparse.RawDescriptionHelpFormatter)
+    read = console.words(__doc__)
     read.add_argument("--lists", type=int, default=300)
     read.add_argument("--seed", type=int, default=1)
-    read.add_argument("program", nargs="?", default=os.path.join(TOP, "suites"))
+    read.add_argument("program", nargs="?", default=os.path.join(played.TOP, "suites"))
     given = read.parse_args()
     wanting = [name for name in ("setfacl", "getfacl") if not shutil.which(name)]
     if wanting or os.geteuid() != 0:
         sys.exit("this needs root" if not wanting else f"this needs {wanting[0]}, of Debian's package acl")
     dice = Dice(given.seed)
-    tally = dict.fromkeys(
-        [
-            "answers",
-            "agree",
-            "mask",
-            "texts",
-            "taken",
-            "refused",
-            "last id",
-            "octal",
-            "past",
-            "nothing",
-            "hyphens",
-            "mended",
-            "wrong",
-        ],
-        0,
-    )
+    tally = dict.fromkeys(COUNTED.split(", "), 0)
     with tempfile.TemporaryDirectory(dir="/dev/shm") as place:
         os.chmod(place, 0o755)
         os.mkdir(os.path.join(place, "d"))

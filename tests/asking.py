@@ -22,7 +22,7 @@ import explored
 import played
 from played import Tally
 
-from common import built, console, tool
+from common import console, text_of, tool
 
 STORY = os.path.join(explored.STORIES, "revocation.script")
 # How many questions are asked of a script at once, and of how many atoms each is at most.
@@ -141,24 +141,16 @@ def compare(path: str, words: list[str], ways: list[tuple[str, ...]], dice: rand
 
 def compare_kept(dice: random.Random, tally: Tally) -> None:
     """Asks of the scripts whose ways are kept whole."""
-    for folder in (explored.STORIES, explored.KEPT):
-        for name in sorted(os.listdir(folder)):
-            if name.endswith(".script"):
-                path, ways = os.path.join(folder, name), os.path.join(explored.KEPT, f"{name[:-7]}.ways")
-                with open(path, encoding="utf-8") as file:
-                    words = explored.RUN.search(file.read())[1].split()
-                if "--brief" not in words:
-                    with open(ways, encoding="utf-8") as file:
-                        compare(path, words, explored.read(file.read()), dice, tally)
+    for one in explored.kept():
+        if not one.is_brief:
+            compare(one.path, one.words.split(), explored.read(one.ways), dice, tally)
 
 
 def compare_ordered(dice: random.Random, tally: Tally) -> None:
     """Asks in which order jobs were decided: of ways that are told with it, and of others, which ask for it."""
     for name, words in ORDERED:
         path, ordered = os.path.join(explored.STORIES, name), [*words, "--order"]
-        with open(path, encoding="utf-8") as file:
-            told = explored.explored(built.program(), file.read(), " ".join(ordered))[1]
-        ways = explored.read(told)
+        ways = explored.read(explored.explored(text_of(path), " ".join(ordered))[1])
         for _ in range(3):
             compare(path, ordered, ways, dice, tally)
         question = "0.1 before 1.0 or 1.0 before 0.1"

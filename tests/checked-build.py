@@ -12,8 +12,6 @@ import typing
 
 import played
 
-from common import console
-
 
 def differs(program: str, row: played.Row, source: dict[str, typing.Any]) -> subprocess.CompletedProcess[bytes] | None:
     """What the program does otherwise than the row says, with this as its standard input."""
@@ -23,22 +21,16 @@ def differs(program: str, row: played.Row, source: dict[str, typing.Any]) -> sub
 
 
 def main() -> int:
-    read = console.words(__doc__)
-    read.add_argument("program", nargs="?")
-    program = played.program(read.parse_args().program)
-    count = wrong = 0
+    program, tally = played.named_program(__doc__), played.Tally()
     for row in played.rows():
         found = differs(program, row, {"input": row["input"]})
         if not found and row["status"] == 2:
             with open(os.devnull, "wb") as unreadable:
                 found = differs(program, row, {"stdin": unreadable})
-        count += 1
-        if found:
-            wrong += 1
-            print(f"line {row['line']}: status {found.returncode}, wanted {row['status']}; printed:")
-            print((found.stdout + found.stderr).decode("latin1"))
-    print(f"{count} rows, {wrong} differ")
-    return 1 if wrong or not count else 0
+        printed = found and (found.stdout + found.stderr).decode("latin1")
+        told = found and f"status {found.returncode}, wanted {row['status']}; printed:\n{printed}"
+        tally.holds(not found, f"line {row['line']}", told)
+    return tally.told("rows")
 
 
 if __name__ == "__main__":

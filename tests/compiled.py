@@ -15,13 +15,14 @@ import tempfile
 import played
 import scratch
 
-from common import text_of
+from common import crates, text_of
 
 # Programs of tests/programs: with each, the modules of which it is made, here and in crates/.
 MADE_OF = {
     "liar": ("lies", "story", "telling", "trace/src/asked", "trace/src/told", "trace/src/words"),
     "damaged_copies": (),
 }
+FEWEST = 7
 # The program of which the others become modules, and what a measurement takes in place of the runtime that only a
 # `main` has.
 ROOT, RUNTIME = "liar", "&(impl AllocGlobal + Print + std::rt::Clock + std::sync::Wait)"
@@ -57,7 +58,7 @@ def modules() -> tuple[dict[str, str], int]:
 
 def named(texts: dict[str, str]) -> list[str]:
     """The crates that the texts name, those of the kit too."""
-    needs = scratch.needs_of_crates()
+    needs = crates.listed()
     known = {*needs, *(name for names in needs.values() for name in names)}
     return sorted({name for text in texts.values() for name in re.findall(r"^use (\w+)::", text, re.M)} & known)
 
@@ -84,10 +85,8 @@ def main() -> int:
         done = subprocess.run(["rt", "try"], cwd=own, stdin=subprocess.DEVNULL, capture_output=True, text=True)
     if done.returncode != 0:
         wrong.append((done.stdout + done.stderr)[-4000:])
-    for line in wrong:
-        print(line)
-    print(f"{count} programs, {len(wrong)} differ")
-    return 1 if wrong or count < 7 else 0
+    wrong += [f"only {count} programs are found"] if count < FEWEST else []
+    return played.verdict(count, "programs", wrong)
 
 
 if __name__ == "__main__":

@@ -24,9 +24,6 @@ from concurrent.futures import ThreadPoolExecutor
 import played
 import reading
 
-from common import console
-
-HERE = os.path.dirname(os.path.abspath(__file__))
 # Looks at each so many-th byte alone, where the variable says so.
 EVERY = int(os.environ.get("EVERY", "1"))
 
@@ -127,51 +124,40 @@ def cut(program: str, rows: list[played.Row]) -> list[str]:
     return wrong
 
 
-def failing(program: str, row: played.Row, library: str, name: str) -> tuple[int, list[str]]:
+def failing(program: str, row: played.Row, library: played.Library, name: str) -> tuple[int, list[str]]:
     """How many calls of a stream there are, each of which failed once, and what is wrong."""
     calls, wrong, before = 0, list[str](), -1
-    with tempfile.TemporaryDirectory() as folder:
-        mark = os.path.join(folder, "mark")
-        while True:
-            environment = {**os.environ, "LD_PRELOAD": library, name: str(calls + 1), "FAIL_MARK": mark}
-            status, output, errors = ran(program, row, row["input"], environment)
-            if not os.path.exists(mark):
-                return calls, wrong
-            os.remove(mark)
-            calls += 1
-            begins = (
-                row["output"].startswith(output)
-                and before < len(output) < len(row["output"])
-                and (calls > 1 or not output)
-            )
-            before = len(output)
-            if (status, errors) != (6, b"") or not (begins if name == "FAIL_WRITE" else output == b""):
-                wrong.append(f"{row['title']}: {name} {calls}: status {status}")
+    while True:
+        status, output, errors = ran(program, row, row["input"], library.env(**{name: calls + 1}))
+        if not library.was_met():
+            return calls, wrong
+        calls += 1
+        is_longer = before < len(output) < len(row["output"]) and (calls > 1 or not output)
+        begins, before = row["output"].startswith(output) and is_longer, len(output)
+        if (status, errors) != (6, b"") or not (begins if name == "WRITE" else output == b""):
+            wrong.append(f"{row['title']}: {name} {calls}: status {status}")
 
 
 def failed(program: str, rows: list[played.Row]) -> list[str]:
     wrong, calls = list[str](), collections.Counter[str]()
     with tempfile.TemporaryDirectory() as folder:
-        library = played.library("fail", folder) or sys.exit("tests/fail.c is not compiled")
+        library = played.Library("fail", folder)
+        if not library.is_made:
+            sys.exit("tests/fail.c is not compiled")
         for row in rows:
-            for name in ("FAIL_READ", "FAIL_WRITE"):
+            for name in ("READ", "WRITE"):
                 count, found = failing(program, row, library, name)
                 wrong += found if count else [f"{row['title']}: no call of {name}"]
                 calls[name] += count
-    print(f"failed: {len(rows)} inputs: {calls['FAIL_READ']} reads and {calls['FAIL_WRITE']} writes, each in turn")
+    print(f"failed: {len(rows)} inputs: {calls['READ']} reads and {calls['WRITE']} writes, each in turn")
     return wrong
 
 
 def main() -> int:
-    read = console.words(__doc__)
-    read.add_argument("program", nargs="?")
-    program, rows = played.program(read.parse_args().program), played.examples()
+    program, rows = played.named_program(__doc__), played.examples()
     rows += [row for row in played.rows() if row["title"] == "Transactions and sweeps"]
     wrong = failed(program, [*rows, long_row()]) + cut(program, rows)
-    for one in wrong[:20]:
-        print(one)
-    print(f"{len(rows)} inputs, {len(wrong)} differ")
-    return 1 if wrong or not rows else 0
+    return played.verdict(len(rows), "inputs", wrong, 20)
 
 
 if __name__ == "__main__":

@@ -18,45 +18,24 @@ import collections
 import os
 import random
 import re
-import subprocess
 import sys
 import tempfile
 import typing
 
 import played
 
-from common import console, forms
+from common import built, console, forms
 from compare import scenario
 from explain import explain
 from explain.faults import WORD
 
 FIRSTS = {command: list(forms.lines_of(command, "own")) for command in forms.COMMANDS}
 VERBS = list(forms.OPERATIONS)
-BYTES = [
-    "",
-    " ",
-    "\t",
-    "\r",
-    "#",
-    ";",
-    ":",
-    "/",
-    ",",
-    "-",
-    "0",
-    "9",
-    "r",
-    "u::",
-    "d:",
-    "m::",
-    "\xc2\xa0",
-    "\0",
-    "99999999999999999999",
-    "4294967296",
-]
+BYTES = ["", " ", "\t", "\r", *"#;:/,-09r", "u::", "d:", "m::", "\xc2\xa0", "\0", "9" * 20, "4294967296"]
 # Items that are no entries, each with its fault.
 FAULTY = {"z": "A9", "u:4294967296:r": "A11"}
 NOT_FOUND = "Was it changed since?"
+CAME = ("named", "unnamed", "nothing found")
 NAMED_AT_LEAST = {"word dropped": 0.98, "word added": 0.98}
 # Of these kinds so many damages have a fault in that line at least; of the others nearly all. So a program that
 # takes faulty scripts as good ones is told.
@@ -121,30 +100,35 @@ class Damage:
         self.lines[self.at] = " ".join(words)
         self.wanted = list(wanted)
 
-    def place_of(self, words: typing.Iterable[str]) -> int | None:
-        """The place of one of these words in the line, if there is one."""
-        found = [
-            place for place, word in enumerate(self.words) if word in words and (place == 0) == (words is not VERBS)
-        ]
+    def swap(self, place: int, bad: str, *wanted: str | tuple[str, ...]) -> None:
+        """Puts this in the place of a word."""
+        self.put([*self.words[:place], bad, *self.words[place + 1 :]], *wanted)
+
+    def drawn(self, is_it: typing.Callable[[int, str], bool]) -> int | None:
+        """The place of a word that is it, if there is one."""
+        found = [place for place, word in enumerate(self.words) if is_it(place, word)]
         return self.dice.choice(found) if found else None
 
+    def place_of_word(self) -> int | None:
+        """The place of a word that the line has by its form: of an operation, or its first one."""
+        words = self.dice.choice([VERBS, FIRSTS[self.command]])
+        return self.drawn(lambda place, word: word in words and (place == 0) == (words is not VERBS))
+
     def do_word_misspelt(self) -> bool | None:
-        place = self.place_of(self.dice.choice([VERBS, FIRSTS[self.command]]))
+        place = self.place_of_word()
         if place is None:
             return False
         bad = misspelt(self.dice, self.words[place])
         if bad in (*VERBS, *FIRSTS["play"], *FIRSTS["serve"]):
             return False
-        self.put([*self.words[:place], bad, *self.words[place + 1 :]], f"'{bad}'", f"'{self.words[place]}' is near")
+        self.swap(place, bad, f"'{bad}'", f"'{self.words[place]}' is near")
 
     def do_word_dropped(self) -> bool | None:
         place = self.dice.randrange(len(self.words))
         if self.words[place] == ";":
             return False
-        self.put(
-            [*self.words[:place], *self.words[place + 1 :]],
-            ("is missing", "ends, and", "an operation is due", "is due here"),
-        )
+        wanted = ("is missing", "ends, and", "an operation is due", "is due here")
+        self.put([*self.words[:place], *self.words[place + 1 :]], wanted)
 
     def do_word_added(self) -> bool | None:
         place, extra = self.dice.randint(1, len(self.words)), self.dice.choice(["extra", "7", "/x"])
@@ -152,40 +136,34 @@ class Damage:
         self.put([*self.words[:place], extra, *self.words[place:]], f"'{extra}'", wanted)
 
     def do_number_too_large(self) -> bool | None:
-        places = [
-            place
-            for place, most in enumerate(MOST.get(self.words[0], []))
-            if most is not None and place + 1 < len(self.words)
-        ]
-        if not places:
+        limits = [None, *MOST.get(self.words[0], [])]
+        place = self.drawn(lambda place, _: place < len(limits) and limits[place] is not None)
+        if place is None or self.command != "play" and self.words[0] == "sweep":
             return False
-        place = self.dice.choice(places)
-        if self.command != "play" and self.words[0] == "sweep":
-            return False
-        most = MOST[self.words[0]][place]
+        most = limits[place]
         if most < 0:
             most = int(self.lines[-1 - most].split()[1]) - 1
         bad = str(most + self.dice.choice([1, 1, 10**6]))
-        self.put([*self.words[: place + 1], bad, *self.words[place + 2 :]], f"{bad} is above {most},")
+        self.swap(place, bad, f"{bad} is above {most},")
 
     def do_mark_in_front(self) -> bool | None:
         self.at, self.words = 0, self.lines[0].split()
         self.put([f"\xef\xbb\xbf{self.lines[0]}"], "byte order mark")
 
     def do_capitals(self) -> bool | None:
-        place = self.place_of(self.dice.choice([VERBS, FIRSTS[self.command]]))
+        place = self.place_of_word()
         if place is None:
             return False
         bad = self.dice.choice([self.words[place].upper(), self.words[place].capitalize()])
-        self.put([*self.words[:place], bad, *self.words[place + 1 :]], f"'{bad}'", f"'{self.words[place]}' is near")
+        self.swap(place, bad, f"'{bad}'", f"'{self.words[place]}' is near")
 
     def do_text_as_bytes(self) -> bool | None:
-        places = [place + 2 for place, word in enumerate(self.words) if place and word == "write"]
-        if not places:
+        place = self.drawn(lambda place, word: place and word == "write")
+        if place is None:
             return False
-        place, bad = self.dice.choice(places), self.dice.choice(["hello", "0x6869", "686", "hi"])
+        bad = self.dice.choice(["hello", "0x6869", "686", "hi"])
         wanted = "has 3 hexadecimal digits" if bad == "686" else f"'{bad}' is not made of hexadecimal digits"
-        self.put([*self.words[:place], bad, *self.words[place + 1 :]], wanted)
+        self.swap(place + 2, bad, wanted)
 
     def do_comment_behind(self) -> bool | None:
         if self.words[0] in ("user", "group", "step"):
@@ -193,23 +171,17 @@ class Damage:
         self.put([*self.words, self.dice.choice(["#", "# a note", "#note"])], "comment stands in a line of its own")
 
     def do_path_with_a_space(self) -> bool | None:
-        places = [
-            place + 1
-            for place, word in enumerate(self.words)
-            if place and word in VERBS and word not in ("file", "folder", "setacl")
-        ]
-        if not places:
+        others = {*VERBS} - {"file", "folder", "setacl"}
+        place = self.drawn(lambda place, word: place and word in others)
+        if place is None:
             return False
-        place = self.dice.choice(places)
         wanted = ("a path is one word", "'file' stands where", "'file' is not made of")
-        self.put([*self.words[:place], "/my", "file", *self.words[place + 1 :]], "'file'", wanted)
+        self.swap(place + 1, "/my file", "'file'", wanted)
 
     def do_semicolon_without_a_space(self) -> bool | None:
         if ";" not in self.words:
             return False
-        line = self.dice.choice(
-            [" ".join(self.words).replace(" ; ", "; ", 1), " ".join(self.words).replace(" ; ", " ;", 1)]
-        )
+        line = " ".join(self.words).replace(" ; ", self.dice.choice(["; ", " ;"]), 1)
         self.put([line], ("has a semicolon", "is no mode", "stands where", "stands in no name", "is no permission"))
 
     def do_bytes_changed(self) -> bool | None:
@@ -241,10 +213,9 @@ class Damage:
         self.wanted = [f"'{other.split()[0]}' begins a line of"]
 
     def do_list_changed(self) -> bool | None:
-        places = [place for place, word in enumerate(self.words) if word.count("::") > 1]
-        if not places:
+        place = self.drawn(lambda _, word: word.count("::") > 1)
+        if place is None:
             return False
-        place = self.dice.choice(places)
         items = self.words[place].split(",")
         at = self.dice.randrange(len(items))
         bad, wanted = self.dice.choice(
@@ -260,13 +231,12 @@ class Damage:
         if bad == items[at] or bad.startswith(("m:r", "m:-", "o:r", "o:-", "d:m:r", "d:o:r", "d:o:-")):
             return False
         items[at] = bad
-        self.put([*self.words[:place], ",".join(items), *self.words[place + 1 :]], wanted)
+        self.swap(place, ",".join(items), wanted)
 
     def do_votes_changed(self) -> bool | None:
-        places = [place for place, word in enumerate(self.words) if word.count("/") == 2 and not word.startswith("/")]
-        if not places:
+        place = self.drawn(lambda _, word: word.count("/") == 2 and not word.startswith("/"))
+        if place is None:
             return False
-        place = self.dice.choice(places)
         fields, read, write = self.words[place].split("/")
         total = sum(int(field) for field in fields.split(",") if field != "-")
         bad, wanted = self.dice.choice(
@@ -278,12 +248,7 @@ class Damage:
                 (f"{fields},x/{read}/{write}", "'x' is neither"),
             ]
         )
-        self.put([*self.words[:place], bad, *self.words[place + 1 :]], wanted)
-
-
-def printed_by(words: list[str], text: str) -> str:
-    done = subprocess.run(words, input=text.encode("latin1"), stdout=subprocess.PIPE, stderr=subprocess.DEVNULL)
-    return done.stdout.decode("latin1").strip("\n")
+        self.swap(place, bad, wanted)
 
 
 class Command(typing.NamedTuple):
@@ -292,10 +257,13 @@ class Command(typing.NamedTuple):
     program: str
     command: str
 
+    def printed(self, text: str, command: str, *words: str) -> str:
+        return built.asked(command, text, *words, path=self.program)[1].strip("\n")
+
     def fault_of(self, lines: list[str]) -> str:
         """The fault that the program tells of a script; nothing where it tells none."""
-        words = ["serve", "--agents", "2"] if self.command == "serve" else [self.command]
-        told = printed_by([self.program, *words], "".join(f"{line}\n" for line in lines))
+        words = ["--agents", "2"] if self.command == "serve" else []
+        told = self.printed("".join(f"{line}\n" for line in lines), self.command, *words)
         return told if told.startswith("fault line ") else ""
 
     def fault_below(self, above: list[str], words: list[str]) -> str:
@@ -305,7 +273,7 @@ class Command(typing.NamedTuple):
     def item_differing(self, above: list[str], words: list[str], number: str, place: str) -> str:
         """What is wrong with the place that `forms` tells of an item of the last of these words; "" if nothing."""
         *front, word = words
-        if printed_by([self.program, "forms", "list", number], word).split("\t")[0] != place:
+        if self.printed(word, "forms", "list", number).split("\t")[0] != place:
             return f"as a list its item {number} is not at {place}"
         before, rest = word[: int(place)], re.sub("^[^,#]*", "", word[int(place) :])
         for other, code in FAULTY.items():
@@ -325,7 +293,7 @@ class Command(typing.NamedTuple):
         number, code = fault.removeprefix("fault line ").split(": ")
         above = lines[: int(number) - 1]
         script = "".join(f"{line}\n" for line in lines)
-        told = printed_by([self.program, "forms", self.command, number], script).split("\t")
+        told = self.printed(script, "forms", self.command, number).split("\t")
         if told[1] != code:
             return f"{fault}: forms tells {told[1]}"
         words = WORD.findall(lines[int(number) - 1]) if int(number) <= len(lines) else []
@@ -343,11 +311,8 @@ class Command(typing.NamedTuple):
 def unnamed(damage: Damage, said: str) -> list[str | tuple[str, ...]]:
     """What of a damage is not said."""
     said = " ".join(said.split())
-    return [
-        words
-        for words in damage.wanted
-        if not any(one in said for one in (words if isinstance(words, tuple) else (words,)))
-    ]
+    told = [words if isinstance(words, tuple) else (words,) for words in damage.wanted]
+    return [words for words, ways in zip(damage.wanted, told) if not any(one in said for one in ways)]
 
 
 def tried(program: str, path: str, damage: Damage) -> tuple[str, str]:
@@ -362,9 +327,8 @@ def tried(program: str, path: str, damage: Damage) -> tuple[str, str]:
         file.writelines(f"{line}\n" for line in damage.lines)
     said = explain.answer(["--of", damage.command, printed, path])
     guessed = explain.answer([printed, path])
-    other = explain.answer(
-        ["--of", damage.command, re.sub(": .*", ": N2" if "N2" not in printed else ": N1", printed), path]
-    )
+    another = re.sub(": .*", ": N2" if "N2" not in printed else ": N1", printed)
+    other = explain.answer(["--of", damage.command, another, path])
     is_missed = [NOT_FOUND in " ".join(text.split()) for text in (said, guessed, other)]
     if is_missed != [False, False, True]:
         return "nothing found", f"{printed}: {said}"
@@ -394,17 +358,13 @@ def main() -> int:
                 print(f"seed {seed}, {damage.kind}, of {command}: {came}, wanted {damage.wanted}: {said}\n")
     kinds, wrong = sorted({kind for kind, _ in counts}), 0
     for kind in kinds:
-        named, of = counts[kind, "named"], sum(counts[kind, came] for came in ("named", "unnamed", "nothing found"))
+        named, of = counts[kind, "named"], sum(counts[kind, came] for came in CAME)
         are_taken = of < (of + counts[kind, "none"]) * FAULTY_AT_LEAST.get(kind, 0.97)
         is_wrong = counts[kind, "nothing found"] or named < of * NAMED_AT_LEAST.get(kind, 1) or not of or are_taken
         wrong += bool(is_wrong)
-        print(
-            f"{kind}: {named} of {of} named; {counts[kind, 'none']} had no fault in that"
-            f" line{'  WRONG' if is_wrong else ''}"
-        )
-    named, of = sum(counts[key] for key in counts if key[1] == "named"), sum(
-        counts[key] for key in counts if key[1] != "none"
-    )
+        told = f"{counts[kind, 'none']} had no fault in that line{'  WRONG' if is_wrong else ''}"
+        print(f"{kind}: {named} of {of} named; {told}")
+    named, of = (sum(counts[key] for key in counts if key[1] in some) for some in (CAME[:1], CAME))
     print(f"of {of} faulty lines {named} named")
     print(f"{len(kinds)} kinds of damage, {wrong} differ")
     return 1 if wrong or not kinds else 0

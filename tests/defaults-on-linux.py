@@ -17,9 +17,8 @@ import typing
 
 import played
 
-from common import console
+from common import built, console, text_of
 
-TOP = os.path.join(os.path.dirname(os.path.abspath(__file__)), "..")
 ACCESS = "u::rwx,g::r-x,o::--x"
 # Without a mask, with named users and groups under wide and narrow masks, and with a mask alone.
 DEFAULTS = [
@@ -137,9 +136,8 @@ def main() -> None:
     if given.rows:
         print("".join(told(found) for found in measured()), end="")
         return
-    program = given.program or os.path.join(TOP, "crates", "suites", "out", "suites")
-    with open(os.path.join(TOP, "crates", "rows", "stdin"), encoding="utf-8") as file:
-        kept = file.read()
+    program = given.program or os.path.join(played.TOP, "crates", "suites", "out", "suites")
+    kept = text_of("crates", "rows", "stdin")
     rows = [found for found in measured() if not isinstance(found, str)]
     absent = sum(told(row) not in kept for row in rows)
     print(f"{len(rows)} rows measured, of which {absent} do not stand in crates/rows/stdin")
@@ -150,10 +148,9 @@ def main() -> None:
 def differences(program: str, rows: list[typing.Any]) -> int:
     """How many rows the program prints otherwise than Linux has it."""
     count = 0
-    for words, given, printed in rows:
+    for command, given, printed in rows:
         wanted, text = "".join(line + "\n" for line in printed), "".join(line + "\n" for line in given)
-        done = subprocess.run([program, words], input=text, stdout=subprocess.PIPE, text=True)
-        count += (done.returncode, done.stdout) != (0, wanted)
+        count += built.asked(command, text, path=program) != (0, wanted)
     print(f"{program}: {count} of {len(rows)} rows differ")
     return count
 

@@ -28,31 +28,29 @@ import xml.etree.ElementTree as etree
 import played
 import traced
 from played import Tally
+from scripting import header, job
 
-from common import console, tool
+from common import built, text_of, tool
 from compare import scenario
 from trace import draw, trace
 from trace.events import Run, events_of
 from trace.paths import paths
 
-STORIES = os.path.join(played.TOP, "examples", "play")
-PICTURE = os.path.join(played.TOP, "docs", "revocation.svg")
 # An em of these fonts has 2,048 units, and each letter 1,233 (DejaVu Sans Mono; the others have less). A letter reaches
 # so far above and below its line.
 SIZE, LETTER, ABOVE, BELOW = 11, 1233 / 2048, 9, 2
 # What a browser shows of a page on a small screen.
 SCREEN = 700
 SVG = "{http://www.w3.org/2000/svg}"
-HEADER = ["root 1000 100 777", "cache 4096 4096 16"]
 LONG = "/a-name-of-more-letters-than-there-is-room-for-between-two-lines"
 
 
 def script_of(servers: int, agents: int, votes: str, *lines: str) -> str:
-    return "\n".join([f"servers {servers}", f"agents {agents}", f"votes {votes}", *HEADER, *lines]) + "\n"
+    return header(servers, agents, votes, cache="4096 4096 16") + "".join(f"{line}\n" for line in lines)
 
 
 def begun(agent: int, asked: str, uid: int = 1000) -> str:
-    return f"begin {agent} {uid} 100 0 {asked}\nrun {agent}"
+    return job(asked, agent, f"{uid} 100").rstrip("\n")
 
 
 SCRIPTS = {
@@ -167,16 +165,14 @@ def drawn(script: str, *words: str) -> Picture:
 
 def jobs(program: str, script: str) -> list[int]:
     """How many requests each job took, as `play` tells."""
-    done = subprocess.run([program, "play"], input=script.encode(), stdout=subprocess.PIPE, check=True)
-    return [int(found[1]) for found in re.finditer(r"^\d+\.\d+ (\d+) ", done.stdout.decode(), re.M)]
+    printed = built.asked("play", script, path=program)[1]
+    return [int(found) for found in re.findall(r"^\d+\.\d+ (\d+) ", printed, re.M)]
 
 
 def scripts() -> typing.Iterator[tuple[str, str]]:
     """The scripts above, the stories, and random ones."""
     yield from SCRIPTS.items()
-    for name in sorted(os.listdir(STORIES)):
-        with open(os.path.join(STORIES, name), encoding="utf-8") as file:
-            yield name, file.read()
+    yield from played.stories().items()
     for seed in range(12):
         yield f"seed {seed}", scenario.Scenario(seed, 160).script()
 
@@ -186,12 +182,8 @@ def whole(tally: Tally, name: str, picture: Picture) -> None:
         is_on = 0 <= text.left and text.right <= picture.width and 0 <= text.top and text.bottom <= picture.height
         tally.holds(is_on, name, "off the canvas", text.shown)
         tally.holds(text.is_cut == text.shown.endswith("…"), name, "cut, and not there whole", text.shown)
-        tally.holds(
-            not text.is_cut or text.whole.startswith(text.shown[:-1]) and len(text.whole) > len(text.shown),
-            name,
-            "cut",
-            text.shown,
-        )
+        is_so = not text.is_cut or text.whole.startswith(text.shown[:-1]) and len(text.whole) > len(text.shown)
+        tally.holds(is_so, name, "cut", text.shown)
     for path in picture.paths:
         x, y, end = map(int, re.findall(r"\d+", path))
         is_on = x <= picture.width and y <= picture.height
@@ -204,9 +196,8 @@ def whole(tally: Tally, name: str, picture: Picture) -> None:
         for other in texts[place + 1 :]:
             if other.top >= one.bottom:
                 break
-            tally.holds(
-                other.left >= one.right or one.left >= other.right, name, "on one another", one.shown, other.shown
-            )
+            is_so = other.left >= one.right or one.left >= other.right
+            tally.holds(is_so, name, "on one another", one.shown, other.shown)
     for style, arrows in ((None, picture.arrows[::2]), ("reply", picture.arrows[1::2])):
         labels = [text for text in picture.texts if text.style == style]
         tally.holds(len(labels) == len(arrows), name, "labels and arrows", style, len(labels), len(arrows))
@@ -254,25 +245,15 @@ def begun_there(tally: Tally, name: str, picture: Picture, lines: list[str]) -> 
             else None
         )
         is_near = first is not None and first - text.y < draw.NEAR * draw.BAND
-        tally.holds(
-            not is_near or not any(text.y < row < first for row in rows),
-            name,
-            "names between a job and its first arrow",
-            text.whole,
-        )
+        is_so = not is_near or not any(text.y < row < first for row in rows)
+        tally.holds(is_so, name, "names between a job and its first arrow", text.whole)
 
 
 def folded(tally: Tally, name: str, script: str, lines: list[str]) -> None:
     picture = drawn(script, "--fold", "--anyway")
     count = sum("->" in line for line in lines if line.startswith("  "))
-    tally.holds(
-        len(picture.arrows) // 2 + len(picture.dots) == count,
-        name,
-        "--fold leaves out requests",
-        len(picture.arrows) // 2,
-        len(picture.dots),
-        count,
-    )
+    is_so = len(picture.arrows) // 2 + len(picture.dots) == count
+    tally.holds(is_so, name, "--fold leaves out requests", len(picture.arrows) // 2, len(picture.dots), count)
     for one in picture.texts:
         tally.holds(0 <= one.left and one.right <= picture.width, name, "--fold: off the canvas", one.shown)
 
@@ -294,16 +275,12 @@ def chosen(tally: Tally) -> None:
     own = drawn(two, "--agent", "1")
     tally.holds(own.requests() == [one for one in every if one[0] == "agent 1"], "--agent 1")
     tally.holds(("agent 1", "forgets its cache of site 0") in own.said(), "forget of an agent is not drawn")
-    tally.holds(
-        {("server 1", "crashes"), ("server 1", "restarts")} <= set(own.said()),
-        "servers are left out for an agent",
-        own.said(),
-    )
+    is_so = {("server 1", "crashes"), ("server 1", "restarts")} <= set(own.said())
+    tally.holds(is_so, "servers are left out for an agent", own.said())
     part = drawn(two, "--agent", "1", "--from", "2", "--to", "4").requests()
     tally.holds(part == own.requests()[1:4], "--agent 1 --from 2 --to 4")
-    tally.holds(
-        drawn(two, "--suite", "/d/f").requests() == drawn(two, "--suite", "2").requests() != [], "a path and its number"
-    )
+    is_so = drawn(two, "--suite", "/d/f").requests() == drawn(two, "--suite", "2").requests() != []
+    tally.holds(is_so, "a path and its number")
     status, text, said = run(two, "--from", "1000")
     tally.holds(status == 1 and text == "" and f"{len(every)} requests" in said, "--from behind the last", said)
     tally.holds(run(two, "--from", "3", "--to", "2")[:2] == (1, ""), "--from above --to")
@@ -353,10 +330,8 @@ def about(tally: Tally, program: str) -> None:
     own = counts[1] + counts[3] + counts[4]
     # of a job is drawn what it asks of the suite itself, and of its transaction
     tally.holds(0 < len(picture.requests()) <= own, "requests about /b", len(picture.requests()), own)
-    tally.holds(
-        all("/b" in asked or asked.startswith(("decide", "finish")) for _, _, asked in picture.requests()),
-        "--suite /b draws others",
-    )
+    is_so = all("/b" in asked or asked.startswith(("decide", "finish")) for _, _, asked in picture.requests())
+    tally.holds(is_so, "--suite /b draws others")
 
 
 def many(tally: Tally, program: str) -> None:
@@ -429,35 +404,17 @@ def slow(tally: Tally) -> None:
         own, terminal = pty.openpty()
         done = subprocess.run(words, input=script, stdout=subprocess.PIPE, stderr=terminal, cwd=folder)
         os.close(terminal)
-        said = read_all(own)
-        tally.holds(
-            done.returncode == 0 and " % of the script is played, 0 s" in said, name, "a terminal is told", said
-        )
+        said = played.shown_on(own)
+        is_so = done.returncode == 0 and " % of the script is played, 0 s" in said
+        tally.holds(is_so, name, "a terminal is told", said)
         tally.holds(said.endswith("\r\033[K"), name, "what was said last stays", said[-60:])
         silent = subprocess.run(words, input=script, capture_output=True, cwd=folder)
-        tally.holds(
-            "%" not in silent.stderr.decode() and silent.stdout == done.stdout, name, "not on a terminal", silent.stderr
-        )
-
-
-def read_all(terminal: int) -> str:
-    """What was written to a terminal that nobody writes to any more."""
-    parts: list[bytes] = []
-    while True:
-        try:
-            part = os.read(terminal, 4096)
-        except OSError:
-            part = b""
-        if not part:
-            os.close(terminal)
-            return b"".join(parts).decode()
-        parts.append(part)
+        is_so = "%" not in silent.stderr.decode() and silent.stdout == done.stdout
+        tally.holds(is_so, name, "not on a terminal", silent.stderr)
 
 
 def main() -> int:
-    read = console.words(__doc__)
-    read.add_argument("program", nargs="?")
-    program, tally = played.program(read.parse_args().program), Tally(most=20)
+    program, tally = played.named_program(__doc__), Tally(most=20)
     cut = 0
     for name, script in scripts():
         lines, events = traced.lines_of(script), events_of(script.encode())
@@ -467,17 +424,14 @@ def main() -> int:
         told(tally, name, script, lines)
         begun_there(tally, name, picture, lines)
         folded(tally, name, script, lines)
-        tally.holds(
-            len(picture.requests()) == sum("->" in line for line in lines if line.startswith("  ")),
-            name,
-            "requests that are drawn",
-        )
+        is_so = len(picture.requests()) == sum("->" in line for line in lines if line.startswith("  "))
+        tally.holds(is_so, name, "requests that are drawn")
         cut += sum(text.is_cut for text in picture.texts)
     tally.holds(cut > 0, "no label was cut")
     unordered(tally)
-    with open(PICTURE, encoding="utf-8") as file:
-        own = run(dict(scripts())["revocation.script"])[1]
-        tally.holds(file.read() == own, "the picture in docs/ is another one: ./suites draw makes it anew")
+    own = run(played.stories()["revocation.script"])[1]
+    is_same = text_of("docs", "revocation.svg") == own
+    tally.holds(is_same, "the picture in docs/ is another one: ./suites draw makes it anew")
     everybody(tally)
     chosen(tally)
     stands(tally)

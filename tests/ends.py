@@ -21,12 +21,13 @@ import typing
 
 import played
 import wrapper
+from scripting import header, job
 
 from front import sources
 
 # In place of a program: it ends by the signal of this number.
 KILLED = "#!/bin/sh\ncat > /dev/null\nkill -{0} $$\n"
-SCRIPT = b"servers 1\nagents 1\nvotes 1/1/1\nroot 1 1 777\ncache 0 0 0\nbegin 0 1 1 0 list /\nrun 0\n"
+SCRIPT = (header(1, 1, "1/1/1", "1 1 777") + job("list /", who="1 1")).encode()
 # In place of a program: tells how much memory it may have, in KiB.
 LIMITED = "#!/bin/sh\ncat > /dev/null\necho \"limit $(ulimit -v)\"\n"
 # In place of a program that is at work.
@@ -76,10 +77,8 @@ def holds(copy: wrapper.Copy, words: str, status: int, told: str, **how: typing.
     """A line of a shell has this status, and standard error this sentence and no other but that of a checked build."""
     done = asked(copy, words, **how)
     lines = [line for line in done.stderr.decode("latin1").splitlines() if not line.startswith("suites: checked build")]
-    copy.holds(
-        done.returncode == status and any(told in line for line in lines) and "Traceback" not in "\n".join(lines),
-        f"{words}: {done.returncode}, and not {status} with {told!r}: {lines}",
-    )
+    is_so = done.returncode == status and any(told in line for line in lines) and "Traceback" not in "\n".join(lines)
+    copy.holds(is_so, f"{words}: {done.returncode}, and not {status} with {told!r}: {lines}")
 
 
 def by_signals(copy: wrapper.Copy) -> None:

@@ -17,17 +17,15 @@ from typing import Any
 
 import drawn
 import played
-import shown_page
 import traced
 from played import Tally
 
-from common import built
+from common import built, text_of
 from compare import scenario
 from explain import play_lines
 from show import show
 from trace import json_events, states
 
-SCHEMA = os.path.join(played.TOP, "docs", "events.schema.json")
 # Words of an ending beside its parts.
 WORDS = ("op", "suite", "wants", "by", "got", "of", "server", "holder")
 TYPES = {"object": dict, "array": list, "string": str, "integer": int, "boolean": bool}
@@ -80,7 +78,7 @@ class Schema:
 
 
 def scripts() -> Iterator[tuple[str, str]]:
-    yield from shown_page.stories().items()
+    yield from played.stories().items()
     yield from drawn.SCRIPTS.items()
     for seed in range(30):
         yield f"seed {seed}", scenario.Scenario(seed, 200).script()
@@ -225,7 +223,7 @@ def in_full(tally: Tally, name: str, events: list[dict], lines: list[str]) -> No
 
 def typed(tally: Tally) -> None:
     """What the command prints is what is looked at here, and of a fault its line."""
-    script = next(iter(shown_page.stories().values())).encode()
+    script = next(iter(played.stories().values())).encode()
     words, fuller = [os.path.join(played.TOP, "suites"), "trace", "--json"], json_events.Fuller()
     for given, status in ((script, 0), (script + b"none\n", 3)):
         done = subprocess.run(words, input=given, capture_output=True, check=False)
@@ -236,8 +234,7 @@ def typed(tally: Tally) -> None:
 
 def main() -> int:
     tally = Tally(most=20, width=600)
-    with open(SCHEMA, encoding="utf-8") as file:
-        schema = Schema(json.load(file))
+    schema = Schema(json.loads(text_of("docs", "events.schema.json")))
     for name, script in scripts():
         bare_lines, fuller = show.events_of(script.encode()), json_events.Fuller()
         events = [json.loads(fuller.of(line.encode())) for line in bare_lines]
@@ -256,9 +253,8 @@ def main() -> int:
         for own, told in zip([*lines_of(events), None], [*lines_in(lines), None]):
             tally.holds(own == told, name, "told otherwise", own, told)
     for words in (["--json", "x"], ["--json", ""], ["x", "--json"]):
-        named = [built.program(), "trace", *words]
-        done = subprocess.run(named, stdin=subprocess.DEVNULL, capture_output=True, check=False)
-        tally.holds((done.returncode, done.stdout) == (2, b"fault command line\n"), "words", words, done)
+        answer = built.asked("trace", "", *words)
+        tally.holds(answer == (2, "fault command line\n"), "words", words, answer)
     typed(tally)
     return tally.told("looked at")
 

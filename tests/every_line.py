@@ -18,8 +18,9 @@ import tempfile
 import typing
 
 import played
+from scripting import header, job
 
-from common import console, quoted
+from common import console, quoted, text_of
 from explain import explain
 
 # So many kinds of lines at least are printed; fewer were found by mistake.
@@ -57,10 +58,7 @@ SLANTED = re.compile(r"(?<!\*)\*([a-z][a-z -]*[a-z])\*(?!\*)")
 # Slanted words are to be known of all pages but that of measurements, where one names a column.
 PAGES = ("README.md", "docs")
 UNKNOWN = ("PERFORMANCE.md",)
-OBEYED = (
-    "servers 3\nagents 1\nvotes 1,1,1/2/2\nroot 1000 100 777\ncache 0 0 0\n"
-    "begin 0 1000 100 0 read /a\x1b[31m\x07\nrun 0\n"
-)
+OBEYED = header(3, 1) + job("read /a\x1b[31m\x07")
 # Questions of a story that are answered so: sometimes, always and never.
 ASKED = ["--ask", "0.1 answered", "--ask", "0.1 decided or not 0.1 decided", "--ask", "0.1 stopped"]
 
@@ -103,8 +101,7 @@ def of_sessions() -> typing.Iterator[Line]:
         answers = [*printed("session", "--marks", script=script, behind=QUESTIONS)]
         yield from (Line("session", text) for text in answers)
         # what the story itself has: its lines stand above the questions
-        with open(script, encoding="utf-8") as file:
-            last = answers.index(f"= {len(file.read().splitlines())}")
+        last = answers.index(f"= {len(text_of(script).splitlines())}")
         yield from (Line("session", text, script) for text in answers[: last + 1] if text.startswith("= "))
     for script in stories("play"):
         yield from (Line("dump", text) for text in printed("dump", script=script, says=True))
@@ -129,8 +126,7 @@ def of_histories() -> typing.Iterator[Line]:
             # a smaller history and a script have lines of their own
             yield from (Line("judge", text, history) for text in told[:1] if not option)
             yield from (Line("judge", text) for text in told)
-        with open(history, encoding="utf-8") as file:
-            lines = [line for line in file.read().splitlines() if not line.startswith("#")]
+        lines = [line for line in text_of(history).splitlines() if not line.startswith("#")]
         yield from (Line("judge", text, history) for text in lines if text.startswith(("call", "ret")))
     for text in printed("judge", behind="root 1 1 755\ncall 1 1 1 read\n", says=True):
         yield Line("judge", text)
@@ -156,8 +152,7 @@ def lines() -> typing.Iterator[Line]:
     for script in stories("serve"):
         yield from (Line("serve", text, script) for text in printed("serve", "--agents", "1", script=script))
     for name in sorted(glob.glob(os.path.join(played.TOP, "tests", "explored", "*.ways"))):
-        with open(name, encoding="utf-8") as file:
-            yield from (Line("explore", line.rstrip("\n")) for line in file)
+        yield from (Line("explore", line) for line in text_of(name).splitlines())
     yield from of_sessions()
     yield from of_histories()
     for asked in [*((one,) for one in VOTES), *OF]:
@@ -196,8 +191,7 @@ def unknown_words() -> typing.Iterator[str]:
         for name in [path] if os.path.isfile(path) else sorted(glob.glob(os.path.join(path, "*.md"))):
             if os.path.basename(name) in UNKNOWN:
                 continue
-            with open(name, encoding="utf-8") as file:
-                words = {word for word in SLANTED.findall(file.read()) if len(word.split()) <= 3}
+            words = {word for word in SLANTED.findall(text_of(name)) if len(word.split()) <= 3}
             unknown, of = sorted(word for word in words if not explain.explained(word)), os.path.basename(name)
             yield from (f"{of}: {word} is slanted, and explain does not know it" for word in unknown)
 

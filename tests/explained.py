@@ -19,8 +19,9 @@ import tempfile
 import typing
 
 import played
+import scripting
 
-from common import console, forms, text_of
+from common import built, forms, text_of
 from compare import scenario
 from explain import explain, play_lines, reasons
 from explore import queries
@@ -31,7 +32,7 @@ source = functools.partial(text_of, "crates")
 
 HEADERS: dict[str, list[str]] = {
     "table": ["root 1000 100 777"],
-    "play": ["servers 3", "agents 2", "votes 1,1,1/2/2", "root 1000 100 777", "cache 0 0 0"],
+    "play": scripting.header().splitlines(),
     "acl": [],
 }
 HEADERS = {**HEADERS, **{f"whole {name}": [] for name in HEADERS}}
@@ -151,13 +152,14 @@ ALONE = {
         "the entry that decides grants"
     ],
 }
-RIGHT = "servers 3\nagents 2\nvotes 1,1,1/2/2\nroot 1000 100 777\ncache 0 0 0\nbegin 0 1000 100 0 file /a 644\nrun 1\n"
-# Faults that are told of a script which has been mended, and what is said.
+RIGHT = scripting.header() + "begin 0 1000 100 0 file /a 644\nrun 1\n"
+# Faults that are told of a script or a list which has been mended, and what is said.
 MENDED = {
-    "fault line 3: S2": "no fault S2 in line 3. The line is right as it is now. Was it changed since?",
-    "fault line 6: S1": "no fault S1 in line 6. The line is right as it is now.",
-    "fault line 12: S1": "has no line 12. Was it changed",
-    "fault line 4: G1": "The line is right as it is now",
+    "fault line 3: S2": (RIGHT, "no fault S2 in line 3. The line is right as it is now. Was it changed since?"),
+    "fault line 6: S1": (RIGHT, "no fault S1 in line 6. The line is right as it is now."),
+    "fault line 12: S1": (RIGHT, "has no line 12. Was it changed"),
+    "fault line 4: G1": (RIGHT, "The line is right as it is now"),
+    "fault A9 item 1": ("u::rw,g::r,o::-\n", "has no fault A9 item 1. The list is right as it is now."),
 }
 SEEDS = 6
 NOT_FOUND = "Was it changed since?"
@@ -210,13 +212,12 @@ def play_examples(program: str) -> tuple[int, list[str]]:
         path = os.path.join(folder, "given")
         for code, words, lines, wanted, told in examples():
             count += 1
-            text = "".join(line + "\n" for line in lines).encode("latin1")
-            done = subprocess.run([program, *words], input=text, stdout=subprocess.PIPE, stderr=subprocess.DEVNULL)
-            last = done.stdout.decode("latin1").splitlines()[-1:]
+            text = "".join(line + "\n" for line in lines)
+            last = built.asked(words[0], text, *words[1:], path=program)[1].splitlines()[-1:]
             if last != [wanted]:
                 wrong.append(f"{code}: {words} of {lines} prints {last}, and not {wanted}")
             elif re.match(r"fault (line|[A-Z])", wanted):
-                with open(path, "wb") as file:
+                with open(path, "w", encoding="latin1", newline="") as file:
                     file.write(text)
                 why = untold(words[0], path, wanted, told)
                 wrong += [f"{code}: of {lines}, {wanted}, is wanted: {told}; {why}"] if why else []
@@ -226,14 +227,6 @@ def play_examples(program: str) -> tuple[int, list[str]]:
     return count, wrong + [f"explain says nothing of {code} where it is printed" for code in about if not about[code]]
 
 
-def read_or_nothing(terminal: typing.IO[bytes]) -> str:
-    """What is to be read of a terminal; nothing once the other end is closed."""
-    try:
-        return terminal.read(4096).decode()
-    except OSError:
-        return ""
-
-
 def on_terminal(words: list[str], path: str, folder: str) -> str:
     """What a terminal is told of a file that is read."""
     terminal, end = os.openpty()
@@ -241,8 +234,7 @@ def on_terminal(words: list[str], path: str, folder: str) -> str:
         given: dict[str, typing.Any] = {"stdin": file, "stdout": subprocess.DEVNULL, "stderr": end, "cwd": folder}
         subprocess.run([os.path.join(TOP, "suites"), *words], check=False, **given)
     os.close(end)
-    with open(terminal, "rb", buffering=0) as said_there:
-        return "".join(iter(lambda: read_or_nothing(said_there), ""))
+    return played.shown_on(terminal)
 
 
 def told_on_terminal() -> typing.Iterator[str]:
@@ -259,12 +251,8 @@ def told_on_terminal() -> typing.Iterator[str]:
                 file.write(text)
             said = on_terminal([command], os.path.join(folder, name), folder)
             found = re.search(r"\./suites (explain 'fault .*) shows it", said)
-            shown = (
-                found
-                and subprocess.run(
-                    f"{TOP}/suites {found[1]}", shell=True, cwd=folder, stdout=subprocess.PIPE, text=True
-                ).stdout
-            )
+            how: dict[str, typing.Any] = {"shell": True, "cwd": folder, "stdout": subprocess.PIPE, "text": True}
+            shown = found and subprocess.run(f"{TOP}/suites {found[1]}", **how).stdout
             if not shown or told not in shown:
                 yield f"on a terminal {command} < '{name}' says {said.strip()}, which shows {shown}"
 
@@ -285,6 +273,14 @@ def denies(text: str, owner: str, group: str, uid: str, groups: list[str], wante
     return "mask::" if of_group else "other::"
 
 
+def random_runs(program: str) -> typing.Iterator[tuple[str, str, str, play_lines.Played]]:
+    """Random scripts: what they are called, the script, what `play` prints, and the run."""
+    for seed in range(SEEDS):
+        script = scenario.Scenario(seed, 80).script()
+        printed = built.asked("play", script, path=program)[1]
+        yield f"seed {seed}", script, printed, play_lines.played(script.encode("latin1"), "the script")
+
+
 def told_of_runs(program: str) -> tuple[int, list[str]]:
     """What differs of what is told of lines with their scripts: of stories, and of random scripts, where each line has
     to be
@@ -296,13 +292,8 @@ def told_of_runs(program: str) -> tuple[int, list[str]]:
         wrong += [
             f"{story}: of {line} explain does not say {words}: {said[:600]}" for words in wanted if words not in said
         ]
-    for seed in range(SEEDS):
-        script = scenario.Scenario(seed, 80).script()
-        done = subprocess.run(
-            [program, "play"], input=script.encode("latin1"), stdout=subprocess.PIPE, stderr=subprocess.DEVNULL
-        )
-        run = play_lines.played(script.encode("latin1"), "the script")
-        for line in dict.fromkeys(done.stdout.decode("latin1").splitlines()):
+    for seed, script, printed, run in random_runs(program):
+        for line in dict.fromkeys(printed.splitlines()):
             said, count = " ".join(play_lines.of_run(run, line, script, "the script")), count + 1
             found = re.search(
                 r"Its list was then (\S+), its owner user (\d+), and its group (\d+)\. User (\d+) of groups (\S+) ",
@@ -311,9 +302,9 @@ def told_of_runs(program: str) -> tuple[int, list[str]]:
             denial = re.search(r"wants (\S+) by (\S+)$", line)
             if denial and denial[2] != "owner":
                 decider = found and denies(found[1], found[2], found[3], found[4], found[5].split(","), denial[1])
-                wrong += [] if decider == denial[2] else [f"seed {seed}: of {line} is told: {said}"]
+                wrong += [] if decider == denial[2] else [f"{seed}: of {line} is told: {said}"]
             if not said or ("undecided" in line and len(said) < 150):
-                wrong.append(f"seed {seed}: of {line} is told too little: {said}")
+                wrong.append(f"{seed}: of {line} is told too little: {said}")
     return count, wrong
 
 
@@ -325,43 +316,27 @@ def told_alone() -> tuple[int, list[str]]:
         for words in wanted
         if words not in as_one(explain.answer([text]))
     ]
-    with tempfile.NamedTemporaryFile("w", prefix="suites-", encoding="latin1") as file:
-        file.write(RIGHT)
-        file.flush()
-        wrong += [
-            f"of {fault} in a right script explain says: {explain.answer([fault, file.name])}"
-            for fault, words in MENDED.items()
-            if words not in as_one(explain.answer([fault, file.name]))
-        ]
-    with tempfile.NamedTemporaryFile("w", prefix="suites-", encoding="latin1") as file:
-        file.write("u::rw,g::r,o::-\n")
-        file.flush()
-        said = as_one(explain.answer(["fault A9 item 1", file.name]))
-        wrong += (
-            []
-            if "has no fault A9 item 1. The list is right as it is now." in said
-            else [f"of a right list explain says: {said}"]
-        )
-    return len(ALONE) + len(MENDED) + 1, wrong
+    for fault, (given, words) in MENDED.items():
+        with tempfile.NamedTemporaryFile("w", prefix="suites-", encoding="latin1") as file:
+            file.write(given)
+            file.flush()
+            said = as_one(explain.answer([fault, file.name]))
+        wrong += [] if words in said else [f"of {fault} in what is right explain says: {said}"]
+    return len(ALONE) + len(MENDED), wrong
 
 
 def silent_lines(program: str) -> tuple[int, list[str]]:
     """What differs between the lines that remarks.py says did nothing and those that the trace says did nothing."""
     wrong = []
-    for seed in range(SEEDS):
-        script = scenario.Scenario(seed, 80).script()
-        done = subprocess.run(
-            [program, "play"], input=script.encode("latin1"), stdout=subprocess.PIPE, stderr=subprocess.DEVNULL
-        )
-        said = list(remarks.silent(remarks.lines_of(script), done.stdout.decode("latin1")))
+    for seed, script, printed, run in random_runs(program):
+        said = list(remarks.silent(remarks.lines_of(script), printed))
         found = {int(number) for number in re.findall(r"line (\d+) did nothing", "\n".join(said))}
-        run = play_lines.played(script.encode("latin1"), "the script")
         left = {
             f"agent {agent} has a job that has not ended (line {job.number}); run {agent} ends it"
             for agent, job in run.busy.items()
         }
         if found != run.silent or left != {line for line in said if line.startswith("agent")}:
-            wrong.append(f"seed {seed}: {said}, and the trace says {run.silent} {left}")
+            wrong.append(f"{seed}: {said}, and the trace says {run.silent} {left}")
     return SEEDS, wrong
 
 
@@ -462,18 +437,13 @@ def false_limits() -> typing.Iterator[str]:
 
 
 def main() -> int:
-    read = console.words(__doc__)
-    read.add_argument("program", nargs="?")
-    program = played.program(read.parse_args().program)
+    program = played.named_program(__doc__)
     count, wrong = play_examples(program)
     for told in (play_commands, lambda: told_of_runs(program), told_alone, lambda: silent_lines(program)):
         more, differing = told()
         count, wrong = count + more, wrong + differing
     wrong += [*told_on_terminal(), *untold_words(), *unexplained(), *untold_reasons(), *false_limits()]
-    for line in wrong:
-        print(line)
-    print(f"{count + len(LIMITS)} examples, lines, command lines and limits, {len(wrong)} differ")
-    return 1 if wrong or not count else 0
+    return played.verdict(count + len(LIMITS), "examples, lines, command lines and limits", wrong)
 
 
 if __name__ == "__main__":

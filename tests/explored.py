@@ -28,8 +28,9 @@ import typing
 
 import played
 from played import Tally
+from scripting import header, job
 
-from common import built, console
+from common import built, console, text_of
 from compare import compare, scenario
 
 KEPT = os.path.join(played.TOP, "tests", "explored")
@@ -48,17 +49,10 @@ ALL_WAYS = "1000000"
 WIDE, WIDE_WORDS = "revocation.script", "--crashes 2 --returns 2 --worlds 70000"
 PROGRESS = b"0 worlds\n65536 worlds\n"
 # `list -` is a folder without names, and one with a file `-`: ways that differ so are printed alike, and are one.
-ALIKE = """servers 1
-agents 2
-votes 1/1/1
-root 1000 100 777
-cache 0 0 0
-begin 0 1000 100 0 folder /d 755
-run 0
-together
-begin 0 1000 100 0 file /d/- 644
-begin 1 1000 100 0 list /d
-"""
+ALIKE = (
+    f"{header(1, 2, '1/1/1')}{job('folder /d 755')}together\nbegin 0 1000 100 0 file /d/- 644\n"
+    "begin 1 1000 100 0 list /d\n"
+)
 LISTED = re.compile(r"^way \d+ in (\d+) of \d+ ends\n0\.1 (.*)\n1\.0 answered list -\n", re.M)
 
 
@@ -132,11 +126,10 @@ def prototype_ways(path: str, script: str, words: str, merged: str) -> Ways | No
     return Ways([tuple(way) for way in ways], ends, int(head[2]), int(head[1]), [steps_in(lines) for lines in scripts])
 
 
-def explored(program: str, script: str, words: str) -> tuple[int, str]:
-    """The exit status of `explore` for a script, and what it printed."""
-    done = subprocess.run(
-        [program, "explore", *words.split()], input=script.encode(), stdout=subprocess.PIPE, stderr=subprocess.STDOUT
-    )
+def explored(script: str, words: str, **how: typing.Any) -> tuple[int, str]:
+    """The exit status of `explore` for a script, and what it printed, on standard error too."""
+    words_of = [built.program(), "explore", *words.split()]
+    done = subprocess.run(words_of, input=script.encode(), stdout=subprocess.PIPE, stderr=subprocess.STDOUT, **how)
     return done.returncode, done.stdout.decode()
 
 
@@ -152,41 +145,57 @@ def without_steps(lines: list[str]) -> list[str]:
     return [re.sub(r"^(\d+\.\d+) \d+ ", r"\1 ", line) for line in lines]
 
 
-def differs_when_played(script: str, way: tuple[str, ...], suites: str) -> list[str]:
+def differs_when_played(script: str, way: tuple[str, ...]) -> list[str]:
     """What is wrong with the script of a way: play prints the lines of the way, after those of what stands above
     `together`, and each decided answer is that of the plain table.
     """
-    done = subprocess.run([suites, "play"], input=script.encode(), stdout=subprocess.PIPE, stderr=subprocess.DEVNULL)
+    status, printed = built.asked("play", script)
     wanted = sorted(line for line in way if not STOPPED.fullmatch(line))
-    lines = without_steps(done.stdout.decode().splitlines())
+    lines = without_steps(printed.splitlines())
     told = sorted(lines[len(lines) - len(wanted):])
-    wrong = [] if told == wanted and done.returncode == 0 else [f"play prints {told}, and not {wanted}"]
+    wrong = [] if told == wanted and status == 0 else [f"play prints {told}, and not {wanted}"]
     return wrong + compare.differences(script)[0]
 
 
-def kept() -> typing.Iterator[tuple[str, str, str]]:
-    """The scripts with kept ways: name, words and text of each."""
+class Kept(typing.NamedTuple):
+    """A script with kept ways: its name and path, the words with which it is explored, its text, and the ways."""
+
+    name: str
+    path: str
+    words: str
+    text: str
+
+    @property
+    def ways_path(self) -> str:
+        return os.path.join(KEPT, f"{self.name}.ways")
+
+    @property
+    def ways(self) -> str:
+        return text_of(self.ways_path)
+
+    @property
+    def is_brief(self) -> bool:
+        return "--brief" in self.words.split()
+
+
+def kept() -> typing.Iterator[Kept]:
+    """The scripts with kept ways."""
     for folder in (STORIES, KEPT):
         for name in sorted(os.listdir(folder)):
             if name.endswith(".script"):
-                with open(os.path.join(folder, name), encoding="utf-8") as file:
-                    text = file.read()
+                path = os.path.join(folder, name)
+                text = text_of(path)
                 found = RUN.search(text)
-                if not found or found[2] != os.path.relpath(os.path.join(folder, name), played.TOP):
+                if not found or found[2] != os.path.relpath(path, played.TOP):
                     sys.exit(f"{name} does not tell how it is run")
-                yield name.removesuffix(".script"), found[1], text
+                yield Kept(name.removesuffix(".script"), path, found[1], text)
 
 
-def printed(ways: Ways, words: str) -> str:
-    return ways.joined("--brief" in words.split()).printed()
-
-
-def compare_progress(program: str, tally: Tally) -> None:
+def compare_progress(tally: Tally) -> None:
     """With --progress it tells on standard error how many worlds it has looked at; else it tells nothing there."""
-    with open(os.path.join(STORIES, WIDE), "rb") as file:
-        script = file.read()
+    script = played.stories("explore")[WIDE].encode()
     silent, told = (
-        subprocess.run([program, "explore", *words.split()], input=script, capture_output=True)
+        subprocess.run([built.program(), "explore", *words.split()], input=script, capture_output=True)
         for words in (WIDE_WORDS, f"{WIDE_WORDS} --progress")
     )
     is_same = (silent.returncode, silent.stdout) == (told.returncode, told.stdout) and silent.returncode == 7
@@ -194,9 +203,9 @@ def compare_progress(program: str, tally: Tally) -> None:
     tally.holds((silent.stderr, told.stderr) == (b"", PROGRESS), f"{WIDE}: on standard error stands {told.stderr!r}")
 
 
-def compare_alike(program: str, tally: Tally) -> None:
+def compare_alike(tally: Tally) -> None:
     """No way is printed twice: of the worlds that print a way alike each is an end of that one."""
-    told = explored(program, ALIKE, "")[1]
+    told = explored(ALIKE, "")[1]
     ways, ends = read(told), [int(number) for number in re.findall(r"^way \d+ in (\d+) of", told, re.M)]
     tally.holds(len(set(ways)) == len(ways), f"a way is told twice in\n{told}")
     tally.holds(f" of {sum(ends)} ends\n" in told, f"the ends of ways are not all in\n{told}")
@@ -205,28 +214,23 @@ def compare_alike(program: str, tally: Tally) -> None:
 
 def compare_kept(every: int) -> int:
     """Compares with the kept ways, and plays the scripts of ways."""
-    program, suites, tally = built.program(), played.program(None), Tally()
-    for name, words, text in kept():
-        with open(os.path.join(KEPT, f"{name}.ways"), encoding="utf-8") as file:
-            wanted = file.read()
-        status, told = explored(program, text, words)
-        tally.holds((status, told) == (0, wanted), f"{name}: explore {words} ends with {status} and tells\n{told}")
+    tally = Tally()
+    for one in kept():
+        name, words = one.name, one.words
+        status, told = explored(one.text, words)
+        tally.holds((status, told) == (0, one.ways), f"{name}: explore {words} ends with {status} and tells\n{told}")
         for number, way in list(enumerate(read(told), 1))[::every]:
-            status, script = explored(program, text, f"{words} --brief --way {number}" if "--brief" in words.split()
-                                      else f"{words} --way {number}")
+            status, script = explored(one.text, f"{words} --way {number}")
             wrong = [] if status == 0 else [f"--way ends with {status}"]
-            if "--brief" not in words.split():
-                wrong += differs_when_played(script, way, suites)
-            else:
-                wrong += compare.differences(script)[0]
+            wrong += compare.differences(script)[0] if one.is_brief else differs_when_played(script, way)
             tally.holds(not wrong, f"{name}: way {number}: {'; '.join(wrong)}")
         missing = len(read(told)) + 1
-        tally.holds(explored(program, text, f"{words} --way {missing}")[0] == 2 or "--brief" in words.split(),
-                    f"{name}: there is a way {missing}")
-        status, told = explored(program, text, f"{words} --worlds 10")
+        is_missing = one.is_brief or explored(one.text, f"{words} --way {missing}")[0] == 2
+        tally.holds(is_missing, f"{name}: there is a way {missing}")
+        status, told = explored(one.text, f"{words} --worlds 10")
         tally.holds(status == 7 and "\nnot all: " in f"\n{told}", f"{name}: 10 worlds are all")
-    compare_progress(program, tally)
-    compare_alike(program, tally)
+    compare_progress(tally)
+    compare_alike(tally)
     return tally.told("ways and answers compared")
 
 
@@ -279,7 +283,7 @@ def with_waits(script: str, ways: Ways, dice: random.Random) -> str:
 
 def compare_random(given: argparse.Namespace) -> int:
     """Compares with the other program for random scripts."""
-    program, tally, seed, count = built.program(), Tally(), given.first, 0
+    tally, seed, count = Tally(), given.first, 0
     while count < given.scripts:
         script, words = Explorable(seed).whole()
         seed += 1
@@ -290,7 +294,7 @@ def compare_random(given: argparse.Namespace) -> int:
         if not wanted:
             continue
         count += 1
-        status, told = explored(program, script, words)
+        status, told = explored(script, words)
         wanted = wanted.joined(False)
         is_same = status == 0 and sorted(read(told)) == sorted(wanted.lines)
         tally.holds(is_same, f"seed {seed - 1}: explore {words} ends with {status}, and tells {len(read(told))} ways,"
@@ -305,12 +309,12 @@ def compare_random(given: argparse.Namespace) -> int:
 
 def write(given: argparse.Namespace) -> int:
     """Writes the kept ways anew, as the other program tells them."""
-    for name, words, text in kept():
-        ways = prototype_ways(given.write, text, words, given.merged)
+    for one in kept():
+        ways = prototype_ways(given.write, one.text, one.words, given.merged)
         if not ways:
-            sys.exit(f"{name}: too many worlds")
-        with open(os.path.join(KEPT, f"{name}.ways"), "w", encoding="utf-8") as file:
-            file.write(printed(ways, words))
+            sys.exit(f"{one.name}: too many worlds")
+        with open(one.ways_path, "w", encoding="utf-8") as file:
+            file.write(ways.joined(one.is_brief).printed())
     return 0
 
 

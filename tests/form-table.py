@@ -8,13 +8,12 @@ and beyond them the fault that the table tells. Prints what differs; status 1 wh
 """
 from __future__ import annotations
 
-import subprocess
 import sys
 import typing
 
 import played
 
-from common import console, forms, text_of
+from common import built, forms, text_of
 
 # A word that fits in each place, whatever fits in the others.
 SAMPLES = {**{name: place.sample for name, place in forms.PLACES.items()}, "OPERATIONS": "read /a"}
@@ -72,9 +71,8 @@ def cases_of(command: str) -> typing.Iterator[Case]:
 def tells(program: str, case: Case) -> str:
     """The first fault that the program tells, if it tells one."""
     words = ["serve", "--agents", "2"] if case.command == "serve" else [case.command]
-    text = "".join(f"{line}\n" for line in case.lines)
-    done = subprocess.run([program, *words], input=text, stdout=subprocess.PIPE, stderr=subprocess.DEVNULL, text=True)
-    return done.stdout.strip() if done.returncode == 3 else f"status {done.returncode}" if done.returncode else ""
+    status, told = built.asked(words[0], "".join(f"{line}\n" for line in case.lines), *words[1:], path=program)
+    return told.strip() if status == 3 else f"status {status}" if status else ""
 
 
 def differing(program: str, case: Case) -> str:
@@ -87,13 +85,12 @@ def differing(program: str, case: Case) -> str:
 
 
 def main() -> int:
-    read = console.words(__doc__)
-    read.add_argument("program", nargs="?")
-    program = played.program(read.parse_args().program)
+    program = played.named_program(__doc__)
     cases = [case for command in forms.COMMANDS for case in cases_of(command)]
-    printed = subprocess.run([program, "forms"], stdin=subprocess.DEVNULL, stdout=subprocess.PIPE, text=True).stdout
+    printed = built.asked("forms", "", path=program)[1]
     other = "" if printed == text_of("crates", "forms", "table.txt") else "crates/forms/table.txt is another table"
-    return played.compared([other, *(differing(program, case) for case in cases)], "lines")
+    wrong = [other, *(differing(program, case) for case in cases)]
+    return played.verdict(len(wrong), "lines", [*filter(None, wrong)])
 
 
 if __name__ == "__main__":

@@ -14,7 +14,8 @@ import subprocess
 import sys
 import tempfile
 
-TOP = os.path.realpath(os.path.join(os.path.dirname(os.path.abspath(__file__)), ".."))
+from played import TOP, verdict
+
 WIDEST, FEWEST = 120, 90
 FOLDERS = ("tools", "tools/*", "tests", "bench")
 # What may be nothing is not told apart from what may not: a match that was looked for is taken to be there.
@@ -74,10 +75,7 @@ def main() -> int:
             wrong += [line for group in groups(files) for line in checked(group, room)]
     else:
         print("type hints skipped: no mypy")
-    for line in wrong:
-        print(line)
-    print(f"{len(files)} files, {len(wrong)} differ")
-    return 1 if wrong else 0
+    return verdict(len(files), "files", wrong)
 
 
 if __name__ == "__main__":

@@ -9,13 +9,11 @@ it is told. With --write the file is written anew. Without valgrind it prints "s
 """
 import csv
 import os
-import re
-import shutil
-import subprocess
 import sys
 import tempfile
 import typing
 
+import counting
 import played
 
 sys.path.append(os.path.join(os.path.dirname(os.path.abspath(__file__)), "..", "bench"))
@@ -45,7 +43,7 @@ def users() -> bytes:
 def denials() -> bytes:
     """Jobs of a user who may not do what he asks."""
     jobs = "".join(f"begin 0 2000 100 0 write /f {number:032x}\nrun 0\n" for number in range(1_000))
-    return (left.HEAD.format(1).replace("777", "700") + jobs).encode()
+    return (left.head(1, "700") + jobs).encode()
 
 
 INPUTS: tuple[tuple[str, str, typing.Callable[[], bytes]], ...] = (
@@ -60,20 +58,6 @@ INPUTS: tuple[tuple[str, str, typing.Callable[[], bytes]], ...] = (
     ("crashes", "play", lambda: left.crashes(2_000).encode()),
     ("records", "play", lambda: left.records(100).encode()),
 )
-
-
-def counted(program: str, command: str, data: bytes) -> int:
-    """How many instructions the program takes on this input."""
-    with tempfile.TemporaryFile() as source:
-        source.write(data)
-        source.seek(0)
-        ran = subprocess.run(
-            ["valgrind", "--tool=callgrind", "--callgrind-out-file=/dev/null", program, command],
-            stdin=source,
-            stdout=subprocess.DEVNULL,
-            stderr=subprocess.PIPE,
-        )
-    return int(re.search(rb"Collected : (\d+)", ran.stderr)[1])
 
 
 def known() -> dict[str, int]:
@@ -110,21 +94,17 @@ def main() -> int:
     read.add_argument("--write", action="store_true")
     read.add_argument("program", nargs="?")
     given = read.parse_args()
-    if not shutil.which("valgrind"):
-        print("skipped: valgrind is not installed, so no instructions are counted")
+    if counting.skipped():
         return 0
     with tempfile.TemporaryDirectory() as folder:
         program = given.program or os.path.join(folder, "suites")
         if not given.program:
             unproved.build(program)
-        counts = {name: counted(program, command, data()) for name, command, data in INPUTS}
+        counts = {name: counting.instructions([program, command], data()) for name, command, data in INPUTS}
     if given.write:
         write(counts)
         return 0
-    wrong = faults(counts, known())
-    print(*wrong, sep="\n", end="\n" if wrong else "")
-    print(f"{len(counts)} inputs, {len(wrong)} differ")
-    return 1 if wrong else 0
+    return played.verdict(len(counts), "inputs", faults(counts, known()))
 
 
 if __name__ == "__main__":

@@ -11,7 +11,7 @@ import random
 import stat
 import struct
 import subprocess
-from typing import Callable, NamedTuple
+from typing import Any, Callable, NamedTuple
 
 UIDS, GIDS = [1001, 1002, 1003, 65534], [200, 201, 202, 203]
 NOTHING = 0xFFFFFFFF
@@ -285,7 +285,7 @@ def done(path: str, wanted: int) -> str:
     return next((one for one in (UNREAD, DENIED) if one in said), GRANTED)
 
 
-def as_user(user: User, work: Callable[[], object]) -> object:
+def as_user(user: User, work: Callable[[], Any]) -> Any:
     """What a piece of work answers in a process of this user and its groups."""
     reading, writing = os.pipe()
     child = os.fork()
@@ -311,9 +311,7 @@ def as_user(user: User, work: Callable[[], object]) -> object:
 
 def tried(user: User, asked: list[tuple[str, int]]) -> list[str]:
     """What Linux answers to a user, for each of some paths and what is wanted of it."""
-    found = as_user(user, lambda: [done(path, wanted) for path, wanted in asked])
-    assert isinstance(found, list)
-    return found
+    return as_user(user, lambda: [done(path, wanted) for path, wanted in asked])
 
 
 def made(path: str) -> str:

@@ -20,6 +20,8 @@ import lies
 import played
 import scratch
 
+from common import text_of
+
 
 Decided = list[judging.Decision] | None
 # What is told in place of a verdict, by the run, the lists of a case, what was decided, and what is kept.
@@ -177,8 +179,7 @@ class Run:
 
 def judge_with(pairs: Pairs) -> types.ModuleType:
     """The judge, with texts in place of others; each of these stands there once."""
-    with open(JUDGE, encoding="utf-8") as file:
-        text = file.read()
+    text = text_of(JUDGE)
     for old, new in pairs:
         if text.count(old) != 1:
             sys.exit(f"tests/judging.py has not once: {old}")

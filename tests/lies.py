@@ -22,25 +22,15 @@ from concurrent.futures import ThreadPoolExecutor
 import judging
 import played
 import scratch
+from scripting import header
 
 from common import text_of
 
 
-CRATES = [
-    "agent_pool",
-    "byte_streams",
-    "rep_core",
-    "run_certify",
-    "run_core",
-    "script_text",
-    "server_lock",
-    "suite_content",
-    "suite_play",
-    "suite_prefix",
-    "suite_serve",
-    "txn_core",
-    "vote_core",
-]
+CRATES = (
+    "agent_pool byte_streams rep_core run_certify run_core script_text server_lock suite_content suite_play"
+    " suite_prefix suite_serve txn_core vote_core"
+).split()
 MODULES = [os.path.join("tests", "programs", f"{name}.rt.txt") for name in ("lies", "story", "telling")]
 MODULES += [os.path.join("crates", "trace", "src", f"{name}.rt") for name in ("asked", "told", "words")]
 KINDS = """a reply that tells of a lock lost, the reply of another item, an item left out, an item doubled, a stamp a
@@ -59,56 +49,52 @@ Case = tuple[list[str], judging.Lists, list[judging.Decision] | None]
 UNJUDGED = 0.1
 
 
-def mixed(seed: int, head: list[str], folders: list[str], count: int) -> str:
+def mixed(seed: int, head: str, folders: str, count: int) -> str:
     """Jobs that are in one another's way: so many, of three users, on a few files."""
     chance = random.Random(seed)
-    lines = list(head)
-    lines += [f"do 1000 100 0 folder /{folder} 777" for folder in folders]
+    lines = [f"do 1000 100 0 folder /{folder} 777" for folder in folders]
     paths = [f"/{folder}/{name}" for folder in folders for name in "ab"] + ["/a", "/b"]
     lines += [f"do 1000 100 0 file {path} 664 ; write {path} 6869" for path in paths[:4]]
     lines.append("together")
     for _ in range(count):
         path, who = chance.choice(paths), chance.choice(["1000 100", "1000 100", "2000 100", "3000 300"])
         site = chance.randrange(3)
-        lines.append(
-            chance.choice(
-                [
-                    f"do {who} {site} read {path}",
-                    f"do {who} {site} read {path} ; write {path} {chance.randrange(256):02x}",
-                    f"do {who} {site} write {path} {chance.randrange(256):02x}",
-                    f"do {who} {site} file {path} 640",
-                    f"do {who} {site} list /",
-                    f"do 1000 100 {site} setacl {path} u::rw,g::r,o::{chance.choice('r-')} ; getacl {path}",
-                    f"do {who} {site} drop {path}",
-                    f"do 1000 100 {site} setvotes {path} {chance.choice(['1,1,1/2/2', '-,1,1,1/2/2', '2,1/2/2'])}",
-                    f"do {who} {site} {' ; '.join(['read ' + path] * chance.choice([2, 9]))}",
-                    f"sweep {chance.randrange(3)}",
-                ]
-            )
-        )
-    return "\n".join(lines) + "\n"
+        jobs = [
+            f"do {who} {site} read {path}",
+            f"do {who} {site} read {path} ; write {path} {chance.randrange(256):02x}",
+            f"do {who} {site} write {path} {chance.randrange(256):02x}",
+            f"do {who} {site} file {path} 640",
+            f"do {who} {site} list /",
+            f"do 1000 100 {site} setacl {path} u::rw,g::r,o::{chance.choice('r-')} ; getacl {path}",
+            f"do {who} {site} drop {path}",
+            f"do 1000 100 {site} setvotes {path} {chance.choice(['1,1,1/2/2', '-,1,1,1/2/2', '2,1/2/2'])}",
+            f"do {who} {site} {' ; '.join(['read ' + path] * chance.choice([2, 9]))}",
+            f"sweep {chance.randrange(3)}",
+        ]
+        lines.append(chance.choice(jobs))
+    return head + "\n".join(lines) + "\n"
 
 
 def scripts() -> list[Row]:
     """Scripts of jobs, each with its name, a number of agents, and what happens before which job that all agents do."""
-    three = ["servers 3", "votes 1,1,1/2/2", "root 1000 100 777", "cache 0 0 0"]
-    caches = ["servers 4", "votes 1,1,1,1/2/3", "root 1000 100 775", "cache 64 32 4"]
-    uneven = ["servers 5", "votes 2,1,0,1,1/2/4", "root 1000 100 777", "cache 4096 4096 16"]
+    three = header(agents=None)
+    caches = header(4, None, "1,1,1,1/2/3", "1000 100 775", "64 32 4")
+    uneven = header(5, None, "2,1,0,1,1/2/4", cache="4096 4096 16")
     return [
         ("files.script", 4, [], text_of("examples", "serve", "files.script")),
         ("sweepers.script", 2, [], text_of("examples", "serve", "sweepers.script")),
-        ("three servers", 4, [(6, "crash 0 0"), (12, "return 0 0"), (20, "crash 2 0")], mixed(1, three, [], 24)),
+        ("three servers", 4, [(6, "crash 0 0"), (12, "return 0 0"), (20, "crash 2 0")], mixed(1, three, "", 24)),
         (
             "small caches",
             3,
             [(5, "forget 1 0"), (9, "crash 3 0"), (9, "forget 0 1"), (15, "return 3 0")],
-            mixed(2, caches, ["d"], 20),
+            mixed(2, caches, "d", 20),
         ),
         (
             "uneven votes",
             8,
             [(8, "forget 3 2"), (12, "crash 1 0"), (18, "return 1 0")],
-            mixed(3, uneven, ["d", "e"], 24),
+            mixed(3, uneven, "de", 24),
         ),
     ]
 
@@ -213,13 +199,10 @@ def main() -> int:
         f" {tally.all['unsaid']} that no script"
         f" can say, {tally.all['open']} that the words leave open; {tally.differ} differ"
     )
-    judged = tally.all["found out"] + tally.all["a run"]
-    few = (
-        sum(tally.all.values()) - judged > UNJUDGED * sum(tally.all.values())
-        or min(tally.all["found out"], tally.all["a run"]) == 0
-    )
+    judged, count = tally.all["found out"] + tally.all["a run"], sum(tally.all.values())
+    few = count - judged > UNJUDGED * count or min(tally.all["found out"], tally.all["a run"]) == 0
     if few:
-        print(f"of {sum(tally.all.values())} cases only {judged} are judged, or none is a run, or none is found out")
+        print(f"of {count} cases only {judged} are judged, or none is a run, or none is found out")
     return 1 if tally.differ or few else 0
 
 

@@ -28,7 +28,7 @@ import played
 from played import Tally
 from shown_page import SEEN
 
-from common import tool
+from common import built, text_of, tool
 from show import show
 
 DOOR = tool("show", "--live")
@@ -103,64 +103,77 @@ class Live:
             left = below
 
 
+def by_address(live: Live, line: dict[str, object]) -> dict[str, tuple[bytes, int]]:
+    """Requests that are refused by what is asked for, and by whom, each with its status."""
+    page, other = f"/{live.token}/", f"/{live.token[:-1]}{'ab'[live.token[-1] == 'a']}/"
+    return {
+        "no token": (live.request("GET", "/"), 404), "another token": (live.request("GET", other), 404),
+        "half a token": (live.request("GET", f"/{live.token[:20]}/"), 404),
+        "the token and more": (live.request("GET", f"/{live.token}a/"), 404),
+        "the token below": (live.request("GET", f"/x{page}"), 404),
+        "a query": (live.request("GET", f"{page}?x"), 404),
+        "a file": (live.request("GET", f"{page}../show.py"), 404),
+        "another host": (live.request("GET", page, host=f"evil.example:{live.port}"), 403),
+        "the host by name": (live.request("GET", page, host=f"localhost:{live.port}"), 403),
+        "no port": (live.request("GET", page, host="127.0.0.1"), 403),
+        "two hosts": (live.request("GET", page, f"Host: {live.host}"), 403),
+        "no host": (f"GET {page} HTTP/1.1\r\nConnection: close\r\n\r\n".encode(), 403),
+        "an old protocol": (f"GET {page} HTTP/1.0\r\n\r\n".encode(), 403),
+        "a line by the address of the page": (live.posted(line, path=page), 404),
+        "a line by another token": (live.posted(line, path=f"{other}line"), 404),
+        "a line by no token": (live.posted(line, path="/line"), 404),
+        "a line got": (live.request("GET", f"{page}line"), 404),
+        "another page": (live.posted(line, "Origin: http://evil.example"), 403),
+        "a page without origin": (live.posted(line, "Origin: null"), 403),
+    }
+
+
+def by_body(live: Live, line: dict[str, object]) -> dict[str, tuple[bytes, int]]:
+    """Requests that are refused by what is sent, each with its status."""
+
+    def with_line(text: object) -> bytes:
+        return live.posted(dict(line, line=text))
+
+    body, lines = json.dumps(line).encode(), f"/{live.token}/line"
+    typed, length = "Content-Type: application/json", f"Content-Length: {len(body)}"
+    return {
+        "a form": (live.posted(line, kind="text/plain"), 415),
+        "no length": (live.request("POST", lines, typed, body=body), 411),
+        "a length below 0": (live.request("POST", lines, typed, "Content-Length: -1", body=body), 411),
+        "in pieces": (live.request("POST", lines, typed, length, "Transfer-Encoding: chunked", body=body), 411),
+        "much": (live.request("POST", lines, typed, f"Content-Length: {MOST + 1}"), 413),
+        "very much": (live.request("POST", lines, typed, f"Content-Length: {10**30}"), 411),
+        "no line": (live.posted({"epoch": 0, "have": 1}), 400), "no JSON": (live.posted(b"crash 1"), 400),
+        "deep": (live.posted(b"[" * 90_000), 400), "a list": (live.posted([line]), 400),
+        "a number": (with_line(1), 400), "less": (live.posted(dict(line, have=-1)), 400),
+        "two lines": (with_line("crash 1\ncrash 2"), 400),
+        "half a letter": (with_line("# \ud800"), 400),
+        "no text": (with_line("crash 1\0"), 400),
+        "another verb": (live.request("PUT", lines, typed, length, body=body), 501),
+        "what may be asked": (live.request("OPTIONS", lines), 501),
+    }
+
+
+def refuses(tally: Tally, live: Live, line: dict[str, object]) -> None:
+    """What is refused is told nothing but a status, and the session hears nothing of it."""
+    before = live.script()
+    # one that says nothing more keeps nobody else from an answer
+    with socket.create_connection(("127.0.0.1", live.port)) as slow:
+        slow.sendall(b"POST ")
+        for name, (request, wanted) in {**by_address(live, line), **by_body(live, line)}.items():
+            status, head, told = live.asks(request)
+            tally.holds(status == wanted, name, status, wanted)
+            tally.holds(live.token.encode() not in head + told, name, "the token is told", head)
+            tally.holds(wanted == 501 or not told, name, "more than a status is told", told)
+        tally.holds(live.script() == before, "the session heard what was refused", live.script())
+
+
 def asks(tally: Tally) -> None:
     with Live(*OWN) as live:
         line: dict[str, object] = {"line": "crash 1", "epoch": 0, "have": 1}
-
-        def with_line(text: object) -> bytes:
-            return live.posted(dict(line, line=text))
-
-        body, page = json.dumps(line).encode(), f"/{live.token}/"
-        other = f"/{live.token[:-1]}{'ab'[live.token[-1] == 'a']}/"
-        typed, length = "Content-Type: application/json", f"Content-Length: {len(body)}"
-        lines = f"{page}line"
-        deep = b"[" * 90_000
-        refused = {
-            "no token": (live.request("GET", "/"), 404), "another token": (live.request("GET", other), 404),
-            "half a token": (live.request("GET", f"/{live.token[:20]}/"), 404),
-            "the token and more": (live.request("GET", f"/{live.token}a/"), 404),
-            "the token below": (live.request("GET", f"/x{page}"), 404),
-            "a query": (live.request("GET", f"{page}?x"), 404),
-            "a file": (live.request("GET", f"{page}../show.py"), 404),
-            "another host": (live.request("GET", page, host=f"evil.example:{live.port}"), 403),
-            "the host by name": (live.request("GET", page, host=f"localhost:{live.port}"), 403),
-            "no port": (live.request("GET", page, host="127.0.0.1"), 403),
-            "two hosts": (live.request("GET", page, f"Host: {live.host}"), 403),
-            "no host": (f"GET {page} HTTP/1.1\r\nConnection: close\r\n\r\n".encode(), 403),
-            "an old protocol": (f"GET {page} HTTP/1.0\r\n\r\n".encode(), 403),
-            "a line by the address of the page": (live.posted(line, path=page), 404),
-            "a line by another token": (live.posted(line, path=f"{other}line"), 404),
-            "a line by no token": (live.posted(line, path="/line"), 404),
-            "a line got": (live.request("GET", lines), 404),
-            "another page": (live.posted(line, "Origin: http://evil.example"), 403),
-            "a page without origin": (live.posted(line, "Origin: null"), 403),
-            "a form": (live.posted(line, kind="text/plain"), 415),
-            "no length": (live.request("POST", lines, typed, body=body), 411),
-            "a length below 0": (live.request("POST", lines, typed, "Content-Length: -1", body=body), 411),
-            "in pieces": (live.request("POST", lines, typed, length, "Transfer-Encoding: chunked", body=body), 411),
-            "much": (live.request("POST", lines, typed, f"Content-Length: {MOST + 1}"), 413),
-            "very much": (live.request("POST", lines, typed, f"Content-Length: {10**30}"), 411),
-            "no line": (live.posted({"epoch": 0, "have": 1}), 400), "no JSON": (live.posted(b"crash 1"), 400),
-            "deep": (live.posted(deep), 400), "a list": (live.posted([line]), 400),
-            "a number": (with_line(1), 400), "less": (live.posted(dict(line, have=-1)), 400),
-            "two lines": (with_line("crash 1\ncrash 2"), 400),
-            "half a letter": (with_line("# \ud800"), 400),
-            "no text": (with_line("crash 1\0"), 400),
-            "another verb": (live.request("PUT", lines, typed, length, body=body), 501),
-            "what may be asked": (live.request("OPTIONS", lines), 501),
-        }
-        before = live.script()
-        # one that says nothing more keeps nobody else from an answer
-        with socket.create_connection(("127.0.0.1", live.port)) as slow:
-            slow.sendall(b"POST ")
-            for name, (request, wanted) in refused.items():
-                status, head, told = live.asks(request)
-                tally.holds(status == wanted, name, status, wanted)
-                tally.holds(live.token.encode() not in head + told, name, "the token is told", head)
-                tally.holds(wanted == 501 or not told, name, "more than a status is told", told)
-            tally.holds(live.script() == before, "the session heard what was refused", live.script())
-            status, head, told = live.asks(live.request("GET", page))
-            tally.holds(status == 200 and b"<title>A run of suites</title>" in told, "the page", status)
+        refuses(tally, live, line)
+        status, head, told = live.asks(live.request("GET", f"/{live.token}/"))
+        tally.holds(status == 200 and b"<title>A run of suites</title>" in told, "the page", status)
         for guard in (b"no-store", b"DENY", b"no-referrer", b"nosniff"):
             tally.holds(guard in head, "the head has", guard)
         policy = b"default-src 'none'; style-src 'sha256-"
@@ -188,8 +201,8 @@ def tells(tally: Tally, folder: str) -> None:
             tally.holds(told[line][0].startswith("row /plan file") and line not in script, "a question", told[line])
         lines = [one for line, answer in zip(STORY, answers) if line not in told for one in answer["told"]]
         text = "".join(f"{line}\n" for line in script).encode()
-        done = subprocess.run([played.program(), "play"], input=text, stdout=subprocess.PIPE)
-        tally.holds(done.stdout.decode().splitlines() == lines, "what is saved, played", done.stdout, lines)
+        printed = built.asked("play", text)[1].splitlines()
+        tally.holds(printed == lines, "what is saved, played", printed, lines)
         tally.holds(any("denied op 1" in one for one in lines), "the story", lines)
         events = show.shown_of(text, 0, sys.maxsize).events[:-1]
         early = STORY.index("user lisa 2000")
@@ -205,8 +218,8 @@ def tells(tally: Tally, folder: str) -> None:
         tally.holds(sorted(again) == sorted(line for line in script if not line.startswith("#")), "the journal", again)
         tally.holds("nothing" not in live.tell("row /plan")["told"][0], "the journal's file", again)
     path = os.path.join(played.TOP, "examples", "play", "swept-clean.script")
-    with Live("--script", path) as live, open(path, encoding="utf-8") as file:
-        tally.holds(live.script() == file.read().splitlines(), "a script is begun with", live.script())
+    with Live("--script", path) as live:
+        tally.holds(live.script() == text_of(path).splitlines(), "a script is begun with", live.script())
 
 
 def ends(tally: Tally) -> None:
@@ -288,17 +301,7 @@ def clicks(tally: Tally, driver: browser.Browser, folder: str, shots: str | None
         hand.click("[data-server='0']", "return")
         hand.job(0, "lisa", "2000", "read /plan", whole)
         tally.holds("denied op 1" in hand.told(), "a name of the script", hand.told())
-        for line in ("begin 0 2000 2000 0 file /a</script><img/src=x> 644", "run 0", "</script><img/src=x>"):
-            driver.type("#line", line)
-            driver.press("Enter")
-            hand.until("document.getElementById('line').value === ''"
-                       " || document.getElementById('told').className === 'bad'")
-        tally.holds("fault line" in hand.told() and driver.value("document.images.length") == 0, "a fault", hand.told())
-        # letters that are keys of the page are typed as they are
-        driver.type("#line", "")
-        for letter in "pbn":
-            driver.ask("Input.dispatchKeyEvent", {"type": "keyDown", "text": letter, "key": letter})
-        tally.holds(driver.value("document.getElementById('line').value") == "pbn", "letters are typed")
+        types(tally, hand)
         same_as_saved(tally, driver, live, folder)
         if shots:
             driver.shot(os.path.join(shots, "live.png"))
@@ -310,6 +313,25 @@ def clicks(tally: Tally, driver: browser.Browser, folder: str, shots: str | None
         hand.click("[data-server='1']", "crash")
         tally.holds("The session has ended" in hand.told(), "a session that ended", hand.told())
         tally.holds(driver.value("document.querySelectorAll('#world .acts').length") == 0, "nothing more is clicked")
+    nobody_answers(tally, driver)
+
+
+def types(tally: Tally, hand: Hand) -> None:
+    """Lines that are typed: what bytes hold stays text, and letters that are keys of the page are typed as they are."""
+    driver = hand.driver
+    for line in ("begin 0 2000 2000 0 file /a</script><img/src=x> 644", "run 0", "</script><img/src=x>"):
+        driver.type("#line", line)
+        driver.press("Enter")
+        hand.until("document.getElementById('line').value === ''"
+                   " || document.getElementById('told').className === 'bad'")
+    tally.holds("fault line" in hand.told() and driver.value("document.images.length") == 0, "a fault", hand.told())
+    driver.type("#line", "")
+    for letter in "pbn":
+        driver.ask("Input.dispatchKeyEvent", {"type": "keyDown", "text": letter, "key": letter})
+    tally.holds(driver.value("document.getElementById('line').value") == "pbn", "letters are typed")
+
+
+def nobody_answers(tally: Tally, driver: browser.Browser) -> None:
     with Live(*OWN) as live:
         hand = Hand(driver, live)
         live.child.send_signal(signal.SIGINT)

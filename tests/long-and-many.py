@@ -25,6 +25,7 @@ import tempfile
 import time
 
 import played
+from scripting import header
 
 from common import console
 
@@ -75,8 +76,7 @@ def many_jobs() -> bytes:
     """The script of many jobs."""
     chance = random.Random(SEED)
     last_server = ",".join(["-"] * (SERVERS - 1) + ["1"]) + "/1/1"
-    lines = [f"servers {SERVERS}", "votes 1,1,1/2/2", "root 1000 100 777", "cache 65536 65536 64"]
-    lines += [f"do 1000 100 0 folder /d{folder} 777 {some_votes(folder)}" for folder in range(FOLDERS)]
+    lines = [f"do 1000 100 0 folder /d{folder} 777 {some_votes(folder)}" for folder in range(FOLDERS)]
     lines.append("together")
 
     def path() -> str:
@@ -100,7 +100,7 @@ def many_jobs() -> bytes:
     shares = [share for share, _ in kinds]
     for number in range(FOLDERS, JOBS):
         lines.append(chance.choices(kinds, shares)[0][1](number))
-    return "\n".join(lines).encode() + b"\n"
+    return (header(SERVERS, None, cache="65536 65536 64") + "\n".join([*lines, ""])).encode()
 
 
 def kind_of(ending: str) -> str:
@@ -142,7 +142,7 @@ def many(program: str) -> list[str]:
 
 def long(program: str) -> list[str]:
     jobs = HISTORY // 5 + 200
-    script = "servers 1\nvotes 1/1/1\nroot 1000 100 777\ncache 0 0 0\ntogether\n" + "do 1000 100 0 list /\n" * jobs
+    script = header(1, None, "1/1/1") + "together\n" + "do 1000 100 0 list /\n" * jobs
     run = Run(program, 4, script.encode())
     _, wrong, _ = judged(run, jobs)
     if last(run) != f"certified {HISTORY} steps":
@@ -157,7 +157,7 @@ def long(program: str) -> list[str]:
 
 def busy(program: str) -> list[str]:
     jobs = 8_000
-    script = "servers 1\nvotes 1/1/1\nroot 1000 100 777\ncache 0 0 0\ndo 1000 100 0 file /f 666\n"
+    script = header(1, None, "1/1/1") + "do 1000 100 0 file /f 666\n"
     run = Run(program, AGENTS, (script + "do 1000 100 0 write /f 00\n" * (jobs - 1)).encode())
     counts, wrong, steps = judged(run, jobs)
     if last(run) != f"certified {steps} steps":
@@ -194,10 +194,7 @@ def main() -> int:
     given = read.parse_args()
     program, runs = played.program(given.program), given.runs
     wrong = often(program, runs) + many(program) + long(program) + busy(program)
-    for one in wrong[:20]:
-        print(one)
-    print(f"{runs + 3} runs, {len(wrong)} differ")
-    return 1 if wrong or runs < 1 else 0
+    return played.verdict(runs + 3, "runs", wrong if runs else ["nothing was run often"], 20)
 
 
 if __name__ == "__main__":

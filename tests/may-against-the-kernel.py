@@ -28,9 +28,10 @@ import kernel_systems
 import kernel_trees as trees
 import may_cases
 import may_changes
+from common import console
 from asked_may import accounts, may, sentences, unquoted, wanted
 from kernel_trees import DENIED, GRANTED, UNJUDGED, Dice, Tree, User, letters, tried
-from may_changes import Count, differs
+from may_changes import Count, differs, users_of
 
 # So many questions are asked of one tree.
 OF_A_TREE = 400
@@ -61,7 +62,7 @@ def ask_deletes(user: User, path: str) -> tuple[str, str, str]:
     is_folder = os.path.isdir(name) and not os.path.islink(name) or path.endswith("/")
     told, line = sentences(user, "delete", [path])[0]
     put_back = trees.kept(path)
-    said = str(trees.as_user(user, lambda: trees.taken(path, is_folder)))
+    said = trees.as_user(user, lambda: trees.taken(path, is_folder))
     if not is_there(path):
         put_back()
     # a folder with names, and what something is mounted on, are told as such
@@ -72,7 +73,7 @@ def ask_creates(user: User, path: str) -> tuple[str, str, str]:
     """What is told of making a name, and what Linux does; what was made is taken away again."""
     was_there = is_there(path)
     told, line = sentences(user, "create", [path])[0]
-    said = str(trees.as_user(user, lambda: trees.made(path)))
+    said = trees.as_user(user, lambda: trees.made(path))
     if said == GRANTED:
         subprocess.run(["chattr", "-a", os.path.dirname(path.rstrip("/"))], stderr=subprocess.DEVNULL)
         trees.taken(path.rstrip("/"), path.endswith("/"))
@@ -101,10 +102,6 @@ def ask_names(dice: Dice, tree: Tree, count: int) -> Count:
 def named_in(lines: list[str]) -> set[str]:
     """Whom the first line of --who names."""
     return set(lines[0].rpartition("  ")[2].replace(",", " ").replace(";", " ").split())
-
-
-def users_of(dice: Dice, count: int) -> list[User]:
-    return [dice.user()._replace(name=f"n{number}") for number in range(count)]
 
 
 def ask_who(dice: Dice, tree: Tree, count: int) -> Count:
@@ -224,7 +221,7 @@ def on_system(kind: str, place: str, forms: list[str], given: argparse.Namespace
 
 
 def main() -> int:
-    parser = argparse.ArgumentParser(description=__doc__)
+    parser = console.words(__doc__)
     parser.add_argument("--questions", type=int, default=2000)
     parser.add_argument("--seed", type=int, default=1)
     parser.add_argument("--form", choices=sorted(FORMS))

@@ -21,12 +21,13 @@ import tempfile
 import played
 from played import Tally
 
-from common import console, tool
+from common import built, console, text_of, tool
 from may import changes, everybody, lint, lists, mounts, people, program, saying
 from may.people import Caller
 
 LIST = "u::rw,u:1001:rw,g::r,m::r,o::-"
 MANY = ",".join(str(one) for one in range(1, 34))
+TWO_DENIED = "denied rw- by mask::\ndenied -w- by group::\n"
 # The most bytes of an input.
 MOST = 16 * 1024 * 1024
 # What is asked, the status, and what is printed.
@@ -35,11 +36,7 @@ ROWS = [
     (f"1000 100 1000 7 rw {LIST}", 0, "granted\n"),
     (f"1000 100 1001 7 r {LIST}\r\n", 0, "granted\n"),
     (f"\t1000  100 1001 7 rw {LIST} \n", 0, "denied rw- by mask::\n"),
-    (
-        f"1000 100 1001 7 wr {LIST}\n1000 100 1002 7,100 -w- {LIST}\n",
-        0,
-        "denied rw- by mask::\ndenied -w- by group::\n",
-    ),
+    (f"1000 100 1001 7 wr {LIST}\n1000 100 1002 7,100 -w- {LIST}\n", 0, TWO_DENIED),
     (f"1000 100 4294967295 {MANY} r {LIST}\n", 0, "denied r-- by other::\n"),
     ("1 1 1 1 x user::rwx\\ngroup::-,other::-\n".replace("\\n", ","), 0, "granted\n"),
     ("1 1 2 1 x u::rw,g::rw,o::x,d:u::rwx,d:g::rwx,d:o::rwx\n", 0, "denied --x by group::\n"),
@@ -61,36 +58,29 @@ ROWS = [
 
 
 def plays_rows(tally: Tally) -> None:
+    path = program.program()
     for given, status, printed in ROWS:
-        done = subprocess.run([program.program(), "may"], input=given.encode(), stdout=subprocess.PIPE)
-        tally.holds(
-            (done.returncode, done.stdout.decode()) == (status, printed),
-            f"{given!r}: {done.returncode} {done.stdout!r}, and not {status} {printed!r}",
-        )
-    done = subprocess.run([program.program(), "may", "-x"], stdin=subprocess.DEVNULL, stdout=subprocess.PIPE)
-    tally.holds((done.returncode, done.stdout) == (2, b"fault command line\n"), f"a word: {done}")
+        told = built.asked("may", given, path=path)
+        tally.holds(told == (status, printed), f"{given!r}: {told}, and not {status} {printed!r}")
+    told = built.asked("may", "", "-x", path=path)
+    tally.holds(told == (2, "fault command line\n"), f"a word: {told}")
     with open("/dev/full", "wb") as full:
-        done = subprocess.run([program.program(), "may"], input=f"1 1 1 1 r {LIST}\n".encode(), stdout=full)
+        done = subprocess.run([path, "may"], input=f"1 1 1 1 r {LIST}\n".encode(), stdout=full)
     tally.holds(done.returncode == 6, f"a write that fails: {done.returncode}")
-    done = subprocess.run([program.program(), "may"], stdin=os.open("/", os.O_RDONLY), stdout=subprocess.PIPE)
+    done = subprocess.run([path, "may"], stdin=os.open("/", os.O_RDONLY), stdout=subprocess.PIPE)
     tally.holds((done.returncode, done.stdout) == (6, b""), f"a read that fails: {done}")
-    done = subprocess.run([program.program(), "may"], input=b"\n" * (MOST + 1), stdout=subprocess.PIPE)
-    tally.holds((done.returncode, done.stdout) == (6, b""), f"an input that is too long: {done}")
+    told = built.asked("may", b"\n" * (MOST + 1), path=path)
+    tally.holds(told == (6, ""), f"an input that is too long: {told}")
 
 
 def asks(tally: Tally, words: list[str], status: int, last: str, strict: bool = False) -> None:
     """The command, its status, and what its last line has."""
     env = {**os.environ, **({"PYTHONIOENCODING": "utf-8:strict", "LC_ALL": "C"} if strict else {})}
-    command = tool("may", *words)
-    done = subprocess.run(
-        command, env=env, stdin=subprocess.DEVNULL, stdout=subprocess.PIPE, stderr=subprocess.PIPE, text=True
-    )
+    done = subprocess.run(tool("may", *words), env=env, stdin=subprocess.DEVNULL, capture_output=True, text=True)
     # a checked build says so
     lines = [line for line in (done.stdout + done.stderr).splitlines() if not line.startswith("suites: checked build")]
-    tally.holds(
-        done.returncode == status and lines and last in lines[-1],
-        f"may {words}: {done.returncode}, and not {status} with {last!r}: {lines}",
-    )
+    is_so = done.returncode == status and lines and last in lines[-1]
+    tally.holds(is_so, f"may {words}: {done.returncode}, and not {status} with {last!r}: {lines}")
 
 
 # Words that are refused, each with where to read.
@@ -218,9 +208,9 @@ def asks_of_changes(tally: Tally, callers: list[Caller], twice: str) -> None:
 def asks_of_lint(tally: Tally, callers: list[Caller], room: str) -> None:
     """What a lint of a folder finds, and what once nobody may search it."""
     people.accounts, kept = (lambda: callers), people.accounts
-    found, _ = lint.lint(room)
+    found = list(lint.Lint(room).lines())
     os.chmod(room, 0o700)
-    stopped, _ = lint.lint(room)
+    stopped = list(lint.Lint(room).lines())
     people.accounts = kept
     many, twice = os.path.join(room, "many"), os.path.join(room, "twice")
     tally.holds(any(f"{many}: its list has 154 entries" in line for line in found), f"lint: {found[:3]}")
@@ -247,10 +237,8 @@ def asks_of_lists(tally: Tally) -> None:
         asks(tally, [*other, "r", many, plain_one], 3, f"{many}: not judged here")
         asks_of_changes(tally, callers, twice)
         asks_of_lint(tally, callers, room)
-    tally.holds(
-        lists.fault(tuple(lists.Entry(lists.USER, 7, 4) for _ in range(2))) == "its list names user 7 twice",
-        "a user twice",
-    )
+    is_so = lists.fault(tuple(lists.Entry(lists.USER, 7, 4) for _ in range(2))) == "its list names user 7 twice"
+    tally.holds(is_so, "a user twice")
 
 
 def reads_mounts(tally: Tally) -> None:
@@ -266,10 +254,8 @@ def reads_mounts(tally: Tally) -> None:
     )
     found = mounts.read_mounts(text)
     tally.holds([one.point for one in found] == ["/proc", "/a b", "/f", "/n", "/t"], f"mounts: {found}")
-    tally.holds(
-        [bool(one.unjudged(f"{one.point}/x")) for one in found] == [True, True, True, True, False],
-        "mounts that are not judged",
-    )
+    is_so = [bool(one.unjudged(f"{one.point}/x")) for one in found] == [True, True, True, True, False]
+    tally.holds(is_so, "mounts that are not judged")
     tally.holds(found[1].has("noexec") and found[1].has("ro") and found[4].has("nosymfollow"), "flags of mounts")
     tally.holds(people.caller_of("0", "5,6") == Caller("root", 0, 5, (6,)), "a caller by its number")
 
@@ -307,12 +293,9 @@ def plain(code: str) -> str:
 
 
 def shown_code_stands(tally: Tally) -> None:
-    with open(os.path.join(played.TOP, "docs", "LIBRARY.md"), encoding="utf-8") as file:
-        code = re.findall(r"^```rust\n(.*?)^```", file.read(), re.M | re.S)
-    sources = ""
-    for name in sorted(os.listdir(os.path.join(played.TOP, "crates", "may", "src"))):
-        with open(os.path.join(played.TOP, "crates", "may", "src", name), encoding="utf-8") as file:
-            sources += plain(file.read())
+    code = re.findall(r"^```rust\n(.*?)^```", text_of("docs", "LIBRARY.md"), re.M | re.S)
+    folder = os.path.join(played.TOP, "crates", "may", "src")
+    sources = "".join(plain(text_of(folder, name)) for name in sorted(os.listdir(folder)))
     tally.holds(code, "docs/LIBRARY.md shows no code")
     for block in code:
         tally.holds(plain(block) in sources, f"this of docs/LIBRARY.md stands in no file of crates/may/src:\n{block}")

@@ -121,21 +121,27 @@ def bears_many(tally: played.Tally) -> None:
         print(f"{MANY} processes: {written} files written in {seconds:.0f} s, {written / seconds:.0f} a second")
 
 
+def filled(mount: Mounted) -> tuple[int, str]:
+    """Makes files, a thousand in a folder, until one cannot be made: how many there are, and the error."""
+    begun, made, folder = time.monotonic(), 0, ""
+    try:
+        while True:
+            if made % 1000 == 0:
+                folder = os.path.join(mount.top, f"d{made // 1000}")
+                os.mkdir(folder)
+            with open(os.path.join(folder, f"f{made}"), "wb") as file:
+                made += 1
+                file.write(b"%d" % made)
+    except OSError as error:
+        told = errno.errorcode[error.errno]
+    print(f"{made} files in {time.monotonic() - begun:.0f} s, then {told}")
+    return made, told
+
+
 def is_full(tally: played.Tally) -> None:
     """A server that is full, and compaction."""
     with Mounted("--root", "0:0:777", journal=True) as mount:
-        begun, made, folder = time.monotonic(), 0, ""
-        try:
-            while True:
-                if made % 1000 == 0:
-                    folder = os.path.join(mount.top, f"d{made // 1000}")
-                    os.mkdir(folder)
-                with open(os.path.join(folder, f"f{made}"), "wb") as file:
-                    made += 1
-                    file.write(b"%d" % made)
-        except OSError as error:
-            told = errno.errorcode[error.errno]
-        print(f"{made} files in {time.monotonic() - begun:.0f} s, then {told}")
+        made, told = filled(mount)
         tally.holds(told == "ENOSPC" and made > 4000, f"full after {made} files, {told}")
         tally.holds(os.statvfs(mount.top).f_ffree == 0, "df tells that there is room")
         names = sorted(os.listdir(os.path.join(mount.top, "d1")))

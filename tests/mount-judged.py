@@ -22,7 +22,7 @@ import typing
 import mounted
 import played
 
-from common import built, console, tool
+from common import built, console, text_of, tool
 
 READERS, OWNER, PAUSE = 7, "1000:100:755", 0.2
 FILE = os.path.join("tools", "mount", "data.py")
@@ -106,8 +106,7 @@ def with_error(text: str, folder: str) -> None:
     for name in ("suites", "crates.txt"):
         shutil.copy2(os.path.join(played.TOP, name), folder)
     path = os.path.join(folder, FILE)
-    with open(path, encoding="utf-8") as file:
-        whole = file.read()
+    whole = text_of(path)
     if whole.count(ASKED) != 1:
         sys.exit(f"{FILE} has not once: {ASKED}")
     with open(path, "w", encoding="utf-8") as file:

@@ -173,6 +173,12 @@ def sees_what_is_written(tally: played.Tally) -> None:
         tally.holds(not os.path.exists(path), "a dropped file is there again")
         for file in (reader, writer, *adders):
             os.close(file)
+
+
+def takes_rights_away(tally: played.Tally) -> None:
+    """Who has a file open reads on only as long as it may."""
+    with Mounted("--root", "0:0:777") as mount:
+        path = f"{mount.top}/a"
         put(path, b"secret", mode=0o644)
         os.chmod(path, 0o644)
 
@@ -197,6 +203,34 @@ def sees_what_is_written(tally: played.Tally) -> None:
         tally.holds(status == errno.EACCES, "a right that was taken away is not gone for an open file")
 
 
+def wrong_calls(top: str) -> list[tuple[str, Callable[[], Any]]]:
+    """Calls in a tree, each with the error that it is answered."""
+    return [
+        ("ENOENT", lambda: got(f"{top}/no")),
+        ("ENOTDIR", lambda: got(f"{top}/a/b")),
+        ("EEXIST", lambda: os.mkdir(f"{top}/1")),
+        ("ENOTEMPTY", lambda: os.rmdir(f"{top}/1")),
+        ("EISDIR", lambda: put(f"{top}/1", b"", 0)),
+        ("EACCES", lambda: got(f"{top}/1/f")),
+        ("EPERM", lambda: os.chmod(f"{top}/theirs", 0o777)),
+        ("EPERM", lambda: os.link(f"{top}/a", f"{top}/b")),
+        ("EPERM", lambda: os.symlink("a", f"{top}/b")),
+        ("EPERM", lambda: os.mkfifo(f"{top}/b")),
+        ("EPERM", lambda: os.chown(f"{top}/a", 1, -1)),
+        ("EPERM", lambda: os.chmod(f"{top}/a", 0o4755)),
+        ("EXDEV", lambda: os.rename(f"{top}/1", f"{top}/2")),
+        ("EXDEV", lambda: os.rename(f"{top}/theirs", f"{top}/2")),
+        ("EFBIG", lambda: put(f"{top}/a", bytes(65_537))),
+        ("EFBIG", lambda: os.truncate(f"{top}/a", 65_537)),
+        ("EINVAL", lambda: put(f"{top}/a b", b"")),
+        ("EINVAL", lambda: os.mkdir(f"{top}/1/2/3/4/5/6/7/8/9")),
+        ("ENAMETOOLONG", lambda: os.mkdir(f"{top}/{'n' * 65}")),
+        ("ENOTSUP", lambda: os.setxattr(f"{top}/a", "user.x", b"1")),
+        ("EINVAL", lambda: os.setxattr(f"{top}/a", ACCESS, acl((1, 7, NOBODY)))),
+        ("EACCES", lambda: os.setxattr(f"{top}/a", DEFAULT, LISTS)),
+    ]
+
+
 def answers_errors(tally: played.Tally) -> None:
     """The table of errors, and what the mount has not."""
     with Mounted("--root", "0:0:777") as mount:
@@ -206,32 +240,8 @@ def answers_errors(tally: played.Tally) -> None:
         put(f"{top}/1/f", b"")
         as_user(STRANGER, lambda: put(f"{top}/theirs", b""))
         os.chmod(f"{top}/1/f", 0)
-        calls: list[tuple[str, Callable[[], Any]]] = [
-            ("ENOENT", lambda: got(f"{top}/no")),
-            ("ENOTDIR", lambda: got(f"{top}/a/b")),
-            ("EEXIST", lambda: os.mkdir(f"{top}/1")),
-            ("ENOTEMPTY", lambda: os.rmdir(f"{top}/1")),
-            ("EISDIR", lambda: put(f"{top}/1", b"", 0)),
-            ("EACCES", lambda: got(f"{top}/1/f")),
-            ("EPERM", lambda: os.chmod(f"{top}/theirs", 0o777)),
-            ("EPERM", lambda: os.link(f"{top}/a", f"{top}/b")),
-            ("EPERM", lambda: os.symlink("a", f"{top}/b")),
-            ("EPERM", lambda: os.mkfifo(f"{top}/b")),
-            ("EPERM", lambda: os.chown(f"{top}/a", 1, -1)),
-            ("EPERM", lambda: os.chmod(f"{top}/a", 0o4755)),
-            ("EXDEV", lambda: os.rename(f"{top}/1", f"{top}/2")),
-            ("EXDEV", lambda: os.rename(f"{top}/theirs", f"{top}/2")),
-            ("EFBIG", lambda: put(f"{top}/a", bytes(65_537))),
-            ("EFBIG", lambda: os.truncate(f"{top}/a", 65_537)),
-            ("EINVAL", lambda: put(f"{top}/a b", b"")),
-            ("EINVAL", lambda: os.mkdir(f"{top}/1/2/3/4/5/6/7/8/9")),
-            ("ENAMETOOLONG", lambda: os.mkdir(f"{top}/{'n' * 65}")),
-            ("ENOTSUP", lambda: os.setxattr(f"{top}/a", "user.x", b"1")),
-            ("EINVAL", lambda: os.setxattr(f"{top}/a", ACCESS, acl((1, 7, NOBODY)))),
-            ("EACCES", lambda: os.setxattr(f"{top}/a", DEFAULT, LISTS)),
-        ]
         os.mkdir(f"{top}/1/2/3/4/5/6/7/8")
-        for wanted, does in calls:
+        for wanted, does in wrong_calls(top):
             told = error_of(does)
             tally.holds(told == wanted, f"{told or 'no error'} and not {wanted}, at {does.__code__.co_firstlineno}")
         many = (4321, 4322, tuple(range(5000, 5040)))
@@ -335,6 +345,7 @@ def main() -> int:
     decides_nothing(tally)
     minds_umask(tally)
     sees_what_is_written(tally)
+    takes_rights_away(tally)
     answers_errors(tally)
     is_controlled(tally)
     records_denials(tally)

@@ -25,7 +25,7 @@ import typing
 import played
 import scratch
 
-from common import built
+from common import built, text_of
 
 PROGRAM, AGENTS, RUN = "suites", 4, 5_000
 
@@ -61,8 +61,7 @@ def program_with(planted: Planted, folder: str) -> str:
     sources = {os.path.splitext(name)[0]: os.path.join(own, name) for name in os.listdir(own)}
     scratch.placed(folder, PROGRAM, scratch.needs_of_crates()[PROGRAM], sources)
     path = os.path.join(folder, planted.file)
-    with open(path, encoding="utf-8") as file:
-        text = file.read()
+    text = text_of(path)
     if text.count(planted.old) != 1:
         sys.exit(f"{planted.file} has not once: {planted.old}")
     with open(path, "w", encoding="utf-8") as file:

@@ -12,7 +12,7 @@ signal.signal(signal.SIGINT, signal.default_int_handler)
 TOP = os.path.realpath(os.path.join(os.path.dirname(os.path.abspath(__file__)), ".."))
 # What tests import of the tools, before what of tests has the same name: the one edit of where modules are looked for.
 sys.path.insert(0, os.path.join(TOP, "tools"))
-from common import built  # noqa: E402
+from common import built, console, text_of  # noqa: E402
 from common.read_rows import Row, examples, rows, said  # noqa: E402, F401
 
 
@@ -26,13 +26,51 @@ def program(named: str | None = None) -> str:
     return path
 
 
-def library(name: str, folder: str) -> str | None:
-    """The library that stands before calls of the system, made of a file here: tests/fail.c has them fail,
-    tests/refuse.c refuses memory; none where there is no compiler.
+def named_program(doc: str) -> str:
+    """The program of a test whose words name it or nothing."""
+    read = console.words(doc)
+    read.add_argument("program", nargs="?")
+    return program(read.parse_args().program)
+
+
+def stories(folder: str = "play") -> dict[str, str]:
+    """The scripts of a folder of examples/, by their names."""
+    top = os.path.join(TOP, "examples", folder)
+    return {name: text_of(top, name) for name in sorted(os.listdir(top)) if name.endswith(".script")}
+
+
+def shown_on(terminal: int) -> str:
+    """What was written to a terminal to which nobody writes any more; closes it."""
+    shown = b""
+    with contextlib.suppress(OSError):
+        while piece := os.read(terminal, 4096):
+            shown += piece
+    os.close(terminal)
+    return shown.decode()
+
+
+class Library:
+    """A library that stands before calls of the system, made of a file here: tests/fail.c has them fail, tests/refuse.c
+    refuses memory. None is made where there is no compiler.
     """
-    path = os.path.join(folder, f"{name}.so")
-    words = ["cc", "-shared", "-fPIC", "-O1", "-o", path, os.path.join(TOP, "tests", f"{name}.c"), "-ldl"]
-    return path if shutil.which("cc") and subprocess.run(words, stderr=subprocess.DEVNULL).returncode == 0 else None
+
+    def __init__(self, name: str, folder: str) -> None:
+        self.front, self.path = name.upper(), os.path.join(folder, f"{name}.so")
+        self.mark = os.path.join(folder, "mark")
+        words = ["cc", "-shared", "-fPIC", "-O1", "-o", self.path, os.path.join(TOP, "tests", f"{name}.c"), "-ldl"]
+        self.is_made = bool(shutil.which("cc")) and subprocess.run(words, stderr=subprocess.DEVNULL).returncode == 0
+
+    def env(self, **which: int) -> dict[str, str]:
+        """The environment of a program of which these calls fail."""
+        told = {f"{self.front}_{name}": str(number) for name, number in which.items()}
+        return {**os.environ, "LD_PRELOAD": self.path, f"{self.front}_MARK": self.mark, **told}
+
+    def was_met(self) -> bool:
+        """Whether such a call was made since this was asked last."""
+        is_met = os.path.exists(self.mark)
+        if is_met:
+            os.remove(self.mark)
+        return is_met
 
 
 def is_alive(process: int) -> bool:
@@ -60,13 +98,15 @@ class Tally:
 
     def told(self, what: str) -> int:
         """The status of a test: 1 where something differs, or nothing was looked at. Prints the counts."""
-        print(f"{self.count} {what}, {self.wrong} differ")
+        print(f"{self.count} {what}, {self.wrong} differ", flush=True)
         return 1 if self.wrong or not self.count else 0
 
 
-def compared(told: typing.Iterable[str], what: str) -> int:
-    """The status of a test: 1 where a comparison says what differs, or there was none. Prints that, and the counts."""
-    tally = Tally()
-    for text in told:
-        tally.holds(not text, text)
-    return tally.told(what)
+def verdict(count: int, what: str, wrong: typing.Sequence[str], most: int = sys.maxsize) -> int:
+    """The status of a test that looked at so many: 1 where something is wrong, or there was nothing to look at. Prints
+    the first of what is wrong, as many as `most`, and the counts.
+    """
+    for line in wrong[:most]:
+        print(line)
+    print(f"{count} {what}, {len(wrong)} differ", flush=True)
+    return 1 if wrong or not count else 0

@@ -22,7 +22,7 @@ import time
 
 import played
 
-from common import console
+from common import console, text_of
 from front import sources, trial
 
 AGENTS = (2, 4, 8, 16, 32, 64)
@@ -138,8 +138,7 @@ def reports(program: str, runs: int, with_names: bool) -> tuple[int, int, int]:
         "TSAN_OPTIONS": f"exitcode=0 halt_on_error=0 report_thread_leaks=0 symbolize={int(with_names)}",
     }
     for name in SCRIPTS:
-        with open(os.path.join(played.TOP, "examples", "serve", f"{name}.script"), encoding="utf-8") as file:
-            script = file.read()
+        script = text_of("examples", "serve", f"{name}.script")
         for agents in AGENTS * runs:
             # the sanitizer wants its memory at fixed places
             words = ["setarch", os.uname().machine, "-R", program, "serve", "--agents", str(agents)]

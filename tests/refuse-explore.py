@@ -7,7 +7,6 @@ way that the full one has not; or `fault memory` with status 4. With --every N i
 `cc` (tests/refuse.c stands before the allocator). Status 1 where an answer differs, or none was refused.
 """
 import collections
-import os
 import re
 import shlex
 import shutil
@@ -20,7 +19,7 @@ import explored
 import played
 from played import Tally
 
-from common import built, console
+from common import built, console, text_of
 
 # The scripts that are explored, each with its words, where none is named.
 STORIES = (
@@ -44,27 +43,11 @@ class Run(typing.NamedTuple):
         return set(explored.read(self.text))
 
 
-class Refused:
-    """The program with the allocator behind tests/refuse.c."""
-
-    def __init__(self, folder: str) -> None:
-        self.mark = os.path.join(folder, "mark")
-        self.library = played.library("refuse", folder) or sys.exit("tests/refuse.c is not compiled")
-
-    def run(self, words: list[str], script: bytes, first: int = 0, last: int = 0) -> Run:
-        """Runs the program, where the allocations from the first to the last of these are refused."""
-        reach = {"REFUSE_FROM": str(first), "REFUSE_TO": str(last), "REFUSE_MARK": self.mark}
-        setting = {"LD_PRELOAD": self.library, **reach}
-        done = subprocess.run(
-            [built.program(), "explore", *words],
-            input=script,
-            capture_output=True,
-            env={**os.environ, **(setting if first else {})},
-        )
-        is_hit = os.path.exists(self.mark)
-        if is_hit:
-            os.remove(self.mark)
-        return Run(done.returncode, (done.stdout + done.stderr).decode(), is_hit)
+def run(library: played.Library, words: list[str], script: bytes, first: int = 0, last: int = 0) -> Run:
+    """Runs the program, where the allocations from the first to the last of these are refused."""
+    env = library.env(FROM=first, TO=last) if first else None
+    done = subprocess.run([built.program(), "explore", *words], input=script, capture_output=True, env=env)
+    return Run(done.returncode, (done.stdout + done.stderr).decode(), library.was_met())
 
 
 def kind(told: Run, full: Run) -> str | None:
@@ -77,15 +60,16 @@ def kind(told: Run, full: Run) -> str | None:
     return "not all" if is_partial and told.ways() <= full.ways() else None
 
 
-def refuse_each(refused: Refused, path: str, words: list[str], every: int, tally: Tally) -> collections.Counter[str]:
+def refuse_each(
+    library: played.Library, path: str, words: list[str], every: int, tally: Tally
+) -> collections.Counter[str]:
     """Refuses each allocation in turn. Answers how often each kind of answer was given."""
-    with open(os.path.join(played.TOP, path), "rb") as file:
-        script = file.read()
-    full, counts = refused.run(words, script), collections.Counter[str]()
+    script = text_of(path).encode()
+    full, counts = run(library, words, script), collections.Counter[str]()
     for is_alone in (True, False):
         number = 1
-        while (told := refused.run(words, script, number, number if is_alone else ALL)).is_hit:
-            found = kind(told, full) or one_way(refused, told, script, words)
+        while (told := run(library, words, script, number, number if is_alone else ALL)).is_hit:
+            found = kind(told, full) or one_way(told, script, words)
             counts[found or "other"] += 1
             about = f"{path} {' '.join(words)}: allocation {number}{'' if is_alone else ' and all from there on'}"
             tally.holds(found, f"{about}: status {told.status}, {told.text[-200:]}")
@@ -94,7 +78,7 @@ def refuse_each(refused: Refused, path: str, words: list[str], every: int, tally
     return counts
 
 
-def one_way(refused: Refused, told: Run, script: bytes, words: list[str]) -> str | None:
+def one_way(told: Run, script: bytes, words: list[str]) -> str | None:
     """With --way a script may be told that leads to another way than the full answer's of this number, or that it was
     not found: the number is that among the ways that were found.
     """
@@ -116,9 +100,11 @@ def main() -> int:
         return 0
     stories = [(given.words[1], given.words[0])] if given.words else STORIES
     with tempfile.TemporaryDirectory() as folder:
-        refused = Refused(folder)
+        library = played.Library("refuse", folder)
+        if not library.is_made:
+            sys.exit("tests/refuse.c is not compiled")
         for path, words in stories:
-            counts = refuse_each(refused, path, shlex.split(words), given.every, tally)
+            counts = refuse_each(library, path, shlex.split(words), given.every, tally)
             told = ", ".join(f"{count} {name}" for name, count in sorted(counts.items()))
             print(f"{path} {words}: {told}", flush=True)
     return tally.told("answers of explore compared")

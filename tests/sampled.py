@@ -13,13 +13,13 @@ import os
 import re
 import subprocess
 import tempfile
-import typing
 
 import explored
 import played
 from played import Tally
+from scripting import header, job
 
-from common import built, console, tool
+from common import built, console, text_of, tool
 
 ORDERS, MANY_ORDERS, MOST_WORLDS, NOT_ALL, WORDS = 2000, 10000, "400000", 7, 2
 STORY = os.path.join(explored.STORIES, "revocation.script")
@@ -41,15 +41,6 @@ WRONG = (
 FIRST, EVERY, LATEST = 60, 97, 4000
 
 
-def sampled(program: str, script: str, words: str, **more: typing.Any) -> tuple[int, str]:
-    """The exit status of `explore` for a script, and what it printed."""
-    done = subprocess.run(
-        [program, "explore", *words.split()], input=script.encode(), stdout=subprocess.PIPE, stderr=subprocess.STDOUT,
-        **more,
-    )
-    return done.returncode, done.stdout.decode()
-
-
 def ways_in(text: str) -> list[tuple[str, ...]]:
     """The lines of each way that was printed."""
     return [tuple(LAST.sub("", part).splitlines()) for part in HEAD.split(text)[1:]]
@@ -57,39 +48,34 @@ def ways_in(text: str) -> list[tuple[str, ...]]:
 
 def compare(name: str, script: str, words: str, all_ways: list[tuple[str, ...]], tally: Tally) -> bool:
     """Compares the ways of orders with all ways. Tells whether another seed tells something else."""
-    program, suites = built.program(), played.program(None)
     asked = f"{words} --sample {ORDERS}"
-    status, told = sampled(program, script, f"{asked} --seed 7")
+    status, told = explored.explored(script, f"{asked} --seed 7")
     last, ways = LAST.search(told), ways_in(told)
     so_many = last and (last[1], last[2]) == (str(ORDERS), str(len(ways)))
     tally.holds(status == NOT_ALL and bool(so_many), f"{name}: {asked} ends with {status}, last with {told[-99:]}")
     tally.holds(0 < len(ways) == len(set(ways)), f"{name}: no way is told, or one twice")
     tally.holds(set(ways) <= set(all_ways), f"{name}: {sorted(set(ways) - set(all_ways))} are no ways")
-    tally.holds(sampled(program, script, f"{asked} --seed 7")[1] == told, f"{name}: one seed tells two things")
+    tally.holds(explored.explored(script, f"{asked} --seed 7")[1] == told, f"{name}: one seed tells two things")
     for number, way in list(enumerate(ways, 1))[:: max(1, len(ways) // 5)]:
         if "--brief" not in words.split():
-            status, text = sampled(program, script, f"{asked} --seed 7 --way {number}")
-            wrong = [f"it ends with {status}"] if status else explored.differs_when_played(text, way, suites)
+            status, text = explored.explored(script, f"{asked} --seed 7 --way {number}")
+            wrong = [f"it ends with {status}"] if status else explored.differs_when_played(text, way)
             tally.holds(not wrong, f"{name}: way {number}: {'; '.join(wrong)}")
-    return sampled(program, script, f"{asked} --seed 8")[1] != told
+    return explored.explored(script, f"{asked} --seed 8")[1] != told
 
 
 def compare_kept(tally: Tally) -> int:
     """Compares with the kept ways. Tells for how many scripts another seed told something else."""
-    others = 0
-    for name, words, text in explored.kept():
-        with open(os.path.join(explored.KEPT, f"{name}.ways"), encoding="utf-8") as file:
-            others += compare(name, text, words, explored.read(file.read()), tally)
-    return others
+    return sum(compare(one.name, one.text, one.words, explored.read(one.ways), tally) for one in explored.kept())
 
 
 def compare_random(scripts: int, first: int, tally: Tally) -> int:
     """Compares with the whole search for random scripts."""
-    program, seed, count, others = built.program(), first, 0, 0
+    seed, count, others = first, 0, 0
     while count < scripts:
         script, words = explored.Explorable(seed).whole()
         seed += 1
-        status, told = sampled(program, script, f"{words} --worlds {MOST_WORLDS}")
+        status, told = explored.explored(script, f"{words} --worlds {MOST_WORLDS}")
         if status == 0:
             count += 1
             others += compare(f"seed {seed - 1}", script, words, explored.read(told), tally)
@@ -98,21 +84,20 @@ def compare_random(scripts: int, first: int, tally: Tally) -> int:
 
 def many() -> str:
     """A script of 64 agents and 1,000 jobs."""
-    head = ["servers 3", "agents 64", "votes 1,1,1/2/2", "root 0 0 777", "cache 0 0 0"]
-    above = ["begin 0 0 0 0 file /a 666 ; write /a 6869", "run 0", "together"]
     what = ("read /a", "write /a 6f6b", "list /", "getacl /a")
-    return "\n".join([*head, *above, *(f"begin {job % 64} 0 0 0 {what[job % 4]}" for job in range(1000)), ""])
+    above = header(3, 64, root="0 0 777") + job("file /a 666 ; write /a 6869", who="0 0") + "together\n"
+    return above + "".join(f"begin {number % 64} 0 0 0 {what[number % 4]}\n" for number in range(1000))
 
 
 def play_many(tally: Tally) -> None:
     """An order of many jobs is played to its end, and its script is that of `play`."""
-    program, script = built.program(), many()
-    status, told = sampled(program, script, "--sample 1 --seed 3")
+    script = many()
+    status, told = explored.explored(script, "--sample 1 --seed 3")
     ways = ways_in(told)
     is_whole = len(ways) == 1 and len(ways[0]) == 1000 and not any(line.endswith(" -") for line in ways[0])
     tally.holds(status == NOT_ALL and is_whole, f"1,000 jobs: status {status}, {len(ways)} ways")
-    status, text = sampled(program, script, "--sample 1 --seed 3 --way 1")
-    wrong = explored.differs_when_played(text, ways[0], played.program(None))
+    status, text = explored.explored(script, "--sample 1 --seed 3 --way 1")
+    wrong = explored.differs_when_played(text, ways[0])
     tally.holds(status == 0 and not wrong, f"1,000 jobs: {'; '.join(wrong)[:300]}")
 
 
@@ -120,55 +105,47 @@ def crash_each(tally: Tally) -> None:
     """Any server may crash: where one alone of 32 has a vote, in some order it is down and nothing is decided."""
     for server in (0, 7, 8, 31):
         votes = ",".join("1" if place == server else "0" for place in range(32))
-        script = f"servers 32\nagents 1\nvotes {votes}/1/1\nroot 0 0 777\ncache 0 0 0\ntogether\nbegin 0 0 0 0 list /\n"
-        status, told = sampled(built.program(), script, f"--sample {MANY_ORDERS} --crashes 1")
+        script = header(32, 1, f"{votes}/1/1", "0 0 777") + "together\nbegin 0 0 0 0 list /\n"
+        status, told = explored.explored(script, f"--sample {MANY_ORDERS} --crashes 1")
         is_found = ("0.0 undecided U1 suite 0 got 0 of 1",) in ways_in(told)
         tally.holds(status == NOT_ALL and is_found, f"server {server} of 32: status {status}, ways {ways_in(told)}")
 
 
 def refuse(tally: Tally) -> None:
     """Where memory is refused it tells less, or that memory ran out."""
-    with open(STORY, encoding="utf-8") as file:
-        script = file.read()
+    script = text_of(STORY)
     words, hits = "--sample 20 --seed 1 --crashes 1", 0
-    full = sampled(built.program(), script, words)
+    full = explored.explored(script, words)
     with tempfile.TemporaryDirectory() as folder:
-        library = played.library("refuse", folder)
-        if not library:
+        library = played.Library("refuse", folder)
+        if not library.is_made:
             return
-        mark = os.path.join(folder, "mark")
         for first in [*range(1, FIRST), *range(FIRST, LATEST, EVERY)]:
             for last in (first, 10**9):
-                reach = {"REFUSE_FROM": str(first), "REFUSE_TO": str(last), "REFUSE_MARK": mark}
-                told = sampled(
-                    built.program(), script, words, env={**os.environ, "LD_PRELOAD": library, **reach}
-                )
+                told = explored.explored(script, words, env=library.env(FROM=first, TO=last))
                 is_less = told[0] == NOT_ALL and set(ways_in(told[1])) <= set(ways_in(full[1]))
                 tally.holds(told == (4, "fault memory\n") or is_less, f"allocation {first} to {last}: {told}")
-                hits += os.path.exists(mark)
-                if os.path.exists(mark):
-                    os.remove(mark)
+                hits += library.was_met()
     tally.holds(hits > FIRST, f"only {hits} allocations were refused")
 
 
 def tell_wrong(tally: Tally) -> None:
     """Wrong words and streams that fail."""
-    program = built.program()
-    with open(STORY, encoding="utf-8") as file:
-        script = file.read()
+    script = text_of(STORY)
     for words in WRONG:
-        told = sampled(program, script, words)
+        told = explored.explored(script, words)
         tally.holds(told == (WORDS, "fault command line\n"), f"{words}: {told}")
         done = subprocess.run([*tool("explore"), *words.split()], input=b"", capture_output=True, cwd=played.TOP)
         tally.holds(done.returncode == WORDS and done.stdout == b"", f"./suites explore {words}: {done}")
-    least = sampled(program, script, "--sample 1 --seed 18446744073709551615")
+    least = explored.explored(script, "--sample 1 --seed 18446744073709551615")
     tally.holds(least[0] == NOT_ALL and least[1].endswith("sampled 1 orders: 1 ways\n"), f"the last seed: {least}")
-    missing = sampled(program, script, "--sample 1 --way 2")
+    missing = explored.explored(script, "--sample 1 --way 2")
     tally.holds(missing == (WORDS, "sampled 1 orders: 1 ways\n"), f"way 2 of one: {missing}")
-    with open("/dev/full", "wb") as full, open(STORY, "rb") as file:
-        done = subprocess.run([program, "explore", "--sample", "5"], stdin=file, stdout=full, stderr=subprocess.DEVNULL)
+    words_of = [built.program(), "explore", "--sample", "5"]
+    with open("/dev/full", "wb") as full:
+        done = subprocess.run(words_of, input=script.encode(), stdout=full, stderr=subprocess.DEVNULL)
     tally.holds(done.returncode == 6, f"a full disk: status {done.returncode}")
-    closed = subprocess.run(["sh", "-c", '"$0" explore --sample 5 <&- 2>/dev/null', program], stdout=subprocess.PIPE)
+    closed = subprocess.run(["sh", "-c", '"$0" "$@" <&- 2> /dev/null', *words_of], stdout=subprocess.PIPE)
     tally.holds(closed.returncode == 6, f"no input: status {closed.returncode}")
 
 
@@ -188,8 +165,7 @@ def ask(tally: Tally) -> None:
         name, *more = shown[1].split()
         with open(os.path.join(played.TOP, shown[2]), "rb") as file:
             told = subprocess.run([*tool(name), *more], stdin=file, capture_output=True, cwd=played.TOP)
-        run = subprocess.run([played.program(None), "play"], input=told.stdout, capture_output=True)
-        outcomes = explored.without_steps(run.stdout.decode().splitlines())
+        outcomes = explored.without_steps(built.asked("play", told.stdout)[1].splitlines())
         is_so = "0.1 answered set" in outcomes and any(line.startswith("1.0 answered") for line in outcomes)
         tally.holds(is_so, f"the script tells {outcomes}")
 
@@ -203,10 +179,8 @@ def make_small(tally: Tally) -> None:
     tally.holds(done.returncode == 0 and 0 < len(lines) - first < 20, f"a small script is {done.stdout}{done.stderr}")
 
     def ending(left: list[str]) -> str:
-        text = "\n".join([*left, ""])
-        told = subprocess.run([played.program(None), "play"], input=text, capture_output=True, text=True)
-        found = [line for line in explored.without_steps(told.stdout.splitlines()) if line.startswith("5.0 ")]
-        return "".join(found)
+        printed = built.asked("play", "\n".join([*left, ""]))[1]
+        return "".join(line for line in explored.without_steps(printed.splitlines()) if line.startswith("5.0 "))
 
     wanted = ending(lines)
     tally.holds(wanted.startswith("5.0 undecided U2 "), f"in a small script job 5.0 ends so: {wanted}")

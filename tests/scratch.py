@@ -6,7 +6,6 @@ time, as front/trial.py builds `suites`, and cost the gate nothing. What is buil
 crates that it stands on changes. Times are measured of proved programs (`runs`): those stand in bench/, and `rt run`
 makes them.
 """
-import argparse
 import hashlib
 import os
 import shutil
@@ -15,37 +14,20 @@ import sys
 import tempfile
 import typing
 
-TOP = os.path.realpath(os.path.join(os.path.dirname(os.path.abspath(__file__)), ".."))
+from played import TOP
+
+import take
+from common import console, crates
+
 BUILD = "import sys; from front import trial; trial.build(sys.argv[1], lambda: None, sys.argv[2])"
-PARTS = ("src", "specs", "proofs")
 
 
-def needs_of_crates() -> dict[str, list[str]]:
-    """The crates of the repository, each with those that it names."""
-    with open(os.path.join(TOP, "crates.txt"), encoding="utf-8") as lines:
-        parted = [text.partition(":") for text in (line.split("#")[0] for line in lines) if ":" in text]
-    return {name.split()[0]: needs.split() for name, _, needs in parted}
-
-
-def below(names: list[str], needs: dict[str, list[str]]) -> list[str]:
-    """These crates and those that they stand on, as far as they are the repository's."""
-    found, left = set(), list(names)
-    while left:
-        name = left.pop()
-        if name in needs and name not in found:
-            found.add(name)
-            left += needs[name]
-    return sorted(found)
-
-
-def sum_of(sources: typing.Iterable[str], crates: list[str]) -> str:
+def sum_of(sources: typing.Iterable[str], direct: list[str]) -> str:
     """The sum of all that a program is made from."""
-    total = hashlib.sha256()
-    paths = list(sources)
-    for name in crates:
-        for part in PARTS:
-            for place, _, files in os.walk(os.path.join(TOP, "crates", name, part)):
-                paths += [os.path.join(place, file) for file in files]
+    total, paths = hashlib.sha256(), list(sources)
+    for name in crates.below(direct, crates.listed()):
+        crate = os.path.join(TOP, "crates", name)
+        paths += [os.path.join(crate, file) for file in take.files(crate)]
     for path in sorted(paths):
         with open(path, "rb") as file:
             total.update(os.path.relpath(path, TOP).encode() + b"\0" + file.read() + b"\0")
@@ -56,21 +38,13 @@ def placed(copy: str, program: str, direct: list[str], sources: dict[str, str]) 
     """Puts these crates and those below them into a folder, and the program, which stands on these, beside them. Its
     folder.
     """
-    needs = needs_of_crates()
-    crates = below(direct, needs)
-    for name in crates:
-        for part in PARTS:
-            folder = os.path.join(TOP, "crates", name, part)
-            if os.path.isdir(folder):
-                shutil.copytree(folder, os.path.join(copy, "crates", name, part))
+    take.take(copy, [name for name in direct if name in crates.listed()])
     own = os.path.join(copy, "crates", program)
     os.makedirs(os.path.join(own, "src"))
     for name, source in sources.items():
         shutil.copy(source, os.path.join(own, "src", f"{name}.rt"))
-    shutil.copy(os.path.join(TOP, "HANDLES"), copy)
-    with open(os.path.join(copy, "crates.txt"), "w", encoding="utf-8") as listed:
-        listed.writelines([f"{name}: {' '.join(needs[name])}\n" for name in crates])
-        listed.write(f"{program}: {' '.join(direct)}\n")
+    with open(os.path.join(copy, crates.LIST), "a", encoding="utf-8") as listed:
+        listed.write(crates.line_of(program, direct))
     return own
 
 
@@ -97,9 +71,8 @@ def built(program: str, direct: list[str], modules: typing.Sequence[str] = ()) -
     sources = {"main": os.path.join("tests", "programs", f"{program}.rt.txt")}
     sources.update({os.path.basename(path).split(".")[0]: path for path in modules})
     sources = {name: os.path.join(TOP, path) for name, path in sources.items()}
-    crates = below(direct, needs_of_crates())
     target, mark = os.path.join(TOP, "out", program), os.path.join(TOP, "out", f"{program}.sum")
-    wanted = sum_of(sources.values(), crates)
+    wanted = sum_of(sources.values(), direct)
     if os.path.exists(target) and os.path.exists(mark):
         with open(mark, encoding="utf-8") as file:
             if file.read() == wanted:
@@ -120,7 +93,7 @@ def built(program: str, direct: list[str], modules: typing.Sequence[str] = ()) -
 
 def cases_and_seed(doc: str, cases: int, seed: int = 1) -> tuple[int, int]:
     """The words of a test whose program tries cases that are drawn by chance: how many, and the seed."""
-    read = argparse.ArgumentParser(description=doc, formatter_class=argparse.RawDescriptionHelpFormatter)
+    read = console.words(doc)
     read.add_argument("cases", nargs="?", type=int, default=cases)
     read.add_argument("seed", nargs="?", type=int, default=seed)
     given = read.parse_args()

@@ -6,6 +6,7 @@ nothing of how deep the stack is, so no function that runs may call itself as de
 stand in a table here, each with why it is not so deep. Looks too for types that hold themselves, whose copies and drops
 would call themselves. Status 1 where one is found that is not in the table, or one of the table calls itself no more.
 """
+import glob
 import os
 import re
 import typing
@@ -13,7 +14,7 @@ import typing
 import played
 from played import Tally
 
-from common import console, functions
+from common import console, functions, text_of
 from front import sources
 
 # The functions that may call themselves: by crate, type (where it has one) and name, with why they are not deep.
@@ -141,12 +142,8 @@ def crates() -> typing.Iterator[Crate]:
     """All crates of the repository."""
     for name in sorted(os.listdir(sources.CRATES)):
         folder = os.path.join(sources.CRATES, name, sources.CODE)
-        files = {}
-        for place, _, names in os.walk(folder):
-            for file in sorted(names):
-                if file.endswith(".rt"):
-                    with open(os.path.join(place, file), encoding="utf-8") as opened:
-                        files[os.path.relpath(os.path.join(place, file), folder)] = opened.read()
+        paths = sorted(glob.glob(os.path.join(folder, "**", "*.rt"), recursive=True))
+        files = {os.path.relpath(path, folder): text_of(path) for path in paths}
         if files:
             yield Crate(name, files)
 

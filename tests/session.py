@@ -176,18 +176,16 @@ def is_full(path: str, tally: Tally, folder: str) -> None:
 
 def fails(path: str, tally: Tally, folder: str) -> None:
     """Each call of the system fails in turn."""
-    library = played.library("fail", folder)
-    if not library:
+    library = played.Library("fail", folder)
+    if not library.is_made:
         return
     whole = HEAD + text_of(KEPT)
     right = ran(path, ["--marks", "--journal", spoken.journal(folder)], text_of(STORY))[1]
     for kind in ("READ", "WRITE", "APPEND", "SYNC"):
         for call in range(1, 200):
-            mark = os.path.join(folder, f"mark-{kind}-{call}")
             name = spoken.journal(folder)
-            settings = {"LD_PRELOAD": library, f"FAIL_{kind}": str(call), "FAIL_MARK": mark}
-            status, told = ran(path, ["--marks", "--journal", name], text_of(STORY), settings)
-            if not os.path.exists(mark):
+            status, told = ran(path, ["--marks", "--journal", name], text_of(STORY), library.env(**{kind: call}))
+            if not library.was_met():
                 tally.holds(status == 0 and told == right and call > 1, "no call failed", kind, call)
                 break
             kept = spoken.content(name)
@@ -204,9 +202,8 @@ def fails(path: str, tally: Tally, folder: str) -> None:
                 tally.holds(told == wanted, "all other lines", kind, call, told)
                 lines = [line for line in others if line in kept.splitlines()]
                 tally.holds(kept == HEAD + text_of(lines), "all others are kept", kind, call, kept)
-    settings = {"LD_PRELOAD": library, "FAIL_SYNC": "3", "FAIL_CUT": "2", "FAIL_MARK": os.path.join(folder, "mark")}
     name = spoken.journal(folder)
-    status, told = ran(path, ["--journal", name], text_of(STORY), settings)
+    status, told = ran(path, ["--journal", name], text_of(STORY), library.env(SYNC=3, CUT=2))
     tally.holds(status == 6 and told.count(b"fault journal\n") >= 1, "a journal that is not cut off", told)
     kept = spoken.content(name)
     tally.holds(whole.startswith(kept) and kept.count(b"\n") == 4, "it takes no line more", kept)
@@ -214,18 +211,16 @@ def fails(path: str, tally: Tally, folder: str) -> None:
 
 def lacks_memory(path: str, tally: Tally, folder: str) -> None:
     """Each allocation is refused in turn: it is told, and all lines behind it are answered."""
-    library = played.library("refuse", folder)
-    if not library:
+    library = played.Library("refuse", folder)
+    if not library.is_made:
         return
     marks = marks_of(len(STORY) + len(PROBE) + len(ASKED))
     for is_kept in (False, True):
         for call in range(1, 5000):
-            mark = os.path.join(folder, f"memory-{is_kept}-{call}")
             name = spoken.journal(folder)
-            settings = {"LD_PRELOAD": library, "REFUSE_FROM": str(call), "REFUSE_TO": str(call), "REFUSE_MARK": mark}
-            given = ["--marks", *(["--journal", name] if is_kept else [])]
-            status, told = ran(path, given, text_of((*STORY, *PROBE, *ASKED)), settings)
-            if not os.path.exists(mark):
+            given, env = ["--marks", *(["--journal", name] if is_kept else [])], library.env(FROM=call, TO=call)
+            status, told = ran(path, given, text_of((*STORY, *PROBE, *ASKED)), env)
+            if not library.was_met():
                 break
             lines = told.splitlines()
             if told == b"fault memory\n":

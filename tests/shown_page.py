@@ -28,14 +28,13 @@ import browser
 import played
 import traced
 from played import Tally
+from scripting import header
 
-from common import console
+from common import console, text_of
 from compare import scenario
 from show import show
 from trace import states
 
-STORIES = os.path.join(played.TOP, "examples", "play")
-HEADER = ["servers 3", "agents 2", "votes 1,1,1/2/2", "root 1000 100 777", "cache 4096 4096 16"]
 COPY = re.compile(r"    suite (\d+) \w+ prefix (\d+) content (\d+) votes")
 LOCK = re.compile(r"    t (\d+) suite (\d+) (shared|exclusive)( prepared)?$")
 # The most bytes of the page of a story, and the most milliseconds of a step.
@@ -121,16 +120,8 @@ class Pages:
         return self.driver.value(SEEN)
 
 
-def stories() -> dict[str, str]:
-    found = {}
-    for name in sorted(os.listdir(STORIES)):
-        with open(os.path.join(STORIES, name), encoding="utf-8") as file:
-            found[name] = file.read()
-    return found
-
-
-def script_of(*lines: str) -> str:
-    return "\n".join([*HEADER, *lines, ""])
+def script_of(*lines: str, servers: int = 3, agents: int = 2, votes: str = "1,1,1/2/2") -> str:
+    return header(servers, agents, votes, cache="4096 4096 16") + "".join(f"{line}\n" for line in lines)
 
 
 def ended(lines: list[str]) -> list[dict]:
@@ -173,7 +164,7 @@ def models(tally: Tally) -> None:
     node = shutil.which("node")
     if not node:
         return
-    scripts = {**stories(), **{f"seed {seed}": scenario.Scenario(seed, 200).script() for seed in range(16)}}
+    scripts = {**played.stories(), **{f"seed {seed}": scenario.Scenario(seed, 200).script() for seed in range(16)}}
     for name, script in scripts.items():
         given = json.dumps(dataclasses.asdict(show.Shown(show.events_of(script.encode()))))
         done = modelled(node, NODE, given)
@@ -201,7 +192,7 @@ def parts(tally: Tally, node: str, name: str, script: str) -> None:
 
 def refused(tally: Tally) -> None:
     """A run of more events than a page shows."""
-    script = stories()["revocation.script"].encode()
+    script = played.stories()["revocation.script"].encode()
     count, most = len(show.events_of(script)), show.MOST_EVENTS
     for show.MOST_EVENTS, is_refused in ((count, False), (count - 1, True)):
         try:
@@ -213,7 +204,7 @@ def refused(tally: Tally) -> None:
 
 
 def whole(tally: Tally, pages: Pages, shots: str | None) -> None:
-    for name, script in stories().items():
+    for name, script in played.stories().items():
         size = pages.open(script)
         tally.holds(size < MOST_BYTES, name, "bytes of the page", size)
         lines = traced.lines_of(script)
@@ -256,14 +247,13 @@ def hostile(tally: Tally, pages: Pages) -> None:
     tally.holds(NAMED in shown, "the script is shown as it is", shown)
     world = driver.value("document.getElementById('world').textContent")
     tally.holds("</script><s…" in world or "</script>" in world, "bytes are shown as a text", world)
-    with open(os.path.join(pages.folder, f"{pages.count}.html"), encoding="utf-8") as file:
-        tally.holds(file.read().count("</script>") == 5, "what bytes hold stands in the page")
+    page = text_of(pages.folder, f"{pages.count}.html")
+    tally.holds(page.count("</script>") == 5, "what bytes hold stands in the page")
 
 
 def hands(tally: Tally, pages: Pages) -> None:
     driver = pages.driver
-    with open(os.path.join(STORIES, "revocation.script"), encoding="utf-8") as file:
-        pages.open(file.read())
+    pages.open(played.stories()["revocation.script"])
     # only the rows in view are drawn, so their number tells nothing
     height = "parseInt(document.getElementById('rows').style.height)"
     folded = driver.value(height)
@@ -303,15 +293,14 @@ def hands(tally: Tally, pages: Pages) -> None:
 
 def large(requests: int) -> str:
     """A script with five servers and so many requests, about."""
-    lines = ["servers 5", "agents 3", "votes 1,1,1,1,1/3/3", *HEADER[3:]]
-    lines += ["begin 0 1000 100 0 folder /d 777 ; file /d/f 666 ; file /g 644", "run 0"]
+    lines = ["begin 0 1000 100 0 folder /d 777 ; file /d/f 666 ; file /g 644", "run 0"]
     for number in range(requests // 16):
         agent = number % 3
         asked = ("read /d/f", f"write /d/f {number:04x}", "list /d", "setacl /g u::rw,g::r,o::-", "read /g")[number % 5]
         lines += [f"crash {number % 5}"] if number % 7 == 3 else []
         lines += [f"begin {agent} 1000 100 {number % 2} {asked}", f"run {agent}"]
         lines += [f"return {(number - 1) % 5}"] if number % 7 == 4 else []
-    return "\n".join([*lines, ""])
+    return script_of(*lines, servers=5, agents=3, votes="1,1,1,1,1/3/3")
 
 
 def many(tally: Tally, pages: Pages, shots: str | None) -> None:

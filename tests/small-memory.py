@@ -71,14 +71,12 @@ def least_to_begin(program: str) -> int:
 
 def rising(program: str, tally: played.Tally) -> None:
     """A script under limits that rise."""
-    words, script = next((words, script) for name, words, script in explored.kept() if name == STORY)
-    with open(os.path.join(explored.KEPT, f"{STORY}.ways"), encoding="utf-8") as file:
-        wanted = file.read()
+    story = next(one for one in explored.kept() if one.name == STORY)
     begins, least, statuses = least_to_begin(program), 0, list[int]()
     limits = [*(begins + STEP * rise for rise in range(1, RISES + 1)), ENOUGH]
     for most in limits:
-        status, text = limited(program, words.split(), script, most)
-        wrong = fault(status, text, wanted)
+        status, text = limited(program, story.words.split(), story.text, most)
+        wrong = fault(status, text, story.ways)
         worlds = LAST.search(text)
         if not wrong and worlds and int(worlds[1]) < least:
             wrong = f"finds {worlds[1]} worlds, and {least} with less"

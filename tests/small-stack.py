@@ -8,7 +8,6 @@ above `together`, of one with 32 servers and of one with 200 jobs of one agent b
 with 2,000 jobs, and `forms` of that. How many jobs stand above `together` does not change how many ways and worlds
 there are. Status 1 where an answer differs.
 """
-import os
 import resource
 import subprocess
 import typing
@@ -16,6 +15,7 @@ import typing
 import explored
 import played
 from played import Tally
+from scripting import equal_votes, header, job
 
 from common import built, console
 
@@ -35,10 +35,7 @@ def answer(words: typing.Sequence[str | bytes], script: bytes, is_small: bool = 
 
 
 def head(servers: int, agents: int) -> list[str]:
-    votes = ",".join(["1"] * servers)
-    quorum = servers // 2 + 1
-    header = [f"servers {servers}", f"agents {agents}", f"votes {votes}/{quorum}/{quorum}", "root 1000 100 777"]
-    return [*header, "cache 0 0 0", "begin 0 1000 100 0 file /a 644", "run 0"]
+    return (header(servers, agents, equal_votes(servers)) + job("file /a 644")).splitlines()
 
 
 def jobs(count: int) -> list[str]:
@@ -71,11 +68,10 @@ def compare_rows(tally: Tally) -> None:
 def compare_explored(tally: Tally) -> None:
     """Ways are told as they are kept, and of long scripts."""
     program = built.program()
-    for name, words, text in explored.kept():
-        with open(os.path.join(explored.KEPT, f"{name}.ways"), "rb") as file:
-            wanted = file.read()
-        status, told = answer([program, "explore", *words.split()], text.encode())
-        tally.holds((status, told) == (0, wanted), f"explore of {name} ends with {status}, and tells other ways")
+    for one in explored.kept():
+        status, told = answer([program, "explore", *one.words.split()], one.text.encode())
+        is_so = (status, told) == (0, one.ways.encode())
+        tally.holds(is_so, f"explore of {one.name} ends with {status}, and tells other ways")
     last = [answer([program, "explore"], two_below(above))[1].splitlines()[-1:] for above in (1, ABOVE)]
     is_same = last[0] == last[1] and last[0][0].startswith(b"all ")
     tally.holds(is_same, f"with {ABOVE} jobs above together it is {last[1]}, with one {last[0]}")

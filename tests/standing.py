@@ -7,7 +7,6 @@ their trace says, which another program prints.
 """
 from __future__ import annotations
 
-import glob
 import os
 import re
 import subprocess
@@ -190,9 +189,7 @@ def damaged(path: str, tally: Tally) -> None:
 def by_trace(path: str, tally: Tally) -> None:
     """The stories of `play`: of their end the trace tells the same, of servers, copies and locks."""
     seen = 0
-    for name in sorted(glob.glob(os.path.join(played.TOP, "examples", "play", "*.script"))):
-        with open(name, encoding="utf-8") as file:
-            script = file.read()
+    for name, script in played.stories().items():
         words = [os.path.join(played.TOP, "suites"), "trace"]
         done = subprocess.run(words, input=script, stdout=subprocess.PIPE, text=True, check=False)
         lines = done.stdout.splitlines()

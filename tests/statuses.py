@@ -11,10 +11,11 @@ import subprocess
 import sys
 
 import played
+from scripting import header, job
 
 from common import built
 
-RUN = b"servers 1\nagents 1\nvotes 1/1/1\nroot 1 1 777\ncache 0 0 0\nbegin 0 1 1 0 list /\nrun 0\n"
+RUN = (header(1, 1, "1/1/1", "1 1 777") + job("list /", who="1 1")).encode()
 LONG = b"#" * (16 * 1024 * 1024 + 1)
 MOST, HEAD = 128 * 1024 * 1024, b"root 1 1 755\n#"
 # A command, its words, its input, its status, and what its output begins with.

@@ -80,8 +80,7 @@ def as_told(tally: played.Tally, program: Program, page: str, folder: str) -> No
 
 def main() -> int:
     tally = played.Tally(width=2000)
-    with open(os.path.join(played.TOP, "docs", "LIBRARY.md"), encoding="utf-8") as file:
-        page = file.read()
+    page = text_of("docs", "LIBRARY.md")
     tally.holds(f"tests/programs/{PLAYS.name}.rt.txt" in page, "docs/LIBRARY.md does not name", PLAYS.name)
     with tempfile.TemporaryDirectory(prefix="suites-") as folder:
         as_told(tally, ASKS, page, os.path.join(folder, "mine"))

@@ -10,18 +10,16 @@ Prints what grows more; status 1 where something does. Without valgrind it print
 from __future__ import annotations
 
 import os
-import re
-import shutil
-import subprocess
 import sys
 import tempfile
-import typing
 
+import counting
 import growth
 import played
 import wrapper
 
 from common import console
+from growth import Input, numbered
 
 FAKE = f"{sys.executable} {os.path.join(played.TOP, 'tests', 'granting.py')} grant"
 # In place of `explore`: a way for each line of the script, in each of which two jobs end.
@@ -32,35 +30,20 @@ awk '{ print "way " NR " in 1 of 9 ends\\n0.0 answered made " NR "\\n1.0 undecid
 MADE = "as 0:0\nput /a text\n"
 
 
-def repeated(text: str, before: str = "") -> typing.Callable[[int], str]:
-    return lambda count: before + "".join(text.format(number) + "\n" for number in range(count))
-
-
-Input = tuple[str, list[str], typing.Callable[[int], str], int]
 SHELL = ["shell", "--session", FAKE, "--root", "0:0:777"]
 INPUTS: tuple[Input, ...] = (
-    ("shell-reads", SHELL, repeated("cat /a", MADE), 100),
-    ("shell-files", SHELL, repeated("put /b{0} text", MADE), 100),
-    ("ask-one", ["explore", "--ask", "0.0 answered made 7"], repeated("x"), 1000),
-    ("ask-long", ["explore", "--ask", " and ".join(["not 1.0 undecided U1"] * 30)], repeated("x"), 1000),
+    ("shell-reads", SHELL, numbered("cat /a\n", MADE), 100),
+    ("shell-files", SHELL, numbered("put /b{} text\n", MADE), 100),
+    ("ask-one", ["explore", "--ask", "0.0 answered made 7"], numbered("x\n"), 1000),
+    ("ask-long", ["explore", "--ask", " and ".join(["not 1.0 undecided U1"] * 30)], numbered("x\n"), 1000),
 )
 
 
 def counted(copy: wrapper.Copy, words: list[str], text: str) -> int:
     """How many instructions a tool takes on an input."""
-    with tempfile.TemporaryFile() as given:
-        given.write(text.encode("latin1"))
-        given.seek(0)
-        counting = ["valgrind", "--tool=callgrind", "--callgrind-out-file=/dev/null"]
-        # what is built for the first time, or is looked up by its hash, is no work of the input
-        how: dict[str, typing.Any] = {"env": {**os.environ, "PYTHONHASHSEED": "0"}, "cwd": copy.top}
-        done = subprocess.run(
-            [*counting, sys.executable, "tools", *words], stdin=given, stdout=subprocess.DEVNULL,
-            stderr=subprocess.PIPE, **how,
-        )  # fmt: skip
-    if done.returncode != 0:
-        sys.exit(f"{words} ends with {done.returncode}: {done.stderr.decode('utf-8', 'replace')[-500:]}")
-    return int(re.search(rb"Collected : (\d+)", done.stderr)[1])
+    # what is built for the first time, or is looked up by its hash, is no work of the input
+    env = {**os.environ, "PYTHONHASHSEED": "0"}
+    return counting.instructions([sys.executable, "tools", *words], text, True, env=env, cwd=copy.top)
 
 
 def grows(copy: wrapper.Copy, one: Input) -> tuple[bool, str]:
@@ -77,8 +60,7 @@ def main() -> int:
     read = console.words(__doc__)
     read.add_argument("--only", default="")
     only = read.parse_args().only
-    if not shutil.which("valgrind"):
-        print("skipped: valgrind is not installed, so no instructions are counted")
+    if counting.skipped():
         return 0
     tally = played.Tally()
     with tempfile.TemporaryDirectory(prefix="suites-") as room:

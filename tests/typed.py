@@ -73,31 +73,22 @@ def main() -> int:
 
 def typed(folder: str) -> int:
     """Types all command lines; what they write is put into this folder."""
-    count = wrong = 0
+    tally = played.Tally()
     for document in DOCUMENTS:
         for number, command, wanted in commands(document):
             if not is_typed(command):
                 continue
-            done = subprocess.run(
-                ["timeout", str(PATIENCE), "sh", "-c", put_into(folder, command)],
-                cwd=played.TOP,
-                stdin=subprocess.DEVNULL,
-                stdout=subprocess.PIPE,
-                stderr=subprocess.PIPE,
-            )
+            words = ["timeout", str(PATIENCE), "sh", "-c", put_into(folder, command)]
+            done = subprocess.run(words, cwd=played.TOP, stdin=subprocess.DEVNULL, capture_output=True)
             printed = done.stdout.decode("latin1")
-            count += 1
-            if done.returncode != status_of(wanted) or wanted not in (None, printed):
-                wrong += 1
-                print(
-                    f"{document}:{number}: {command} ends with {done.returncode} ({NOT_ENDED} where it did not end) and"
-                    f" prints\n{printed}{done.stderr.decode('latin1')}"
-                )
-    if count < FEWEST:
-        wrong += 1
-        print(f"of at least {FEWEST} command lines {count} were found")
-    print(f"{count} command lines, {wrong} differ")
-    return 1 if wrong else 0
+            tally.holds(
+                done.returncode == status_of(wanted) and wanted in (None, printed),
+                f"{document}:{number}: {command} ends with {done.returncode} ({NOT_ENDED} where it did not end) and"
+                f" prints\n{printed}{done.stderr.decode('latin1')}",
+            )
+    if tally.count < FEWEST:
+        tally.holds(False, f"of at least {FEWEST} command lines {tally.count} were found")
+    return tally.told("command lines")
 
 
 if __name__ == "__main__":

@@ -70,10 +70,8 @@ def run_checks(read: argparse.ArgumentParser, checks: dict[str, Check]) -> int:
     read.add_argument("program", nargs="?")
     given = read.parse_args()
     given.program = played.program(given.program)
-    dice, is_wrong = random.Random(given.seed), False
+    dice, status = random.Random(given.seed), 0
     for what, check in checks.items():
         count, wrong = check(given, dice)
-        print(f"{count} {what}, {len(wrong)} differ")
-        print("".join(f"  {line}\n" for line in wrong[:10]), end="", flush=True)
-        is_wrong = is_wrong or bool(wrong) or not count
-    return 1 if is_wrong else 0
+        status |= played.verdict(count, what, wrong, 10)
+    return status

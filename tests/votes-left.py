@@ -19,15 +19,13 @@ import subprocess
 import sys
 import tempfile
 
-import played
 import voted
+from scripting import header, job
 
-from common import console, tool
+from common import built, console, tool
 from votes import shapes, votes
 
-OPENING = (
-    "servers 4\nagents {}\nvotes 1,1,1/2/2\nroot 1000 100 777\ncache 0 0 0\nbegin 0 1000 100 0 file /a 644\nrun 0\n"
-)
+OPENING = header(4).replace("agents 2", "agents {}") + job("file /a 644")
 MOVE = "begin 0 1000 100 0 setvotes /a -,1,1,1/1/3\n"
 # Scripts, and the votes of /a that are in effect at their end. The move takes two polls and a fetch of the folder, the
 # same
@@ -72,7 +70,7 @@ def check_scripts(_: argparse.Namespace, __: random.Random) -> tuple[int, list[s
 
 
 # Scripts of seven servers that move votes, with servers down meanwhile. The root folder's list and votes may move too.
-MOVED = "servers 7\nagents 2\nvotes {}\nroot 1000 100 777\ncache 0 0 0\nbegin 0 1000 100 0 file /a 666 {}\nrun 0\n"
+MOVED = header(7, votes="{}") + job("file /a 666 {}")
 RULES = {"1,1,1,1,1/2/3": "Here r + w is 5, and N, all votes together, is 5: a read could miss a write",
          "1,1,1,1/3/2": "Here 2w is 4, and N, all votes together, is 4: two writes could miss one another",
          "1,1,1/2/4": "A write collects 4, and all votes together are 3", "1,1,1": "'1,1,1' stands where VOTES are due"}
@@ -83,13 +81,11 @@ def moving(dice: random.Random) -> str:
     lines = [MOVED.format(*(voted.random_word(dice.choice([3, 4, 7]), dice) for _ in range(2)))]
     for _ in range(dice.randint(1, 3)):
         path, word = dice.choice(["/a", "/a", "/"]), voted.random_word(dice.choice([3, 5, 7]), dice)
-        word = (
-            ",".join(dice.sample(word.split("/")[0].split(","), len(word.split("/")[0].split(","))))
-            + word[word.index("/") :]
-        )
+        shares = word.split("/")[0].split(",")
+        word = ",".join(dice.sample(shares, len(shares))) + word[word.index("/") :]
         down = dice.sample(range(7), dice.choice([0, 1, 1, 2]))
         lines += [f"crash {server}\n" for server in down]
-        lines += [f"begin 0 1000 100 0 setvotes {path} {word}\nrun 0\n"] + [f"return {server}\n" for server in down]
+        lines += [job(f"setvotes {path} {word}"), *(f"return {server}\n" for server in down)]
     return "".join(lines)
 
 
@@ -111,12 +107,10 @@ def check_moved(given: argparse.Namespace, dice: random.Random) -> tuple[int, li
         sets = [frozenset(one) for size in range(7) for one in itertools.combinations(range(7), size)]
         lines = [script]
         for down in sets:
-            lines += [f"crash {server}\n" for server in down] + ["begin 1 1000 100 0 read /a\nrun 1\n" * 7]
+            lines += [f"crash {server}\n" for server in down] + [job("read /a", 1) * 7]
             lines += [f"return {server}\n" for server in down]
-        done = subprocess.run(
-            [given.program, "play"], input="".join(lines), stdout=subprocess.PIPE, stderr=subprocess.DEVNULL, text=True
-        )
-        ends = [line.split(" ", 2)[2] for line in done.stdout.splitlines() if line.startswith("1.")]
+        printed = built.asked("play", "".join(lines), path=given.program)[1]
+        ends = [line.split(" ", 2)[2] for line in printed.splitlines() if line.startswith("1.")]
         for place, down in enumerate(sets):
             # each server is the home once
             told, count = searched(left, down), count + 1
@@ -138,12 +132,9 @@ def check_shapes(given: argparse.Namespace, __: random.Random) -> tuple[int, lis
             own = [(lost, votes.chance_text(blocked)) for lost, blocked in zip(shape.lost, shape.blocked)]
             if own != [(tell[kind].lost, tell[kind].blocked) for kind in ("read", "write")]:
                 wrong.append(f"{shape} is told as {tell}")
-            head = f"servers {servers}\nagents 1\nvotes {shape.word}\nroot 1000 100 777\ncache 0 0 0\n"
-            jobs = "".join(f"begin 0 1000 100 0 {job}\nrun 0\n" for job in ("file /a 644", "write /a 6869", "read /a"))
-            done = subprocess.run(
-                [given.program, "play"], input=head + jobs, stdout=subprocess.PIPE, stderr=subprocess.DEVNULL, text=True
-            )
-            _, write, read = (int(line.split()[1]) for line in done.stdout.splitlines())
+            jobs = "".join(map(job, ("file /a 644", "write /a 6869", "read /a")))
+            printed = built.asked("play", header(servers, 1, shape.word) + jobs, path=given.program)[1]
+            _, write, read = (int(line.split()[1]) for line in printed.splitlines())
             if (read, write) != shape.requests:
                 wrong.append(f"{shape.word}: told {shape.requests}, and {read} and {write} requests came")
     lines = voted.run_tool(["--of", "5", "--lose-read", "2", "--lose-write", "2"]).stdout.splitlines()

@@ -23,17 +23,16 @@ import itertools
 import math
 import random
 import re
-import subprocess
 import sys
 import typing
 
-import played
 import voted
+from scripting import header, job
 
+from common import built, console
 from explain import explain
 from votes import votes
 
-HEADER = "agents 1\nvotes {}/1/{}\nroot 1000 100 777\ncache 0 0 0\n"
 CHANCES = ["0.99", "0.9", "0.5", "0.995"]
 # How many files a script has: the folder with their names is looked at on each path.
 FILES = 40
@@ -54,13 +53,13 @@ class Play:
     def __init__(self, servers: int, words: list[str]) -> None:
         self.servers, self.words, self.count = servers, words, 0
         self.down: set[int] = set()
-        self.lines = [f"servers {servers}\n" + HEADER.format(",".join(["1"] * servers), servers)]
+        self.lines = [header(servers, 1, f"{','.join(['1'] * servers)}/1/{servers}")]
         self.tries: list[tuple[int, str, frozenset[int], bool]] = []
         for place, word in enumerate(words):
             self.begin(f"file /{place} 666 {word}")
 
     def begin(self, operation: str) -> None:
-        self.lines.append(f"begin 0 1000 100 0 {operation}\nrun 0\n")
+        self.lines.append(job(operation))
         self.count += 1
 
     def fall(self, down: set[int]) -> None:
@@ -76,16 +75,11 @@ class Play:
 
     def answers(self, program: str) -> typing.Iterator[End]:
         """How each try ended."""
-        done = subprocess.run(
-            [program, "play"], input="".join(self.lines), stdout=subprocess.PIPE, stderr=subprocess.DEVNULL, text=True
-        )
-        lines = done.stdout.splitlines()
-        if (
-            done.returncode != 0
-            or len(lines) != self.count
-            or not all(" answered made " in line for line in lines[: len(self.words)])
-        ):
-            sys.exit(f"play ends with {done.returncode}: {lines[-1:]}\n{''.join(self.lines)[:400]}")
+        status, printed = built.asked("play", "".join(self.lines), path=program)
+        lines = printed.splitlines()
+        are_made = all(" answered made " in line for line in lines[: len(self.words)])
+        if status != 0 or len(lines) != self.count or not are_made:
+            sys.exit(f"play ends with {status}: {lines[-1:]}\n{''.join(self.lines)[:400]}")
         suites = [line.split()[-1] for line in lines[: len(self.words)]]
         for one, line in zip(self.tries, lines[len(self.words):]):
             how = line.split()[2:]
@@ -320,9 +314,7 @@ def code_told(word: str, servers: str) -> str:
         return ""
     code = done.stdout.split("\n")[0].removeprefix("fault ")
     told = explain.explained(code) if code != "S1" else votes.FORM
-    is_explained = (
-        done.returncode == 3 and done.stdout.startswith(f"fault {code}\n\n") and done.stdout.endswith(f"{told}\n")
-    )
+    is_explained = done.returncode == 3 and re.fullmatch(rf"(?s)fault {code}\n\n.*{re.escape(told)}\n", done.stdout)
     has_rule = code == "G1" or f"\n\n{votes.FORM}\n" in done.stdout and len(done.stdout.split("\n\n")[1]) > 10
     return code if is_explained and has_rule else f"{code} with status {done.returncode}"
 
@@ -332,8 +324,8 @@ def code_of_program(program: str, word: str, servers: int | None) -> str:
     there are, else in `table`.
     """
     script = f"servers {servers}\nagents 1\nvotes {word}\n" if servers else f"root 1 1 777\ndo 1 1 setvotes / {word}\n"
-    done = subprocess.run([program, "play" if servers else "table"], input=script, stdout=subprocess.PIPE, text=True)
-    found = re.match(r"fault line (\d): (\w+)", done.stdout)
+    _, printed = built.asked("play" if servers else "table", script.encode(), path=program)
+    found = re.match(r"fault line (\d): (\w+)", printed)
     return found[2] if found and found[2] != "S2" else ""
 
 
@@ -341,9 +333,8 @@ def spoiled(word: str, dice: random.Random) -> str:
     """Votes with a character or two changed."""
     for _ in range(dice.choice([0, 1, 1, 2])):
         place = dice.randrange(len(word) + 1)
-        word = (
-            word[:place] + dice.choice(["", "0", "9", "-", "/", ",", "1,", "x"]) + word[place + dice.choice([0, 1]) :]
-        )
+        letter = dice.choice(["", "0", "9", "-", "/", ",", "1,", "x"])
+        word = word[:place] + letter + word[place + dice.choice([0, 1]) :]
     return word or "/"
 
 
@@ -372,7 +363,7 @@ def check_faults(given: argparse.Namespace, dice: random.Random) -> tuple[int, l
 
 
 def main() -> int:
-    read = argparse.ArgumentParser(description=__doc__, formatter_class=argparse.RawDescriptionHelpFormatter)
+    read = console.words(__doc__)
     read.add_argument("--all", action="store_true")
     checks = {"examples": check_examples, "tries of play": check_losses, "words": check_faults}
     return voted.run_checks(read, checks)

@@ -22,12 +22,11 @@ import played
 from played import Tally
 from shown_page import SEEN
 
-from common import tool
+from common import built, tool
 from explore import queries
 from show import show, ways_page
 
 EXPLORE = tool("explore")
-STORIES = os.path.join(played.TOP, "examples", "explore")
 # Stories with their options, and questions.
 SHOWN: tuple[tuple[str, list[str], list[str]], ...] = (
     ("revocation.script", [], ["0.1 answered set and 1.0 answered", "1.0 stopped", "0.1 answered or 1.0 answered"]),
@@ -81,7 +80,7 @@ def runs(tally: Tally, name: str, words: list[str], script: bytes, data: dict[st
         tally.holds("\n".join([*way["script"], ""]) == leads, name, number, "the script of a way")
         events = [*data["events"][: way["shared"]], *way["events"]]
         tally.holds(events == show.events_of(leads.encode()), name, number, "the events of a way")
-        text = subprocess.run([played.program(), "play"], input=leads.encode(), stdout=subprocess.PIPE).stdout.decode()
+        text = built.asked("play", leads)[1]
         ends = {found[1]: found[2] for found in map(ENDED.match, text.splitlines()) if found}
         mine = [line.split(" ", 1) for line in way["lines"]]
         tally.holds(all(ends.get(job, "-") == end for job, end in mine), name, number, "how a run ends", ends, mine)
@@ -115,8 +114,7 @@ def clicked(tally: Tally, driver: browser.Browser, name: str, told: str, answers
 
 def pages(tally: Tally, driver: browser.Browser | None, folder: str, shots: str | None) -> None:
     for name, options, questions in SHOWN:
-        with open(os.path.join(STORIES, name), "rb") as file:
-            script = file.read()
+        script = played.stories("explore")[name].encode()
         asks = [word for question in questions for word in ("--ask", question)]
         page, told = explored([*options, "--page", *asks], script), explored(options, script)
         data, ways = data_in(page), ways_in(told)
@@ -140,8 +138,7 @@ def pages(tally: Tally, driver: browser.Browser | None, folder: str, shots: str 
 
 def large(tally: Tally) -> None:
     """Of more ways than a page has runs of, the others are told with what is typed."""
-    with open(os.path.join(STORIES, "revocation.script"), "rb") as file:
-        script = file.read()
+    script = played.stories("explore")["revocation.script"].encode()
     told, most = explored([], script), ways_page.MOST_RUNS
 
     def leads(way: int) -> bytes:

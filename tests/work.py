@@ -7,97 +7,57 @@ else the machine does, and holds the first against some times the second. Prints
 differs from what is wanted; status 1 where one does. The program is the one that `./suites` runs, or the one that is
 named. Without valgrind, and where the kit makes no program but runs it itself, it prints "skipped: .." and ends with 0.
 """
-import re
-import shutil
-import subprocess
 import sys
-import typing
 
+import counting
 import played
-
-from common import console
-
-# A script with so many jobs to be counted.
-Script = typing.Callable[[int], str]
-# Eight folders in one another, eight times.
-DEEP = ["".join(f"/{branch}{depth}" for depth in range(8)) for branch in "abcdefgh"]
-READ_ALL = " ; ".join(f"getacl {path}" for path in DEEP)
+import scripting
+from scripting import DEEP, READ_ALL, Make, repeated
 
 
 def head(servers: int, agents: int, votes: str) -> str:
-    return f"servers {servers}\nagents {agents}\nvotes {votes}\nroot 1 1 777\ncache 0 0 0\n"
+    return scripting.header(servers, agents, votes, "1 1 777")
 
 
-def job(agent: int, words: str) -> str:
-    return f"begin {agent} 1 1 0 {words}\nrun {agent}\n"
+def job(words: str, agent: int = 0) -> str:
+    return scripting.job(words, agent, "1 1")
 
 
-def folders() -> str:
-    made = (f"folder {path[:end]} 777" for path in DEEP for end in range(3, len(DEEP[0]) + 1, 3))
-    return head(1, 1, "1/1/1") + "".join(job(0, words) for words in made)
+ALONE = head(1, 1, "1/1/1")
+FOLDERS = ALONE + scripting.deep_folders("1 1")
+# One transaction goes down all folders; or eight do.
+AT_ONCE = repeated(job(READ_ALL), FOLDERS)
+ONE_BY_ONE = repeated("".join(job(f"getacl {path}") for path in DEEP), FOLDERS)
 
 
-def at_once(jobs: int) -> str:
-    """One transaction goes down all folders."""
-    return folders() + job(0, READ_ALL) * jobs
-
-
-def one_by_one(jobs: int) -> str:
-    """Eight transactions do."""
-    return folders() + "".join(job(0, f"getacl {path}") for path in DEEP) * jobs
-
-
-def folder_of(names: int) -> Script:
+def folder_of(names: int) -> Make:
     """A file is looked at in a folder of so many names."""
-
-    def script(jobs: int) -> str:
-        made = (f"file /d/{place:04}{'n' * 40} 666" for place in range(names))
-        return (
-            head(1, 1, "1/1/1")
-            + job(0, "folder /d 777")
-            + "".join(job(0, words) for words in (*made, "file /d/f 666"))
-            + job(0, "getvotes /d/f") * jobs
-        )
-
-    return script
+    made = (f"file /d/{place:04}{'n' * 40} 666" for place in range(names))
+    return repeated(job("getvotes /d/f"), ALONE + "".join(map(job, ("folder /d 777", *made, "file /d/f 666"))))
 
 
-def list_of(users: int) -> Script:
+def list_of(users: int) -> Make:
     """A file is looked at whose list names so many users."""
-
-    def script(jobs: int) -> str:
-        named = ",".join(f"u:{1000 + place}:rw" for place in range(users))
-        return (
-            head(1, 1, "1/1/1") + job(0, f"file /f u::rw,{named},g::r,m::rw,o::r") + job(0, "getvotes /f") * jobs
-        )
-
-    return script
+    named = ",".join(f"u:{1000 + place}:rw" for place in range(users))
+    return repeated(job("getvotes /f"), ALONE + job(f"file /f u::rw,{named},g::r,m::rw,o::r"))
 
 
-def lists_left(count: int) -> Script:
+def lists_left(count: int) -> Make:
     """A folder is listed at a server at which so many locks of others were left."""
-
-    def script(jobs: int) -> str:
-        left = "begin 1 1 1 0 list /\nstep 1 4\ncrash 0\nrun 1\nreturn 0\n"
-        return head(1, 2, "1/1/1") + left * count + job(1, "list /") * jobs
-
-    return script
+    left = "begin 1 1 1 0 list /\nstep 1 4\ncrash 0\nrun 1\nreturn 0\n"
+    return repeated(job("list /", 1), head(1, 2, "1/1/1") + left * count)
 
 
-def all_down(others: str) -> Script:
+def all_down(others: str) -> Make:
     """A file is read of eight servers with a vote each, which are down; 24 others have no vote, or are none of its."""
-
-    def script(jobs: int) -> str:
-        votes = ",".join(["1"] * 8 + [others] * 24) + "/4/5"
-        crashes = "".join(f"crash {server}\n" for server in range(8))
-        return head(32, 1, votes) + job(0, "file /f 666") + crashes + job(0, "read /f") * jobs
-
-    return script
+    votes = ",".join(["1"] * 8 + [others] * 24) + "/4/5"
+    crashes = "".join(f"crash {server}\n" for server in range(8))
+    return repeated(job("read /f"), head(32, 1, votes) + job("file /f 666") + crashes)
 
 
 # What is compared, how many jobs are counted of each, and how many times the second the first may take.
-PAIRS: tuple[tuple[str, Script, Script, int, float], ...] = (
-    ("what was reached is kept: a walk of 64 folders, at once or by eight transactions", at_once, one_by_one, 10, 2),
+PAIRS: tuple[tuple[str, Make, Make, int, float], ...] = (
+    ("what was reached is kept: a walk of 64 folders, at once or by eight transactions", AT_ONCE, ONE_BY_ONE, 10, 2),
     ("a content is read once: in a folder of 160 names, of 8", folder_of(160), folder_of(8), 40, 1.5),
     ("a prefix is read once: of a list of 120 users, of 2", list_of(120), list_of(2), 40, 1.2),
     ("who holds is looked up: beside 1,600 locks, 3", lists_left(1600), lists_left(3), 40, 1.6),
@@ -105,18 +65,9 @@ PAIRS: tuple[tuple[str, Script, Script, int, float], ...] = (
 )
 
 
-def instructions(program: str, script: str) -> int:
-    """How many instructions the program takes for a script."""
-    words = ["valgrind", "--tool=callgrind", "--callgrind-out-file=/dev/null", program, "play"]
-    done = subprocess.run(words, input=script.encode(), stdout=subprocess.PIPE, stderr=subprocess.PIPE)
-    found = re.search(rb"Collected : (\d+)", done.stderr)
-    if done.returncode != 0 or not found:
-        sys.exit(f"status {done.returncode} of a script:\n{(done.stdout + done.stderr).decode()[-600:]}")
-    return int(found[1])
-
-
-def of_a_job(program: str, script: Script, jobs: int) -> float:
-    return (instructions(program, script(jobs)) - instructions(program, script(0))) / jobs
+def of_a_job(program: str, script: Make, jobs: int) -> float:
+    more, less = (counting.instructions([program, "play"], script(count), True) for count in (jobs, 0))
+    return (more - less) / jobs
 
 
 def is_compiled(program: str) -> bool:
@@ -125,26 +76,18 @@ def is_compiled(program: str) -> bool:
 
 
 def main() -> int:
-    read = console.words(__doc__)
-    read.add_argument("program", nargs="?")
-    given = read.parse_args()
-    if not shutil.which("valgrind"):
-        print("skipped: no valgrind")
+    if counting.skipped():
         return 0
-    program = played.program(given.program)
+    program = played.named_program(__doc__)
     if not is_compiled(program):
         print("skipped: the kit runs the program itself")
         return 0
-    wrong = 0
+    tally = played.Tally()
     for title, more, less, jobs, bound in PAIRS:
         first, second = of_a_job(program, more, jobs), of_a_job(program, less, jobs)
-        fits = first <= bound * second
-        wrong += not fits
         print(f"{title}: {first:.0f} and {second:.0f} instructions a job, {first / second:.2f} times")
-        if not fits:
-            print(f"  which is above {bound} times")
-    print(f"{len(PAIRS)} pairs, {wrong} differ")
-    return 1 if wrong else 0
+        tally.holds(first <= bound * second, f"  which is above {bound} times")
+    return tally.told("pairs")
 
 
 if __name__ == "__main__":

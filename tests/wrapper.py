@@ -20,6 +20,8 @@ import typing
 import played
 from played import Tally
 
+from common import text_of
+
 COPIED = ("suites", "crates", "crates.txt", "docs", "help", "tools", "CHANGELOG.md", "README.md")
 LEFT_OUT = ("out", "__pycache__", "specs", "proofs", "must-fail", "wrong")
 # What `./suites` itself uses besides python3, git and rt.
@@ -47,20 +49,9 @@ exec "$own" "$@"
 """
 # Words that ask for help.
 HELP = (
-    "help votes",
-    "help trace",
-    "help show",
-    "help --test",
-    "--help",
-    "-h",
-    "help",
-    "play --help",
-    "help play",
-    "serve -h",
-    "acl --help",
-    "explain --help",
-    "trace --help",
-)
+    "help votes", "help trace", "help show", "help --test", "--help", "-h", "help", "play --help", "help play",
+    "serve -h", "acl --help", "explain --help", "trace --help",
+)  # fmt: skip
 # Words that ask for nothing, and what is said of them.
 NEAR = {
     "plai": "play is near",
@@ -131,10 +122,8 @@ class Copy(Tally):
         given = self.answer(words)
         after = resource.getrusage(resource.RUSAGE_CHILDREN)
         spent = after.ru_utime + after.ru_stime - before.ru_utime - before.ru_stime
-        self.holds(
-            spent < AT_ONCE and not os.path.exists(os.path.join(self.top, "out")),
-            f"{words} takes {spent:.1f} s, or a build",
-        )
+        is_so = spent < AT_ONCE and not os.path.exists(os.path.join(self.top, "out"))
+        self.holds(is_so, f"{words} takes {spent:.1f} s, or a build")
         return given
 
     def build(self, name: str, text: str) -> None:
@@ -173,17 +162,14 @@ class Copy(Tally):
 
 def needs_program(words: list[str]) -> bool:
     """Whether it is the program that tells what these words ask for."""
-    return (
-        words[:1] == ["acl"]
-        and words[1:] != ["--help"]
-        or words[:1] == ["serve"]
-        and "".join(words[1:2]).partition("=")[0] == "--agents"
-    )
+    if words[:1] == ["serve"]:
+        return "".join(words[1:2]).partition("=")[0] == "--agents"
+    return words[:1] == ["acl"] and words[1:] != ["--help"]
 
 
 def plays_rows(copy: Copy) -> None:
     """Rows of words that ask for nothing, and of help, where there is neither a build nor python3 to make one."""
-    tools = open(os.path.join(copy.top, "help", "tools.txt"), encoding="utf-8").read()
+    tools = text_of(copy.top, "help", "tools.txt")
     for row in played.rows():
         if row["status"] != 2 and row["title"] != "Help":
             continue
@@ -191,29 +177,22 @@ def plays_rows(copy: Copy) -> None:
         status, printed, told = copy.answer(words, env={"PATH": copy.bare})
         wanted = row["output"].decode() + (tools if words == ["--help"] else "")
         if needs_program(words):
-            copy.holds(
-                (status, printed) == (1, "") and told.endswith(NO_PYTHON),
-                f"{words} needs no program: {status} {printed} {told}",
-            )
+            is_so = (status, printed) == (1, "") and told.endswith(NO_PYTHON)
+            copy.holds(is_so, f"{words} needs no program: {status} {printed} {told}")
         else:
-            copy.holds(
-                (status, printed) == (row["status"], wanted),
-                f"line {row['line']}, {words}: {status} {printed}, and not {row['status']} {wanted}",
-            )
+            is_so = (status, printed) == (row["status"], wanted)
+            copy.holds(is_so, f"line {row['line']}, {words}: {status} {printed}, and not {row['status']} {wanted}")
             copy.holds(bool(told) == (status == 2), f"{words}: on standard error stands {told}")
 
 
 def answers_at_once(copy: Copy) -> None:
     """What needs no build, and what is told of it."""
     for words in ("", "no", "-x", "play foo", "table -x", "serve 4", "help no"):
-        copy.holds(
-            copy.at_once(words.split())[:2] == (2, "fault command line\n"), f"{words} is no fault of the command line"
-        )
+        is_so = copy.at_once(words.split())[:2] == (2, "fault command line\n")
+        copy.holds(is_so, f"{words} is no fault of the command line")
     copy.holds("no option" in copy.at_once(["table", "-x"])[2], "table -x")
-    copy.holds(
-        copy.at_once(["play", "foo"])[2] == "suites: a script is read from standard input: ./suites play < foo\n",
-        "play foo",
-    )
+    is_so = copy.at_once(["play", "foo"])[2] == "suites: a script is read from standard input: ./suites play < foo\n"
+    copy.holds(is_so, "play foo")
     for words, told in NEAR.items():
         copy.holds(told in copy.at_once(words.split())[2], f"of {words} is not said: {told}")
     for words in ("trace x", "draw --agent 1 x", "trace <&-", "draw < /", "trace --agent 9 < two"):
@@ -253,10 +232,8 @@ def says_once_a_day(copy: Copy) -> None:
 
 def tells_all_commands(copy: Copy) -> None:
     """Help tells each word that `./suites` knows, and so does README.md."""
-    with open(os.path.join(copy.top, "suites"), encoding="utf-8") as file:
-        known = " ".join(re.findall(r"\b(?:own|tools|options)='([^']*)'", file.read())).split()
-    with open(os.path.join(copy.top, "README.md"), encoding="utf-8") as file:
-        page = file.read()
+    known = " ".join(re.findall(r"\b(?:own|tools|options)='([^']*)'", text_of(copy.top, "suites"))).split()
+    page = text_of(copy.top, "README.md")
     text = copy.answer(["--help"])[1]
     copy.holds(len(known) > 20, f"of ./suites are known: {known}")
     for word in known:
@@ -276,40 +253,30 @@ def tells_version(copy: Copy) -> None:
     """The version is that of CHANGELOG.md, the commit that of git, the kit that of README.md, and the build what is
     there.
     """
-    with open(os.path.join(copy.top, "CHANGELOG.md"), encoding="utf-8") as file:
-        version = next(line[3:].strip() for line in file if line.startswith("## "))
-    with open(os.path.join(played.TOP, "README.md"), encoding="utf-8") as file:
-        logic = re.search(r"\(logic `(\w+)`\)", file.read())[1]
+    version = re.search("^## (.*)", text_of(copy.top, "CHANGELOG.md"), re.M)[1].strip()
+    logic = re.search(r"\(logic `(\w+)`\)", text_of("README.md"))[1]
     status, printed, _ = copy.at_once(["--version"])
     lines = printed.splitlines()
-    copy.holds(
-        status == 0 and lines[0] == f"suites {version}" and lines[1].startswith(f"kit logic {logic}, "),
-        f"--version: {printed}",
-    )
+    is_so = status == 0 and lines[0] == f"suites {version}" and lines[1].startswith(f"kit logic {logic}, ")
+    copy.holds(is_so, f"--version: {printed}")
     copy.holds(lines[-1].startswith("build none yet"), f"--version without a build: {printed}")
     if shutil.which("git"):
         git(copy, "init", "-q")
         git(copy, "add", "suites")
         git(copy, "commit", "-q", "-m", "a")
-        copy.holds(
-            f"\ncommit {git(copy, 'rev-parse', '--short=12', 'HEAD')}\n" in copy.at_once(["--version"])[1],
-            "--version tells another commit",
-        )
+        is_so = f"\ncommit {git(copy, 'rev-parse', '--short=12', 'HEAD')}\n" in copy.at_once(["--version"])[1]
+        copy.holds(is_so, "--version tells another commit")
         shutil.rmtree(os.path.join(copy.top, ".git"))
 
 
 def runs_a_build(copy: Copy) -> None:
     """With a build: what --version tells of it, and what goes to the program."""
     copy.build("suites", PROGRAM)
-    copy.holds(
-        copy.answer(["--version"])[1].endswith("\nbuild checked, out/suites\n"),
-        "--version does not tell the checked build",
-    )
+    is_so = copy.answer(["--version"])[1].endswith("\nbuild checked, out/suites\n")
+    copy.holds(is_so, "--version does not tell the checked build")
     status, printed, told = copy.answer(["serve", "--agents", "5"])
-    copy.holds(
-        (status, printed) == (5, "") and told.startswith("suites: checked build"),
-        f"the program's answer is changed: {status} {printed} {told}",
-    )
+    is_so = (status, printed) == (5, "") and told.startswith("suites: checked build")
+    copy.holds(is_so, f"the program's answer is changed: {status} {printed} {told}")
     copy.holds("1 to 64 agents" in copy.answer(["serve", "--agents", "2"])[2], "the limits of agents are not told")
     with open(os.path.join(copy.top, "big"), "wb") as file:
         file.truncate((16 << 20) + 1)
@@ -349,12 +316,10 @@ def tells_a_terminal(copy: Copy) -> None:
         (shown for shown in (copy.on_terminal(["acl", "quick"]) for _ in range(5)) if reading not in shown), reading
     )
     copy.holds("fault word 1" in shown and "./suites explain" in shown, f"a terminal that is not read is told: {shown}")
-    copy.holds(
-        "./suites explain" in copy.on_terminal(["serve", "--agents", "3"]), "a fault on a terminal is not explained"
-    )
-    copy.holds(
-        "above 16 MiB" in copy.on_terminal(["serve", "--agents", "6"]), "status 6 is not explained on a terminal"
-    )
+    is_so = "./suites explain" in copy.on_terminal(["serve", "--agents", "3"])
+    copy.holds(is_so, "a fault on a terminal is not explained")
+    is_so = "above 16 MiB" in copy.on_terminal(["serve", "--agents", "6"])
+    copy.holds(is_so, "status 6 is not explained on a terminal")
 
 
 def tells_worlds(copy: Copy) -> None:

@@ -11,30 +11,9 @@ import os
 import shutil
 import typing
 
-from common import TOP, console
+from common import TOP, console, crates
 
 PARTS = ("src", "specs", "proofs")
-
-
-def listed(path: str) -> dict[str, str]:
-    """The lines of a list of crates, by the crate's name."""
-    if not os.path.exists(path):
-        return {}
-    with open(path, encoding="utf-8") as file:
-        lines = [line.partition("#")[0].strip() for line in file]
-    return {line.partition(":")[0]: line for line in lines if ":" in line}
-
-
-def below(names: typing.Iterable[str], known: dict[str, str]) -> list[str]:
-    """These crates and those that they stand on, in the order of the list."""
-    found: set[str] = set()
-    left = list(names)
-    while left:
-        name = left.pop()
-        if name in known and name not in found:
-            found.add(name)
-            left += known[name].partition(":")[2].split()
-    return [name for name in known if name in found]
 
 
 def files(crate: str) -> set[str]:
@@ -57,11 +36,11 @@ def is_same(crate: str, other: str) -> bool:
 
 def take(folder: str, names: typing.Sequence[str]) -> list[str]:
     """Copies the crates, and answers their names; stops where one is unknown, or another one is there."""
-    known, path = listed(os.path.join(TOP, "crates.txt")), os.path.join(folder, "crates.txt")
+    known = crates.listed()
     unknown = [name for name in names if name not in known]
     if unknown:
         raise console.Bad(f"no crate is called {' or '.join(unknown)}; crates.txt has all")
-    taken, there = below(names, known), listed(path)
+    taken, there = crates.below(names, known), crates.listed(folder)
     for name in taken:
         pair = [os.path.join(top, "crates", name) for top in (TOP, folder)]
         if os.path.exists(pair[1]) and not is_same(*pair):
@@ -74,8 +53,8 @@ def take(folder: str, names: typing.Sequence[str]) -> list[str]:
                 shutil.copytree(source, os.path.join(folder, "crates", name, part))
     if not os.path.exists(os.path.join(folder, "HANDLES")):
         shutil.copy(os.path.join(TOP, "HANDLES"), folder)
-    with open(path, "a", encoding="utf-8") as file:
-        file.writelines(f"{known[name]}\n" for name in taken if name not in there)
+    with open(os.path.join(folder, crates.LIST), "a", encoding="utf-8") as file:
+        file.writelines(crates.line_of(name, known[name]) for name in taken if name not in there)
     return new
 
 

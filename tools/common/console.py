@@ -11,6 +11,7 @@ import shlex
 import signal
 import subprocess
 import sys
+import tempfile
 import time
 import typing
 
@@ -143,6 +144,24 @@ def stop(process: subprocess.Popen[bytes]) -> None:
             os.killpg(process.pid, number)
         with contextlib.suppress(subprocess.TimeoutExpired):
             process.wait(10)
+
+
+def watched(
+    words: list[str], folder: str, tick: typing.Callable[[], object], **how: typing.Any
+) -> tuple[int | None, str]:
+    """Runs a command in a folder. Answers its status and what it printed; `tick` is called while it lasts, and ends it
+    by answering something, and then there is no status.
+    """
+    with tempfile.TemporaryFile() as log:
+        process, is_over = start(words, folder, log, **how), False
+        try:
+            while process.poll() is None and not is_over:
+                time.sleep(0.2)
+                is_over = bool(tick())
+        finally:
+            stop(process)
+        log.seek(0)
+        return None if is_over else process.returncode, log.read().decode("utf-8", "replace")
 
 
 def shows(fault: str) -> str:

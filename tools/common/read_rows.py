@@ -4,7 +4,7 @@ import re
 import sys
 import typing
 
-from common import TOP
+from common import TOP, text_of
 
 ROWS = os.path.join(TOP, "crates", "rows", "stdin")
 # How many rows there are, as the program `rows` is to print it; and so many at least, so that no test passes over a
@@ -36,8 +36,7 @@ def unmarked(line: bytes) -> bytes:
 def rows() -> list[Row]:
     """All rows, as many as are counted in crates/rows/stdout; ends the test where they are not."""
     found = list(read_rows())
-    with open(COUNT, encoding="utf-8") as file:
-        told = file.read()
+    told = text_of(COUNT)
     if told != f"{len(found)} rows\n" or len(found) < FEWEST:
         sys.exit(
             f"crates/rows/stdin has {len(found)} rows, where crates/rows/stdout says {told.strip()}, and there are at"

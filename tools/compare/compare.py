@@ -8,7 +8,6 @@ number of the transaction, and are mapped. A transaction whose agent stopped aft
 `play`: of it is compared whether it was answered or refused. With --seeds it does so for scripts of scenario.py.
 Status 1 where something differs, or a script cannot be played.
 """
-import argparse
 import collections
 import itertools
 import os
@@ -155,7 +154,7 @@ def differences_of(run: Run, table: list[str]) -> tuple[list[str], collections.C
 
 
 def main() -> int:
-    read = argparse.ArgumentParser(description=__doc__, formatter_class=argparse.RawDescriptionHelpFormatter)
+    read = console.words(__doc__)
     read.add_argument("scripts", nargs="*")
     read.add_argument("--seeds", type=int, default=0)
     read.add_argument("--from", type=int, default=0, dest="first")

@@ -4,11 +4,10 @@ Writes a random script of `suites play`: users who make, read, write, list, drop
 servers that crash and restart, agents that stop in the middle of a job, sweeps, forgotten caches, and votes that are
 moved. The same SEED gives the same script. LINES is about how many events it has (default 120).
 """
-import argparse
 import random
 import sys
 
-from common import forms
+from common import console, forms
 
 PATHS = ["/a", "/b", "/d", "/d/a", "/d/b", "/d/e", "/d/e/a", "/e", "/e/a"]
 FOLDERS = ["/", "/d", "/d/e", "/e"]
@@ -96,14 +95,8 @@ class Scenario:
     def begin(self, agent: int) -> None:
         uid, groups = self.dice.choice(USERS[: 1 if self.dice.random() < 0.4 else len(USERS)])
         count = self.dice.choice([1, 1, 1, 2, 3]) if self.dice.random() < 0.98 else 9
-        self.say(
-            "begin",
-            agent,
-            uid,
-            groups,
-            self.dice.choice([0, 0, 0, 3]),
-            " ; ".join(self.operation() for _ in range(count)),
-        )
+        site = self.dice.choice([0, 0, 0, 3])
+        self.say("begin", agent, uid, groups, site, " ; ".join(self.operation() for _ in range(count)))
 
     def heal(self) -> None:
         """All servers restart, and what was left behind is swept."""
@@ -166,7 +159,7 @@ class Scenario:
 
 
 def main() -> int:
-    read = argparse.ArgumentParser(description=__doc__, formatter_class=argparse.RawDescriptionHelpFormatter)
+    read = console.words(__doc__)
     read.add_argument("seed", type=int)
     read.add_argument("lines", type=int, nargs="?", default=120)
     given = read.parse_args()

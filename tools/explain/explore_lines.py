@@ -95,12 +95,6 @@ def of_waiting(script: str, number: int, name: str) -> list[str]:
     ]
 
 
-def about(number: int, words: list[str]) -> str:
-    if words[0] == "sweep":
-        return f"line {number}, a sweep of server {words[2]}"
-    return f"line {number}, for user {words[2]} of groups {words[3]}: {' '.join(words[5:])}"
-
-
 def of_line(text: str, script: str, name: str) -> typing.Iterator[str]:
     """The sentences about a line."""
     way, ended = WAY.match(text), ENDED.match(text)
@@ -113,7 +107,8 @@ def of_line(text: str, script: str, name: str) -> typing.Iterator[str]:
         )
     elif ended and (int(ended[1]), int(ended[2])) in jobs:
         number, words = jobs[int(ended[1]), int(ended[2])]
-        yield f"In this way so ends job {ended[2]} of agent {ended[1]}, which is begun by {about(number, words)}."
+        begun = faults.about(number, words, 2, 5)
+        yield f"In this way so ends job {ended[2]} of agent {ended[1]}, which is begun by {begun}."
         if ended[3] == "-":
             yield f"Agent {ended[1]} stopped before it had ended{of_awaited(script, number)}."
     elif ended:

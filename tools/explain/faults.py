@@ -33,6 +33,13 @@ def lines_of(text: str) -> list[str]:
     return ended + ([lines[-1]] if lines[-1] else [])
 
 
+def about(number: int, words: list[str], user: int, first: int) -> str:
+    """What the line of a job is: whose it is and what it is to do, where its user stands and its first operation."""
+    if words[0] == "sweep":
+        return f"line {number}, a sweep of server {words[user]}"
+    return f"line {number}, for user {words[user]} of groups {words[user + 1]}: {' '.join(words[first:])}"
+
+
 def command_of(script: str) -> str:
     """The command whose script this is: the only one whose lines begin so, but for that of `explore`; else the one that
     the program tells.

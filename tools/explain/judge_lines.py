@@ -10,7 +10,6 @@ from judge import judge
 
 NO_ORDER = re.compile(r"(?:# )?no: line (\d+) fits no order$")
 ORDER = re.compile(r"(?:# )?one table: \d+ calls?$")
-FAULT = re.compile(r"fault line (\d+): (\S+)$")
 # How the lines of a history begin that scripts do not have.
 OWN = ("call", "ret")
 FORMS = {

@@ -62,14 +62,15 @@ class Job:
     def operations(self) -> list[str]:
         return " ".join(self.words[5:]).split(" ; ") if self.words[0] == "begin" else []
 
+    def asked(self) -> denials.Asked:
+        return denials.Asked(self.words[2], self.words[3], self.operations)
+
     def name(self) -> str:
         return f"job {self.count} of agent {self.agent}"
 
     def about(self) -> str:
         """Who began it and what it was to do."""
-        if self.words[0] == "sweep":
-            return f"line {self.number}, a sweep of server {self.words[2]}"
-        return f"line {self.number}, for user {self.words[2]} of groups {self.words[3]}: {' ; '.join(self.operations)}"
+        return faults.about(self.number, self.words, 2, 5)
 
 
 class Played:
@@ -176,10 +177,9 @@ def denied(run: Played, job: Job, rest: str, script: str) -> typing.Iterator[str
     path = run.path(suite)
     wants = f"had to {WANTED[wanted]}" if wanted in WANTED else f"wanted {wanted} of it"
     yield f"Operation {place}, `{job.operations[place - 1]}`, came to {path}, and {wants}."
-    before = [run.jobs[t] for t in run.decided[: run.decided.index(job.t)]] if job.t in run.decided else []
-    jobs = [denials.Asked(one.words[2], one.words[3], one.operations) for one in before]
-    caller = denials.Asked(job.words[2], job.words[3], job.operations)
-    yield from denials.told(script, jobs, caller, place, path.split(" (")[0], decider)
+    before = run.decided[: run.decided.index(job.t)] if job.t in run.decided else []
+    jobs = [run.jobs[t].asked() for t in before]
+    yield from denials.told(script, jobs, job.asked(), place, path.split(" (")[0], decider)
 
 
 def short_of_votes(run: Played, job: Job, rest: str) -> typing.Iterator[str]:

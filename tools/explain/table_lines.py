@@ -16,26 +16,28 @@ FIRST = {"table": 3, "serve": 4}
 
 
 class Job(typing.NamedTuple):
-    """A transaction or a sweep of a script, and the number of its line."""
+    """A transaction or a sweep of a script, the number of its line, and the place of its first operation in that."""
 
     number: int
     words: list[str]
     operations: list[str]
     script: str
+    first: int
+
+    def asked(self) -> denials.Asked:
+        return denials.Asked(self.words[1], self.words[2], self.operations)
 
     def about(self) -> str:
-        if self.words[0] == "sweep":
-            return f"line {self.number}, a sweep of server {self.words[1]}"
-        return f"line {self.number}, for user {self.words[1]} of groups {self.words[2]}: {' ; '.join(self.operations)}"
+        return faults.about(self.number, self.words, 1, self.first)
 
 
 def jobs_of(script: str, language: str) -> list[Job]:
     """The transactions and sweeps of a script, in their order."""
-    found = []
+    found, first = [], FIRST[language]
     for number, line in enumerate(faults.lines_of(script), 1):
         words = line.split()
         if words[:1] == ["do"] or (words[:1] == ["sweep"] and language == "serve"):
-            found.append(Job(number, words, " ".join(words[FIRST[language] :]).split(" ; "), script))
+            found.append(Job(number, words, " ".join(words[first:]).split(" ; "), script, first))
     return found
 
 
@@ -44,9 +46,8 @@ def path_of(suite: int, jobs: list[Job]) -> str:
     t, place = numbers.maker_of(suite)
     if suite == 0:
         return "/"
-    return (
-        jobs[t].operations[place].split()[1] if t < len(jobs) and place < len(jobs[t].operations) else f"suite {suite}"
-    )
+    is_known = t < len(jobs) and place < len(jobs[t].operations)
+    return jobs[t].operations[place].split()[1] if is_known else f"suite {suite}"
 
 
 def whole(script: str, jobs: list[Job], name: str) -> str:
@@ -65,8 +66,7 @@ def why_refused(found: re.Match[str], job: Job, before: list[Job], language: str
     code, place = found[1], int(found[2])
     told = [f"Operation {place} is `{job.operations[place - 1]}`."] if place else []
     if language == "table":
-        asked = [denials.Asked(one.words[1], one.words[2], one.operations) for one in before]
-        answers = denials.answers(job.script, asked)
+        answers = denials.answers(job.script, [one.asked() for one in before])
         those = [one.operations for one, answer in zip(before, answers) if answer.split()[1:2] == ["answered"]]
         why = refusals.why(code, place, job.operations, those)
         told += [f"{why}."] if why else []
@@ -94,7 +94,6 @@ def of_line(text: str, script: str, name: str, language: str) -> list[str]:
         path = path_of(suite, jobs) if language == "table" else f"suite {suite}"
         told.append(f"Operation {place}, `{job.operations[place - 1]}`, came to {path}, and wanted {found[3]} there.")
         if language == "table":
-            before = [denials.Asked(one.words[1], one.words[2], one.operations) for one in jobs[: int(outcome[1])]]
-            caller = denials.Asked(job.words[1], job.words[2], job.operations)
-            told += denials.told(script, before, caller, place, path, found[4])
+            before = [one.asked() for one in jobs[: int(outcome[1])]]
+            told += denials.told(script, before, job.asked(), place, path, found[4])
     return told

@@ -94,13 +94,8 @@ def read(words: list[str]) -> argparse.Namespace:
 
 def words_of(given: argparse.Namespace) -> list[str]:
     """The words for the program: each option once."""
-    told = [
-        word
-        for option in NUMBERS
-        for number in [getattr(given, option.strip("-"))]
-        if number is not None
-        for word in (option, str(number))
-    ]
+    numbers = {option: getattr(given, option.strip("-")) for option in NUMBERS}
+    told = [word for option, number in numbers.items() if number is not None for word in (option, str(number))]
     return told + [option for option, is_given in (("--brief", given.brief), ("--order", given.order)) if is_given]
 
 
@@ -192,6 +187,14 @@ def told_of(options: list[str], script: typing.IO[bytes]) -> tuple[int, typing.I
     return status, printed
 
 
+@contextlib.contextmanager
+def given_script() -> typing.Iterator[typing.IO[bytes]]:
+    """Standard input, as a file that can be gone over again."""
+    with tempfile.TemporaryFile() as script:
+        script.write(sys.stdin.buffer.read(MOST_READ))
+        yield script
+
+
 def lines_of(printed: typing.IO[bytes]) -> typing.Iterator[str]:
     """The lines of a file."""
     for line in printed:
@@ -213,8 +216,7 @@ def jobs_told(given: argparse.Namespace, script: typing.IO[bytes]) -> tuple[int,
 
 def answer(given: argparse.Namespace) -> int:
     """Answers questions of the ways that the program tells, and tells how many these are."""
-    with tempfile.TemporaryFile() as script:
-        script.write(sys.stdin.buffer.read(MOST_READ))
+    with given_script() as script:
         status, jobs = jobs_told(given, script)
         if jobs is None:
             return status
@@ -239,8 +241,7 @@ def answer(given: argparse.Namespace) -> int:
 
 def small(given: argparse.Namespace) -> int:
     """Prints a smaller script that leads to a way: in which the jobs end so, or those of the question that is asked."""
-    with tempfile.TemporaryFile() as script:
-        script.write(sys.stdin.buffer.read(MOST_READ))
+    with given_script() as script:
         status, jobs = jobs_told(given, script)
         if jobs is None:
             return status
@@ -268,8 +269,7 @@ def page(given: argparse.Namespace) -> int:
     """Prints a page of the ways, each with a run that leads to it."""
     from show import ways_page
 
-    with tempfile.TemporaryFile() as script:
-        script.write(sys.stdin.buffer.read(MOST_READ))
+    with given_script() as script:
 
         def told(options: list[str]) -> tuple[int, bytes]:
             status, printed = told_of(options, script)

@@ -48,6 +48,8 @@ MOST = 200
 # How the jobs of a way ended: the words behind each job's number. Where it is told in which order jobs were decided,
 # these stand behind ORDER.
 Way = dict[str, tuple[str, ...]]
+# Whether something is so in a way.
+Holds = typing.Callable[[Way], bool]
 
 
 class Question(typing.NamedTuple):
@@ -58,7 +60,7 @@ class Question(typing.NamedTuple):
     text: str
     jobs: list[str]
     ordered: bool
-    holds: typing.Callable[[Way], bool]
+    holds: Holds
 
 
 def words_of(text: str) -> list[str]:
@@ -122,19 +124,20 @@ class Reader:
         self.place += is_next
         return is_next
 
-    def either(self) -> typing.Callable[[Way], bool]:
-        parts = [self.both()]
-        while self.takes("or"):
-            parts.append(self.both())
-        return lambda way: any(part(way) for part in parts)
+    def joined(self, part: typing.Callable[[], Holds], word: str, of: typing.Callable[..., bool]) -> Holds:
+        """Parts with a word between them, any or all of which are to be so."""
+        parts = [part()]
+        while self.takes(word):
+            parts.append(part())
+        return lambda way: of(part(way) for part in parts)
 
-    def both(self) -> typing.Callable[[Way], bool]:
-        parts = [self.one()]
-        while self.takes("and"):
-            parts.append(self.one())
-        return lambda way: all(part(way) for part in parts)
+    def either(self) -> Holds:
+        return self.joined(self.both, "or", any)
 
-    def one(self) -> typing.Callable[[Way], bool]:
+    def both(self) -> Holds:
+        return self.joined(self.one, "and", all)
+
+    def one(self) -> Holds:
         if self.takes("not"):
             part = self.one()
             return lambda way: not part(way)
@@ -145,7 +148,7 @@ class Reader:
             return inner
         return self.atom()
 
-    def atom(self) -> typing.Callable[[Way], bool]:
+    def atom(self) -> Holds:
         """A job and how it ended, or before which other one it was decided."""
         job = self.job()
         if self.takes(BEFORE):

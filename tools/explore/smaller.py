@@ -4,7 +4,6 @@ What stands above `together` stays as it is. Of an agent one of whose jobs has t
 dropped, since jobs are told by their numbers.
 """
 import re
-import subprocess
 import typing
 
 from common import built
@@ -17,12 +16,10 @@ BEGINS = ("begin", "sweep")
 
 def outcomes(lines: typing.Sequence[str], jobs: typing.Collection[str]) -> dict[str, str] | None:
     """How some jobs end where these lines are played; nothing, where they are not."""
-    done = subprocess.run(
-        [built.program(), "play"], input="\n".join([*lines, ""]).encode("latin1"), capture_output=True
-    )
-    told = (OUTCOME.match(line) for line in done.stdout.decode("latin1").splitlines())
+    status, printed = built.asked("play", "\n".join([*lines, ""]))
+    told = (OUTCOME.match(line) for line in printed.splitlines())
     found = {one[1]: one[2] for one in told if one and one[1] in jobs}
-    return None if done.returncode else found
+    return None if status else found
 
 
 def apart(lines: typing.Iterable[str]) -> list[str]:

@@ -15,7 +15,7 @@ import shlex
 import subprocess
 import typing
 
-from common import TOP, built, console
+from common import TOP, built, console, crates, text_of
 from front import sources, trial
 
 CHOICE = built.kept("choice.sh")
@@ -26,7 +26,6 @@ PROGRAMS = {
     "trial": "tools/front/trial.sh",
 }
 STOPPED = "stopped; there is no checked build yet"
-CHANGES = os.path.join(TOP, "CHANGELOG.md")
 
 
 def path_of(kind: str) -> str:
@@ -78,7 +77,7 @@ def keep_choice(kind: str, now: sources.Sources, kit: sources.Kit, begun: int) -
     become the one of these sources again.
     """
     is_proved = kind == "proved" or os.path.exists(path_of("proved"))
-    looked = [sources.LIST, *now.looked_at(is_proved), PROGRAMS[kind]]
+    looked = [crates.LIST, *now.looked_at(is_proved), PROGRAMS[kind]]
     if kit.command:
         looked.append(os.path.realpath(kit.command))
     kept = {
@@ -136,8 +135,7 @@ def commit() -> str:
 
 def version() -> typing.Iterator[str]:
     """What there is to tell of this version, a line each."""
-    with open(CHANGES, encoding="utf-8") as file:
-        yield f"suites {re.search('^## (.*)', file.read(), re.M)[1]}"
+    yield f"suites {re.search('^## (.*)', text_of('CHANGELOG.md'), re.M)[1]}"
     named = commit()
     if named:
         yield f"commit {named}"

@@ -7,8 +7,6 @@ builds at once wait for each other. Status 0: the program is there; 1: it is not
 import os
 import select
 import subprocess
-import tempfile
-import time
 
 from common import console
 from front import choose, sources
@@ -88,19 +86,11 @@ def build(needs: dict[str, list[str]], teller: console.Teller) -> tuple[str, str
     """Proves, compiles and links the program itself. Answers the program's name, and what it printed, where that
     failed.
     """
-    with tempfile.TemporaryFile() as log:
-        # rt run also runs what it built; here that prints the program's help into the log
-        process = console.start(["rt", "run", "--", "--help"], FOLDER, log)
-        try:
-            while process.poll() is None:
-                step(teller, len(needs), len(needs), PROGRAM, False)
-                time.sleep(0.5)
-        finally:
-            console.stop(process)
-        if process.returncode == 0 and os.path.exists(choose.path_of("proved")):
-            return None
-        log.seek(0)
-        return PROGRAM, console.tail(log.read().decode("utf-8", "replace"))
+    # rt run also runs what it built; here that prints the program's help into the log
+    tick = lambda: step(teller, len(needs), len(needs), PROGRAM, False)
+    status, said = console.watched(["rt", "run", "--", "--help"], FOLDER, tick)
+    is_built = status == 0 and os.path.exists(choose.path_of("proved"))
+    return None if is_built else (PROGRAM, console.tail(said))
 
 
 def main() -> int:

@@ -6,7 +6,6 @@ status 6 has, by the standard input and output that the program had too. `silent
 did nothing, and which agents still have a job at its end. The program plays the script once more for that, where it
 can matter.
 """
-import argparse
 import os
 import re
 import select
@@ -139,7 +138,7 @@ def told_of(program: str, path: str) -> list[str]:
 
 
 def main() -> int:
-    read = argparse.ArgumentParser(description=__doc__, formatter_class=argparse.RawDescriptionHelpFormatter)
+    read = console.words(__doc__)
     read.add_argument("what", choices=["six", "silent"])
     read.add_argument("program", nargs="?")
     read.add_argument("script", nargs="?")

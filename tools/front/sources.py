@@ -13,14 +13,13 @@ import tempfile
 import time
 import typing
 
-from common import TOP, console
+from common import TOP, console, crates
 
 CRATES = os.path.join(TOP, "crates")
 # The program.
 PROGRAM = "suites"
 # The program of the commands that `./suites` starts itself, which is built sooner.
 FIRST = "first_answer"
-LIST = "crates.txt"
 # The logic of the kit that these sources are proved with, as README.md names it.
 KIT_LOGIC = "dac8208d650f15bf"
 KEPT = os.path.join(TOP, "out")
@@ -47,13 +46,7 @@ def told(text: str, ending: str) -> str:
 
 def crates_below(program: str) -> dict[str, list[str]]:
     """The crates that a program stands on, each with those that it names, the program last."""
-    needs = {}
-    with open(os.path.join(TOP, LIST), encoding="utf-8") as lines:
-        for line in lines:
-            name, _, named = line.split("#")[0].partition(":")
-            if name.strip():
-                needs[name.split()[0]] = named.split()
-    found = {}
+    needs, found = crates.listed(), dict[str, list[str]]()
 
     def visit(name: str) -> None:
         if name in needs and name not in found:

@@ -11,7 +11,6 @@ import os
 import subprocess
 import sys
 import tempfile
-import time
 import typing
 
 from common import console
@@ -79,25 +78,22 @@ def module_once(folder: str, name: str, tick: typing.Callable[[], None], program
     """Looks for the module once."""
     scratch = os.path.join(folder, name)
     os.mkdir(scratch)
-    with tempfile.TemporaryFile() as log:
-        settings = {**os.environ, "TMPDIR": scratch}
-        trial = console.start(["rt", "try", "--", "--help"], folder_of(program), log, env=settings)
-        try:
-            module = None
-            while module is None and trial.poll() is None:
-                tick()
-                time.sleep(0.2)
-                module = found(scratch, program)
-        finally:
-            console.stop(trial)
-        if module is None:
-            log.seek(0)
-            said = log.read().decode("utf-8", "replace")
-            if trial.returncode == 0 and "run=ended" in said:
-                raise Hidden("module of the program")
-            if trial.returncode < 0:
-                raise console.Stop(f"{console.ended('rt', trial.returncode)}; the next time it is tried again")
-            raise console.Stop("the sources do not compile:\n" + console.tail(said).rstrip())
+    module: bytes | None = None
+
+    def is_found() -> bool:
+        nonlocal module
+        tick()
+        module = found(scratch, program)
+        return module is not None
+
+    settings = {**os.environ, "TMPDIR": scratch}
+    status, said = console.watched(["rt", "try", "--", "--help"], folder_of(program), is_found, env=settings)
+    if module is None:
+        if status == 0 and "run=ended" in said:
+            raise Hidden("module of the program")
+        if status < 0:
+            raise console.Stop(f"{console.ended('rt', status)}; the next time it is tried again")
+        raise console.Stop("the sources do not compile:\n" + console.tail(said).rstrip())
     path = os.path.join(folder, MODULE)
     with open(path, "wb") as file:
         file.write(module)
@@ -125,19 +121,10 @@ def done(words: list[str], folder: str, tick: typing.Callable[[], None]) -> None
     """Runs a command in this folder, which has to end well; `tick` is called while it lasts."""
     if not os.path.exists(words[0]):
         raise Hidden(words[0])
-    with tempfile.TemporaryFile() as log:
-        process = console.start(words, folder, log)
-        try:
-            while process.poll() is None:
-                tick()
-                time.sleep(0.2)
-        finally:
-            console.stop(process)
-        log.seek(0)
-        said = console.tail(log.read().decode("utf-8", "replace"))
-    if process.returncode != 0:
-        why = console.ended(os.path.basename(words[0]), process.returncode)
-        raise console.Stop(f"the checked build failed, and the next time it is tried again: {why}\n{said}".rstrip())
+    status, said = console.watched(words, folder, tick)
+    if status != 0:
+        why, told = console.ended(os.path.basename(words[0]), status), console.tail(said)
+        raise console.Stop(f"the checked build failed, and the next time it is tried again: {why}\n{told}".rstrip())
 
 
 def build(target: str, tick: typing.Callable[[], None], name: str = sources.PROGRAM) -> None:

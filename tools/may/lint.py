@@ -264,9 +264,3 @@ class Lint:
                 why = self.unjudged(self.tree.rows[at])
                 self.tree.unread += [why] if why and why not in self.tree.unread else []
             SAYER.at(len(self.tree.rows))
-
-
-def lint(top: str) -> tuple[list[str], list[str]]:
-    """What is found under a path, a line each, and what could not be read."""
-    found = Lint(top)
-    return list(found.lines()), found.tree.unread

@@ -115,13 +115,10 @@ def answers_of(ways: list[Way], caller: Caller) -> Answers:
     return dict(zip(asked, answers(asked)))
 
 
-def judge(caller: Caller, wanted: int, path: str, verbose: bool = False) -> Judged:
-    """What is told of a path; of a script also whether its interpreters may be executed."""
-    return judged_ways(caller, wanted, path, verbose, ways_of(path, wanted))
-
-
 def judge_all(caller: Caller, wanted: int, paths: list[str], verbose: bool) -> Iterator[Judged]:
-    """The same of many paths: what is to be known of some is asked at once."""
+    """What is told of paths; of a script also whether its interpreters may be executed. What is to be known of some is
+    asked at once.
+    """
     for begun in range(0, len(paths), AT_ONCE):
         some = [(path, ways_of(path, wanted)) for path in paths[begun : begun + AT_ONCE]]
         answers_of([found for _, ways in some for found in ways], caller)

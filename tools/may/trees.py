@@ -67,11 +67,6 @@ class Tree:
                 begun = count
         yield range(begun, len(self.rows))
 
-    def whole(self) -> Tree:
-        for _ in self.fill():
-            pass
-        return self
-
     def read(self, at: int, folder: Row) -> None:
         """Adds what a folder has, by name."""
         try:

@@ -50,6 +50,18 @@ from common.console import Bad
 SERVERS, AGENTS = 3, 2
 # The session of these sources.
 SESSION = os.path.join(TOP, "suites") + " session"
+# The same, or another one, for tests, as the environment has it.
+NAMED = os.environ.get("SUITES_SESSION", SESSION)
+
+
+def options(parser: argparse.ArgumentParser, *more: str, session: str = NAMED) -> None:
+    """The options of a session, of which more may tell a number."""
+    for name in ("--servers", *more):
+        parser.add_argument(name, type=int)
+    for name in ("--votes", "--root", "--journal", "--script"):
+        parser.add_argument(name)
+    # the command of another session, for tests
+    parser.add_argument("--session", default=session)
 
 
 def read(words: list[str]) -> argparse.Namespace:
@@ -58,13 +70,9 @@ def read(words: list[str]) -> argparse.Namespace:
         usage="./suites mount DIR [OPTIONS] | ./suites mount --control DIR LINE..", add_help=False, allow_abbrev=False
     )
     parser.add_argument("--control", action="store_true")
-    parser.add_argument("--servers", type=int)
-    for name in ("--votes", "--root", "--journal", "--script"):
-        parser.add_argument(name)
+    options(parser, session=SESSION)
     for name in ("--read-only", "--allow-other", "--foreground"):
         parser.add_argument(name, action="store_true")
-    # the command of another session, for tests
-    parser.add_argument("--session", default=SESSION)
     parser.add_argument("folder", metavar="DIR")
     parser.add_argument("lines", metavar="LINE", nargs="*")
     given = parser.parse_args(words)

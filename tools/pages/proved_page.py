@@ -17,6 +17,7 @@ import re
 import typing
 
 from common import TOP, functions, page, text_of
+from common.crates import listed
 from pages import believed
 
 PAGE = os.path.join("docs", "PROVED.md")
@@ -28,13 +29,8 @@ OF_TESTS = ("library_tests", "run_tests", "command_tests")
 
 def crates() -> list[str]:
     """The libraries, in the order of crates.txt."""
-    lines = (line.partition("#")[0] for line in text_of(os.path.join(TOP, "crates.txt")).split("\n"))
-    names = [line.split(":")[0].split()[0] for line in lines if ":" in line]
-    return [
-        name
-        for name in names
-        if name not in OF_TESTS and os.path.exists(os.path.join(TOP, "crates", name, "src", "lib.rt"))
-    ]
+    libraries = (name for name in listed() if os.path.exists(os.path.join(TOP, "crates", name, "src", "lib.rt")))
+    return [name for name in libraries if name not in OF_TESTS]
 
 
 def shown(crate: str) -> tuple[set[str], set[str]]:

@@ -21,7 +21,6 @@ story, and each is printed before its answer.
 A transaction that ends U2, U3 or U5 is tried again, up to eight times, which is said.
 """
 import argparse
-import os
 import sys
 
 from mount import words
@@ -33,8 +32,5 @@ def main() -> int:
         print((__doc__ or "").strip())
         return 0
     read = argparse.ArgumentParser(usage="./suites shell [OPTIONS] [< STORY]", add_help=False, allow_abbrev=False)
-    read.add_argument("--servers", type=int)
-    for name in ("--votes", "--root", "--journal", "--script"):
-        read.add_argument(name)
-    read.add_argument("--session", default=os.environ.get("SUITES_SESSION", words.SESSION))
+    words.options(read)
     return speaking.speak(read.parse_args())

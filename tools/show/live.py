@@ -14,7 +14,6 @@ import dataclasses
 import hmac
 import http.server
 import json
-import os
 import secrets
 import sys
 import tempfile
@@ -243,15 +242,6 @@ def opened(address: str) -> None:
         file.write(SENDS_ON.format(address, address))
     if not webbrowser.open(f"file://{file.name}"):
         console.Teller().say("no browser is found here: open the address with one")
-
-
-def options(read: argparse.ArgumentParser) -> None:
-    """The options of a session."""
-    read.add_argument("--servers", type=int)
-    read.add_argument("--agents", type=int)
-    for name in ("--votes", "--root", "--journal", "--script"):
-        read.add_argument(name)
-    read.add_argument("--session", default=os.environ.get("SUITES_SESSION", words.SESSION))
 
 
 def main(given: argparse.Namespace) -> int:

@@ -171,10 +171,11 @@ def opened(page: str) -> None:
 
 def served(read: argparse.ArgumentParser) -> int:
     """The page of a session."""
+    from mount import words
     from show import live
 
     read.add_argument("--live", action="store_true")
-    live.options(read)
+    words.options(read, "--agents")
     given = read.parse_args()
     if given.help:
         print(__doc__.strip())

@@ -9,7 +9,7 @@ clause (`refused by: ..`). ./suites --test runs --check.
 import os
 import typing
 
-from common import TOP, page, text_of
+from common import TOP, crates, page, text_of
 from wrong_bodies import changes, wrong_bodies
 
 PAGE = os.path.join("docs", "WRONG-BODIES.md")
@@ -81,12 +81,6 @@ def words_of(text: str) -> dict[str, str]:
     return {word: rest for word, _, rest in parted if word in changes.TOLD}
 
 
-def crates() -> list[str]:
-    """The crates, in the order of crates.txt: bottom up."""
-    lines = text_of("crates.txt").split("\n")
-    return [line.split(":")[0].split()[0] for line in (line.partition("#")[0] for line in lines) if ":" in line]
-
-
 def rows(crate: str, faults: list[str]) -> typing.Iterator[str]:
     """The lines of the table of a crate. What is wrong with its edits is added to the faults."""
     for folder, place in PLACES:
@@ -96,15 +90,14 @@ def rows(crate: str, faults: list[str]) -> typing.Iterator[str]:
             faults += [f"{name}: it has no line '{word}: ..'" for word in changes.TOLD if not words.get(word)]
             if any("|" in text for text in words.values()):
                 faults.append(f"{name}: a word has a |, which a table cannot show")
-            yield (
-                f"| `{wrong_bodies.name_of(edit)}` | {place} | {words.get('why', '')} | {words.get('refused by', '')} |"
-            )
+            cells = [f"`{wrong_bodies.name_of(edit)}`", place, *(words.get(word, "") for word in changes.TOLD)]
+            yield f"| {' | '.join(cells)} |"
 
 
 def by_name(faults: list[str]) -> str:
     """The table of the bodies that are asked for first. One without an edit is added to the faults."""
     places: dict[str, list[str]] = {name: [] for name in ASKED}
-    for crate in crates():
+    for crate in crates.listed():
         for folder, place in PLACES:
             for edit in wrong_bodies.edits(crate, folder):
                 name = wrong_bodies.name_of(edit)
@@ -120,7 +113,7 @@ def would_do(faults: list[str]) -> str:
     """The table of what wrong bodies would do. One without an edit is added to the faults."""
     known = {
         f"{crate}/{wrong_bodies.name_of(edit)}"
-        for crate in crates()
+        for crate in crates.listed()
         for folder, _ in PLACES
         for edit in wrong_bodies.edits(crate, folder)
     }
@@ -149,22 +142,13 @@ def whole_page() -> tuple[str, list[str]]:
     """The page, and what is wrong with the edits."""
     parts, counts = [HEAD], {place: 0 for _, place in PLACES}
     faults: list[str] = []
-    for crate in crates():
+    for crate in crates.listed():
         lines = list(rows(crate, faults))
         for place in counts:
             counts[place] += sum(line.split(" | ")[1] == place for line in lines)
         if lines:
-            parts.append(
-                "\n".join(
-                    [
-                        f"## `{crate}`\n",
-                        "| Wrong body | Tried | What it makes wrong | Refused by |",
-                        "|---|---|---|---|",
-                        *lines,
-                        "",
-                    ]
-                )
-            )
+            head = [f"## `{crate}`\n", "| Wrong body | Tried | What it makes wrong | Refused by |", "|---|---|---|---|"]
+            parts.append("\n".join([*head, *lines, ""]))
     parts.append(by_name(faults))
     parts.append(would_do(faults))
     parts.insert(1, f"There are {counts['gate']} in the gate and {counts['beside']} beside it.\n")

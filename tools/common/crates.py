@@ -1,0 +1,33 @@
+"""The crates of a repository, as its list has them: in their order, each with those that it names."""
+import os
+import typing
+
+from common import TOP
+
+LIST = "crates.txt"
+
+
+def listed(folder: str = TOP) -> dict[str, list[str]]:
+    """The crates of the list in a folder; none where there is no list."""
+    path = os.path.join(folder, LIST)
+    if not os.path.exists(path):
+        return {}
+    with open(path, encoding="utf-8") as file:
+        parted = [line.partition("#")[0].partition(":") for line in file]
+    return {name.split()[0]: named.split() for name, colon, named in parted if colon}
+
+
+def line_of(name: str, needs: list[str]) -> str:
+    """The line of a crate in a list."""
+    return f"{name}: {' '.join(needs)}".rstrip() + "\n"
+
+
+def below(names: typing.Iterable[str], known: dict[str, list[str]]) -> list[str]:
+    """These crates and those that they stand on, so far as they are known, in the order of the list."""
+    found, left = set[str](), list(names)
+    while left:
+        name = left.pop()
+        if name in known and name not in found:
+            found.add(name)
+            left += known[name]
+    return [name for name in known if name in found]
