@@ -158,7 +158,7 @@ class Damage:
         self.swap(place, bad, f"'{bad}'", f"'{self.words[place]}' is near")
 
     def do_text_as_bytes(self) -> bool | None:
-        place = self.drawn(lambda place, word: place and word == "write")
+        place = self.drawn(lambda place, word: place > 0 and word == "write")
         if place is None:
             return False
         bad = self.dice.choice(["hello", "0x6869", "686", "hi"])
@@ -172,7 +172,7 @@ class Damage:
 
     def do_path_with_a_space(self) -> bool | None:
         others = {*VERBS} - {"file", "folder", "setacl"}
-        place = self.drawn(lambda place, word: place and word in others)
+        place = self.drawn(lambda place, word: place > 0 and word in others)
         if place is None:
             return False
         wanted = ("a path is one word", "'file' stands where", "'file' is not made of")

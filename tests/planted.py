@@ -25,7 +25,7 @@ import typing
 import played
 import scratch
 
-from common import built, text_of
+from common import built, crates, text_of
 
 PROGRAM, AGENTS, RUN = "suites", 4, 5_000
 
@@ -59,7 +59,7 @@ def program_with(planted: Planted, folder: str) -> str:
     shutil.copytree(os.path.join(played.TOP, "tools"), os.path.join(folder, "tools"))
     own = os.path.join(played.TOP, "crates", PROGRAM, "src")
     sources = {os.path.splitext(name)[0]: os.path.join(own, name) for name in os.listdir(own)}
-    scratch.placed(folder, PROGRAM, scratch.needs_of_crates()[PROGRAM], sources)
+    scratch.placed(folder, PROGRAM, crates.listed()[PROGRAM], sources)
     path = os.path.join(folder, planted.file)
     text = text_of(path)
     if text.count(planted.old) != 1:
