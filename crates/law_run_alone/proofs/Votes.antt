@@ -101,10 +101,10 @@ set_valid rows (e ∷ edits) suite fit is =
     ] refl is
 
 -- each change that is listed is the one of its suite
-abbrev IsOf : (ℕ → Option Change) → ℕ × Change → Type 0
+abbrev pub IsOf : (ℕ → Option Change) → ℕ × Change → Type 0
 IsOf change one = change one.0 ≡ Some one.1
 
-tied : (a b : ℕ) → nat_cmp a b ≡ Equal → a ≡ b
+pub tied : (a b : ℕ) → nat_cmp a b ≡ Equal → a ≡ b
 tied a b is = eqb-true a b (sym (unsigned_tied a b) ∙ ap is_eq is)
 
 inserted : (change : ℕ → Option Change) (all : List (ℕ × Change)) (suite : ℕ) (made : Change) → change suite ≡ Some made → ((one : ℕ × Change) → Has all one → IsOf change one)
@@ -119,7 +119,7 @@ inserted change (e ∷ all) suite made is each one has =
     of Equal at has later = ⊎_elim (λ same. subst (IsOf change) same (ap change (sym (tied suite e.0 at)) ∙ is)) (λ rest. each one (inr rest)) has
     of Greater at has later = ⊎_elim (λ same. each one (inl same)) later has
 
-listed : (change : ℕ → Option Change) (edits : Edits) (one : ℕ × Change) → Has (changes_at change edits) one → IsOf change one
+pub listed : (change : ℕ → Option Change) (edits : Edits) (one : ℕ × Change) → Has (changes_at change edits) one → IsOf change one
 listed change [] one has = absurd has
 listed change (e ∷ edits) one has = of (change e.0) refl has (listed change edits)
   where

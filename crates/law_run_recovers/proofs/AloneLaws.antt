@@ -1,5 +1,5 @@
 -- What is promised to a transaction that goes alone: it is met by nobody, and each job of its agent that ends from then on is it.
-use Rattle.law_run_recovers.proofs.Vocabulary.{◌≡◌, ℕ, List, Contains, Identity, Opening, Op, fixed_of, Event, EndedJob, Actor, dones, outcomes, GoesAlone, EndsAreByVotes, EndsInTime, DecidedWhereVotesAre, EndsThen, begun_world}
+use Rattle.law_run_recovers.proofs.Vocabulary.{◌≡◌, ℕ, List, Contains, Identity, Opening, Op, fixed_of, Event, EndedJob, Actor, dones, outcomes, GoesAlone, EndsThen, begun_world, Always, DecidedWhereVotesAreAt, EndsAreByVotesAt, EndsInTimeAt}
 use Rattle.law_run_recovers.proofs.AmongOver.{ended_own}
 use Rattle.law_run_recovers.proofs.AmongTime.{unmet_end_in_time}
 use Rattle.law_run_recovers.proofs.HadVotes.{its_number}
@@ -20,16 +20,16 @@ module _ (given : Opening) (events later : List Event) (agent t : ℕ) (caller :
   pub own_then : (job : EndedJob) → EndsThen given events later agent t caller site ops job → job.agent ≡ agent
   own_then job ends = ended_own given events later agent t caller site ops actor steadily job ends
 
-pub ends_are_by_votes : EndsAreByVotes
+pub ends_are_by_votes : Always EndsAreByVotesAt
 ends_are_by_votes given events later agent t caller site ops actor goes job there own =
     unmet_by_votes given events later agent t caller site ops actor (alone_is_unmet given events later agent t caller site ops actor goes) job (alone_then given events later agent t caller site ops actor goes job there own)
 
-pub they_end_in_time : EndsInTime
+pub they_end_in_time : Always EndsInTimeAt
 they_end_in_time given events later agent t caller site ops actor goes more =
     let it = unmet_end_in_time given events later agent t caller site ops actor (alone_is_unmet given events later agent t caller site ops actor goes) more in
     record { job = it.job; there = it.ends.there; of_it = own_then given events later agent t caller site ops actor goes it.job it.ends }
 
-pub decided_where_votes_are : DecidedWhereVotesAre
+pub decided_where_votes_are : Always DecidedWhereVotesAreAt
 decided_where_votes_are given events later agent t caller site ops actor goes unmoved job there own =
     unmet_where_votes given events later agent t caller site ops actor (alone_is_unmet given events later agent t caller site ops actor goes) (λ before after one parts has. unmoved before after one.0 parts) job
     (alone_then given events later agent t caller site ops actor goes job there own)

@@ -4,7 +4,7 @@ use Rattle.law_run_recovers.proofs.Vocabulary.{Contains, list_any, cons_option, 
 use Rattle.law_run_recovers.proofs.Vocabulary.{Ending, Refused, Swept, Undecided, Transaction, ReadPoint, GatheredSuite, suite_of, Running, home_of, request_in, decision_of, Agent, fixed_of, next_in, next_of, EndedJob, Event, Begin}
 use Rattle.law_run_recovers.proofs.Vocabulary.{Step, Actor, World, server_at, actor_at, asks_at, asks, steps_once, step, run, Decided, decided, decided_by, decisions, decisions_from, task_of, task_at, table_of, IsAnsweredAsKnown, Runs}
 use Rattle.law_run_recovers.proofs.Vocabulary.{IsAt, EndStands, same_place, answers_follow_knowledge, holds_of, In, agent_of, agent_at, is_decided, is_up, runs, world_after, first_wanting, has_votes_open, is_gathered, GathersItsAsks}
-use Rattle.law_run_recovers.proofs.Vocabulary.{AmongLocksHadVotesOpen, AmongLocksAreAnsweredAsBegun, AmongLocksGatherTheirAsks, has_asked, locks_asked, asks_for, wants, answer_on, EndsThen, WasDecidedThen, UnmetHadVotesUp}
+use Rattle.law_run_recovers.proofs.Vocabulary.{has_asked, locks_asked, asks_for, wants, answer_on, EndsThen, WasDecidedThen, Always, AreAnsweredAsBegun, GatherTheirAsks, GoesAmongLocks, HadVotesOpen, UnmetHadVotesUpAt}
 use Rattle.rep_core.specs.declared.request.Request.TheVariants as request
 use Rattle.txn_core.specs.declared.ending.Ending.TheVariants.{Answered}
 use Rattle.txn_core.specs.Doing as doing
@@ -277,19 +277,19 @@ module _ (given : Opening) (events later : List Event) (agent t : ℕ) (caller :
   pub was_gathered : WasDecidedThen given events later agent t caller site ops → GathersItsAsks given events later agent t caller site ops
   was_gathered was = ⊎_elim (λ some. stood_gathered some) (λ it. stood_gathered (ended_stands it.0 it.1 it.2)) was
 
-pub among_locks_gather_their_asks : AmongLocksGatherTheirAsks
+pub among_locks_gather_their_asks : Always (GatherTheirAsks GoesAmongLocks)
 among_locks_gather_their_asks given events later agent t caller site ops actor goes was =
     was_gathered given events later agent t caller site ops actor (steady given events later agent t caller site ops actor goes) was
 
-pub among_locks_are_answered_as_begun : AmongLocksAreAnsweredAsBegun
+pub among_locks_are_answered_as_begun : Always (AreAnsweredAsBegun GoesAmongLocks)
 among_locks_are_answered_as_begun given events later agent t caller site ops actor goes one there of_it =
     answered_begun given events later agent t caller site ops actor (steady given events later agent t caller site ops actor goes) one there of_it
 
-pub among_locks_had_votes_open : AmongLocksHadVotesOpen
+pub among_locks_had_votes_open : Always (HadVotesOpen GoesAmongLocks)
 among_locks_had_votes_open given events later agent t caller site ops actor goes was =
     was_had given events later agent t caller site ops actor (steady given events later agent t caller site ops actor goes) was
 
-pub unmet_had_votes_up : UnmetHadVotesUp
+pub unmet_had_votes_up : Always UnmetHadVotesUpAt
 unmet_had_votes_up given events later agent t caller site ops actor goes was =
     open_is_more given events t caller ops
     (among_locks_had_votes_open given events later agent t caller site ops actor (unmet_is_among_locks given events later agent t caller site ops actor goes) was)

@@ -15,19 +15,27 @@ use Rattle.law_run_recovers.proofs.Stands.{IsWhole, IsReady, IsGathering, StepSt
 
 -- ---- voters
 
--- some server has votes
-record HasVoter (reps : List Representative) (held : ℕ → Bool) : Type 0 where
-  rep : Representative
-  there : Has reps rep
-  holds : held rep.0 ≡ true
+-- of so many votes some server has some
+pub record Voter (reps : List Representative) (set : ℕ → Bool) : Type 0 where
+  pub rep : Representative
+  pub has : Has reps rep
+  pub inside : set rep.0 ≡ true
+  pub votes : nat_lt 0 rep.1 ≡ true
 
-some_voter : (reps : List Representative) (held : ℕ → Bool) → 0 < votes_in reps held → HasVoter reps held
-some_voter [] held some = absurd (omega (arith, some))
-some_voter (rep ∷ reps) held some = of (held rep.0) refl some (some_voter reps held)
+pub some_voter : (reps : List Representative) (set : ℕ → Bool) → 0 < votes_in reps set → Voter reps set
+some_voter [] set some = absurd (omega (arith, some))
+some_voter (rep ∷ reps) set some = of (set rep.0) refl (nat_lt 0 rep.1) refl (some_voter reps set) some
   where
-    of : (b : Bool) → held rep.0 ≡ b → 0 < cond b rep.1 0 + votes_in reps held → (0 < votes_in reps held → HasVoter reps held) → HasVoter (rep ∷ reps) held
-    of true is some go = record { rep = rep; there = inl refl; holds = is }
-    of false is some go = let rest = go (omega (arith, some)) in record { rep = rest.rep; there = inr rest.there; holds = rest.holds }
+    later : Voter reps set → Voter (rep ∷ reps) set
+    later voter = record { rep = voter.rep; has = inr voter.has; inside = voter.inside; votes = voter.votes }
+
+    none : (n : ℕ) → nat_lt 0 n ≡ false → 0 < n + votes_in reps set → 0 < votes_in reps set
+    none n is some = grind (arith, nat_tests)
+
+    of : (b : Bool) → set rep.0 ≡ b → (c : Bool) → nat_lt 0 rep.1 ≡ c → (0 < votes_in reps set → Voter reps set) → 0 < cond b rep.1 0 + votes_in reps set → Voter (rep ∷ reps) set
+    of true inside true votes go some = record { rep = rep; has = inl refl; inside = inside; votes = votes }
+    of true inside false votes go some = later (go (none rep.1 votes some))
+    of false inside c votes go some = later (go (omega (arith, some)))
 
 above_none : (wanted got : ℕ) → 0 < wanted → nat_le wanted got ≡ true → 0 < got
 above_none wanted got some is = grind (arith, nat_tests)
@@ -116,8 +124,8 @@ module _ (fixed : Fixed) (world : World) (sight : Sight) (table : PlainTable) (t
       record {
         server = voter.rep.0;
         is_one = below voter.rep.0 max_servers (All-contains (λ (rep : Representative). rep.0 < max_servers) (newest found.start at.told).votes.reps voter.rep valid.numbered
-            (contains_from (newest found.start at.told).votes.reps voter.rep voter.there));
-        holds = ap (λ (c : Collector). holds Shared (all_told c) voter.rep.0) (same ∙ at.is) ∙ holds_shared at.mode at.told voter.rep.0 voter.holds;
+            (contains_from (newest found.start at.told).votes.reps voter.rep voter.has));
+        holds = ap (λ (c : Collector). holds Shared (all_told c) voter.rep.0) (same ∙ at.is) ∙ holds_shared at.mode at.told voter.rep.0 voter.inside;
       }
 
   pub current_whole : (z : ℕ) (suite : GatheredSuite) → IsFound fixed world sight table task cache Was ground z suite → (prefix : Prefix) (dver : ℕ) (members : List ℕ)

@@ -4,9 +4,9 @@ use Rattle.law_run_recovers.proofs.Vocabulary.{Contains, ◌&&◌, nat_le, nat_l
 use Rattle.law_run_recovers.proofs.Vocabulary.{Representative, votes_in, is_write_quorum, Opening, LockMode, Shared, Exclusive, Request, Op, row_of, votes_in-wider, holds, needed_of, all_told, Job, Transaction, GatheredSuite, suite_of}
 use Rattle.law_run_recovers.proofs.Vocabulary.{is_changed, Running, home_of, request_in, changes_of, decision_of, votes_after, Agent, fixed_of, is_idle, has_sense, max_jobs, next_in, next_of, begin, started, after_all, exchanges}
 use Rattle.law_run_recovers.proofs.Vocabulary.{newest_of, IsReady, Keeps, nothing_held, plus_all, begin_keeps, decides_on_quorums, Event, Begin, Step, EndedJob, Actor, World, server_at, actor_at, becomes, asks, steps_once, opening}
-use Rattle.law_run_recovers.proofs.Vocabulary.{step, after, dones, outcomes, run, Decided, decided, decided_by, decisions, decisions_from, task_of, task_at, table_of, table_after_all, dones-append, outcomes-append}
+use Rattle.law_run_recovers.proofs.Vocabulary.{step, after, dones, outcomes, run, Decided, decided, decided_by, decisions, decisions_from, task_of, task_at, table_of, table_after_all, dones-append, outcomes-append, DecidedHadVotesUpAt}
 use Rattle.law_run_recovers.proofs.Vocabulary.{decisions_from-append, answers_follow_knowledge, IsAnsweredAsKnown, Runs, IsAt, not_begun, has_append, holds_of, decided_once, number_of, ended, is_decided, Ending, Has, has_any, has_from}
-use Rattle.law_run_recovers.proofs.Vocabulary.{agent_of, agent_at, puts_in, with_job, can_front, facts_of, no_task, CanBe, demand, is_met, votes_of_row, OneIsDecided, GoesAlone, HadVotesUp, DecidedHadVotesUp, begins_now, is_up}
+use Rattle.law_run_recovers.proofs.Vocabulary.{agent_of, agent_at, puts_in, with_job, can_front, facts_of, no_task, CanBe, demand, is_met, votes_of_row, OneIsDecided, GoesAlone, HadVotesUp, begins_now, is_up, Always}
 use Rattle.rep_core.specs.declared.request.Request.TheVariants as request
 use Rattle.file_ops.specs.Rows as rows
 use Rattle.txn_core.specs.Suites.{told_in}
@@ -296,7 +296,7 @@ module _ (given : Opening) (events later : List Event) (agent t : ℕ) (caller :
       of (ending.Swept broken finished left) is sure = absurd (false≢true sure)
       of (ending.Undecided cause) is sure = absurd (false≢true sure)
 
-pub decided_had_votes_up : DecidedHadVotesUp
+pub decided_had_votes_up : Always DecidedHadVotesUpAt
 decided_had_votes_up given events later agent t caller site ops actor alone was =
     let is = ⊎_elim (λ is. is) (λ one. ended_stands given events later agent t caller site ops actor alone one) was in
     had given events later agent t caller site ops actor alone

@@ -84,6 +84,7 @@ pub mod Histories
 pub mod Owned
 pub mod Sides
 pub mod BesideUnmet
+pub mod Busy
 pub mod BesideAll
 pub mod BesideNext
 pub mod BesideSides

@@ -1,9 +1,9 @@
 -- The votes that the rows of a run's table have, and those that a transaction sets on it, are valid and list servers that there are.
-use Rattle.law_run_recovers.proofs.Vocabulary.{◌≡◌, inl, inr, ⊎_elim, ℕ, ◌<◌, Bool, true, false, cond, List, [], ◌∷◌, All, Option, Some, None, Result, Ok, Err, Less, Equal, Greater, refl, sym, ap, subst, ◌∙◌, arith, ◌==◌, ◌&&◌, ◌||◌}
-use Rattle.law_run_recovers.proofs.Vocabulary.{not, nat_le, list_any, option_map, map, filter, AllByRecursion, nat_cmp, match_ordering, Ordering, is_eq, insert, nat_cmp_total, false≢true, eqb-true, eq-eqb, nat_tests, none-some, same_Some, Identity}
-use Rattle.law_run_recovers.proofs.Vocabulary.{Representative, Configuration, IsValid, Opening, Prefix, Exclusive, Answer, Op, Refusal, PlainTable, Service, Row, Rows, row_of, Change, Edit, Need, Hold, Know, some, makes, sets_acl, sets_votes, with_change, changes_at}
+use Rattle.law_run_recovers.proofs.Vocabulary.{◌≡◌, inl, inr, ⊎_elim, ℕ, ◌<◌, Bool, true, false, cond, List, [], ◌∷◌, All, Option, Some, None, Result, Ok, Err, refl, sym, ap, subst, ◌∙◌, arith, ◌==◌, ◌&&◌, ◌||◌}
+use Rattle.law_run_recovers.proofs.Vocabulary.{not, nat_le, list_any, option_map, map, filter, AllByRecursion, nat_cmp, is_eq, insert, nat_cmp_total, false≢true, eqb-true, eq-eqb, nat_tests, none-some, same_Some, Identity}
+use Rattle.law_run_recovers.proofs.Vocabulary.{Representative, Configuration, IsValid, Opening, Prefix, Exclusive, Answer, Op, Refusal, PlainTable, Service, Row, Rows, row_of, Change, Edit, Need, Hold, Know, some, makes, sets_acl, sets_votes}
 use Rattle.law_run_recovers.proofs.Vocabulary.{Edits, Ended, seen, is_set, needs, ending, transaction, Known, known_rows, is_opened, Done, heard, exec_of, first_unmet, AgreesWith, IsSoAt, goes_alike, on_table, on_transaction, Has, has_any, has_filter, has_map}
-use Rattle.law_run_recovers.proofs.Vocabulary.{Event, Decided, decisions, table_of, table_after_all, WasPrefix, none_or_some, beginning, machine_of, CanBe, all_keep, change_in, changes_on, votes_set, votes_of_row, fixed_of}
+use Rattle.law_run_recovers.proofs.Vocabulary.{Event, Decided, decisions, table_of, table_after_all, WasPrefix, none_or_some, beginning, machine_of, CanBe, all_keep, change_in, changes_on, votes_set, votes_of_row, fixed_of, listed}
 use Rattle.std.proofs.lemmas.List.Elements.{All-from_recursion}
 use Rattle.std.specs.Cmp.{unsigned_tied}
 use Rattle.file_exec.proofs.StepOnTable.{row_of-with_edits}
@@ -107,33 +107,6 @@ module _ (W : Configuration → Type 0) where
       of : (b : Bool) → (e.0 == z) ≡ b → ((some sets_votes edits z ≡ false → AreIn (found z)) → AreIn (seen edits z (found z))) → AreIn (cond b (changed e.1 (seen edits z (found z))) (seen edits z (found z)))
       of true is go = changed_in e.1 (seen edits z (found z)) all.0 (λ none. go (λ other. both true is none other))
       of false is go = go (λ other. both false is refl other)
-
--- ---- each change that is listed is the one of its suite
-
-abbrev IsOf : (ℕ → Option Change) → ℕ × Change → Type 0
-IsOf change one = change one.0 ≡ Some one.1
-
-tied : (a b : ℕ) → nat_cmp a b ≡ Equal → a ≡ b
-tied a b is = grind (arith, nat_tests)
-
-inserted : (change : ℕ → Option Change) (all : List (ℕ × Change)) (suite : ℕ) (made : Change) → change suite ≡ Some made → ((one : ℕ × Change) → Has all one → IsOf change one)
-    → (one : ℕ × Change) → Has (insert nat_cmp all suite made) one → IsOf change one
-inserted change [] suite made is each one has = ⊎_elim (λ same. subst (IsOf change) same is) (λ none. absurd none) has
-inserted change (e ∷ all) suite made is each one has = of (nat_cmp suite e.0) refl has (λ rest. inserted change all suite made is (λ one has. each one (inr has)) one rest)
-  where
-    of : (answer : Ordering) → nat_cmp suite e.0 ≡ answer → Has (match_ordering answer ((suite, made) ∷ e ∷ all) ((e.0, made) ∷ all) (e ∷ insert nat_cmp all suite made)) one
-        → (Has (insert nat_cmp all suite made) one → IsOf change one) → IsOf change one
-    of Less at has later = ⊎_elim (λ same. subst (IsOf change) same is) (λ rest. each one rest) has
-    of Equal at has later = ⊎_elim (λ same. subst (IsOf change) same (ap change (sym (tied suite e.0 at)) ∙ is)) (λ rest. each one (inr rest)) has
-    of Greater at has later = ⊎_elim (λ same. each one (inl same)) later has
-
-listed : (change : ℕ → Option Change) (edits : Edits) (one : ℕ × Change) → Has (changes_at change edits) one → IsOf change one
-listed change [] one has = absurd has
-listed change (e ∷ edits) one has = of (change e.0) refl has (listed change edits)
-  where
-    of : (made : Option Change) → change e.0 ≡ made → Has (with_change e.0 made (changes_at change edits)) one → ((one : ℕ × Change) → Has (changes_at change edits) one → IsOf change one) → IsOf change one
-    of None is has later = later one has
-    of (Some made) is has later = inserted change (changes_at change edits) e.0 made is later one has
 
 -- ---- on a table
 
