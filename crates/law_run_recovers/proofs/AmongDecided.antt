@@ -13,7 +13,7 @@ use Rattle.law_run_recovers.proofs.AmongLaws.{none_in, all_is, first_same, rows_
 use Rattle.law_run_recovers.proofs.Asking.{held_if, held_in}
 use Rattle.law_run_recovers.proofs.AtDecision.{decides_up}
 use Rattle.law_run_recovers.proofs.Deciding.{answer_as, decides_answer}
-use Rattle.law_run_recovers.proofs.HadVotes.{decided_since, stood_since}
+use Rattle.law_run_recovers.proofs.DecidedSince.{decided_since, stood_since}
 use Rattle.law_run_recovers.proofs.Keeps.{at_work, run_at}
 use Rattle.law_run_recovers.proofs.NearGround.{its, sight, number}
 use Rattle.law_run_recovers.proofs.Open.{its_begin, unmet_is_among_locks}
@@ -179,7 +179,7 @@ module _ (given : Opening) (events later : List Event) (agent t : ℕ) (caller :
         ap (λ b. b && is_up (run given events) (home_of (fixed_of given).service t)) rows ∙ sym home_same ∙ home_now
 
     -- it is not after its end
-    over_not : Over given events later agent t caller site ops actor goes so_far → ⊥
+    pub over_not : Over given events later agent t caller site ops actor goes so_far → ⊥
     over_not over =
         let was = (holds_of given goes.can.accepted all).over over.0 over.1 in
         let small_was = (holds_of given goes.can.accepted all).agents.small over.0.agent was.agent was.at in
@@ -243,7 +243,7 @@ module _ (given : Opening) (events later : List Event) (agent t : ℕ) (caller :
             go
             (or_cases (one.t == t) (list_any (λ (one : Decided). one.t == t) (decisions_from (fixed_of given) (step (fixed_of given) (world_after given events agent caller site ops so_far) event).world rest)) some)
 
-    decided_where : list_any (λ (one : Decided). one.t == t) (decisions given (events ++ Begin agent (Transaction caller site ops) ∷ later)) ≡ true → P
+    pub decided_where : list_any (λ (one : Decided). one.t == t) (decisions given (events ++ Begin agent (Transaction caller site ops) ∷ later)) ≡ true → P
     decided_where some =
         decided_in later [] refl (inl (first_course given events later agent t caller site ops actor goes))
         (decided_since given events later agent t caller site ops actor goes.can goes.there (its_begin given events later agent t caller site ops actor goes.can goes.there goes.begins).0 some)
@@ -255,7 +255,7 @@ module _ (given : Opening) (events later : List Event) (agent t : ℕ) (caller :
   stood_gathered some = decided_where (GathersItsAsks given events later agent t caller site ops) gathered_then some
 
   -- what ended decided stands among the decisions
-  ended_stands : (job : EndedJob) → EndsThen given events later agent t caller site ops job → is_decided job.ending ≡ true
+  pub ended_stands : (job : EndedJob) → EndsThen given events later agent t caller site ops job → is_decided job.ending ≡ true
       → list_any (λ (one : Decided). one.t == t) (decisions given (events ++ Begin agent (Transaction caller site ops) ∷ later)) ≡ true
   ended_stands job ends = of job.ending ((holds_of given goes.can.accepted (events ++ Begin agent (Transaction caller site ops) ∷ later)).over job (ended_has given events later agent t caller site ops actor goes job ends)).stands
     where

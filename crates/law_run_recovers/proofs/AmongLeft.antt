@@ -10,7 +10,6 @@ use Rattle.txn_core.specs.Agents as agents
 use Rattle.law_agents.specs.Orders as orders
 use Rattle.law_run_recovers.specs.Sweeping.{has_any as any_of}
 use Rattle.law_run_recovers.proofs.Apart.{Apart, event_apart}
-use Rattle.law_run_recovers.proofs.Downs.{held-append}
 use Rattle.law_run_recovers.proofs.Keeps.{run_at}
 use Rattle.law_run_recovers.proofs.Locked.{freed}
 use Rattle.law_run_recovers.proofs.KnownStays.{among_numbers}
@@ -26,6 +25,14 @@ use Rattle.law_run_recovers.proofs.AmongStep.{is_then, own_on}
 use Rattle.law_run_recovers.proofs.Picks.{along}
 
 -- ---- exchanges
+
+held-append : (past later : List Exchange) (number who : ℕ) → was_held (past ++ later) number who ≡ (was_held past number who || was_held later number who)
+held-append [] later number who = refl
+held-append (one ∷ past) later number who = of ((one.server == who) && locks number one.request && says_held one.response) _ _ _ (held-append past later number who)
+  where
+    of : (a b c d : Bool) → b ≡ (c || d) → (a || b) ≡ ((a || c) || d)
+    of true b c d is = refl
+    of false b c d is = is
 
 -- a server was told how it ended
 abbrev pub was_done : List Exchange → ℕ → Bool

@@ -316,6 +316,7 @@ module _ (fixed : Fixed) (world : World) (sight : Sight) (table : PlainTable) (t
             from = may_start fixed world sight table task cache suites ready.asks.right;
             none = none_short fixed world sight table task cache start ready.asked [] all_asked all_had (ap (λ result. votes_of (changes_on table.rows result)) is) (λ other has. absurd has);
             answer_is = sym (ap given_by is) ∙ answer_on_table table task;
+            right = ready.asks.right;
             gathered = all_modes;
           })
 

@@ -20,12 +20,10 @@ pub mod LostUndecided
 pub mod Quiet
 pub mod Calm
 pub mod Stored
-pub mod Downs
-pub mod Since
-pub mod Decider
+pub mod NoMore
+pub mod DecidedSince
 pub mod AtDecision
 pub mod Deciding
-pub mod HadVotes
 pub mod StepsServed
 pub mod Still
 pub mod Asking
@@ -79,6 +77,7 @@ pub mod AmongDecided
 pub mod Names
 pub mod AmongTime
 pub mod AloneLaws
+pub mod HadVotes
 pub mod ToldLaws
 pub mod Histories
 pub mod Owned

@@ -5,8 +5,8 @@ use Rattle.law_run_recovers.proofs.Vocabulary.{started, Event, Begin, Step, Acto
 use Rattle.law_run_recovers.proofs.Vocabulary.{demands, first_short, is_met, all_met, led_to, led_to_by, newer_from, MayStart, VotesAreUp, GoesAlone, answer_on, OneIsDecided, is_open_at, way_at, begun_world, world_after}
 use Rattle.law_one_table.proofs.Effects as effects
 use Rattle.law_run_recovers.specs.Ends as laws
-use Rattle.law_run_recovers.proofs.AloneKept.{calm, up_same, many, free_then, table_same, shown_then}
-use Rattle.law_run_recovers.proofs.AloneLaws.{steadily, own_then}
+use Rattle.law_run_recovers.proofs.AloneKept.{up_same, many, free_then, table_same, shown_then}
+use Rattle.law_run_recovers.proofs.AloneLaws.{steadily, calm, now_at, own_then}
 use Rattle.law_run_recovers.proofs.AmongCourse.{Course, RunsIt, runs_it, course_runs, next_is, apart_on}
 use Rattle.law_run_recovers.proofs.AmongEnds.{Over}
 use Rattle.law_run_recovers.proofs.AmongLeft.{left_at}
@@ -16,7 +16,6 @@ use Rattle.law_run_recovers.proofs.AmongStep.{here_is, own_on, there_then}
 use Rattle.law_run_recovers.proofs.Apart.{event_apart}
 use Rattle.law_run_recovers.proofs.Aside.{Aside, event_aside}
 use Rattle.law_run_recovers.proofs.Found.{all_answer}
-use Rattle.law_run_recovers.proofs.HadVotes.{count_then, last_now}
 use Rattle.law_run_recovers.proofs.Hinted.{execute_hints, reply_hints}
 use Rattle.law_run_recovers.proofs.Led.{rules_of}
 use Rattle.law_run_recovers.proofs.NearGround.{its, first_asked, sight, Known, ground, can_first}
@@ -206,8 +205,8 @@ module _ (given : Opening) (events later : List Event) (agent t : ℕ) (caller :
     module _ (down : is_up (run given events) (home_of (fixed_of given).service t) ≡ false) where
       count_so : at_end.here.agent.count ≡ actor.agent.count + 1
       count_so =
-          let now = last_now given events later agent t caller site ops actor goes in
-          ap (λ (here : Actor). here.agent.count) (same_Some at_end.here now.here (sym at_end.there ∙ now.there)) ∙ now.count_is ∙ count_then given events later agent t caller site ops actor goes
+          let now = now_at given events later agent t caller site ops actor goes later [] (sym (append-nil later)) in
+          ap (λ (here : Actor). here.agent.count) (same_Some at_end.here now.here (sym at_end.there ∙ now.there)) ∙ now.count_is
 
       -- all are open to it that are up
       open_all : (z i : ℕ) → finds_at (sight given events later agent t caller site ops actor steady_so) z i ≡ is_up (run given events) i
