@@ -4,7 +4,7 @@ use Rattle.law_run_alone.proofs.Vocabulary.{and_parts, none-some, same_Some, Ide
 use Rattle.law_run_alone.proofs.Vocabulary.{fixed_of, is_idle, Event, Begin, Step, Crash, Return, Forget, Lack, EndedJob, Actor, World, opening, actor_at, step, dones, outcomes, run, done_in, decisions, task_of, task_at, dones-append}
 use Rattle.law_run_alone.proofs.Vocabulary.{outcomes-append, number_of, begins_now, ended, append_has_left, append_has_right, EndStands, ends_as, later_decisions, decisions_go_on, CanBe, all_idle, begins_job, begins_alone, jobs_from}
 use Rattle.law_run_alone.proofs.Vocabulary.{jobs_of, one_at_a_time_from, one_at_a_time, IsDecided, IsRunning, AllAreDecided, UndisturbedEndingsAreOne, all_up, no_locks, disturbs, is_decided, begins_clear, some_runs}
-use Rattle.law_run_alone.proofs.Vocabulary.{all_undisturbed_from, all_undisturbed}
+use Rattle.law_run_alone.proofs.Vocabulary.{all_undisturbed_from, all_undisturbed, not-true, append-nil}
 use Rattle.txn_core.specs.declared.ending.Ending.TheVariants.{Answered}
 use Rattle.law_run_alone.proofs.Turns.{with_job, doing_of, doing_at, all_none}
 use Rattle.law_run_alone.proofs.Owns.{IsMine}
@@ -12,10 +12,6 @@ use Rattle.law_run_alone.proofs.Clear.{at_has}
 use Rattle.law_run_alone.proofs.Same.{endings_are_one}
 use Rattle.law_run_alone.proofs.Reached.{can_front, run_more}
 use Rattle.law_run_alone.proofs.Undisturbed.{Reached, reached_first, runs_first, next_reached, ended_decided, runs_still}
-
-not_true : (b : Bool) → not b ≡ true → b ≡ false
-not_true true is = absurd (false≢true is)
-not_true false is = refl
 
 two_parts : (a b c : Bool) → (a && b && c) ≡ true → (a ≡ true) × (b ≡ true) × (c ≡ true)
 two_parts true b c is = let both = and_parts b c is in (refl, both.0, both.1)
@@ -88,12 +84,8 @@ where_begun None one b is clear = absurd (none-some one is)
 where_begun (Some other) one b is clear = clear
 
 is_calm : (runs some : Bool) → runs ≡ true → not (runs && some) ≡ true → some ≡ false
-is_calm true some is calm = not_true some calm
+is_calm true some is calm = not-true some calm
 is_calm false some is calm = absurd (false≢true is)
-
-append_none : (all : List Event) → all ++ [] ≡ all
-append_none [] = refl
-append_none (event ∷ all) = ap (λ all. event ∷ all) (append_none all)
 
 -- it is decided, or still runs
 abbrev DecidedOrRuns : Opening → List Event → ℕ → Type 0
@@ -104,7 +96,7 @@ DecidedOrRuns given all t = IsDecided (decisions given all) t ⊎ IsRunning (run
 module _ (given : Opening) (agent t : ℕ) where
   follow : (all rest : List Event) → CanBe given (all ++ rest) → Reached given t agent all → is_idle (doing_at (run given all) agent) ≡ false
       → one_at_a_time_from given (run given all) rest ≡ true → all_undisturbed_from given (run given all) rest ≡ true → DecidedOrRuns given (all ++ rest) t
-  follow all [] can reached runs alone calm = inr (subst (λ all. IsRunning (run given all) t) (sym (append_none all)) (runs_it (run given all) agent t reached.clear.owns.mine runs).running)
+  follow all [] can reached runs alone calm = inr (subst (λ all. IsRunning (run given all) t) (sym (append-nil all)) (runs_it (run given all) agent t reached.clear.owns.mine runs).running)
   follow all (event ∷ rest) can reached runs alone calm =
       subst (λ whole. DecidedOrRuns given whole t) (append_assoc all (event ∷ []) rest)
       (of (step (fixed_of given) world event).done.outcome refl can'

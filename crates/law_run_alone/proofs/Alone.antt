@@ -1,8 +1,8 @@
 -- What holds of every run in which jobs go one at a time.
 use Rattle.law_run_alone.proofs.Vocabulary.{◌≡◌, ◌≢◌, ⊎_elim, ℕ, true, List, [], ◌∷◌, ◌++◌, append_assoc, Option, Some, None, refl, sym, ap, subst, ◌∙◌, map, option_to_list, cons_option, and_parts, map-append, filter_map-append}
 use Rattle.law_run_alone.proofs.Vocabulary.{Opening, IsAccepted, Job, Doing, Agent, fixed_of, Event, EndedJob, Actor, World, opening, actor_at, step, after, dones, outcomes, run, Decided, decided, decisions, decisions_from, ended}
-use Rattle.law_run_alone.proofs.Vocabulary.{Holds, agent_of, event_holds, cons_is, holds_at_first, fresh_agents, begins_job, begins_alone, jobs_from, jobs_of, one_at_a_time_from, one_at_a_time, decided_ending, decided_endings}
-use Rattle.law_run_alone.proofs.Verdicts.{Asked, asked_of, answer_to, answered, undecided, append_none}
+use Rattle.law_run_alone.proofs.Vocabulary.{Holds, agent_of, event_holds, cons_is, holds_at_first, fresh_agents, begins_job, begins_alone, jobs_from, jobs_of, one_at_a_time_from, one_at_a_time, decided_ending, decided_endings, append-nil}
+use Rattle.law_run_alone.proofs.Verdicts.{Asked, asked_of, answer_to, answered, undecided}
 use Rattle.law_run_alone.proofs.Along.{Along, along_more, along_less}
 use Rattle.law_run_alone.proofs.Turns.{doing_of, doing_at, transactions_of, transaction_in, Goes, event_goes}
 
@@ -53,14 +53,14 @@ goes_on world new ds past jobs orderly d outcome begun goes = record {
         ⊎_elim
         (λ same. subst (λ more. Along (map asked_of (ds ++ option_to_list d) ++ more) all) (sym same) with_more)
         (λ none. subst (λ more. Along (map asked_of (ds ++ option_to_list d) ++ more) all) (sym none)
-        (subst (λ some. Along some all) (sym (append_none (map asked_of (ds ++ option_to_list d)))) (along_less (map asked_of (ds ++ option_to_list d)) goes.more all with_more)))
+        (subst (λ some. Along some all) (sym (append-nil (map asked_of (ds ++ option_to_list d)))) (along_less (map asked_of (ds ++ option_to_list d)) goes.more all with_more)))
         goes.still
 
 run_orderly : (given : Opening) (events : List Event) (world : World) (ds : List Decided) (past : List EndedJob) (jobs : List (ℕ × Job)) → Holds (fixed_of given) world ds past
     → Orderly world ds past jobs → one_at_a_time_from given world events ≡ true
     → Orderly (after (fixed_of given) world events) (ds ++ decisions_from (fixed_of given) world events) (past ++ outcomes (dones (fixed_of given) world events)) (jobs ++ jobs_from given world events)
 run_orderly given [] world ds past jobs holds orderly alone =
-    subst (λ ds. Orderly world ds (past ++ []) (jobs ++ [])) (sym (append_none ds)) (subst (λ past. Orderly world ds past (jobs ++ [])) (sym (append_none past)) (subst (Orderly world ds past) (sym (append_none jobs)) orderly))
+    subst (λ ds. Orderly world ds (past ++ []) (jobs ++ [])) (sym (append-nil ds)) (subst (λ past. Orderly world ds past (jobs ++ [])) (sym (append-nil past)) (subst (Orderly world ds past) (sym (append-nil jobs)) orderly))
 run_orderly given (event ∷ events) world ds past jobs holds orderly alone =
     let fixed = fixed_of given in
     let next = step fixed world event in

@@ -1,13 +1,9 @@
 -- A transaction that nothing disturbs is decided when it ends.
-use Rattle.law_run_alone.proofs.Vocabulary.{◌≡◌, inl, inr, ℕ, Bool, true, false, List, [], ◌∷◌, ◌++◌, append_assoc, Option, Some, None, refl, sym, ap, subst, ◌∙◌, not, cons_option, false≢true, and_parts, Opening, Has, has_from}
-use Rattle.law_run_alone.proofs.Vocabulary.{Transaction, fixed_of, Event, Begin, EndedJob, step, dones, outcomes, run, number_of, CanBe, begins_job, jobs_from, disturbs, undisturbed_from, is_decided, UndisturbedAreDecided}
+use Rattle.law_run_alone.proofs.Vocabulary.{◌≡◌, inl, inr, ℕ, true, false, List, [], ◌∷◌, ◌++◌, append_assoc, Option, Some, None, refl, sym, ap, subst, ◌∙◌, not, cons_option, and_parts, Opening, Has, has_from}
+use Rattle.law_run_alone.proofs.Vocabulary.{Transaction, fixed_of, Event, Begin, EndedJob, step, dones, outcomes, run, number_of, CanBe, begins_job, jobs_from, disturbs, undisturbed_from, is_decided, UndisturbedAreDecided, not-true}
 use Rattle.law_run_alone.proofs.Clear.{none_now}
 use Rattle.law_run_alone.proofs.Reached.{can_front, run_more}
 use Rattle.law_run_alone.proofs.Undisturbed.{Reached, reached_first, next_reached, ended_decided}
-
-not_true : (b : Bool) → not b ≡ true → b ≡ false
-not_true true is = absurd (false≢true is)
-not_true false is = refl
 
 module _ (given : Opening) (agent t : ℕ) where
   -- each ending from there on
@@ -18,7 +14,7 @@ module _ (given : Opening) (agent t : ℕ) where
       let next = (step (fixed_of given) (run given all) event).world in
       let now = none_now (begins_job given (run given all) event) (jobs_from given next rest) none in
       let parts = and_parts (not (disturbs given (run given all) event)) (undisturbed_from given next rest) calm in
-      let quiet = not_true (disturbs given (run given all) event) parts.0 in
+      let quiet = not-true (disturbs given (run given all) event) parts.0 in
       let can' : CanBe given ((all ++ event ∷ []) ++ rest) = subst (CanBe given) (sym (append_assoc all (event ∷ []) rest)) can in
       let can_now = can_front given (all ++ event ∷ []) rest can' in
       let more = sym (run_more given all event) in

@@ -1,7 +1,7 @@
 -- A file has no default list: so it is of each row that a transaction sets, where it is of the row that was there.
-use Rattle.law_run_alone.proofs.Vocabulary.{◌≡◌, ℕ, Bool, true, false, cond, List, [], ◌∷◌, Option, Some, None, refl, sym, ap, subst, ◌∙◌, ◌==◌, nat_lt, not, is_some, and_parts, eqb-true, none-some, same_Some, Identity, Lists}
-use Rattle.law_run_alone.proofs.Vocabulary.{Configuration, Content, Kind, kind_of, empty_content, keeps_rules, is_valid_prefix, Prefix, Init, gives_default, is_misplaced, lists_of, Row, new_row, Edit, SetAcl, SetVotes, SetContent, Make}
-use Rattle.law_run_alone.proofs.Vocabulary.{Edits, changed, seen, emptied, head, looked, ReadPoint, GatheredSuite, row_with, prefix_kind, FitsAs, FitsRow, AllFit, head_of}
+use Rattle.law_run_alone.proofs.Vocabulary.{◌≡◌, ℕ, true, false, cond, List, [], ◌∷◌, Option, Some, None, refl, sym, ap, subst, ◌∙◌, ◌==◌, nat_lt, not, is_some, and_parts, eqb-true, none-some, same_Some, Identity, Lists}
+use Rattle.law_run_alone.proofs.Vocabulary.{Configuration, Content, Kind, kind_of, keeps_rules, is_valid_prefix, Prefix, Init, gives_default, is_misplaced, lists_of, Row, new_row, Edit, SetAcl, SetVotes, SetContent, Make}
+use Rattle.law_run_alone.proofs.Vocabulary.{Edits, changed, seen, emptied, head, looked, ReadPoint, GatheredSuite, row_with, prefix_kind, FitsAs, FitsRow, AllFit, head_of, not-true, kind_empty}
 use Rattle.acl_core.specs.declared.entry.Entry.{Entry}
 use Rattle.suite_content.specs.declared.content.Kind.TheVariants as holds
 use Rattle.file_ops.specs.declared.operation.Init.TheVariants as init
@@ -26,10 +26,6 @@ AllSetFitting rows [] = Unit {0}
 AllSetFitting rows (e ∷ edits) = SetsFitting e.1 (seen edits e.0 (rows e.0)) × AllSetFitting rows edits
 
 -- ---- what operations set
-
-kind_empty : (kind : Kind) → kind_of (empty_content kind) ≡ kind
-kind_empty holds.File = refl
-kind_empty holds.Folder = refl
 
 -- lists that fit the row that was looked at
 pub looked_fit : (rows : ℕ → Option Row) (edits : Edits) (suite : ℕ) (row : Row) (acl : Lists) → looked rows edits suite ≡ Some row → is_misplaced (kind_of row.content) (is_some acl.default) ≡ false
@@ -71,12 +67,8 @@ seen_fit rows (e ∷ edits) suite kinds sets fit =
 
 -- ---- the row that a valid prefix shows
 
-none_given : (given : Bool) → not given ≡ true → given ≡ false
-none_given true is = cc
-none_given false is = refl
-
 valid_fits : (kind : Kind) (prefix : Prefix) → prefix_kind kind ≡ prefix.kind → is_valid_prefix prefix ≡ true → is_misplaced kind (is_some prefix.acl.default) ≡ false
-valid_fits holds.File prefix same valid = none_given (is_some prefix.acl.default) (and_parts (nat_lt 0 prefix.pver) (not (is_some prefix.acl.default)) (ap (λ kind. keeps_rules kind prefix) same ∙ valid)).1
+valid_fits holds.File prefix same valid = not-true (is_some prefix.acl.default) (and_parts (nat_lt 0 prefix.pver) (not (is_some prefix.acl.default)) (ap (λ kind. keeps_rules kind prefix) same ∙ valid)).1
 valid_fits holds.Folder prefix same valid = refl
 
 pub shown_fit : (suite : GatheredSuite) (first : ReadPoint) (row : Option Row) → ((c : Content) → suite.content ≡ Some c → FitsAs first.prefix.kind c) → head row ≡ head (row_with first.prefix.kind first.prefix suite.content)

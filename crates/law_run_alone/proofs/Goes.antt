@@ -1,7 +1,7 @@
 -- A transaction whose agent alone asks servers, with the machine of each suite, at any moment: what it asks finds the locks that it stands on, and what it is replied is free.
 use Rattle.law_run_alone.proofs.Vocabulary.{◌≡◌, ℕ, Bool, true, false, List, [], ◌∷◌, ◌++◌, append_assoc, Option, Some, None, refl, sym, ap, subst, ◌∙◌, none-some, Identity, IsValid, Opening, Op, Request, is_lost, copy_of, State}
-use Rattle.law_run_alone.proofs.Vocabulary.{reply_of, Transaction, Fixed, TransactionRun, Doing, Running, RunningSweep, home_of, is_decide, stands_on_locks, fixed_of, next_in, next_of, Event, Begin, Step, Crash, Return, Forget, Lack}
-use Rattle.law_run_alone.proofs.Vocabulary.{Actor, server_at, actor_at, step, run, decisions, names, ended, decides, Holds, holds_of, machine_of, machine_one, CanBe, begins_job}
+use Rattle.law_run_alone.proofs.Vocabulary.{reply_of, Transaction, Fixed, TransactionRun, Doing, Running, RunningSweep, stands_on_locks, fixed_of, next_in, next_of, Event, Begin, Step, Crash, Return, Forget, Lack}
+use Rattle.law_run_alone.proofs.Vocabulary.{Actor, server_at, actor_at, step, run, decisions, names, ended, Holds, holds_of, machine_of, machine_one, CanBe, begins_job}
 use Rattle.rep_core.specs.declared.reply.Verdict.TheVariants as verdict
 use Rattle.run_core.specs.Worlds as worlds
 use Rattle.law_suite_machine.specs.Machine.{World}
@@ -18,7 +18,7 @@ use Rattle.law_run_alone.proofs.Unhindered.{AllConsistent, all_consistent, free_
 use Rattle.law_run_alone.proofs.Reached.{can_front, run_more}
 use Rattle.law_run_alone.proofs.Holding.{PhaseStands, DoingStands, event_stands}
 use Rattle.law_run_alone.proofs.Whole.{Carried, next_machines, carried_next, carried_by}
-use Rattle.law_run_alone.proofs.Requests.{Finds, finds, not_lost, stands_where}
+use Rattle.law_run_alone.proofs.Requests.{not_lost, stands_where}
 use Rattle.law_run_alone.proofs.Untold.{AllStand, begun_stands, started_untold}
 
 module _ (given : Opening) (up : ℕ → Bool) (t turn : ℕ) where
@@ -76,9 +76,6 @@ module _ (given : Opening) (up : ℕ → Bool) (t turn : ℕ) where
         stands : (c : OfCourse) (z : ℕ) → PhaseStands (g.machines z) c.txn_run.task.t c.txn_run.phase
         stands c z = subst (λ t. PhaseStands (g.machines z) t c.txn_run.phase) (sym c.same) (subst (DoingStands (g.machines z) t) c.running (g.stand z here there))
 
-        pub own_finds : Finds st asked.1
-        own_finds = finds given g.can.c0 w later g.machines g.carried turn here own_course.txn_run there own_course.running (stands own_course) asked next st at
-
         own_kept : is_lost (reply_of st asked.1) ≡ false
         own_kept = not_lost given g.can.c0 w later g.machines g.carried turn here own_course.txn_run there own_course.running (stands own_course) asked next st at
 
@@ -90,15 +87,6 @@ module _ (given : Opening) (up : ℕ → Bool) (t turn : ℕ) where
         -- its reply is free
         pub own_free : IsFree (up asked.0) asked.1 (reply_of st asked.1)
         own_free = free_reply (up asked.0) t st asked.1 own_named own_server (consistent asked.0 st at) (copies asked.0 st at) (g.unswept asked.0 st at) own_kept own_up
-
-        -- it asks its home to decide, and resolves nothing
-        pub own_home : is_decide asked.1 ≡ true → asked.0 ≡ home_of fixed.service t
-        own_home decide =
-            let c = own_course in
-            (decides fixed c.txn_run.task c.txn_run.suites c.txn_run.phase asked.0 asked.1 (ap (next_in fixed) (sym c.running) ∙ next) decide).at_home ∙ ap (home_of fixed.service) c.same
-
-        pub own_resolve : is_resolve asked.1 ≡ false
-        own_resolve = let c = own_course in never_resolves fixed c.txn_run.task c.txn_run.suites c.txn_run.phase asked.0 asked.1 (ap (next_in fixed) (sym c.running) ∙ next)
 
   -- ---- one event
 

@@ -6,7 +6,7 @@ use Rattle.law_run_alone.proofs.Vocabulary.{Ends, Sweeping, Listing, Resolving, 
 use Rattle.law_run_alone.proofs.Vocabulary.{end_of, take_in, take, begin, started, forget, asks_same, Event, Begin, Step, Crash, Return, Forget, Lack, Served, EndedJob, Actor, World, server_at, actor_at, with_actor, serve}
 use Rattle.law_run_alone.proofs.Vocabulary.{after_serving, moved, outcome_of, lacked, answered, becomes, asks_at, asks, steps_once, lacks_for, lacks, operated, operates, step, Decided, task_of, task_at, task_in, decided_by, decided_at}
 use Rattle.law_run_alone.proofs.Vocabulary.{to_decide, decided_as, answer_in, begins_now, Answer', Stands, Recorded, same_or, Tells, Leaves, leaves_begin, leaves_response, IsAt, sweep_decides_none, no_decide, agent_of, Holds, puts_in}
-use Rattle.law_run_alone.proofs.Vocabulary.{all_idle, begins_job, begins_alone, answer_by, decided_endings}
+use Rattle.law_run_alone.proofs.Vocabulary.{all_idle, begins_job, begins_alone, answer_by, decided_endings, append-nil}
 use Rattle.rep_core.specs.declared.request.Request.TheVariants as request
 use Rattle.rep_core.specs.declared.reply.Reply.TheVariants as reply
 use Rattle.rep_core.specs.declared.reply.Verdict.TheVariants as verdict
@@ -15,7 +15,7 @@ use Rattle.rep_core.specs.declared.stamped.Lack.TheVariants as lack
 use Rattle.txn_core.specs.Sweeps as sweep
 use Rattle.txn_core.specs.Transactions.{Step as Taking}
 use Rattle.law_run_alone.proofs.Verdicts as verdicts
-use Rattle.law_run_alone.proofs.Verdicts.{Asked, asked_by, asked_of, answer_to, answers_of, left_by, said_in, said_is, undecided, Turns, adds_answer, takes_asked, turns_served, ended_as, leaves_answer, leaves_asked, append_none}
+use Rattle.law_run_alone.proofs.Verdicts.{Asked, asked_by, asked_of, answer_to, answers_of, left_by, said_in, said_is, undecided, Turns, adds_answer, takes_asked, turns_served, ended_as, leaves_answer, leaves_asked}
 
 -- ---- who does what
 
@@ -166,9 +166,9 @@ module _ (given : Opening) (world : World) (ds : List Decided) (past : List Ende
   same_goes new same = record {
     next = turn;
     alone = λ i apart. same i ∙ alone i apart;
-    answers = append_none (verdicts.answered (doing_at world turn)) ∙ ap verdicts.answered (sym (same turn));
+    answers = append-nil (verdicts.answered (doing_at world turn)) ∙ ap verdicts.answered (sym (same turn));
     more = undecided (doing_at world turn);
-    parts = sym (append_none (undecided (doing_at world turn)));
+    parts = sym (append-nil (undecided (doing_at world turn)));
     still = inl (ap undecided (same turn));
   }
 
@@ -278,7 +278,7 @@ module _ (given : Opening) (world : World) (ds : List Decided) (past : List Ende
         alone = λ j apart. ap doing_of (puts.apart j apart) ∙ alone j (λ same. apart (same ∙ sym at));
         answers = ap (λ doing. verdicts.answered doing ++ map answer_to (option_to_list d)) before ∙ answers ∙ ap (λ doing. decided_endings (option_to_list outcome) ++ verdicts.answered doing) (sym here);
         more = more;
-        parts = parts ∙ ap undecided (sym before) ∙ sym (append_none (undecided (doing_at world turn)));
+        parts = parts ∙ ap undecided (sym before) ∙ sym (append-nil (undecided (doing_at world turn)));
         still = subst (λ doing. (undecided doing ≡ more) ⊎ (undecided doing ≡ [])) (sym here) still;
       }
 

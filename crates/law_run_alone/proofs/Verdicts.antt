@@ -2,7 +2,7 @@
 use Rattle.law_run_alone.proofs.Vocabulary.{◌≡◌, ◌⊎◌, inl, inr, ℕ, Bool, true, false, cond, List, [], ◌∷◌, ◌++◌, Option, Some, None, refl, sym, ap, subst, ◌∙◌, is_some, map, option_map, option_to_list, Ok, Err, Identity, Op, Request}
 use Rattle.law_run_alone.proofs.Vocabulary.{Verdict, State, record_of, reply_of, recorded, verdict_of, Cause, Ending, Replied, Fixed, Task, Proposal, Phase, Gathering, Fetching, Widening, Preparing, Deciding, Finishing, TransactionRun}
 use Rattle.law_run_alone.proofs.Vocabulary.{Doing, Running, RunningSweep, After, GoesOn, Ends, decision_of, ending_by, request_in, is_decide, said_by, left, end_of, Decided, to_decide, decided_as, decided_at, answer_in, Answer', NotIn}
-use Rattle.law_run_alone.proofs.Vocabulary.{Stands, Recorded, verdict_as, decides, no_decide, Tells, Leaves, answer_by}
+use Rattle.law_run_alone.proofs.Vocabulary.{Stands, Recorded, verdict_as, decides, no_decide, Tells, Leaves, answer_by, append-nil}
 use Rattle.rep_core.specs.declared.request.Request.TheVariants as request
 use Rattle.rep_core.specs.declared.reply.Reply.TheVariants as reply
 use Rattle.rep_core.specs.declared.reply.Verdict.TheVariants as verdict
@@ -76,13 +76,9 @@ pub record Newly (task : Task) (v new : Verdict) (d : Option Decided) : Type 0 w
 abbrev pub Turns : Task → Verdict → Verdict → Option Decided → Type 0
 Turns task v new d = Same v new d ⊎ Newly task v new d
 
-pub append_none : {X : Type 0} (xs : List X) → xs ++ [] ≡ xs
-append_none [] = refl
-append_none (x ∷ xs) = ap (λ xs. x ∷ xs) (append_none xs)
-
 pub adds_answer : (task : Task) (v new : Verdict) (d : Option Decided) → Turns task v new d → answers_of task.t v ++ map answer_to (option_to_list d) ≡ answers_of task.t new
 adds_answer task v new d turns = elim turns [
-  | inl same ↦ ap (λ d. answers_of task.t v ++ map answer_to (option_to_list d)) same.none ∙ append_none (answers_of task.t v) ∙ ap (answers_of task.t) (sym same.same)
+  | inl same ↦ ap (λ d. answers_of task.t v ++ map answer_to (option_to_list d)) same.none ∙ append-nil (answers_of task.t v) ∙ ap (answers_of task.t) (sym same.same)
   | inr newly ↦
       ap (λ v. answers_of task.t v ++ map answer_to (option_to_list d)) newly.was
       ∙ ap (λ d. map answer_to (option_to_list d)) newly.is
@@ -186,7 +182,7 @@ ends_answered t verdict.Aborted cause = refl
 pub leaves_answer : (task : Task) (v : Verdict) (after : After TransactionRun) → Leaves task v after → answers_of task.t v ≡ ended_as task.t (end_of after) ++ answered (left Running after)
 leaves_answer task v (GoesOn txn_run) leaves = sym (ap (λ v. answers_of txn_run.task.t v) (said_is v txn_run.phase leaves.1) ∙ ap (λ (task : Task). answers_of task.t v) leaves.0)
 leaves_answer task v (Ends ending) leaves =
-    ends_answered task.t v leaves.0 ∙ ap (λ ending. option_to_list (option_map (λ answer. (task.t, answer)) (answer_by ending))) (sym leaves.1) ∙ sym (append_none (ended_as task.t (Some ending)))
+    ends_answered task.t v leaves.0 ∙ ap (λ ending. option_to_list (option_map (λ answer. (task.t, answer)) (answer_by ending))) (sym leaves.1) ∙ sym (append-nil (ended_as task.t (Some ending)))
 
 -- who is undecided after it was so before, or nobody is
 pub leaves_asked : (task : Task) (v : Verdict) (after : After TransactionRun) → Leaves task v after → (undecided (left Running after) ≡ left_by (asked_by task) v) ⊎ (left Running after ≡ None)

@@ -1,7 +1,7 @@
 -- The names that the proofs of this crate take from elsewhere, each with one meaning here.
-pub use Rattle.std.proofs.Common.{All, Bool, Contains, Equal, Err, Greater, IsTrue, List, None, Ok, Option, Result, Some, [], ap, append_assoc, arith, cond, eq-eqb, false, filter, find, inl, inr, is_some, length, map, nat_eq, nat_le}
+pub use Rattle.std.proofs.Common.{All, Bool, Contains, Equal, Err, Greater, IsTrue, List, None, Ok, Option, Result, Some, [], ap, append-nil, append_assoc, arith, cond, eq-eqb, false, filter, find, inl, inr, is_some, length, map, nat_eq, nat_le}
 pub use Rattle.std.proofs.Common.{nat_lt, not, option_map, option_to_list, refl, slice_get, slice_set, subst, suc, sym, true, zero, ℕ, ⊎_elim, ◌&&◌, ◌*◌, ◌++◌, ◌+◌, ◌-◌, ◌<◌, ◌==◌, ◌||◌, ◌∙◌, ◌∷◌, ◌≡◌, ◌≢◌, ◌≤◌, ◌⊎◌}
-pub use Rattle.std.proofs.lemmas.Bool.{and_from, and_parts, eqb-true, false≢true}
+pub use Rattle.std.proofs.lemmas.Bool.{and_from, and_parts, eqb-true, false≢true, not-true}
 pub use Rattle.std.proofs.lemmas.Bool.Decides.{nat_tests}
 pub use Rattle.std.proofs.lemmas.List.{map-append}
 pub use Rattle.std.proofs.lemmas.List.Elements.{All-cons, All-nil, filter_map-append}
@@ -52,7 +52,7 @@ pub use Rattle.law_headline.proofs.Together.{Together, goes_on, opens}
 pub use Rattle.law_headline.specs.Premises.{AllGiveValidVotes, CanBe, EventGivesValidVotes, JobGivesValidVotes, VotesAreValid}
 pub use Rattle.law_one_table.proofs.Logs.{LogIs, decision_at, decision_of_actor, event_log}
 pub use Rattle.law_one_table.proofs.Running.{machine_one}
-pub use Rattle.law_one_table.proofs.Shown.{FitsAs, told_as}
+pub use Rattle.law_one_table.proofs.Shown.{FitsAs, kind_empty, told_as}
 pub use Rattle.law_run_knowledge.proofs.Decided.{known_content, known_prefix, suite_was}
 pub use Rattle.law_run_knowledge.proofs.Lasting.{DoingFits}
 pub use Rattle.law_run_knowledge.proofs.Walk.{InPhase}

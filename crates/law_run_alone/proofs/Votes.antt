@@ -104,7 +104,7 @@ set_valid rows (e ∷ edits) suite fit is =
 abbrev pub IsOf : (ℕ → Option Change) → ℕ × Change → Type 0
 IsOf change one = change one.0 ≡ Some one.1
 
-tied : (a b : ℕ) → nat_cmp a b ≡ Equal → a ≡ b
+pub tied : (a b : ℕ) → nat_cmp a b ≡ Equal → a ≡ b
 tied a b is = eqb-true a b (sym (unsigned_tied a b) ∙ ap is_eq is)
 
 inserted : (change : ℕ → Option Change) (all : List (ℕ × Change)) (suite : ℕ) (made : Change) → change suite ≡ Some made → ((one : ℕ × Change) → Has all one → IsOf change one)

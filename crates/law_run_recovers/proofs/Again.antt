@@ -2,7 +2,7 @@
 use Rattle.law_run_recovers.proofs.Vocabulary.{◌≡◌, inl, inr, ⊎_elim, ℕ, zero, suc, ◌+◌, ◌<◌, Bool, true, false, cond, List, [], ◌∷◌, ◌++◌, append_assoc, length, Option, Some, None, is_some, refl, sym, ap, subst, ◌∙◌, arith, ◌*◌, ◌&&◌}
 use Rattle.law_run_recovers.proofs.Vocabulary.{nat_lt, slice_get, option_map, false≢true, and_parts, slice_get_within, Identity, Opening, State, Has, has_from, any_has, contains_from, Op, Job, Transaction, Fixed, home_of, fixed_of}
 use Rattle.law_run_recovers.proofs.Vocabulary.{is_idle, has_sense, max_jobs, Event, Begin, Actor, World, actor_at, has_no_job, opening, step, after, dones, outcomes, run, table_of, dones-append, outcomes-append, begins_now, so_many}
-use Rattle.law_run_recovers.proofs.Vocabulary.{CanBe, begins_job, can_front, with_job, up_in, is_up, up_free, unhindered_from, VotesAreUp, GoesAlone, again, goes_again, OneIsDecided, OneOfThemIsDecided}
+use Rattle.law_run_recovers.proofs.Vocabulary.{CanBe, begins_job, can_front, with_job, up_in, is_up, up_free, unhindered_from, VotesAreUp, GoesAlone, again, goes_again, OneIsDecided, Always, OneOfThemIsDecidedAt}
 use Rattle.run_core.proofs.Appending as appending
 use Rattle.law_run_recovers.proofs.Homes.{homes_go_round}
 use Rattle.law_run_recovers.proofs.AmongOver.{has_after}
@@ -188,7 +188,7 @@ module _ (given : Opening) (agent : ℕ) (caller : Identity) (site : ℕ) (ops :
               ∙ it.up (home_of its_fixed.service (64 * (here.agent.count + k) + agent))
               ∙ ap (λ n. is_up first (home_of its_fixed.service n)) (sym (number_then k)) ∙ home)))
 
-pub one_of_them_is_decided : OneOfThemIsDecided
+pub one_of_them_is_decided : Always OneOfThemIsDecidedAt
 one_of_them_is_decided given events tries agent caller site ops actor can many there free some votes goes =
     let world = run given events in
     let up = any_has (λ (st : State). st.up) world.servers some in

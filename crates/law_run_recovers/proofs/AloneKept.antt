@@ -1,8 +1,8 @@
 -- What a transaction that goes alone leaves where its home was down: nothing is decided, and stored copies are as they were; servers are up that were.
-use Rattle.law_run_recovers.proofs.Vocabulary.{◌≡◌, inl, ℕ, suc, ◌+◌, Bool, true, false, List, [], ◌∷◌, ◌++◌, append-nil, length, Option, Some, None, refl, sym, ap, subst, ◌∙◌, ◌*◌, ◌==◌, ◌&&◌, ◌||◌, not, slice_get, Contains, list_all}
-use Rattle.law_run_recovers.proofs.Vocabulary.{false≢true, and_parts, eqb-true, same_Some, Identity, Opening, Replica, Lock, Request, Verdict, is_answered, copy_of, State, Has, has_from, Op, Transaction, home_of, fixed_of, next_of}
-use Rattle.law_run_recovers.proofs.Vocabulary.{Event, Begin, Step, Crash, Return, Forget, Lack, Actor, World, server_at, actor_at, step, run, decisions, decisions_from, table_of, table_after_all, decisions_from-append, EndedSo, names}
-use Rattle.law_run_recovers.proofs.Vocabulary.{finish_is_after, so_many, IsOwnAt, names_mine, AllAt, MayAsk, asks_servers, up_in, is_up, up_free, locks_in, shown_in, shown_at, hinders, unhindered_from, GoesAlone, begun_world, world_after}
+use Rattle.law_run_recovers.proofs.Vocabulary.{◌≡◌, inl, ℕ, ◌+◌, Bool, true, false, List, [], ◌∷◌, ◌++◌, append-nil, length, Option, Some, None, refl, sym, ap, subst, ◌∙◌, ◌*◌, ◌==◌, ◌||◌, not, Contains}
+use Rattle.law_run_recovers.proofs.Vocabulary.{false≢true, eqb-true, same_Some, Identity, Opening, Replica, Lock, Request, Verdict, is_answered, copy_of, State, Has, has_from, Op, Transaction, home_of, fixed_of, next_of, or_right}
+use Rattle.law_run_recovers.proofs.Vocabulary.{Event, Begin, Step, Crash, Return, Forget, Lack, Actor, World, server_at, actor_at, run, decisions, decisions_from, table_of, table_after_all, decisions_from-append, EndedSo, names}
+use Rattle.law_run_recovers.proofs.Vocabulary.{finish_is_after, so_many, IsOwnAt, names_mine, AllAt, MayAsk, asks_servers, up_in, is_up, up_free, locks_in, shown_in, shown_at, GoesAlone, begun_world, world_after}
 use Rattle.rep_core.specs.declared.request.Request.TheVariants as request
 use Rattle.rep_core.specs.declared.reply.Verdict.TheVariants as verdict
 use Rattle.file_ops.specs.Rows as rows
@@ -10,12 +10,14 @@ use Rattle.law_run_alone.proofs.Goes as alone
 use Rattle.law_run_recovers.proofs.AmongAt.{can_so_far}
 use Rattle.law_run_recovers.proofs.AmongEnds.{Over}
 use Rattle.law_run_recovers.proofs.AmongLeft.{HasNone, none_left}
-use Rattle.law_run_recovers.proofs.AloneLaws.{steadily}
-use Rattle.law_run_recovers.proofs.HadVotes.{none_decided, none_since, not_before}
+use Rattle.law_run_recovers.proofs.AloneLaws.{steadily, calm}
+use Rattle.law_run_recovers.proofs.DecidedSince.{none_since, not_before}
+use Rattle.law_run_recovers.proofs.HadVotes.{none_decided}
 use Rattle.law_run_recovers.proofs.Keeps.{run_at, after_append}
 use Rattle.law_run_recovers.proofs.MeetCalm.{Spares, stored_stays}
-use Rattle.law_run_recovers.proofs.Open.{Here, here_at, is_calm, its_begin, alone_is_unmet, unmet_is_among_locks, begun_servers, not_true, stands_open}
+use Rattle.law_run_recovers.proofs.Open.{Here, here_at, is_calm, its_begin, alone_is_unmet, unmet_is_among_locks, begun_servers, stands_open}
 use Rattle.law_run_recovers.proofs.Picks.{along}
+use Rattle.law_run_recovers.proofs.Free.{all_from}
 
 -- ---- lists
 
@@ -26,21 +28,9 @@ front_none : {X : Type 0} (xs ys : List X) → xs ++ ys ≡ [] → xs ≡ []
 front_none [] ys is = refl
 front_none (x ∷ xs) ys is = absurd (some_not x (xs ++ ys) is)
 
-all_places : {X : Type 0} (p : X → Bool) (xs : List X) → ((i : ℕ) (x : X) → slice_get xs i ≡ Some x → p x ≡ true) → list_all p xs ≡ true
-all_places p [] each = refl
-all_places p (x ∷ xs) each = both (p x) (list_all p xs) (each 0 x refl) (all_places p xs (λ i y is. each (suc i) y is))
-  where
-    both : (a b : Bool) → a ≡ true → b ≡ true → (a && b) ≡ true
-    both true b a is = is
-    both false b a is = absurd (false≢true a)
-
 none_locked : (locks : List Lock) → ((lock : Lock) → Has locks lock → ⊥) → (length locks == 0) ≡ true
 none_locked [] none = refl
 none_locked (lock ∷ locks) none = absurd (none lock (inl refl))
-
-right : (a b : Bool) → b ≡ true → (a || b) ≡ true
-right true b is = refl
-right false b is = is
 
 module _ (given : Opening) (events later : List Event) (agent t : ℕ) (caller : Identity) (site : ℕ) (ops : List Op) (actor : Actor) (goes : GoesAlone given events later agent t caller site ops actor) where
   abbrev first : World
@@ -61,13 +51,6 @@ module _ (given : Opening) (events later : List Event) (agent t : ℕ) (caller :
   pub run_so : (so_far : List Event) → world_after given events agent caller site ops so_far ≡ run given (events ++ Begin agent (Transaction caller site ops) ∷ so_far)
   run_so = run_at given events later agent t caller site ops actor goes.can goes.there goes.begins
 
-  -- nothing hinders it
-  pub calm : (so_far rest : List Event) (event : Event) → later ≡ so_far ++ event ∷ rest → hinders given agent (world_after given events agent caller site ops so_far) event ≡ false
-  calm so_far rest event split =
-      let w = world_after given events agent caller site ops so_far in
-      not_true (hinders given agent w event)
-      (and_parts (not (hinders given agent w event)) (unhindered_from given agent (step (fixed_of given) w event).world rest) (here_at given events later agent t caller site ops actor goes so_far (event ∷ rest) split).calm).0
-
   -- ---- servers
 
   -- servers are up that were
@@ -79,7 +62,7 @@ module _ (given : Opening) (events later : List Event) (agent t : ℕ) (caller :
 
   -- once it has ended no server that is up has a lock
   pub free_then : Over given events later agent t caller site ops actor (steadily given events later agent t caller site ops actor goes) later → up_free last_world ≡ true
-  free_then over = all_places (λ (st : State). not st.up || (length st.locks == 0)) last_world.servers (λ i st at. of i st at st.up refl (here.g.owns.servers i st at))
+  free_then over = all_from (λ (st : State). not st.up || (length st.locks == 0)) last_world.servers (λ i st at. of i st at st.up refl (here.g.owns.servers i st at))
     where
       here : Here given events later agent t caller site ops actor goes last_world []
       here = here_at given events later agent t caller site ops actor goes later [] (sym (append-nil later))
@@ -93,7 +76,7 @@ module _ (given : Opening) (events later : List Event) (agent t : ℕ) (caller :
       by i st at up false own lock has = false≢true (sym own.0 ∙ up)
 
       of : (i : ℕ) (st : State) → server_at last_world i ≡ Some st → (b : Bool) → st.up ≡ b → IsOwnAt (is_up first i) t st → (not st.up || (length st.locks == 0)) ≡ true
-      of i st at true is own = right (not st.up) (length st.locks == 0) (none_locked st.locks (by i st at is (is_up first i) own))
+      of i st at true is own = or_right (not st.up) (length st.locks == 0) (none_locked st.locks (by i st at is (is_up first i) own))
       of i st at false is own = ap (λ b. not b || (length st.locks == 0)) is
 
   -- ---- where its home was down
@@ -152,7 +135,7 @@ module _ (given : Opening) (events later : List Event) (agent t : ℕ) (caller :
 
         may : (so_far rest : List Event) (event : Event) → later ≡ so_far ++ event ∷ rest → MayAsk (fixed_of given) (λ i asked. Spares asked) (world_after given events agent caller site ops so_far) event
         may so_far rest (Step i) split = λ here asked is next.
-            let own = is_calm given (is_up (run given events)) agent (world_at so_far) (Step i) (calm so_far rest (Step i) split) here asked is next in
+            let own = is_calm given (is_up (run given events)) agent (world_at so_far) (Step i) (calm given events later agent t caller site ops actor goes so_far rest (Step i) split) here asked is next in
             spares so_far (Step i ∷ rest) split here (ap (actor_at (world_at so_far)) (sym own) ∙ is) asked next
         may so_far rest (Crash server) split = crash_not
         may so_far rest (Return server) split = return_not

@@ -1,9 +1,9 @@
 -- What a transaction that goes steadily is replied, at a moment before its end is fixed.
-use Rattle.law_run_recovers.proofs.Vocabulary.{◌≡◌, ℕ, Bool, true, false, cond, List, [], ◌∷◌, ◌++◌, append_assoc, append-nil, Option, Some, None, is_some, refl, sym, ap, subst, ◌∙◌, arith, ◌==◌, ◌&&◌, ◌||◌, Contains, list_any}
-use Rattle.law_run_recovers.proofs.Vocabulary.{false≢true, and_parts, and_from, eq-eqb, nat_tests, Identity, Opening, LockMode, Op, Decision, Part, Request, is_prepared, has_lock, copy_of, State, reply_of, reply_up, reply_down}
+use Rattle.law_run_recovers.proofs.Vocabulary.{◌≡◌, ℕ, true, false, cond, List, [], ◌∷◌, ◌++◌, append_assoc, append-nil, Option, Some, None, is_some, refl, sym, ap, subst, ◌∙◌, ◌==◌, ◌&&◌, ◌||◌, Contains, list_any}
+use Rattle.law_run_recovers.proofs.Vocabulary.{false≢true, and_parts, and_from, eq-eqb, Identity, Opening, LockMode, Op, Decision, Part, Request, is_prepared, has_lock, copy_of, State, reply_of, reply_up, reply_down}
 use Rattle.law_run_recovers.proofs.Vocabulary.{stands_prepared, can_prepare, recorded, verdict_of, Has, has_any, has_from, Asked, Upgrade, request_for, mode_asked, Poll, Transaction, TransactionRun, Running, given_in, stands_on_locks}
 use Rattle.law_run_recovers.proofs.Vocabulary.{fixed_of, next_of, Event, Begin, Step, Actor, World, server_at, actor_at, run, CanBe, replies_down, can_front, Finds, up_in, is_up, shown_in, shown_at, locks_in, locks_at, asks_for}
-use Rattle.law_run_recovers.proofs.Vocabulary.{is_open_way, is_open_at, way_in, way_at, world_after, robs, hinders_itself, SameWay, bereaves, shows_same, told_as_first}
+use Rattle.law_run_recovers.proofs.Vocabulary.{is_open_way, is_open_at, way_in, way_at, world_after, robs, hinders_itself, SameWay, bereaves, shows_same, told_as_first, or_right}
 use Rattle.rep_core.specs.declared.reply.Reply.TheVariants as reply
 use Rattle.rep_core.specs.declared.request.Request.TheVariants as request
 use Rattle.rep_core.specs.Service.{given as gives}
@@ -15,9 +15,6 @@ use Rattle.law_run_recovers.proofs.Serves.{On}
 use Rattle.law_run_recovers.proofs.Unrobbed.{unrecorded_at, finds_then, stands_then}
 
 -- ---- one server
-
-either : (a b : Bool) → b ≡ true → (a || b) ≡ true
-either a b is = grind (arith, nat_tests)
 
 -- ---- at a moment
 
@@ -139,7 +136,7 @@ module _ (given : Opening) (events later : List Event) (agent t : ℕ) (caller :
       prepare_right parts next =
           ap is_prepared
           (replies_up (request.Prepare t parts) next (up_so (request.Prepare t parts) next tt (on_locks (request.Prepare t parts) next refl))
-          ∙ ap (λ b. cond b reply.Prepared reply.Lost) (either (stands_prepared st t parts) (can_prepare st t parts) (its_finds (request.Prepare t parts) next)))
+          ∙ ap (λ b. cond b reply.Prepared reply.Lost) (or_right (stands_prepared st t parts) (can_prepare st t parts) (its_finds (request.Prepare t parts) next)))
 
       -- the home records this decision, or is down
       pub decide_right : (decision : Decision) → next_of (fixed_of given) here.agent ≡ Some (server, request.Decide t decision) → goes.near server ≡ true

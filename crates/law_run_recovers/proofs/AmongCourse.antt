@@ -48,7 +48,7 @@ parted (w ∷ xs) x (z ∷ front) y back is =
 
 -- ---- at each moment
 
-both_so : (a b c : Bool) → (a || b) ≡ false → c ≡ false → (a || (b || c)) ≡ false
+pub both_so : (a b c : Bool) → (a || b) ≡ false → c ≡ false → (a || (b || c)) ≡ false
 both_so a b c one two = grind (arith, nat_tests)
 
 module _ (given : Opening) (events later : List Event) (agent t : ℕ) (caller : Identity) (site : ℕ) (ops : List Op) (actor : Actor) (goes : GoesSteadily given events later agent t caller site ops actor) where

@@ -4,7 +4,7 @@ use Rattle.law_run_recovers.proofs.Vocabulary.{Contains, list_any, cons_option, 
 use Rattle.law_run_recovers.proofs.Vocabulary.{Ending, Refused, Swept, Undecided, Transaction, ReadPoint, GatheredSuite, suite_of, Running, home_of, request_in, decision_of, Agent, fixed_of, next_in, next_of, EndedJob, Event, Begin}
 use Rattle.law_run_recovers.proofs.Vocabulary.{Step, Actor, World, server_at, actor_at, asks_at, asks, steps_once, step, run, Decided, decided, decided_by, decisions, decisions_from, task_of, task_at, table_of, IsAnsweredAsKnown, Runs}
 use Rattle.law_run_recovers.proofs.Vocabulary.{IsAt, EndStands, same_place, answers_follow_knowledge, holds_of, In, agent_of, agent_at, is_decided, is_up, runs, world_after, first_wanting, has_votes_open, is_gathered, GathersItsAsks}
-use Rattle.law_run_recovers.proofs.Vocabulary.{AmongLocksHadVotesOpen, AmongLocksAreAnsweredAsBegun, AmongLocksGatherTheirAsks, has_asked, locks_asked, asks_for, wants, answer_on, EndsThen, WasDecidedThen, UnmetHadVotesUp}
+use Rattle.law_run_recovers.proofs.Vocabulary.{has_asked, locks_asked, asks_for, wants, answer_on, EndsThen, WasDecidedThen, Always, AreAnsweredAsBegun, GatherTheirAsks, GoesAmongLocks, HadVotesOpen, UnmetHadVotesUpAt}
 use Rattle.rep_core.specs.declared.request.Request.TheVariants as request
 use Rattle.txn_core.specs.declared.ending.Ending.TheVariants.{Answered}
 use Rattle.txn_core.specs.Doing as doing
@@ -13,7 +13,7 @@ use Rattle.law_run_recovers.proofs.AmongLaws.{none_in, all_is, first_same, rows_
 use Rattle.law_run_recovers.proofs.Asking.{held_if, held_in}
 use Rattle.law_run_recovers.proofs.AtDecision.{decides_up}
 use Rattle.law_run_recovers.proofs.Deciding.{answer_as, decides_answer}
-use Rattle.law_run_recovers.proofs.HadVotes.{decided_since, stood_since}
+use Rattle.law_run_recovers.proofs.DecidedSince.{decided_since, stood_since}
 use Rattle.law_run_recovers.proofs.Keeps.{at_work, run_at}
 use Rattle.law_run_recovers.proofs.NearGround.{its, sight, number}
 use Rattle.law_run_recovers.proofs.Open.{its_begin, unmet_is_among_locks}
@@ -179,7 +179,7 @@ module _ (given : Opening) (events later : List Event) (agent t : ℕ) (caller :
         ap (λ b. b && is_up (run given events) (home_of (fixed_of given).service t)) rows ∙ sym home_same ∙ home_now
 
     -- it is not after its end
-    over_not : Over given events later agent t caller site ops actor goes so_far → ⊥
+    pub over_not : Over given events later agent t caller site ops actor goes so_far → ⊥
     over_not over =
         let was = (holds_of given goes.can.accepted all).over over.0 over.1 in
         let small_was = (holds_of given goes.can.accepted all).agents.small over.0.agent was.agent was.at in
@@ -243,7 +243,7 @@ module _ (given : Opening) (events later : List Event) (agent t : ℕ) (caller :
             go
             (or_cases (one.t == t) (list_any (λ (one : Decided). one.t == t) (decisions_from (fixed_of given) (step (fixed_of given) (world_after given events agent caller site ops so_far) event).world rest)) some)
 
-    decided_where : list_any (λ (one : Decided). one.t == t) (decisions given (events ++ Begin agent (Transaction caller site ops) ∷ later)) ≡ true → P
+    pub decided_where : list_any (λ (one : Decided). one.t == t) (decisions given (events ++ Begin agent (Transaction caller site ops) ∷ later)) ≡ true → P
     decided_where some =
         decided_in later [] refl (inl (first_course given events later agent t caller site ops actor goes))
         (decided_since given events later agent t caller site ops actor goes.can goes.there (its_begin given events later agent t caller site ops actor goes.can goes.there goes.begins).0 some)
@@ -255,7 +255,7 @@ module _ (given : Opening) (events later : List Event) (agent t : ℕ) (caller :
   stood_gathered some = decided_where (GathersItsAsks given events later agent t caller site ops) gathered_then some
 
   -- what ended decided stands among the decisions
-  ended_stands : (job : EndedJob) → EndsThen given events later agent t caller site ops job → is_decided job.ending ≡ true
+  pub ended_stands : (job : EndedJob) → EndsThen given events later agent t caller site ops job → is_decided job.ending ≡ true
       → list_any (λ (one : Decided). one.t == t) (decisions given (events ++ Begin agent (Transaction caller site ops) ∷ later)) ≡ true
   ended_stands job ends = of job.ending ((holds_of given goes.can.accepted (events ++ Begin agent (Transaction caller site ops) ∷ later)).over job (ended_has given events later agent t caller site ops actor goes job ends)).stands
     where
@@ -277,19 +277,19 @@ module _ (given : Opening) (events later : List Event) (agent t : ℕ) (caller :
   pub was_gathered : WasDecidedThen given events later agent t caller site ops → GathersItsAsks given events later agent t caller site ops
   was_gathered was = ⊎_elim (λ some. stood_gathered some) (λ it. stood_gathered (ended_stands it.0 it.1 it.2)) was
 
-pub among_locks_gather_their_asks : AmongLocksGatherTheirAsks
+pub among_locks_gather_their_asks : Always (GatherTheirAsks GoesAmongLocks)
 among_locks_gather_their_asks given events later agent t caller site ops actor goes was =
     was_gathered given events later agent t caller site ops actor (steady given events later agent t caller site ops actor goes) was
 
-pub among_locks_are_answered_as_begun : AmongLocksAreAnsweredAsBegun
+pub among_locks_are_answered_as_begun : Always (AreAnsweredAsBegun GoesAmongLocks)
 among_locks_are_answered_as_begun given events later agent t caller site ops actor goes one there of_it =
     answered_begun given events later agent t caller site ops actor (steady given events later agent t caller site ops actor goes) one there of_it
 
-pub among_locks_had_votes_open : AmongLocksHadVotesOpen
+pub among_locks_had_votes_open : Always (HadVotesOpen GoesAmongLocks)
 among_locks_had_votes_open given events later agent t caller site ops actor goes was =
     was_had given events later agent t caller site ops actor (steady given events later agent t caller site ops actor goes) was
 
-pub unmet_had_votes_up : UnmetHadVotesUp
+pub unmet_had_votes_up : Always UnmetHadVotesUpAt
 unmet_had_votes_up given events later agent t caller site ops actor goes was =
     open_is_more given events t caller ops
     (among_locks_had_votes_open given events later agent t caller site ops actor (unmet_is_among_locks given events later agent t caller site ops actor goes) was)

@@ -3,8 +3,8 @@ use Rattle.law_run_recovers.proofs.Vocabulary.{◌≡◌, ◌⊎◌, inl, inr, �
 use Rattle.law_run_recovers.proofs.Vocabulary.{false≢true, and_parts, eq-eqb, eqb-true, Identity, Representative, votes_in, Opening, Prefix, LockMode, Op, Row, row_of, State, find_some, Has, any_has, has_any, has_from}
 use Rattle.law_run_recovers.proofs.Vocabulary.{has_map, contains_from, needed_of, Ending, Undecided, Unavailable, has_vote, home_of, fixed_of, Event, EndedJob, Actor, World, server_at, run, table_of, has_append, machine_of}
 use Rattle.law_run_recovers.proofs.Vocabulary.{all_keep, is_decided, up_in, is_up, Demand, is_met, all_met, led_to_by, votes_set, votes_of_row, MayStart, MayStartAll, HasFirstVotes, answer_on, asks_for, is_open_way, is_way_met, way_in}
-use Rattle.law_run_recovers.proofs.Vocabulary.{way_at, is_open_at, in_its_way, EndsOpenly, EndsByOpenVotes, first_wanting, has_votes_open, AmongLocksEndByVotes, AmongLocksAreDecidedWhereVotesAre, Want, open_demand, open_demands}
-use Rattle.law_run_recovers.proofs.Vocabulary.{first_mode, wants, wants_of_rows, EndsThen, VotesNeverMovedOf}
+use Rattle.law_run_recovers.proofs.Vocabulary.{way_at, is_open_at, in_its_way, EndsOpenly, EndsByOpenVotes, first_wanting, has_votes_open, Want, open_demand, open_demands}
+use Rattle.law_run_recovers.proofs.Vocabulary.{first_mode, wants, wants_of_rows, EndsThen, VotesNeverMovedOf, Always, AmongLocksEndByVotesAt, AreDecidedWhereOpen, GoesAmongLocks}
 use Rattle.law_one_table.proofs.Effects as effects
 use Rattle.law_run_recovers.proofs.Steady.{GoesSteadily, steady}
 use Rattle.law_run_recovers.proofs.Leading.{led}
@@ -242,10 +242,10 @@ module _ (given : Opening) (events later : List Event) (agent t : ℕ) (caller :
         let by = among_by_votes job ends in
         decided_so job by ∙ ap (λ all. all_met (open_demands (run given events) t all) && is_up (run given events) (home_of (fixed_of given).service t)) (rows_same by.start by.from)
 
-pub among_locks_end_by_votes : AmongLocksEndByVotes
+pub among_locks_end_by_votes : Always AmongLocksEndByVotesAt
 among_locks_end_by_votes given events later agent t caller site ops actor goes job ends =
     among_by_votes given events later agent t caller site ops actor (steady given events later agent t caller site ops actor goes) job ends
 
-pub among_locks_are_decided_where_votes_are : AmongLocksAreDecidedWhereVotesAre
+pub among_locks_are_decided_where_votes_are : Always (AreDecidedWhereOpen GoesAmongLocks)
 among_locks_are_decided_where_votes_are given events later agent t caller site ops actor goes unmoved job ends =
     among_where_votes given events later agent t caller site ops actor (steady given events later agent t caller site ops actor goes) unmoved job ends

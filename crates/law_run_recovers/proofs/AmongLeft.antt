@@ -4,13 +4,12 @@ use Rattle.law_run_recovers.proofs.Vocabulary.{◌==◌, ◌&&◌, ◌||◌, fil
 use Rattle.law_run_recovers.proofs.Vocabulary.{Opening, Op, Lock, Request, Reply, Stamped, State, reply_of, served, answer_of, Has, contains_from, has_filter, filter_has, has_map, any_has, has_any, Transaction, Replied, numbers_from}
 use Rattle.law_run_recovers.proofs.Vocabulary.{is_finish, Agent, fixed_of, is_idle, next_of, begin, Exchange, exchange_of, exchanges, locks, says_held, was_held, exchanges-take, exchanges-forget, Served, Event, Begin, Step, Actor}
 use Rattle.law_run_recovers.proofs.Vocabulary.{World, server_at, step, run, so_many, puts_in, stage, wants_lock, was_locked, locked, sent_to, IsInOrder, stages_rise, all_finish, up_in, is_up, locks_in, locks_at, world_after}
-use Rattle.law_run_recovers.proofs.Vocabulary.{GoesAmongLocks, AmongLocksLeaveNoLock}
+use Rattle.law_run_recovers.proofs.Vocabulary.{GoesAmongLocks, Always, AmongLocksLeaveNoLockAt, or_left}
 use Rattle.rep_core.specs.declared.request.Request.TheVariants as request
 use Rattle.txn_core.specs.Agents as agents
 use Rattle.law_agents.specs.Orders as orders
 use Rattle.law_run_recovers.specs.Sweeping.{has_any as any_of}
 use Rattle.law_run_recovers.proofs.Apart.{Apart, event_apart}
-use Rattle.law_run_recovers.proofs.Downs.{held-append}
 use Rattle.law_run_recovers.proofs.Keeps.{run_at}
 use Rattle.law_run_recovers.proofs.Locked.{freed}
 use Rattle.law_run_recovers.proofs.KnownStays.{among_numbers}
@@ -25,11 +24,15 @@ use Rattle.law_run_recovers.proofs.AmongBegin.{idle_before, first_course, none_t
 use Rattle.law_run_recovers.proofs.AmongStep.{is_then, own_on}
 use Rattle.law_run_recovers.proofs.Picks.{along}
 
-or_left : (a b : Bool) → a ≡ true → (a || b) ≡ true
-or_left true b is = refl
-or_left false b is = absurd (false≢true is)
-
 -- ---- exchanges
+
+held-append : (past later : List Exchange) (number who : ℕ) → was_held (past ++ later) number who ≡ (was_held past number who || was_held later number who)
+held-append [] later number who = refl
+held-append (one ∷ past) later number who = of ((one.server == who) && locks number one.request && says_held one.response) _ _ _ (held-append past later number who)
+  where
+    of : (a b c d : Bool) → b ≡ (c || d) → (a || b) ≡ ((a || c) || d)
+    of true b c d is = refl
+    of false b c d is = is
 
 -- a server was told how it ended
 abbrev pub was_done : List Exchange → ℕ → Bool
@@ -322,7 +325,7 @@ module _ (given : Opening) (events later : List Event) (agent t : ℕ) (caller :
   pub none_left : Over given events later agent t caller site ops actor goes later → HasNone later
   none_left over = ⊎_elim (λ on. absurd (course_not_over given events later agent t caller site ops actor goes later on.0 over)) (λ left. left.1) (left_at later [] (sym (append-nil later)))
 
-pub among_locks_leave_no_lock : AmongLocksLeaveNoLock
+pub among_locks_leave_no_lock : Always AmongLocksLeaveNoLockAt
 among_locks_leave_no_lock given events later agent t caller site ops actor goes it server = of (any_of t (locks_at (run given (events ++ Begin agent (Transaction caller site ops) ∷ later)) server)) refl
   where
     of : (b : Bool) → any_of t (locks_at (run given (events ++ Begin agent (Transaction caller site ops) ∷ later)) server) ≡ b → b ≡ false

@@ -5,7 +5,7 @@ use Rattle.law_run_recovers.proofs.Vocabulary.{Has, newest, Collector, Asked, Po
 use Rattle.law_run_recovers.proofs.Vocabulary.{has_vote, parts_at, Task, Phase, Gathering, Fetching, Preparing, Deciding, Finishing, TransactionRun, Running, After, GoesOn, Ends, home_of, asked_for, given_in, changes_of, decision_of}
 use Rattle.law_run_recovers.proofs.Vocabulary.{request_in, after_reply, Agent, Taken, fixed_of, is_idle, next_in, next_of, left, end_of, with_step, take_in, take, begin, after_all, exchanges, is_decide, asks_same, Keeps}
 use Rattle.law_run_recovers.proofs.Vocabulary.{nothing_held, plus_all, begin_keeps, after-append, Event, Begin, Step, EndedJob, Served, Actor, World, server_at, actor_at, one_more, outcome_of, step, run, decisions, ended, number_of}
-use Rattle.law_run_recovers.proofs.Vocabulary.{take_keeps, holds_of, agent_of, puts_in, is_resolve, never_resolves, is_up, shown_at, shown_in, asks_for, runs, world_after, Stamped, copy_of, shows_same, stands_on_locks}
+use Rattle.law_run_recovers.proofs.Vocabulary.{take_keeps, holds_of, agent_of, puts_in, is_resolve, never_resolves, is_up, shown_at, shown_in, asks_for, runs, world_after, Stamped, copy_of, shows_same, stands_on_locks, same_mode}
 use Rattle.rep_core.specs.declared.request.Request.TheVariants as request
 use Rattle.rep_core.specs.declared.reply.Reply.TheVariants as reply
 use Rattle.rep_core.specs.Service.{after}
@@ -29,7 +29,6 @@ use Rattle.law_run_recovers.proofs.AmongAt.{HasWhereOpen, lock_right, fetch_righ
 use Rattle.law_run_recovers.proofs.AmongAsks.{gather_asks, widen_asks, set_there}
 use Rattle.law_run_recovers.proofs.AmongBegin.{Good, stands_left, right_end, begun, idle_before}
 use Rattle.law_run_recovers.proofs.AmongCourse.{Course, RunsIt, PhaseIn, StandsIn, Right, same_service, next_is, NewOpen, spared_on, locks_on as answered_on, NewShown, shown_on, open_works}
-use Rattle.law_run_recovers.proofs.Widened.{same_mode}
 use Rattle.law_run_recovers.proofs.AmongKnows.{knows_begun}
 use Rattle.law_run_recovers.proofs.Locked.{poll_leaves, poll_shows}
 

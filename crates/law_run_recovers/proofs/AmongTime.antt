@@ -3,9 +3,9 @@ use Rattle.law_run_recovers.proofs.Vocabulary.{◌≡◌, ◌⊎◌, inl, inr, �
 use Rattle.law_run_recovers.proofs.Vocabulary.{◌==◌, ◌&&◌, ◌||◌, cons_option, list_all, nat_tests, list_all-append, slice_get_within, none-some, slice_get_cases, Identity, Opening, Op, reply_of, Has, has_any, contains_from, any_has}
 use Rattle.law_run_recovers.proofs.Vocabulary.{has_filter, has_from, Transaction, Replied, Lacked, numbers_from, request_in, Agent, fixed_of, next_in, next_of, begin, after_all, is_idle, Exchange, exchange_of, exchanges, among}
 use Rattle.law_run_recovers.proofs.Vocabulary.{asks_only, names_of, names_only, says_held, exchanges-take, exchanges-forget, Event, Begin, Step, Crash, Return, Forget, Lack, EndedJob, Actor, World, step, server_at, dones, outcomes, run}
-use Rattle.law_run_recovers.proofs.Vocabulary.{table_of, number_of, so_many, its_step, own_steps, AmongLocksEndInTime, UnmetEndInTime, few_steps, begun_world, world_after, hinders_itself, Ending, Finishing, Request, Response}
+use Rattle.law_run_recovers.proofs.Vocabulary.{table_of, number_of, so_many, its_step, own_steps, few_steps, begun_world, world_after, hinders_itself, Ending, Finishing, Request, Response}
 use Rattle.law_run_recovers.proofs.Vocabulary.{State, Verdict, VotesAreValid, and_parts, eqb-true, false≢true, append_has_right, asks_same, cache_valid, copy_valid, is_finish, jobs_end, locked, sent_to, wants_lock, was_locked}
-use Rattle.law_run_recovers.proofs.Vocabulary.{max_servers, finishes_in_order}
+use Rattle.law_run_recovers.proofs.Vocabulary.{max_servers, finishes_in_order, Always, EndInTime, GoesAmongLocks, GoesUnmet, eq-eqb}
 use Rattle.txn_core.specs.Agents as agents
 use Rattle.law_run_recovers.proofs.Steady.{GoesSteadily, steady}
 use Rattle.law_run_recovers.specs.Ends.{Ended}
@@ -13,7 +13,7 @@ use Rattle.law_run_recovers.proofs.Apart.{event_apart}
 use Rattle.law_run_recovers.proofs.AmongOver.{has_after}
 use Rattle.law_run_recovers.proofs.Keeps.{run_at}
 use Rattle.law_run_recovers.proofs.KnownStays.{among_numbers}
-use Rattle.law_run_recovers.proofs.Names.{itself, suites_named, names_for, CountedOf, few_enough}
+use Rattle.law_run_recovers.proofs.Names.{suites_named, names_for, CountedOf, few_enough}
 use Rattle.law_run_recovers.proofs.NearGround.{its, Known, ground, number, sight, can_first}
 use Rattle.law_run_recovers.proofs.StepsServed.{own_took}
 use Rattle.law_run_recovers.proofs.Open.{unmet_is_among_locks}
@@ -121,7 +121,7 @@ module _ (given : Opening) (events later : List Event) (agent t : ℕ) (caller :
           let w = world_after given events agent caller site ops so_far in
           let few : asked.0 < length w.servers = slice_get_within w.servers asked.0 st at in
           let many = many_servers in
-          has_any (λ n. n == asked.0) servers asked.0 (among_numbers given.servers 0 asked.0 (omega arith) (omega (arith, few, many))) (itself asked.0)
+          has_any (λ n. n == asked.0) servers asked.0 (among_numbers given.servers 0 asked.0 (omega arith) (omega (arith, few, many))) (eq-eqb asked.0 asked.0 refl)
 
       -- it tells its end to servers that gave it locks
       tells_known : (servers' : List ℕ) (v : Verdict) (ending : Ending) (r : RunsIt given events later agent t caller site ops actor goes so_far c) → r.txn_run.phase ≡ Finishing servers' v ending → asks_only servers (past c.told) ≡ true
@@ -283,7 +283,7 @@ module _ (given : Opening) (events later : List Event) (agent t : ℕ) (caller :
           let counted' = counted_on so_far (event ∷ rest) split c took.asked took.next r (there_known so_far (event ∷ rest) split c took.asked took.next took.st took.at) (Replied said) (reply_shows took.st took.asked.1 valid) k counted in
           ⊎_elim
           (λ on.
-          lift (k + 1) 1 one_more_step (ap (λ event. cond (its_step agent event) 1 0) is ∙ ap (λ b. cond b 1 0) (itself agent))
+          lift (k + 1) 1 one_more_step (ap (λ event. cond (its_step agent event) 1 0) is ∙ ap (λ b. cond b 1 0) (eq-eqb agent agent refl))
           (subst (λ event. ((c : Course given events later agent t caller site ops actor goes (so_far ++ event ∷ [])) (k : ℕ) → Counted c.told k → OneEnds (so_far ++ event ∷ []) rest ⊎ Runs (k + own_steps agent rest)) → OneEnds
           (so_far ++ event ∷ []) rest ⊎ Runs (k + 1 + own_steps agent rest)) (sym is)
           (λ go. go on.0 (k + 1) (subst (λ told. Counted told (k + 1)) (sym on.1) counted')) go))
@@ -333,10 +333,10 @@ module _ (given : Opening) (events later : List Event) (agent t : ℕ) (caller :
           absurd (over (few_steps given events t caller ops) (own_steps agent later) runs.many more runs.least
           (few_enough given events actor.agent t caller site ops (number given events later agent t caller site ops actor goes) (idle_before given events later agent t caller site ops actor goes) runs.many runs.told runs.counted.counts))
 
-pub among_locks_end_in_time : AmongLocksEndInTime
+pub among_locks_end_in_time : Always (EndInTime GoesAmongLocks)
 among_locks_end_in_time given events later agent t caller site ops actor goes more =
     in_time given events later agent t caller site ops actor (steady given events later agent t caller site ops actor goes) more
 
-pub unmet_end_in_time : UnmetEndInTime
+pub unmet_end_in_time : Always (EndInTime GoesUnmet)
 unmet_end_in_time given events later agent t caller site ops actor goes more =
     among_locks_end_in_time given events later agent t caller site ops actor (unmet_is_among_locks given events later agent t caller site ops actor goes) more

@@ -11,7 +11,7 @@ pub record Aside (agent : ℕ) (world : World) (stepped : Stepped) : Type 0 wher
   pub actor : actor_at stepped.world agent ≡ actor_at world agent
   pub other : (job : EndedJob) → stepped.done.outcome ≡ Some job → job.agent ≢ agent
 
-both_false : (a b : Bool) → (a && b) ≡ false → a ≡ true → b ≡ false
+pub both_false : (a b : Bool) → (a && b) ≡ false → a ≡ true → b ≡ false
 both_false true b none is = none
 both_false false b none is = absurd (false≢true is)
 

@@ -1,9 +1,9 @@
--- Transactions side by side: all along nobody meets any, each that is busy runs one, and each lock at a server that is up is of one that runs and asks for it.
+-- Transactions side by side: all along nobody meets any, and each lock at a server that is up is of one that runs and asks for it.
 use Rattle.law_run_recovers.proofs.Vocabulary.{and_from, and_parts, length, list_all, ◌==◌}
-use Rattle.law_run_recovers.proofs.Vocabulary.{◌≡◌, ℕ, Bool, true, false, List, [], ◌∷◌, ◌++◌, append-nil, append_assoc, Option, Some, None, refl, sym, ap, subst, ◌∙◌, ◌%◌, ◌&&◌, ◌||◌, not, Contains, list_any, false≢true, none-some}
-use Rattle.law_run_recovers.proofs.Vocabulary.{same_Some, Opening, IsAccepted, LockMode, Request, State, has_from, has_any, Transaction, Task, Doing, request_in, Agent, fixed_of, is_idle, next_in, next_of, Event, Begin, Actor}
-use Rattle.law_run_recovers.proofs.Vocabulary.{actor_at, has_no_job, step, run, names, CanBe, clear_servers, names_mine, can_front, run_more, clashes, clash, Begun, its_asks, GoSideBySide, GoSideBySideWhileDown, runs, running_in, is_running, server_at}
-use Rattle.law_run_recovers.proofs.Vocabulary.{asks_for}
+use Rattle.law_run_recovers.proofs.Vocabulary.{◌≡◌, ℕ, Bool, true, false, List, [], ◌∷◌, ◌++◌, append-nil, append_assoc, Some, refl, sym, ap, subst, ◌∙◌, ◌%◌, ◌&&◌, ◌||◌, not, Contains, list_any, false≢true}
+use Rattle.law_run_recovers.proofs.Vocabulary.{same_Some, Opening, IsAccepted, LockMode, Request, State, has_from, has_any, Transaction, Task, request_in, fixed_of, next_in, next_of, Event, Begin, Actor}
+use Rattle.law_run_recovers.proofs.Vocabulary.{actor_at, step, run, names, CanBe, clear_servers, names_mine, can_front, run_more, clashes, clash, Begun, its_asks, GoSideBySide, GoSideBySideWhileDown, running_in, is_running, server_at}
+use Rattle.law_run_recovers.proofs.Vocabulary.{asks_for, Sweep}
 use Rattle.rep_core.specs.declared.request.Request.TheVariants as request
 use Rattle.law_run_recovers.proofs.AtWork.{mine_where}
 use Rattle.law_run_recovers.proofs.Keeps.{OfAsks}
@@ -13,6 +13,7 @@ use Rattle.law_run_recovers.proofs.Sides.{its_agent, AllUp, up_next, up_same}
 use Rattle.law_run_recovers.proofs.AmongAsks.{of_its_asks}
 use Rattle.law_run_recovers.proofs.AmongCourse.{Course, runs_it}
 use Rattle.law_run_recovers.proofs.BesideUnmet.{IsUnmet, world_then, then_is, steady_of, ran}
+use Rattle.law_run_recovers.proofs.Busy.{Busy, busy_one as who_asks}
 use Rattle.law_run_recovers.proofs.Picks.{along}
 
 -- ---- tests
@@ -35,21 +36,6 @@ not_both true b is none = absurd (false≢true (sym none))
 not_both false true is none = refl
 not_both false false is none = absurd (false≢true (sym is))
 
-pub no_job_of : (t : ℕ) (found : Option Actor) → running_in t found ≡ true → has_no_job found ≡ false
-no_job_of t None is = absurd (false≢true is)
-no_job_of t (Some actor) is = of actor.agent.doing is
-  where
-    of : (doing : Option Doing) → runs t doing ≡ true → is_idle doing ≡ false
-    of None is = absurd (false≢true is)
-    of (Some doing) is = refl
-
-pub asks_busy : (given : Opening) (agent : Agent) (asked : ℕ × Request) → next_of (fixed_of given) agent ≡ Some asked → is_idle agent.doing ≡ false
-asks_busy given agent asked = of agent.doing
-  where
-    of : (doing : Option Doing) → next_in (fixed_of given) doing ≡ Some asked → is_idle doing ≡ false
-    of None is = absurd (none-some asked is)
-    of (Some doing) is = refl
-
 -- two of which one has a suite that the other has, and one of both exclusive, clash
 pub clash_of : (asked others : List (ℕ × LockMode)) (one other : ℕ × LockMode) → Contains asked one → Contains others other → clashes one other ≡ true → clash asked others ≡ true
 clash_of asked others one other has there is =
@@ -60,7 +46,7 @@ clash_of asked others one other has there is =
 run_after : (given : Opening) (events so_far : List Event) (event : Event) → run given (events ++ (so_far ++ event ∷ [])) ≡ (step (fixed_of given) (run given (events ++ so_far)) event).world
 run_after given events so_far event = ap (run given) (sym (append_assoc events so_far (event ∷ []))) ∙ run_more given (events ++ so_far) event
 
-free_where_up : (servers : List State) → list_all (λ (st : State). length st.locks == 0) servers ≡ true → list_all (λ (st : State). not st.up || (length st.locks == 0)) servers ≡ true
+pub free_where_up : (servers : List State) → list_all (λ (st : State). length st.locks == 0) servers ≡ true → list_all (λ (st : State). not st.up || (length st.locks == 0)) servers ≡ true
 free_where_up [] all = refl
 free_where_up (st ∷ servers) all =
     let parts = and_parts (length st.locks == 0) (list_all (λ (st : State). length st.locks == 0) servers) all in
@@ -107,12 +93,6 @@ module _ (given : Opening) (events later : List Event) (go : GoSideBySideWhileDo
 
   -- ---- transactions of a part
 
-  -- one that was begun before is run now, by an agent that has this to do
-  pub record Busy (so_far : List Event) (i : ℕ) (doing : Option Doing) : Type 0 where
-    pub one : Begun given events so_far
-    pub who : one.agent ≡ i
-    pub runs_it : runs one.t doing ≡ true
-
   -- it is run, and asks for such a lock
   pub record Owned (so_far : List Event) (t z : ℕ) (mode : LockMode) : Type 0 where
     pub one : Begun given events so_far
@@ -122,7 +102,6 @@ module _ (given : Opening) (events later : List Event) (go : GoSideBySideWhileDo
 
   pub record Sides (so_far : List Event) : Type 0 where
     pub unmet : (one : Begun given events so_far) → IsUnmet given events one.before one.agent one.t one.caller one.site one.ops one.after
-    pub busy : (i : ℕ) (here : Actor) → actor_at (run given (events ++ so_far)) i ≡ Some here → is_idle here.agent.doing ≡ false → Busy so_far i here.agent.doing
     pub locks : (server : ℕ) (st : State) → server_at (run given (events ++ so_far)) server ≡ Some st → st.up ≡ true → AllOwned (Owned so_far) st.locks
 
   -- its world after all of these events is theirs
@@ -168,8 +147,8 @@ module _ (given : Opening) (events later : List Event) (go : GoSideBySideWhileDo
     -- ---- who asks
 
     module _ (i : ℕ) (here : Actor) (there : actor_at (run given (events ++ so_far)) i ≡ Some here) (asked : ℕ × Request) (next : next_of (fixed_of given) here.agent ≡ Some asked) where
-      pub busy_one : Busy so_far i here.agent.doing
-      busy_one = sides.busy i here there (asks_busy given here.agent asked next)
+      pub busy_one : Busy given events so_far i here.agent.doing
+      busy_one = who_asks given events later go.can (λ so_far rest k server split. go.unspoiled so_far rest (Begin k (Sweep server)) split) go.idle so_far rest split i here there asked next
 
       pub one_runs : is_running (run given (events ++ so_far)) busy_one.one.agent busy_one.one.t ≡ true
       one_runs = ap (running_in busy_one.one.t) (ap (actor_at (run given (events ++ so_far))) busy_one.who ∙ there) ∙ busy_one.runs_it

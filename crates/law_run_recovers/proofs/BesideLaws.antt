@@ -1,7 +1,7 @@
 -- The laws of transactions side by side.
-use Rattle.law_run_recovers.proofs.Vocabulary.{◌≡◌, ℕ, Bool, true, false, List, [], ◌∷◌, ◌++◌, append-nil, append_assoc, Option, Some, None, is_some, Result, refl, sym, ap, subst, ◌∙◌, same_Some, Opening, Answer, Refusal, State, Cause}
-use Rattle.law_run_recovers.proofs.Vocabulary.{Unavailable, HomeDown, Ending, Undecided, Transaction, home_of, fixed_of, EndedJob, Served, Event, Begin, Step, server_at, actor_at, step, run, table_of, CanBe, Begun, GoSideBySide, GoSideBySideWhileDown, SideBySideAreUnmet, SideBySideEndByVotes, SideBySideEndWhileDown}
-use Rattle.law_run_recovers.proofs.Vocabulary.{SideBySideAreDecided, SideBySideEndInTime, SideBySideAreToldFreely, Demand, demands, first_short, ending_by, ending_of, answer_on, EndsThen, is_up, is_running, world_after, GoesUnmet}
+use Rattle.law_run_recovers.proofs.Vocabulary.{◌≡◌, ℕ, Bool, true, false, List, [], ◌∷◌, ◌++◌, append-nil, append_assoc, Option, Some, None, is_some, Result, refl, sym, ap, subst, ◌∙◌, same_Some, Opening, Answer, Refusal, State, Cause, SideBySideEndByVotesAt}
+use Rattle.law_run_recovers.proofs.Vocabulary.{Unavailable, HomeDown, Ending, Undecided, Transaction, home_of, fixed_of, EndedJob, Served, Event, Begin, Step, server_at, actor_at, step, run, table_of, CanBe, Begun, GoSideBySide, GoSideBySideWhileDown, SideBySideEndWhileDownAt}
+use Rattle.law_run_recovers.proofs.Vocabulary.{Demand, demands, first_short, ending_by, ending_of, answer_on, EndsThen, is_up, is_running, world_after, GoesUnmet, Always, SideBySideAreDecidedAt, SideBySideAreToldFreelyAt, SideBySideAreUnmetAt, SideBySideEndInTimeAt}
 use Rattle.law_run_recovers.proofs.Keeps.{step_asks}
 use Rattle.law_run_recovers.proofs.StepsServed.{own_took}
 use Rattle.law_run_recovers.proofs.UnmetLaws.{unmet_by_votes}
@@ -29,16 +29,16 @@ module _ (given : Opening) (events later : List Event) (go : GoSideBySideWhileDo
   abbrev goes : GoesUnmet given (events ++ one.before) one.after one.agent one.t one.caller one.site one.ops its_unmet.actor
   goes = goes_of given events one.before one.agent one.t one.caller one.site one.ops one.after its_unmet its_can
 
-pub side_by_side_are_unmet : SideBySideAreUnmet
+pub side_by_side_are_unmet : Always SideBySideAreUnmetAt
 side_by_side_are_unmet given events later go one actor there =
     let unmet = its_unmet given events later go one in
     subst (GoesUnmet given (events ++ one.before) one.after one.agent one.t one.caller one.site one.ops) (same_Some unmet.actor actor (sym unmet.there ∙ there)) (goes given events later go one)
 
-pub side_by_side_end_by_votes : SideBySideEndByVotes
+pub side_by_side_end_by_votes : Always SideBySideEndByVotesAt
 side_by_side_end_by_votes given events later go one actor there job ends =
     unmet_by_votes given (events ++ one.before) one.after one.agent one.t one.caller one.site one.ops actor (side_by_side_are_unmet given events later go one actor there) job ends
 
-pub side_by_side_end_while_down : SideBySideEndWhileDown
+pub side_by_side_end_while_down : Always SideBySideEndWhileDownAt
 side_by_side_end_while_down given events later go one few =
     unmet_end_in_time given (events ++ one.before) one.after one.agent one.t one.caller one.site one.ops (its_unmet given events later go one).actor (goes given events later go one) few
 
@@ -78,13 +78,13 @@ module _ (given : Opening) (events later : List Event) (side : GoSideBySide give
       subst (λ (what : Served). IsKind what.request.value what.reply.value) (same_Some _ what (sym took.done ∙ served))
       (its_kind given (events ++ one.before) one.after one.agent one.t one.caller one.site one.ops unmet_one.actor goes_one (λ server. refl) all_up so_far rest split c took)
 
-pub side_by_side_are_decided : SideBySideAreDecided
+pub side_by_side_are_decided : Always SideBySideAreDecidedAt
 side_by_side_are_decided given events later go one job ends = is_decided given events later go one job ends
 
-pub side_by_side_end_in_time : SideBySideEndInTime
+pub side_by_side_end_in_time : Always SideBySideEndInTimeAt
 side_by_side_end_in_time given events later go one few = side_by_side_end_while_down given events later (as_down given events later go) one few
 
-pub side_by_side_are_told_freely : SideBySideAreToldFreely
+pub side_by_side_are_told_freely : Always SideBySideAreToldFreelyAt
 side_by_side_are_told_freely given events later go before after agent what split is =
     let w = run given (events ++ before) in
     let asks = step_asks (fixed_of given) w agent (actor_at w agent) what is in

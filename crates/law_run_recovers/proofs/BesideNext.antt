@@ -1,9 +1,9 @@
 -- Transactions side by side: one event more.
 use Rattle.law_run_recovers.proofs.Vocabulary.{◌≡◌, ◌≢◌, ⊎_elim, ℕ, Bool, true, false, cond, List, [], ◌∷◌, ◌++◌, append-nil, append_assoc, Option, Some, None, is_some, refl, sym, ap, subst, ◌∙◌, ◌==◌, ◌&&◌, ◌||◌, not, option_map}
-use Rattle.law_run_recovers.proofs.Vocabulary.{Contains, false≢true, and_parts, and_from, eqb-true, eq-eqb, same_Some, Opening, LockMode, is_exclusive, Lock, Request, in_the_way, conflicts, State, Has, find_some, Job, Transaction}
-use Rattle.law_run_recovers.proofs.Vocabulary.{Response, Task, TransactionRun, Doing, Running, RunningSweep, After, GoesOn, Ends, is_decide, said_by, after_response, Agent, fixed_of, is_idle, left, next_in, take_in, Served, Event}
-use Rattle.law_run_recovers.proofs.Vocabulary.{Begin, Step, Crash, Return, Forget, Lack, World, server_at, actor_at, has_no_job, step, run, Decided, names, IsAt, Leaves, leaves_response, begins_job, IsMine, MayAsk, asks_servers}
-use Rattle.law_run_recovers.proofs.Vocabulary.{clashes, clash, Begun, its_asks, spoils, GoSideBySideWhileDown, up_in, is_up, asks_for, is_way_met, way_in, in_its_way, GoesAmongLocks, locks_in, locks_at, runs, is_running, is_telling, takes, up_and, of_up}
+use Rattle.law_run_recovers.proofs.Vocabulary.{Contains, false≢true, and_parts, and_from, eqb-true, eq-eqb, same_Some, Opening, LockMode, is_exclusive, Lock, in_the_way, conflicts, State, Has, find_some, Job, Transaction}
+use Rattle.law_run_recovers.proofs.Vocabulary.{fixed_of, Served, Event}
+use Rattle.law_run_recovers.proofs.Vocabulary.{Begin, Step, Crash, Return, Forget, Lack, World, server_at, actor_at, has_no_job, step, run, names, begins_job, MayAsk, asks_servers}
+use Rattle.law_run_recovers.proofs.Vocabulary.{clashes, clash, Begun, its_asks, spoils, GoSideBySideWhileDown, up_in, is_up, asks_for, is_way_met, way_in, in_its_way, GoesAmongLocks, locks_in, locks_at, is_running, is_telling, takes, up_and, of_up}
 use Rattle.law_run_recovers.proofs.Vocabulary.{robs, hinders_itself, StandsOpen, everywhere}
 use Rattle.law_run_recovers.proofs.Keeps.{step_asks}
 use Rattle.law_run_recovers.proofs.Owned.{AllOwned, MayLock, owned_stays}
@@ -12,29 +12,8 @@ use Rattle.law_run_recovers.proofs.AmongCourse.{parted, course_runs}
 use Rattle.law_run_recovers.proofs.Steady.{steady}
 use Rattle.law_run_recovers.proofs.AmongLeft.{left_at}
 use Rattle.law_run_recovers.proofs.BesideUnmet.{IsUnmet, world_then, unmet_more, among_of, ran_then, onward}
-use Rattle.law_run_recovers.proofs.BesideAll.{own_served, others_none, not_both, no_job_of, clash_of, run_next, Owned, Sides, last_is, can_of, same_agent, busy_one, one_named, may_lock}
-
--- ---- who runs a transaction and takes a response runs it still, or nothing
-
-mine_left : (t : ℕ) (task : Task) (after : After TransactionRun) → ((more : TransactionRun) → after ≡ GoesOn more → more.task ≡ task) → task.t ≡ t → IsMine t (left Running after)
-mine_left t task (GoesOn more) same number = ap (λ (task : Task). task.t) (same more refl) ∙ number
-mine_left t task (Ends ended) same number = tt
-
-pub mine_taken : (given : Opening) (ds : List Decided) (i t : ℕ) (agent : Agent) (response : Response) (asked : ℕ × Request) (doing : Option Doing)
-    → next_in (fixed_of given) doing ≡ Some asked → IsAt ds i agent.count doing → runs t doing ≡ true
-    → IsMine t (take_in (fixed_of given) agent response doing (Some asked)).agent.doing
-mine_taken given ds i t agent response asked None next at is = absurd (false≢true is)
-mine_taken given ds i t agent response asked (Some (RunningSweep sweep_run)) next at is = absurd (false≢true is)
-mine_taken given ds i t agent response asked (Some (Running txn_run)) next at is =
-    mine_left t txn_run.task (after_response (fixed_of given) txn_run agent.cache asked.0 asked.1 response).after
-    (λ more goes. (subst (Leaves txn_run.task (cond (is_decide asked.1) (said_by response at.said) at.said)) goes
-    (leaves_response (fixed_of given) txn_run.task agent.cache txn_run.suites txn_run.phase asked.0 asked.1 response at.said next at.tells)).0)
-    (eqb-true txn_run.task.t t is)
-
-pub mine_runs : (t : ℕ) (doing : Option Doing) → IsMine t doing → is_idle doing ≡ false → runs t doing ≡ true
-mine_runs t None mine busy = absurd (false≢true (sym busy))
-mine_runs t (Some (RunningSweep sweep_run)) mine busy = absurd mine
-mine_runs t (Some (Running txn_run)) mine busy = eq-eqb txn_run.task.t t mine
+use Rattle.law_run_recovers.proofs.BesideAll.{own_served, others_none, not_both, clash_of, run_next, Owned, Sides, last_is, can_of, same_agent, busy_one, one_named, may_lock}
+use Rattle.law_run_recovers.proofs.Open.{busy_of}
 
 -- where a lock conflicts two clash
 conflict_parts : (t z : ℕ) (mode : LockMode) (lock : Lock) → conflicts t z mode lock ≡ true → (lock.suite ≡ z) × ((lock.t == t) ≡ false) × ((is_exclusive mode || is_exclusive lock.mode) ≡ true)
@@ -70,7 +49,7 @@ module _ (given : Opening) (events later : List Event) (go : GoSideBySideWhileDo
 
   module _ (one : Begun given events so_far) (running : is_running (run given (events ++ so_far)) one.agent one.t ≡ true) where
     has_job : has_no_job (actor_at (run given (events ++ so_far)) one.agent) ≡ false
-    has_job = no_job_of one.t (actor_at w one.agent) running
+    has_job = busy_of one.t (actor_at w one.agent) running
 
     not_robbed : (i : ℕ) → (i == one.agent) ≡ false → of_up (takes one.t) (run given (events ++ so_far)) (step (fixed_of given) (run given (events ++ so_far)) (Step i)).done.served ≡ false
     not_robbed i apart = of (step (fixed_of given) w (Step i)).done.served refl

@@ -1,14 +1,15 @@
 -- What blocks a suite after sweeps: whoever is down, and whoever has a lock on it in doubt.
 use Rattle.law_run_recovers.proofs.Vocabulary.{◌≡◌, ◌⊎◌, inl, inr, ⊎_elim, ℕ, ◌+◌, ◌<◌, ◌≤◌, Bool, true, false, cond, List, [], ◌∷◌, ◌++◌, Option, Some, None, is_some, refl, sym, ap, subst, ◌∙◌, arith, ◌%◌, ◌/◌, ◌==◌, ◌&&◌, ◌||◌, not}
 use Rattle.law_run_recovers.proofs.Vocabulary.{nat_lt, nat_le, option_map, Contains, mod-lt, false≢true, and_parts, and_from, eqb-true, eq-eqb, nat_tests, All-contains, Representative, Configuration, votes_in, total_votes, IsValid}
-use Rattle.law_run_recovers.proofs.Vocabulary.{Opening, LockMode, Shared, Exclusive, Lock, Request, Stamped, conflicts, in_the_way, has_prepared, State, served, is_full, answer_of, Has, contains_from, has_filter, any_has, has_any}
+use Rattle.law_run_recovers.proofs.Vocabulary.{Opening, LockMode, Shared, Exclusive, Lock, Request, Stamped, conflicts, in_the_way, has_prepared, State, served, is_full, answer_of, contains_from, has_filter, any_has, has_any}
 use Rattle.law_run_recovers.proofs.Vocabulary.{find_some, needed_of, has_vote, Fixed, home_of, fixed_of, Event, Crash, World, server_at, operates, operated, opening, step, run, same_or, puts_in, all_up, up_in, is_up, locks_in, locks_at}
-use Rattle.law_run_recovers.proofs.Vocabulary.{is_in_doubt, in_doubt, way_in, is_open_way, is_open_at, Want, sweeps, blocks, SweepsAll, can_have, BlockedByDoubts, DoubtedAt, IsBlocker, SomeServerBlocks, WasItsHome, OneCrashBlocks}
+use Rattle.law_run_recovers.proofs.Vocabulary.{is_in_doubt, in_doubt, way_in, is_open_way, is_open_at, Want, sweeps, blocks, SweepsAll, can_have, DoubtedAt, IsBlocker, WasItsHome, Always, BlockedByDoubtsAt, OneCrashBlocksAt, SomeServerBlocksAt}
 use Rattle.vote_core.specs.Validity.{IsAccepted}
 use Rattle.rep_core.specs.declared.request.Request.TheVariants as request
 use Rattle.run_core.proofs.Appending.{after-append}
 use Rattle.law_run_recovers.proofs.Free.{is_up_of}
 use Rattle.law_run_recovers.proofs.Rounds.{Ends, ends}
+use Rattle.law_run_recovers.proofs.Gathered.{Voter, some_voter}
 
 -- ---- votes
 
@@ -22,28 +23,6 @@ votes_apart (rep ∷ reps) set other so =
     of : (b : Bool) → votes_in reps set + votes_in reps other ≡ total_votes reps → (cond (not b) rep.1 0 + votes_in reps set) + (cond b rep.1 0 + votes_in reps other) ≡ rep.1 + total_votes reps
     of true rest = omega (arith, rest)
     of false rest = omega (arith, rest)
-
--- one that has some
-record Voter (reps : List Representative) (set : ℕ → Bool) : Type 0 where
-  rep : Representative
-  has : Has reps rep
-  inside : set rep.0 ≡ true
-  votes : nat_lt 0 rep.1 ≡ true
-
-some_voter : (reps : List Representative) (set : ℕ → Bool) → 0 < votes_in reps set → Voter reps set
-some_voter [] set some = absurd (omega (arith, some))
-some_voter (rep ∷ reps) set some = of (set rep.0) refl (nat_lt 0 rep.1) refl (some_voter reps set) some
-  where
-    later : Voter reps set → Voter (rep ∷ reps) set
-    later voter = record { rep = voter.rep; has = inr voter.has; inside = voter.inside; votes = voter.votes }
-
-    none : (n : ℕ) → nat_lt 0 n ≡ false → 0 < n + votes_in reps set → 0 < votes_in reps set
-    none n is some = grind (arith, nat_tests)
-
-    of : (b : Bool) → set rep.0 ≡ b → (c : Bool) → nat_lt 0 rep.1 ≡ c → (0 < votes_in reps set → Voter reps set) → 0 < cond b rep.1 0 + votes_in reps set → Voter (rep ∷ reps) set
-    of true inside true votes go some = record { rep = rep; has = inl refl; inside = inside; votes = votes }
-    of true inside false votes go some = later (go (none rep.1 votes some))
-    of false inside c votes go some = later (go (omega (arith, some)))
 
 voter_has : (votes : Configuration) (set : ℕ → Bool) (voter : Voter votes.reps set) → has_vote votes voter.rep.0 ≡ true
 voter_has votes set voter =
@@ -134,10 +113,10 @@ module _ (given : Opening) (events : List Event) (agent : ℕ) (sweep_run : List
       of server true up is = inr (doubted t want server is)
       of server false up is = inl up
 
-pub blocked_by_doubts : BlockedByDoubts
+pub blocked_by_doubts : Always BlockedByDoubtsAt
 blocked_by_doubts given events agent sweep_run sweeps_all t want = met_so given events agent sweep_run sweeps_all t want
 
-pub some_server_blocks : SomeServerBlocks
+pub some_server_blocks : Always SomeServerBlocksAt
 some_server_blocks given events agent sweep_run sweeps_all t want valid short = blocker given events agent sweep_run sweeps_all t want valid short
 
 -- ---- one crash
@@ -181,7 +160,7 @@ voter_known servers votes accepted server has =
     let parts = and_parts (some.0.0 == server) (nat_lt 0 some.0.1) some.2 in
     subst (λ server. server < servers) (eqb-true some.0.0 server parts.0) (All-contains (λ (rep : Representative). rep.0 < servers) votes.reps some.0 accepted.known (contains_from votes.reps some.0 some.1))
 
-pub one_crash_blocks : OneCrashBlocks
+pub one_crash_blocks : Always OneCrashBlocksAt
 one_crash_blocks given events server agent sweep_run up sweeps_all t want accepted short = of block.why
   where
     block : IsBlocker given (run given (events ++ Crash server ∷ [])) t want

@@ -3,7 +3,7 @@ use Rattle.law_run_recovers.proofs.Vocabulary.{◌≡◌, inl, inr, ℕ, ◌+◌
 use Rattle.law_run_recovers.proofs.Vocabulary.{cons_option, false≢true, and_parts, eqb-true, not-true, none-some, Opening, Sweep, Lacked, Fixed, SweepRun, Doing, Running, RunningSweep, After, GoesOn, Ends, Agent, fixed_of, is_idle}
 use Rattle.law_run_recovers.proofs.Vocabulary.{has_sense, max_jobs, next_in, left, begin, started, Event, Begin, Step, Crash, Return, Forget, Lack, Actor, World, Stepped, actor_at, has_no_job, becomes, asks, steps_once, step, after}
 use Rattle.law_run_recovers.proofs.Vocabulary.{run, decided, decided_by, decisions_from, task_of, task_at, task_in, begins_now, puts_in, begins_job, with_job, step_events, asked_events, events_of, history_from, no_task, hinders}
-use Rattle.law_run_recovers.proofs.Vocabulary.{unhindered_from, SweepsKeepEffects, sweeps, goes_round}
+use Rattle.law_run_recovers.proofs.Vocabulary.{unhindered_from, sweeps, goes_round, Always, SweepsKeepEffectsAt}
 use Rattle.law_suite_machine.specs.Machine as machine
 use Rattle.law_run_machine.specs.Machines.{moved}
 use Rattle.law_run_recovers.proofs.Aside.{Aside, event_aside}
@@ -138,7 +138,7 @@ module _ (given : Opening) (agent : ℕ) where
       let begins = and_parts (is_some (begins_job given w (Begin agent (Sweep one.0)))) (unhindered_from given agent begun one.1) parts.0 in
       calm_sweep w one.0 one.1 (sweeps agent more) begins.0 begins.1 (calm_round (after fixed begun one.1) more parts.1)
 
-pub sweeps_keep_effects : SweepsKeepEffects
+pub sweeps_keep_effects : Always SweepsKeepEffectsAt
 sweeps_keep_effects given events later agent t server alone =
     let world = run given events in
     let calm = calm_sweep given agent world server later [] (ap is_some alone.begins) alone.alone (calm_end given agent (after (fixed_of given) (step (fixed_of given) world (Begin agent (Sweep server))).world later)) in

@@ -4,7 +4,7 @@ use Rattle.law_run_recovers.proofs.Vocabulary.{find, unwrap_or, list_any, nat_cm
 use Rattle.law_run_recovers.proofs.Vocabulary.{Exclusive, serves, Has, any_has, has_any, Answer, Refusal, PlainTable, row_of, replies, Change, Need, Hold, Know, Ended, Heard, heard, Done, first_unmet, exec_of, AgreesWith, on_table}
 use Rattle.law_run_recovers.proofs.Vocabulary.{transaction, goes_alike, on_transaction, changes_are_held, Collector, collect, raise, Cache, hint, searched, search_keeps_all, ReadPoint, GatheredSuite, Suites, suite_of, with_suite}
 use Rattle.law_run_recovers.proofs.Vocabulary.{known_of, Fixed, Task, Granted, Gathered, start_from, raised_or_new, gather, widen_all, heard_on, after_search, free_content, opened_with, open_first, open_suite, open_needed, or_all}
-use Rattle.law_run_recovers.proofs.Vocabulary.{opened, proceed, execute, prepare, locked_at, self, with_at, each_but, each_with, but_with, are_nil, World, is_met, MayStart, has_asked, not_asked, changes_on, mode_or, first_mode}
+use Rattle.law_run_recovers.proofs.Vocabulary.{opened, proceed, execute, prepare, locked_at, self, with_at, each_but, each_with, but_with, are_nil, World, is_met, MayStart, has_asked, not_asked, changes_on, mode_or, first_mode, serves_shared}
 use Rattle.file_exec.specs.declared.executor.Outcome.{Outcome as Executed}
 use Rattle.file_exec.specs.declared.executor.Outcome.TheVariants as exec
 use Rattle.file_exec.specs.Changes as changes
@@ -73,10 +73,6 @@ weak_or_not mode Exclusive is = refl
 find_onto : {X : Type 0} (p : X → Bool) (so_far left : List X) → ((x : X) → Has so_far x → p x ≡ false) → find p (onto so_far left) ≡ find p left
 find_onto p [] left none = refl
 find_onto p (x ∷ so_far) left none = find_onto p so_far (x ∷ left) (λ y has. none y (inr has)) ∙ ap (λ b. cond b (Some x) (find p left)) (none x (inl refl))
-
-serves_shared : (mode : LockMode) → serves mode Shared ≡ true
-serves_shared Shared = refl
-serves_shared Exclusive = refl
 
 first_asked : (asked left : List (ℕ × LockMode)) (number : ℕ) (mode : LockMode) → has_asked asked number Shared ≡ false → first_mode (onto asked ((number, mode) ∷ left)) number ≡ mode
 first_asked asked left number mode none =
@@ -320,6 +316,7 @@ module _ (fixed : Fixed) (world : World) (sight : Sight) (table : PlainTable) (t
             from = may_start fixed world sight table task cache suites ready.asks.right;
             none = none_short fixed world sight table task cache start ready.asked [] all_asked all_had (ap (λ result. votes_of (changes_on table.rows result)) is) (λ other has. absurd has);
             answer_is = sym (ap given_by is) ∙ answer_on_table table task;
+            right = ready.asks.right;
             gathered = all_modes;
           })
 

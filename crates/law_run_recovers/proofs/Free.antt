@@ -2,11 +2,11 @@
 use Rattle.law_run_recovers.proofs.Vocabulary.{◌≡◌, inl, ℕ, zero, suc, ◌<◌, ◌+◌, Bool, true, false, cond, List, [], ◌∷◌, ◌++◌, length, Option, Some, None, is_some, refl, sym, ap, ◌∙◌, arith, ◌==◌, ◌%◌, ◌/◌, ◌&&◌, ◌*◌, not, nat_lt}
 use Rattle.law_run_recovers.proofs.Vocabulary.{slice_get, list_all, mod-lt, false≢true, and_parts, and_right, ltb-true, slice_get_within, Opening, Lock, has_prepared, State, all_at, home_of, Job, Sweep, fixed_of, is_idle, has_sense}
 use Rattle.law_run_recovers.proofs.Vocabulary.{max_jobs, Event, Begin, Actor, World, actor_at, step, after, run, begins_now, so_many, begins_job, with_job, at_has, unhindered_from, all_up, up_in, is_up, locks_in, locks_at, is_in_doubt}
-use Rattle.law_run_recovers.proofs.Vocabulary.{sweeps, goes_round, NoLockIsLeft}
+use Rattle.law_run_recovers.proofs.Vocabulary.{sweeps, goes_round, Always, NoLockIsLeftAt}
 use Rattle.law_run_recovers.proofs.Doubts.{filter_none}
 use Rattle.law_run_recovers.proofs.Rounds.{Ends, ends}
 
-all_from : {X : Type 0} (p : X → Bool) (xs : List X) → ((i : ℕ) (x : X) → slice_get xs i ≡ Some x → p x ≡ true) → list_all p xs ≡ true
+pub all_from : {X : Type 0} (p : X → Bool) (xs : List X) → ((i : ℕ) (x : X) → slice_get xs i ≡ Some x → p x ≡ true) → list_all p xs ≡ true
 all_from p [] all = refl
 all_from p (x ∷ xs) all = ap (λ b. b && list_all p xs) (all 0 x refl) ∙ all_from p xs (λ i y is. all (suc i) y is)
 
@@ -22,7 +22,7 @@ is_up_of given events up i less =
     let some = some_at (run given events).servers i (omega (arith, many, less)) in
     ap up_in some.1 ∙ all_at (λ (st : State). st.up) (run given events).servers some.0 up (at_has (run given events).servers i some.0 some.1)
 
-pub no_lock_is_left : NoLockIsLeft
+pub no_lock_is_left : Always NoLockIsLeftAt
 no_lock_is_left given events agent sweep_run can up goes all =
     all_from (λ (st : State). length st.locks == 0) last.servers (λ i st is.
     let many = (so_many given (events ++ sweeps agent sweep_run)).0 in

@@ -3,31 +3,53 @@ use Rattle.law_run_recovers.proofs.Vocabulary.{◌≡◌, inl, inr, ⊎_elim, �
 use Rattle.law_run_recovers.proofs.Vocabulary.{eqb-true, nat_tests, nat_cmp_total, All-contains, same_Some, IsOrdered-insert, Representative, Configuration, votes_in, IsValid, max_servers, Prefix, LockMode, Shared, Exclusive, serves}
 use Rattle.law_run_recovers.proofs.Vocabulary.{Has, contains_from, PlainTable, holds, newest, Collector, all_told, first_members, version, needed, needed_of, got, Next, Current, Ask, Short, next, Cache, Undecided, ReadPoint}
 use Rattle.law_run_recovers.proofs.Vocabulary.{GatheredSuite, Suites, suite_of, with_suite, settled, first_or, source_of, Fixed, Task, short_cause, gather_by, locked_at, self, with_at, each_but, each_with, World, is_met, demand_by}
-use Rattle.law_run_recovers.proofs.Vocabulary.{led_to_by, has_asked}
+use Rattle.law_run_recovers.proofs.Vocabulary.{led_to_by, has_asked, serves_shared, Told, is_held, and_parts, or_cases, or_right, false≢true}
 use Rattle.rep_core.specs.declared.reply.Verdict.TheVariants as verdict
 use Rattle.txn_core.specs.Transactions.{Step}
 use Rattle.law_run_recovers.proofs.Asking.{onto, held_in, held_if}
 use Rattle.law_run_recovers.proofs.Led.{EndsShort, reached_short, reached_leads, reached_current, reached_settled}
 use Rattle.law_run_recovers.proofs.Polled.{Sight, finds_at, AllBelow, greatest_below, Refusing, gathering, at_current}
-use Rattle.law_run_recovers.proofs.Downs.{holds_shared}
 use Rattle.law_run_recovers.proofs.Stands.{Ground, locks_on, of_lock, unmet, EndsRight, ends_short, short_lock, IsRight, IsHad, start_of, starts, may_start, had_met, SameStart, had_with, Hints, IsFound, found_start, found_right, HasLock}
 use Rattle.law_run_recovers.proofs.Stands.{IsWhole, IsReady, IsGathering, StepStands, told_stands}
 
 -- ---- voters
 
--- some server has votes
-record HasVoter (reps : List Representative) (held : ℕ → Bool) : Type 0 where
-  rep : Representative
-  there : Has reps rep
-  holds : held rep.0 ≡ true
+-- of so many votes some server has some
+pub record Voter (reps : List Representative) (set : ℕ → Bool) : Type 0 where
+  pub rep : Representative
+  pub has : Has reps rep
+  pub inside : set rep.0 ≡ true
+  pub votes : nat_lt 0 rep.1 ≡ true
 
-some_voter : (reps : List Representative) (held : ℕ → Bool) → 0 < votes_in reps held → HasVoter reps held
-some_voter [] held some = absurd (omega (arith, some))
-some_voter (rep ∷ reps) held some = of (held rep.0) refl some (some_voter reps held)
+pub some_voter : (reps : List Representative) (set : ℕ → Bool) → 0 < votes_in reps set → Voter reps set
+some_voter [] set some = absurd (omega (arith, some))
+some_voter (rep ∷ reps) set some = of (set rep.0) refl (nat_lt 0 rep.1) refl (some_voter reps set) some
   where
-    of : (b : Bool) → held rep.0 ≡ b → 0 < cond b rep.1 0 + votes_in reps held → (0 < votes_in reps held → HasVoter reps held) → HasVoter (rep ∷ reps) held
-    of true is some go = record { rep = rep; there = inl refl; holds = is }
-    of false is some go = let rest = go (omega (arith, some)) in record { rep = rest.rep; there = inr rest.there; holds = rest.holds }
+    later : Voter reps set → Voter (rep ∷ reps) set
+    later voter = record { rep = voter.rep; has = inr voter.has; inside = voter.inside; votes = voter.votes }
+
+    none : (n : ℕ) → nat_lt 0 n ≡ false → 0 < n + votes_in reps set → 0 < votes_in reps set
+    none n is some = grind (arith, nat_tests)
+
+    of : (b : Bool) → set rep.0 ≡ b → (c : Bool) → nat_lt 0 rep.1 ≡ c → (0 < votes_in reps set → Voter reps set) → 0 < cond b rep.1 0 + votes_in reps set → Voter (rep ∷ reps) set
+    of true inside true votes go some = record { rep = rep; has = inl refl; inside = inside; votes = votes }
+    of true inside false votes go some = later (go (none rep.1 votes some))
+    of false inside c votes go some = later (go (omega (arith, some)))
+
+holds_shared : (mode : LockMode) (list : List Told) (i : ℕ) → holds mode list i ≡ true → holds Shared list i ≡ true
+holds_shared mode [] i is = is
+holds_shared mode (one ∷ list) i is = ⊎_elim
+    (λ here. let parts = and_parts (one.server == i) (is_held one.said && serves one.mode mode) here in
+    let held = (and_parts (is_held one.said) (serves one.mode mode) parts.1).0 in
+    of (one.server == i) (is_held one.said) (serves one.mode Shared) (holds Shared list i) parts.0 held (serves_shared one.mode))
+    (λ later. or_right ((one.server == i) && (is_held one.said && serves one.mode Shared)) (holds Shared list i) (holds_shared mode list i later))
+    (or_cases ((one.server == i) && (is_held one.said && serves one.mode mode)) (holds mode list i) is)
+  where
+    of : (a b c d : Bool) → a ≡ true → b ≡ true → c ≡ true → ((a && (b && c)) || d) ≡ true
+    of true true true d x y z = refl
+    of false b c d x y z = absurd (false≢true x)
+    of true false c d x y z = absurd (false≢true y)
+    of true true false d x y z = absurd (false≢true z)
 
 above_none : (wanted got : ℕ) → 0 < wanted → nat_le wanted got ≡ true → 0 < got
 above_none wanted got some is = grind (arith, nat_tests)
@@ -116,8 +138,8 @@ module _ (fixed : Fixed) (world : World) (sight : Sight) (table : PlainTable) (t
       record {
         server = voter.rep.0;
         is_one = below voter.rep.0 max_servers (All-contains (λ (rep : Representative). rep.0 < max_servers) (newest found.start at.told).votes.reps voter.rep valid.numbered
-            (contains_from (newest found.start at.told).votes.reps voter.rep voter.there));
-        holds = ap (λ (c : Collector). holds Shared (all_told c) voter.rep.0) (same ∙ at.is) ∙ holds_shared at.mode at.told voter.rep.0 voter.holds;
+            (contains_from (newest found.start at.told).votes.reps voter.rep voter.has));
+        holds = ap (λ (c : Collector). holds Shared (all_told c) voter.rep.0) (same ∙ at.is) ∙ holds_shared at.mode at.told voter.rep.0 voter.inside;
       }
 
   pub current_whole : (z : ℕ) (suite : GatheredSuite) → IsFound fixed world sight table task cache Was ground z suite → (prefix : Prefix) (dver : ℕ) (members : List ℕ)

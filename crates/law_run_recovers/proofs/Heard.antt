@@ -4,7 +4,7 @@ use Rattle.law_run_recovers.proofs.Vocabulary.{insert-insert, Content, Prefix, L
 use Rattle.law_run_recovers.proofs.Vocabulary.{told_by, Next, Current, Ask, Short, next, Cache, put, Undecided, Lost, ReadPoint, GatheredSuite, Suites, suite_of, with_suite, known_of, first_or, settled, Fixed, Task, Granted, Phase}
 use Rattle.law_run_recovers.proofs.Vocabulary.{Gathering, Fetching, Preparing, Deciding, Finishing, TransactionRun, GoesOn, home_of, Gathered, asked_by, asked_for, fetched_at, fetched_for, request_in, decision_of, hear, collected}
 use Rattle.law_run_recovers.proofs.Vocabulary.{heard_of, given_in, keep_content, fetched, prepare, give_up, short_cause, verdict_in, cause_of_abort, locked_at, widen_all, execute, after_reply, self, with_at, but_with, World, is_up}
-use Rattle.law_run_recovers.proofs.Vocabulary.{MayStart, is_met, ending_of}
+use Rattle.law_run_recovers.proofs.Vocabulary.{MayStart, is_met, ending_of, mode_stays, same_mode}
 use Rattle.rep_core.specs.declared.reply.Reply.TheVariants as reply
 use Rattle.rep_core.specs.declared.reply.Verdict.TheVariants as verdict
 use Rattle.file_exec.specs.Known as known
@@ -16,7 +16,7 @@ use Rattle.law_run_recovers.specs.Ends as laws
 use Rattle.law_run_recovers.proofs.Asking.{held_in, held_if}
 use Rattle.law_run_recovers.proofs.Led.{reached_told}
 use Rattle.law_run_recovers.proofs.Polled.{Sight, Answers, hears}
-use Rattle.law_run_recovers.proofs.Widened.{WidenedShort, start_stays, same_said, same_mode, right_more}
+use Rattle.law_run_recovers.proofs.Widened.{WidenedShort, start_stays, same_said, right_more}
 use Rattle.law_run_recovers.proofs.Hinting.{hint_put}
 use Rattle.law_run_recovers.proofs.Stands.{IsKept, held_same, Ground, asks_of, locks_on, of_votes, demand_of, answer_to, EndsAs, EndsRight, IsRight, asked_with, Hints, HasAll, answer_in, Sets, IsWidening, IsFound, found_right, IsWhole}
 use Rattle.law_run_recovers.proofs.Stands.{IsReady, IsGathering, PhaseStands, StepStands, told_stands, prepare_stands}
@@ -66,13 +66,6 @@ asks_for task number c server asked = of (next c) refl
         record { question = question; is = is ∙ ap (λ (asked : ℕ × Request). Ask asked.0 question) same; asked_is = sym (ap (λ (asked : ℕ × Request). asked.1) same) }
     of (Current prefix dver members) is given = absurd (none-some (server, asked) given)
     of (Short had wanting busy) is given = absurd (none-some (server, asked) given)
-
-mode_stays : (c : Collector) (one : Told) → (tell one c).mode ≡ c.mode
-mode_stays c one = of c.widening
-  where
-    of : (widening : Option Widening) → (tell_at widening one c).mode ≡ c.mode
-    of None = refl
-    of (Some widening) = refl
 
 -- what it is told so
 record HeardOne (number : ℕ) (suite : GatheredSuite) (server : ℕ) (asked : Request) (said : Reply) : Type 0 where

@@ -3,7 +3,7 @@ use Rattle.law_run_recovers.proofs.Vocabulary.{◌≡◌, ⊎_elim, ℕ, zero, s
 use Rattle.law_run_recovers.proofs.Vocabulary.{false≢true, and_parts, eqb-true, slice_get, nat_cmp, LockMode, Identity, Op, Opening, State, all_at, at_has, has_from, Transaction, Sweep, Event, Begin}
 use Rattle.law_run_recovers.proofs.Vocabulary.{Actor, World, server_at, actor_at, step, after, run, fixed_of, Fixed, owner, a, Cache, EventGivesValidVotes, CanBe, is_up, up_in, asks_for, way_in, way_at}
 use Rattle.law_run_recovers.proofs.Vocabulary.{is_way_met, in_its_way, StandsOpen, StandsStill, AreNear, is_running, Representative, hinders_itself, robs, begun_world, world_after}
-use Rattle.law_run_recovers.proofs.Vocabulary.{turns, puts, sweeps, GoesUnmet, GoesAmongLocks, SweepsAll, spoils, opening}
+use Rattle.law_run_recovers.proofs.Vocabulary.{turns, puts, sweeps, GoesUnmet, GoesAmongLocks, SweepsAll, spoils, opening, not-true, some_of}
 use Rattle.std.proofs.Common.{lit<}
 use Rattle.std.proofs.lemmas.List.Elements.{All-from_recursion}
 use Rattle.std.specs.FinSet.{contains-empty}
@@ -61,16 +61,12 @@ pub unless : (a b : Bool) → (not a || b) ≡ true → a ≡ true → b ≡ tru
 unless true b is so = is
 unless false b is so = absurd (false≢true so)
 
-pub not_so : (b : Bool) → not b ≡ true → b ≡ false
-not_so true is = sym is
-not_so false is = refl
-
 -- where nothing spoils events, by computation, nothing does at any moment of them
 pub none_spoils_it : (given : Opening) (events later : List Event) → holds (λ w. true) (λ w event. not (spoils given w event)) (fixed_of given) (run given events) later ≡ true
     → (before rest : List Event) (event : Event) → later ≡ before ++ event ∷ rest → spoils given (run given (events ++ before)) event ≡ false
 none_spoils_it given events later calm before rest event split =
     subst (λ w. spoils given w event ≡ false) (sym (after_append (fixed_of given) events before (opening given)))
-    (not_so (spoils given (after (fixed_of given) (run given events) before) event)
+    (not-true (spoils given (after (fixed_of given) (run given events) before) event)
     (happens_at (λ w. true) (λ w event. not (spoils given w event)) (fixed_of given) later before rest event (run given events) calm split))
 
 -- ---- servers
@@ -158,7 +154,7 @@ met_not w t asked all one has server = of (server_at w server) refl
 
     of : (found : Option State) → server_at w server ≡ found → is_way_met (way_in t one.0 one.1 found) ≡ false
     of None at = refl
-    of (Some st) at = not_so (is_way_met (way_in t one.0 one.1 (Some st))) (all_at (λ (st : State). not (is_way_met (way_in t one.0 one.1 (Some st)))) w.servers st each (at_has w.servers server st at))
+    of (Some st) at = not-true (is_way_met (way_in t one.0 one.1 (Some st))) (all_at (λ (st : State). not (is_way_met (way_in t one.0 one.1 (Some st)))) w.servers st each (at_has w.servers server st at))
 
 -- ---- they can be
 
@@ -183,11 +179,6 @@ two_can events is = record {
   c0 = some_runs_go_alone.can_without.c0;
   votes = all_by EventGivesValidVotes event_sets_none valid_event events is;
 }
-
--- what there is
-pub there_is : {X : Type 0} (found : Option X) → is_some found ≡ true → (x : X) × (found ≡ Some x)
-there_is (Some x) is = (x, refl)
-there_is None is = absurd (false≢true is)
 
 near_all : (given : Opening) (events : List Event) (t : ℕ) (caller : Identity) (site : ℕ) (ops : List Op) (cache : Cache) → AreNear given events t caller site ops cache (λ _. true)
 near_all given events t caller site ops cache = record {
@@ -221,7 +212,7 @@ module _ (given : Opening) (first : World) (agent t : ℕ) (asked : List (ℕ ×
       record { up = λ server near. up_same w first parts.0 server; way = λ server one near has. way_same w first t asked parts.1 one has server }
 
   free_hand : (w : World) (event : Event) → free_at w event ≡ true → is_running w agent t ≡ true → (hinders_itself given agent w event || robs given agent t w event) ≡ false
-  free_hand w event all running = not_so _ (unless (is_running w agent t) (not (hinders_itself given agent w event || robs given agent t w event)) all running)
+  free_hand w event all running = not-true _ (unless (is_running w agent t) (not (hinders_itself given agent w event || robs given agent t w event)) all running)
 
 abbrev writes_a : List Op
 writes_a = puts a 0 ∷ []
@@ -230,7 +221,7 @@ abbrev pub first_of : List Event → World
 first_of events = run one_server events
 
 pub its_actor : (events : List Event) → is_some (actor_at (run one_server events) 0) ≡ true → (actor : Actor) × (actor_at (run one_server events) 0 ≡ Some actor)
-its_actor events is = there_is (actor_at (run one_server events) 0) is
+its_actor events is = some_of (actor_at (run one_server events) 0) is
 
 abbrev asks_of_a : List Event → List (ℕ × LockMode)
 asks_of_a events = asks_for one_server events 64 owner writes_a

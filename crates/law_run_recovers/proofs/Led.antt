@@ -2,14 +2,14 @@
 use Rattle.law_run_recovers.proofs.Vocabulary.{◌≡◌, ◌⊎◌, inl, inr, ℕ, suc, ◌≤◌, Bool, true, false, cond, List, [], ◌∷◌, length, Option, Some, None, refl, sym, ap, subst, ◌∙◌, arith, ◌&&◌, not, nat_lt, nat_le, find, option_map}
 use Rattle.law_run_recovers.proofs.Vocabulary.{false≢true, and_parts, and_from, ltb-false, nat_tests, none-some, Representative, votes_in, votes_in-wider, Prefix, LockMode, Shared, Exclusive, serves, Reply, find_some, Has, Said, Held}
 use Rattle.law_run_recovers.proofs.Vocabulary.{Busy, Down, Told, newer, newest, holds, has_refused, Collector, all_told, needed_of, is_left, tell, told_by, Current, Short, next, collect, raise, Opening, fixed_of, Fixed, World, row, WasPrefix}
-use Rattle.law_run_recovers.proofs.Vocabulary.{IsQuorum, Inv, beginning, shown_at, shows_newer_by, newer_by, led_so_far_by, led_to_by}
+use Rattle.law_run_recovers.proofs.Vocabulary.{IsQuorum, Inv, beginning, shown_at, shows_newer_by, newer_by, led_so_far_by, led_to_by, serves_itself}
 use Rattle.law_suite_machine.specs.Machine as machine
 use Rattle.law_run_recovers.proofs.Found.{Answering, newest_is_row}
 use Rattle.law_run_recovers.proofs.Leading as leading
 use Rattle.law_run_recovers.proofs.Leading.{one_step, one_end}
 use Rattle.law_run_recovers.proofs.Picks.{find_first, find_fails}
 use Rattle.law_run_recovers.proofs.Asked.{next_mode}
-use Rattle.law_run_recovers.proofs.Polled.{Sight, finds_at, opens_wider, serves_all, serves_own, gathering, first_left, at_current, at_short, IsAnswered, RightSaid, AllRight, all_wider, held_open, Refusing, refusing, told_is, newer_left}
+use Rattle.law_run_recovers.proofs.Polled.{Sight, finds_at, opens_wider, serves_all, gathering, first_left, at_current, at_short, IsAnswered, RightSaid, AllRight, all_wider, held_open, Refusing, refusing, told_is, newer_left}
 use Rattle.law_run_recovers.proofs.Polled.{none_shows, held_are_open}
 
 -- ---- what holds all along
@@ -38,7 +38,7 @@ module _ (fixed : Fixed) (world : World) (sight : Sight) (suite : ℕ) (Known : 
     pub settled : (mode ≡ sight.first suite) ⊎ Settled (newest start told)
 
   going_first : Going (sight.first suite) []
-  going_first = record { right = tt; steps = 0; at = refl; known = rules.begins; strong = serves_own (sight.first suite); settled = inl refl }
+  going_first = record { right = tt; steps = 0; at = refl; known = rules.begins; strong = serves_itself (sight.first suite); settled = inl refl }
 
   -- a voting member that shows a newer one than the newest, which so is shown
   not_settled : (told : List Told) (rep : Representative) → Has (newest start told).votes.reps rep → nat_lt 0 rep.1 ≡ true → finds_at sight suite rep.0 ≡ true

@@ -2,7 +2,7 @@
 use Rattle.law_run_recovers.proofs.Vocabulary.{◌≡◌, ◌⊎◌, inl, inr, ⊎_elim, ℕ, zero, suc, ◌+◌, true, false, List, [], ◌∷◌, ◌++◌, append_assoc, Option, Some, None, refl, sym, ap, subst, ◌∙◌, ◌==◌, ◌&&◌, ◌||◌, unwrap_or, slice_get}
 use Rattle.law_run_recovers.proofs.Vocabulary.{cons_option, false≢true, and_parts, cases_Bool, eqb-true, eq-eqb, none-some, Opening, serves, Lock, State, is_own, Has, any_has, can_front, fixed_of, Event, Begin, Step, Crash, Return}
 use Rattle.law_run_recovers.proofs.Vocabulary.{Forget, Lack, World, opening, server_at, servers_from, step, after, run, Decided, decided, decisions, decisions_from, decisions_from-append, servers_of, no_task, CanBe, TellsOfLock}
-use Rattle.law_run_recovers.proofs.Vocabulary.{has_lock_after, locks_stand, locks_in, locks_at, stands, TakenAwayAreNeverDecided}
+use Rattle.law_run_recovers.proofs.Vocabulary.{has_lock_after, locks_stand, locks_in, locks_at, stands, Always, TakenAwayAreNeverDecidedAt}
 use Rattle.rep_core.specs.State as state
 use Rattle.rep_core.proofs.Members as members
 use Rattle.rep_core.specs.declared.request.Request.TheVariants as request
@@ -82,7 +82,7 @@ stands_later t (x ∷ xs) ys none = elim (x.t == t) as (λ b. (b || stands t xs)
   | false ↦ λ none. stands_later t xs ys none
 ] none
 
-pub taken_away_are_never_decided : TakenAwayAreNeverDecided
+pub taken_away_are_never_decided : Always TakenAwayAreNeverDecidedAt
 taken_away_are_never_decided given before between later t server can had gone undecided =
     ⊎_elim (λ is. absurd (never is)) (λ is. is) (cases_Bool (stands t (decisions given (before ++ between ++ later))))
   where

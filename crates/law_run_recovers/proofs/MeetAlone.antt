@@ -2,16 +2,17 @@
 use Rattle.law_run_recovers.proofs.Vocabulary.{Bool, Contains, List, None, Option, Some, [], ap, append-nil, false, inl, inr, is_some, not, refl, subst, sym, true, ℕ, ⊎_elim, ◌&&◌, ◌++◌, ◌==◌, ◌||◌, ◌∙◌, ◌∷◌, ◌≡◌, ◌⊎◌}
 use Rattle.law_run_recovers.proofs.Vocabulary.{eqb-true, false≢true, list_any, Row, row_of, is_decided, IsNotDecided, find_some, Has, contains_from, has_from, State, Lock, decisions, run, table_of, World, actor_at, has_no_job, server_at}
 use Rattle.law_run_recovers.proofs.Vocabulary.{step, EndedJob, Event, Begin, Crash, Forget, Lack, Return, Step, Opening, LockMode, Exclusive, fixed_of, Sweep, Transaction, Configuration, Begun, clashes, its_asks, spoils, votes_of_row, votes_set}
-use Rattle.law_run_recovers.proofs.Vocabulary.{HasFirstVotes, EndsThen, VotesNeverMovedOf, AreTight, OneThatMeetsIsDecided, TheyMeet, first_clash, its_votes, OneThatMeetsByRowsIsDecided, SetsApart, TheyMeetByRows, votes_now}
-use Rattle.law_run_recovers.proofs.Vocabulary.{and_parts, list_all, is_idle, Doing, Actor, hinders_itself, locks_at, locks_in}
+use Rattle.law_run_recovers.proofs.Vocabulary.{HasFirstVotes, EndsThen, VotesNeverMovedOf, AreTight, TheyMeet, first_clash, its_votes, SetsApart, TheyMeetByRows, votes_now}
+use Rattle.law_run_recovers.proofs.Vocabulary.{and_parts, list_all, is_idle, Doing, Actor, hinders_itself, locks_at, locks_in, Always, OneThatMeetsByRowsIsDecidedAt, OneThatMeetsIsDecidedAt}
 use Rattle.law_run_recovers.specs.MeetsBeside.{GoesOn, IsServed, TheyMeetBeside, first_asks, sweeps_now, upsets}
-use Rattle.law_run_recovers.proofs.BesideAll.{no_job_of, not_both}
+use Rattle.law_run_recovers.proofs.BesideAll.{not_both}
 use Rattle.law_run_recovers.proofs.MeetAsks.{sets_asked}
 use Rattle.law_run_recovers.proofs.MeetBoth.{same_place, place_of, third, none_first}
 use Rattle.law_run_recovers.proofs.MeetCalmed.{AllCalm, asks_same, votes_same, calm_where}
 use Rattle.law_run_recovers.proofs.MeetEnds.{undecided_not}
 use Rattle.law_run_recovers.proofs.MeetLaw.{decided_one}
 use Rattle.law_run_recovers.proofs.MeetLocks.{owned_at}
+use Rattle.law_run_recovers.proofs.Open.{busy_of}
 
 -- ---- where nothing spoils it
 
@@ -45,7 +46,7 @@ hinders_not given w agent (Step other) has calm = by (other == agent) refl
 module _ (given : Opening) (events later : List Event) (unspoiled : (before after : List Event) (event : Event) → later ≡ before ++ event ∷ after → spoils given (run given (events ++ before)) event ≡ false) where
   pub all_served : (one : Begun given events later) → IsServed given events later one
   all_served one before after event split running =
-      hinders_not given (run given (events ++ before)) one.agent event (no_job_of one.t (actor_at (run given (events ++ before)) one.agent) running) (unspoiled before after event split)
+      hinders_not given (run given (events ++ before)) one.agent event (busy_of one.t (actor_at (run given (events ++ before)) one.agent) running) (unspoiled before after event split)
 
   pub never_upset : (before after : List Event) (event : Event) → later ≡ before ++ event ∷ after → upsets given (run given (events ++ before)) event ≡ false
   never_upset before after event split = upsets_not given (run given (events ++ before)) event (unspoiled before after event split)
@@ -139,7 +140,7 @@ module _ (given : Opening) (events later : List Event) (one other : Begun given 
       of false false one_is other_is =
           ap (λ b. b || false) (sym one_is) ∙ ap (λ b. is_decided job.ending || b) (sym other_is) ∙ decided_one given events later one other (beside one_is other_is) job outcome ends other_ends
 
-pub one_that_meets_by_rows_is_decided : OneThatMeetsByRowsIsDecided
+pub one_that_meets_by_rows_is_decided : Always OneThatMeetsByRowsIsDecidedAt
 one_that_meets_by_rows_is_decided given events later one other meets job outcome ends other_ends = decided_alone given events later one other meets job outcome ends other_ends
 
 -- ---- where votes were never moved those of the rows are the first ones
@@ -186,6 +187,6 @@ module _ (given : Opening) (events later : List Event) (one other : Begun given 
     other_sets_apart = apart_by other meets.other_unmoved meets.other_moves_none (its_asks given events later one);
   }
 
-pub one_that_meets_is_decided : OneThatMeetsIsDecided
+pub one_that_meets_is_decided : Always OneThatMeetsIsDecidedAt
 one_that_meets_is_decided given events later one other meets job outcome ends other_ends =
     one_that_meets_by_rows_is_decided given events later one other (by_rows given events later one other meets) job outcome ends other_ends

@@ -1,14 +1,14 @@
 -- Of two that meet no two locks that clash stand at one server: what one was granted stands as long as it is at work, and keeps out the other.
 use Rattle.law_run_recovers.proofs.Vocabulary.{◌≡◌, ⊎_elim, ℕ, Bool, true, false, List, [], ◌∷◌, ◌++◌, append_assoc, Some, None, is_some, refl, sym, ap, subst, ◌∙◌, ◌==◌, slice_get, false≢true, eqb-true, eq-eqb, same_Some, Opening}
 use Rattle.law_run_recovers.proofs.Vocabulary.{LockMode, Shared, Exclusive, serves, Request, Stamped, in_the_way, State, served, answer_of, mode_of, Transaction, fixed_of, next_of, Served, Event, Begin, Step, Actor, World, server_at}
-use Rattle.law_run_recovers.proofs.Vocabulary.{actor_at, step, run, puts_in, CanBe, clashes, Begun, locks_in, locks_at, begun_world, world_after}
+use Rattle.law_run_recovers.proofs.Vocabulary.{actor_at, step, run, puts_in, CanBe, clashes, Begun, locks_in, locks_at, begun_world, world_after, serves_itself}
 use Rattle.law_run_recovers.proofs.AmongCourse.{tail_or}
 use Rattle.law_run_recovers.proofs.Keeps.{IsAtWork, step_asks}
 use Rattle.law_run_recovers.proofs.Sides.{compared, names_one}
 use Rattle.law_run_recovers.proofs.StepsServed.{OwnTook, own_took}
 use Rattle.law_run_recovers.proofs.MeetBoth.{Place, place, its_event, held_in, world_in, in_part, cancel, agent_in}
 use Rattle.law_run_recovers.proofs.MeetCalm.{Calm, IsOurs, up_at}
-use Rattle.law_run_recovers.proofs.MeetCount.{clash_wider, serves_own}
+use Rattle.law_run_recovers.proofs.MeetCount.{clash_wider}
 use Rattle.law_run_recovers.proofs.MeetEnds.{Fixed}
 use Rattle.law_run_recovers.proofs.MeetLocks.{HasMode, Granted, granted, keeps_out, keeps_to}
 use Rattle.law_run_recovers.proofs.MeetQuiet.{GoesQuietly, next_is}
@@ -219,7 +219,7 @@ module _ (given : Opening) (events later : List Event) (one other : Begun given 
 
     pub kept_out : ⊥
     kept_out =
-        keeps_out who.t u y a (mode_of h.what.request.value) h.st.locks two has_then (clash_wider y a a b (mode_of h.what.request.value) (serves_own a) h.strong clash) h.free
+        keeps_out who.t u y a (mode_of h.what.request.value) h.st.locks two has_then (clash_wider y a a b (mode_of h.what.request.value) (serves_itself a) h.strong clash) h.free
 
   -- two that are granted to both never clash
   module _ (room : Room one) (other_room : Room other) (two : (one.t == other.t) ≡ false) where

@@ -1,18 +1,14 @@
 -- What a transaction sets votes of it asks for exclusively.
-use Rattle.law_run_recovers.proofs.Vocabulary.{◌≡◌, ◌⊎◌, inl, inr, ⊎_elim, ℕ, Bool, true, false, cond, List, [], ◌∷◌, Option, Some, None, Result, Ok, Err, Less, Equal, Greater, refl, ap, subst, ◌∙◌, arith, ◌==◌, ◌&&◌, ◌||◌, filter}
-use Rattle.law_run_recovers.proofs.Vocabulary.{list_any, nat_cmp, match_ordering, Ordering, false≢true, eqb-true, eq-eqb, nat_tests, insert, Identity, Configuration, LockMode, Shared, Exclusive, serves, Answer, Op, Refusal, PlainTable}
+use Rattle.law_run_recovers.proofs.Vocabulary.{◌≡◌, ◌⊎◌, inl, inr, ⊎_elim, ℕ, Bool, true, false, cond, List, [], ◌∷◌, Option, Some, None, Result, Ok, Err, Less, Equal, Greater, refl, ap, subst, ◌∙◌, ◌==◌, ◌&&◌, ◌||◌, filter}
+use Rattle.law_run_recovers.proofs.Vocabulary.{list_any, nat_cmp, match_ordering, Ordering, false≢true, eqb-true, eq-eqb, insert, Identity, Configuration, LockMode, Exclusive, serves, Answer, Op, Refusal, PlainTable}
 use Rattle.law_run_recovers.proofs.Vocabulary.{Row, row_of, Change, Edit, Need, Hold, Know, with_change, changes_at, Course, Give, Refuse, Look, Read, Set, Edits, Ended, is_set, unless_set, looked, content_read, needs, ending}
-use Rattle.law_run_recovers.proofs.Vocabulary.{transaction, Has, has_filter, has_map, has_asked, not_asked, locks_asked, change_in, changes_on, votes_set}
+use Rattle.law_run_recovers.proofs.Vocabulary.{transaction, Has, has_filter, has_map, has_asked, not_asked, locks_asked, change_in, changes_on, votes_set, or_right, serves_itself, tied}
 use Rattle.law_run_recovers.proofs.Asked.{asked_exclusive}
 use Rattle.law_run_recovers.proofs.Asking.{suite_in, mode_in, is_hold}
 
 or_parts : (a b : Bool) → (a || b) ≡ true → (a ≡ true) ⊎ (b ≡ true)
 or_parts true b is = inl refl
 or_parts false b is = inr is
-
-or_later : (a b : Bool) → b ≡ true → (a || b) ≡ true
-or_later true b is = refl
-or_later false b is = is
 
 -- ---- edits
 
@@ -44,9 +40,6 @@ sets_needed rows z edits (Set suite edit later) ended is any =
 
 -- ---- changes
 
-cmp_same : (x y : ℕ) → nat_cmp x y ≡ Equal → x ≡ y
-cmp_same x y is = grind (arith, nat_tests)
-
 has_insert : (all : List (ℕ × Change)) (key : ℕ) (value : Change) (one : ℕ × Change) → Has (insert nat_cmp all key value) one → (key ≡ one.0) ⊎ Has all one
 has_insert [] key value one has = ⊎_elim (λ same. inl (ap (λ (one : ℕ × Change). one.0) same)) (λ none. absurd none) has
 has_insert (e ∷ es) key value one has = of (nat_cmp key e.0) refl (has_insert es key value one) has
@@ -54,7 +47,7 @@ has_insert (e ∷ es) key value one has = of (nat_cmp key e.0) refl (has_insert 
     of : (o : Ordering) → nat_cmp key e.0 ≡ o → (Has (insert nat_cmp es key value) one → (key ≡ one.0) ⊎ Has es one)
         → Has (match_ordering o ((key, value) ∷ e ∷ es) ((e.0, value) ∷ es) (e ∷ insert nat_cmp es key value)) one → (key ≡ one.0) ⊎ Has (e ∷ es) one
     of Less is go has = ⊎_elim (λ same. inl (ap (λ (one : ℕ × Change). one.0) same)) (λ old. inr old) has
-    of Equal is go has = ⊎_elim (λ same. inl (cmp_same key e.0 is ∙ ap (λ (one : ℕ × Change). one.0) same)) (λ old. inr (inr old)) has
+    of Equal is go has = ⊎_elim (λ same. inl (tied key e.0 is ∙ ap (λ (one : ℕ × Change). one.0) same)) (λ old. inr (inr old)) has
     of Greater is go has = ⊎_elim (λ same. inr (inl same)) (λ old. ⊎_elim (λ at'. inl at') (λ old. inr (inr old)) (go old)) has
 
 -- what changes was edited
@@ -63,18 +56,14 @@ changed_at f [] one has = absurd has
 changed_at f (e ∷ edits) one has = of (f e.0) (changed_at f edits one) has
   where
     of : (found : Option Change) → (Has (changes_at f edits) one → list_any (at one.0) edits ≡ true) → Has (with_change e.0 found (changes_at f edits)) one → list_any (at one.0) (e ∷ edits) ≡ true
-    of None go has = or_later (e.0 == one.0) (list_any (at one.0) edits) (go has)
+    of None go has = or_right (e.0 == one.0) (list_any (at one.0) edits) (go has)
     of (Some change) go has =
         ⊎_elim
         (λ same. ap (λ b. b || list_any (at one.0) edits) (eq-eqb e.0 one.0 same))
-        (λ old. or_later (e.0 == one.0) (list_any (at one.0) edits) (go old))
+        (λ old. or_right (e.0 == one.0) (list_any (at one.0) edits) (go old))
         (has_insert (changes_at f edits) e.0 change one has)
 
 -- ---- what is needed is asked for
-
-serves_own : (m : LockMode) → serves m m ≡ true
-serves_own Shared = refl
-serves_own Exclusive = refl
 
 pub needed_asked : (needed : List Need) (asked : List (ℕ × LockMode)) (z : ℕ) (mode : LockMode) → Has needed (Hold z mode) → (has_asked asked z mode ≡ true) ⊎ (has_asked (not_asked asked needed) z mode ≡ true)
 needed_asked [] asked z mode has = absurd has
@@ -88,14 +77,14 @@ needed_asked (Hold s k ∷ needed) asked z mode has = of (has_asked asked s k) r
     of true is go (inr later) = go asked later
     of false is go (inl same) =
         inr (ap (λ b. (b && serves k mode) || has_asked (not_asked ((s, k) ∷ asked) needed) z mode) (eq-eqb s z (ap suite_in same))
-        ∙ ap (λ b. b || has_asked (not_asked ((s, k) ∷ asked) needed) z mode) (subst (λ mode. serves k mode ≡ true) (ap mode_in same) (serves_own k)))
+        ∙ ap (λ b. b || has_asked (not_asked ((s, k) ∷ asked) needed) z mode) (subst (λ mode. serves k mode ≡ true) (ap mode_in same) (serves_itself k)))
     of false is go (inr later) =
         ⊎_elim
         (λ had. ⊎_elim
         (λ here. inr (ap (λ b. b || has_asked (not_asked ((s, k) ∷ asked) needed) z mode) here))
         (λ before. inl before)
         (or_parts ((s == z) && serves k mode) (has_asked asked z mode) had))
-        (λ rest. inr (or_later ((s == z) && serves k mode) (has_asked (not_asked ((s, k) ∷ asked) needed) z mode) rest))
+        (λ rest. inr (or_right ((s == z) && serves k mode) (has_asked (not_asked ((s, k) ∷ asked) needed) z mode) rest))
         (go ((s, k) ∷ asked) later)
 
 -- ---- so what it sets votes of it asks for exclusively

@@ -2,9 +2,10 @@
 use Rattle.law_run_recovers.proofs.Vocabulary.{◌*◌, false≢true, all_idle, no_locks, holds_of, ◌<◌, Bool, ◌+◌, CanBe, agent_of, agent_at, Agent, List, None, Option, Some, [], ap, append-nil, append_assoc, arith, false, length, refl, subst, suc, sym, true, ℕ, ⊎_elim, ◌++◌, ◌==◌, ◌∙◌, ◌∷◌, ◌≡◌, ◌⊎◌, eq-eqb}
 use Rattle.law_run_recovers.proofs.Vocabulary.{after, eqb-true, none-some, same_Some, cons_option, at_has, begins_job, has_append, IsNotDecided, Has, all_at, has_from, State, Lock, decisions_from-append, Decided, answer_in, decided}
 use Rattle.law_run_recovers.proofs.Vocabulary.{decided_as, decided_at, decided_by, decisions, decisions_from, task_at, run, Actor, World, actor_at, opening, server_at, step, Served, Event, Begin, Crash, Forget, Lack, Return}
-use Rattle.law_run_recovers.proofs.Vocabulary.{Step, mode_of, serves, Opening, LockMode, fixed_of, next_of, is_decide, Job, Transaction, Begun, votes_now, asks_for, begun_world, world_after}
+use Rattle.law_run_recovers.proofs.Vocabulary.{Step, mode_of, serves, Opening, LockMode, fixed_of, next_of, is_decide, Job, Transaction, Begun, votes_now, asks_for, begun_world, world_after, serves_itself}
 use Rattle.law_run_recovers.proofs.AmongCourse.{head_or, tail_or}
 use Rattle.law_run_recovers.proofs.BesideUnmet.{begins_there}
+use Rattle.law_run_recovers.proofs.Busy.{busy_one, one_named}
 use Rattle.law_run_recovers.proofs.Keeps.{IsAtWork, after_append, step_asks}
 use Rattle.law_run_recovers.proofs.Open.{its_begin}
 use Rattle.law_run_recovers.proofs.Sides.{compared, its_agent, names_one}
@@ -12,8 +13,7 @@ use Rattle.law_runs.proofs.Begun.{Rises, agents_ask_for_themselves, counts_rise}
 use Rattle.law_runs.specs.Numbers.{AsksForItself, AsksToSweep}
 use Rattle.law_run_alone.proofs.Named.{all_named, not_begun}
 use Rattle.law_runs.proofs.Turns.{no_decide}
-use Rattle.law_run_recovers.proofs.MeetCalm.{Fair, Calm, IsOurs, calm_front, ours_front, busy_one, one_named}
-use Rattle.law_run_recovers.proofs.MeetCount.{serves_own}
+use Rattle.law_run_recovers.proofs.MeetCalm.{Fair, Calm, IsOurs, calm_front, ours_front, unswept}
 use Rattle.law_run_recovers.proofs.MeetLocks.{owned_at}
 use Rattle.law_run_recovers.proofs.MeetQuiet.{GoesQuietly}
 use Rattle.law_run_recovers.proofs.MeetReach.{Reached, reached_wider, reaches_now}
@@ -102,13 +102,13 @@ module _ (given : Opening) (events later : List Event) where
     asks = step_asks (fixed_of given) w i (actor_at w i) what served
 
     abbrev pub b : Begun given events so_far
-    b = (busy_one given events part fair idle so_far (Step i ∷ back) split i asks.0 asks.1 (what.server, what.request.value) asks.2).one
+    b = (busy_one given events part fair.can (unswept given events part fair) idle so_far (Step i ∷ back) split i asks.0 asks.1 (what.server, what.request.value) asks.2).one
 
     who_asks : b.agent ≡ i
-    who_asks = (busy_one given events part fair idle so_far (Step i ∷ back) split i asks.0 asks.1 (what.server, what.request.value) asks.2).who
+    who_asks = (busy_one given events part fair.can (unswept given events part fair) idle so_far (Step i ∷ back) split i asks.0 asks.1 (what.server, what.request.value) asks.2).who
 
     numbered : b.t ≡ t
-    numbered = names_one b.t t what.request.value (one_named given events part fair idle so_far (Step i ∷ back) split i asks.0 asks.1 (what.server, what.request.value) asks.2) (for_lock_named t z what.request.value lock).0
+    numbered = names_one b.t t what.request.value (one_named given events part fair.can (unswept given events part fair) idle so_far (Step i ∷ back) split i asks.0 asks.1 (what.server, what.request.value) asks.2) (for_lock_named t z what.request.value lock).0
 
     abbrev pub third : Begun given events later
     third = record {
@@ -244,7 +244,7 @@ module _ (given : Opening) (events later : List Event) where
         (there_in (grants who.t z (mode_of what.request.value) what.server) who.agent (fixed_of given) so_far back (run given events) what
         (ap (λ w. (step (fixed_of given) w (Step who.agent)).done.served) (world_in given events so_far) ∙ ap (λ i. (step (fixed_of given) (run given (events ++ so_far)) (Step i)).done.served) (sym at.who_is) ∙ served)
         (four_from (what.server == what.server) (for_lock who.t z what.request.value) (says_held what.reply.value) (serves (mode_of what.request.value) (mode_of what.request.value)) (eq-eqb what.server what.server refl)
-        lock_then held' (serves_own (mode_of what.request.value))))
+        lock_then held' (serves_itself (mode_of what.request.value))))
 
 -- ---- counts
 

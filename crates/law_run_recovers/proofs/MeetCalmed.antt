@@ -1,5 +1,5 @@
 -- A run is calm, whatever the suite, where each transaction that begins is never decided, or asks for nothing exclusively.
-use Rattle.law_run_recovers.proofs.Vocabulary.{all_idle, no_locks, can_front, arith, nat_tests, list_all, length, not, and_parts, and_from, ◌||◌, Bool, Contains, inl, inr, List, None, Option, Some, [], ap, append-nil, append_assoc, cond, false, refl, slice_get, slice_set, subst, sym, true, ℕ, ⊎_elim, ◌*◌, ◌++◌, ◌+◌, ◌==◌, ◌∙◌, ◌∷◌, ◌≡◌}
+use Rattle.law_run_recovers.proofs.Vocabulary.{all_idle, no_locks, can_front, Bool, Contains, inl, inr, List, None, Option, Some, [], ap, append-nil, append_assoc, cond, false, refl, slice_get, slice_set, subst, sym, true, ℕ, ⊎_elim, ◌*◌, ◌++◌, ◌+◌, ◌==◌, ◌∙◌, ◌∷◌, ◌≡◌}
 use Rattle.law_run_recovers.proofs.Vocabulary.{◌⊎◌, eqb-true, false≢true, same_Some, cons_option, nat_cmp, PlainTable, AuditItem, all_keep, CanBe, LogIs, decision_at, event_log, machine_one, all_consistent, AllAt, machine_of}
 use Rattle.law_run_recovers.proofs.Vocabulary.{finish_is_after, at_puts, append_has_left, service_stays, puts_in, IsAnsweredAsKnown, IsNotDecided, EndedSo, beginning, WasPrefix, copy_in-with_copies, Has, contains_from}
 use Rattle.law_run_recovers.proofs.Vocabulary.{has_from, HasPreparedLock, IsConsistent, Intention, has_lock, in_the_way, with_prepared, after_down, after_locking, after_record, after_up, audit_of, is_answered, prepares}
@@ -29,6 +29,7 @@ use Rattle.law_run_recovers.proofs.MeetRun.{its_actor, goes_of, never_decides, r
 use Rattle.law_run_recovers.proofs.MeetTold.{opens_held, held_weaker, held_up, held_fits}
 use Rattle.law_run_recovers.proofs.MeetUndecided.{not_decided_at_work}
 use Rattle.law_run_recovers.proofs.Picks.{along}
+use Rattle.law_run_recovers.proofs.BesideAll.{free_where_up}
 
 -- ---- of every suite
 
@@ -44,16 +45,6 @@ pub record AllCalm (given : Opening) (events later : List Event) : Type 0 where
 abbrev pub AnySuite : ℕ → Type 0
 AnySuite z = Unit {0}
 
--- no server has a lock, so none that is up
-free_up : (servers : List State) → list_all (λ (st : State). length st.locks == 0) servers ≡ true → list_all (λ (st : State). not st.up || (length st.locks == 0)) servers ≡ true
-free_up [] all = refl
-free_up (st ∷ servers) all =
-    let parts = and_parts (length st.locks == 0) (list_all (λ (st : State). length st.locks == 0) servers) all in
-    and_from (not st.up || (length st.locks == 0)) (list_all (λ (st : State). not st.up || (length st.locks == 0)) servers) (or_so (not st.up) (length st.locks == 0) parts.0) (free_up servers parts.1)
-  where
-    or_so : (a b : Bool) → b ≡ true → (a || b) ≡ true
-    or_so a b is = grind (arith, nat_tests)
-
 pub calm_of_all : (given : Opening) (events later : List Event) → AllCalm given events later → Calm given events later AnySuite
 calm_of_all given events later all = record {
   fair = all.fair;
@@ -63,7 +54,7 @@ calm_of_all given events later all = record {
   answers = λ z _.
       let can = can_front given events later all.fair.can in
       all_answer given z (machine_of given z events) (run given events) (effects.inv given events (all_keep given events can) z) (effects.follows given events (all_keep given events can) z).shows
-      (all_consistent given events) (free_up (run given events).servers all.free);
+      (all_consistent given events) (free_where_up (run given events).servers all.free);
 }
 
 -- ---- the same table

@@ -1,6 +1,6 @@
 -- A run is calm at suites at which each exclusive lock that there ever is belongs to one that is never decided: who writes a suite has it locked exclusively as it is decided.
-use Rattle.law_run_recovers.proofs.Vocabulary.{home_in, ◌≡◌, ℕ, ◌+◌, ◌<◌, ◌≤◌, Bool, true, false, cond, List, [], ◌∷◌, ◌++◌, append-nil, append_assoc, Option, Some, None, Ok, Err, refl, sym, ap, subst, ◌∙◌}
-use Rattle.law_run_recovers.proofs.Vocabulary.{arith, ◌==◌, unwrap_or, nat_cmp, and_parts, eqb-true, false≢true, leb-true, none-some, same_Some, find_some, Representative}
+use Rattle.law_run_recovers.proofs.Vocabulary.{home_in, ◌≡◌, ℕ, ◌+◌, ◌<◌, ◌≤◌, true, List, [], ◌∷◌, ◌++◌, append-nil, append_assoc, Option, Some, None, Ok, Err, refl, sym, ap, subst, ◌∙◌}
+use Rattle.law_run_recovers.proofs.Vocabulary.{arith, ◌==◌, unwrap_or, nat_cmp, and_parts, eqb-true, false≢true, leb-true, none-some, same_Some, find_some}
 use Rattle.law_run_recovers.proofs.Vocabulary.{votes_in, IsValid, Opening, Prefix, LockMode, Exclusive, Shared, is_exclusive, get, Intention, Lock, Verdict, State, copy_of, is_own, is_answered}
 use Rattle.law_run_recovers.proofs.Vocabulary.{HasPreparedLock, served, Has, contains_from, has_from, fixed_of, Proposal, GatheredSuite, ReadPoint, suite_of, append_has_left}
 use Rattle.law_run_recovers.proofs.Vocabulary.{Event, Step, Served, World, server_at, step, opening, run, after, Decided, decided, decisions, decisions_from, decisions_from-append, finish_is_after, EndedSo, IsNotDecided, answers_follow_knowledge}
@@ -28,6 +28,7 @@ use Rattle.law_run_recovers.proofs.Serves.{Serves}
 use Rattle.law_run_recovers.proofs.MeetCalm.{Fair, Calm, accepted, can_at, run_next, decided_has}
 use Rattle.law_run_recovers.proofs.MeetCalmed.{finished_none, served_so, each_next}
 use Rattle.law_run_recovers.proofs.Picks.{along}
+use Rattle.law_run_recovers.proofs.Gathered.{some_voter}
 
 -- ---- what is owed at a moment of a run
 
@@ -46,19 +47,6 @@ as_told_then given z w world (event ∷ events) all =
 -- the same row, and the same prefixes
 abbrev SameLog : Opening → ℕ → List registers.Entry → List registers.Entry → Type 0
 SameLog given z log old = (row (beginning z given) log ≡ row (beginning z given) old) × ((p : ℕ) → prefix_at (beginning z given) log p ≡ prefix_at (beginning z given) old p)
-
--- some server of these has votes
-record Voter (reps : List Representative) (set : ℕ → Bool) : Type 0 where
-  rep : Representative
-  holds : set rep.0 ≡ true
-
-some_voter : (reps : List Representative) (set : ℕ → Bool) → 0 < votes_in reps set → Voter reps set
-some_voter [] set some = absurd (omega (arith, some))
-some_voter (rep ∷ reps) set some = of (set rep.0) refl some (some_voter reps set)
-  where
-    of : (b : Bool) → set rep.0 ≡ b → 0 < cond b rep.1 0 + votes_in reps set → (0 < votes_in reps set → Voter reps set) → Voter (rep ∷ reps) set
-    of true is some go = record { rep = rep; holds = is }
-    of false is some go = let rest = go (omega (arith, some)) in record { rep = rest.rep; holds = rest.holds }
 
 pub record LockedBy (world : World) (t z : ℕ) : Type 0 where
   pub server : ℕ
@@ -133,11 +121,11 @@ module _ (given : Opening) (all : List Event) (number : ℕ) (can : CanBe given 
       let voter = some_voter owes.under.votes.reps (conditions.holds_exclusively w t)
       (some_in owes.under.votes.w (votes_in owes.under.votes.reps (conditions.holds_exclusively w t)) valid.w_in_range.0 (leb-true owes.under.votes.w (votes_in owes.under.votes.reps (conditions.holds_exclusively w t)) owes.quorum)) in
       let i = voter.rep.0 in
-      let told = told_exclusive (w.told i t) voter.holds in
+      let told = told_exclusive (w.told i t) voter.inside in
       let ready = is_ready_now given z w (run given all) now so.number so.actor so.txn_run so.outcome so.there so.running so.deciding none_yet in
       let held = still_locked w now.inv.sound t ready i told.0 told.1 in
       let as' = subst (AsTold (w.told i t)) held.1 (as_told_then given z (machine.begun (beginning z given)) (opening given) all (λ i t. tt) i t) in
-      locked_in given (run given all) t z i held.0 (sym ((now.shows.at i).lock t) ∙ held.1) (as_told_one (w.told i t) held.0 as' voter.holds)
+      locked_in given (run given all) t z i held.0 (sym ((now.shows.at i).lock t) ∙ held.1) (as_told_one (w.told i t) held.0 as' voter.inside)
 
   -- ---- so what it leaves of a suite that it has not locked so
 

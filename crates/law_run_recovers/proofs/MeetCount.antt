@@ -1,7 +1,7 @@
 -- Two that meet are not both short: who is refused by the one has given its votes to the other, and where the votes are tight these are enough. Nor is one short of votes
 -- that were set anew since: whoever shows newer ones the other has, and so that one has found these.
 use Rattle.law_run_recovers.proofs.Vocabulary.{◌≡◌, ◌⊎◌, inl, inr, ℕ, ◌<◌, ◌≤◌, Bool, true, false, cond, List, [], ◌∷◌, refl, sym, ap, subst, ◌∙◌, arith, IsTrue, ◌+◌, ◌&&◌, ◌||◌, not, Contains, false≢true, eq-eqb, Representative}
-use Rattle.law_run_recovers.proofs.Vocabulary.{Configuration, votes_in, votes_at, total_votes, shared_member, LockMode, Shared, Exclusive, is_exclusive, serves, needed_of, clashes, AreTight}
+use Rattle.law_run_recovers.proofs.Vocabulary.{Configuration, votes_in, votes_at, total_votes, shared_member, LockMode, Shared, Exclusive, is_exclusive, serves, needed_of, clashes, AreTight, not-true, serves_itself}
 
 -- ---- votes
 
@@ -30,14 +30,6 @@ or_wider Shared Shared Exclusive Shared wide wider is = absurd (false≢true wid
 -- what is wanted more clashes as well
 pub clash_wider : (y : ℕ) (m more k other : LockMode) → serves more m ≡ true → serves other k ≡ true → clashes (y, m) (y, k) ≡ true → clashes (y, more) (y, other) ≡ true
 clash_wider y m more k other wide wider is = clash_same y more other ∙ or_wider m more k other wide wider (sym (clash_same y m k) ∙ is)
-
-pub serves_own : (m : LockMode) → serves m m ≡ true
-serves_own Shared = refl
-serves_own Exclusive = refl
-
-not_so : (b : Bool) → not b ≡ true → b ≡ false
-not_so false is = refl
-not_so true is = sym is
 
 -- two locks of lists are the same
 abbrev pub Same : ℕ × LockMode → ℕ × LockMode → Type 0
@@ -152,7 +144,7 @@ module _ (mine theirs : List (ℕ × LockMode)) (rows : ℕ → Configuration) (
             let way : one.1.way ≡ k = ap (λ (p : ℕ × LockMode). p.1) is in
             let asks' = subst (λ y. Contains mine (y, wanted)) at asks in
             let clash' : clashes (z, wanted) (z, k) ≡ true =
-            subst (λ y. clashes (y, wanted) (y, k) ≡ true) at (clash_wider y one.1.mode wanted k k one.1.strong (serves_own k) (subst (λ way. clashes (y, one.1.mode) (y, way) ≡ true) way one.1.clashing)) in
+            subst (λ y. clashes (y, wanted) (y, k) ≡ true) at (clash_wider y one.1.mode wanted k k one.1.strong (serves_itself k) (subst (λ way. clashes (y, one.1.mode) (y, way) ≡ true) way one.1.clashing)) in
             let one_sum = subst (λ (v : Configuration). needed_of m v + needed_of k v ≡ total_votes v.reps + 1) (sym votes_are) (tight m k has there clash) in
             let other_sum = subst (λ (v : Configuration). needed_of wanted v + needed_of k v ≡ total_votes v.reps + 1) (sym votes_are) (tight wanted k asks' there clash') in
             let met' = subst (λ (v : Configuration). needed_of m v ≤ votes_in v.reps (held z m)) (sym votes_are) met in
@@ -246,7 +238,7 @@ module _ (mine theirs : List (ℕ × LockMode)) (rows : ℕ → Configuration) (
           let all' = votes_split (rows z).reps other_open in
           let sum' = sum in
           let x = reach wanted (λ s. not (other_open s)) (omega (arith, few'', all', sum')) in
-          let h = one_has x.0 (subst (λ (v : Configuration). 0 < votes_at v.reps x.0) (sym row') x.1) (not_so (other_open x.0) x.2) in
+          let h = one_has x.0 (subst (λ (v : Configuration). 0 < votes_at v.reps x.0) (sym row') x.1) (not-true (other_open x.0) x.2) in
           let newest = x.3 in
           let below = subst (λ y. shown y x.0 ≤ b.prefix) at (b.below m x.0 (subst (λ y. held y m x.0 ≡ true) (sym at) h)) in
           let newer = subst (λ y. b.prefix < shown y b.server) at b.newer in
@@ -259,7 +251,7 @@ module _ (mine theirs : List (ℕ × LockMode)) (rows : ℕ → Configuration) (
           let all' = votes_split (rows z).reps open' in
           let sum' = sum in
           let x = reach wanted' (λ s. not (open' s)) (omega (arith, few'', all', sum')) in
-          let o = other_has x.0 (subst (λ (v : Configuration). 0 < votes_at v.reps x.0) (sym row) x.1) (not_so (open' x.0) x.2) in
+          let o = other_has x.0 (subst (λ (v : Configuration). 0 < votes_at v.reps x.0) (sym row) x.1) (not-true (open' x.0) x.2) in
           let newest = x.3 in
           let below = subst (λ y. shown y x.0 ≤ b.prefix) at' (b.below o.0 x.0 (subst (λ y. other_held y o.0 x.0 ≡ true) (sym at') o.1)) in
           let newer = subst (λ y. b.prefix < shown y b.server) at' b.newer in

@@ -1,13 +1,13 @@
 -- How a transaction stands in whose run nothing is decided, at each moment at which it is at work: servers are open to it that a sight says, as long as this fits what
 -- it is told; and where its end is fixed some want of it is not met by these.
-use Rattle.law_run_recovers.proofs.Vocabulary.{◌≡◌, ◌≢◌, ◌⊎◌, inl, inr, ⊎_elim, ℕ, Bool, true, false, cond, List, [], ◌∷◌, ◌++◌, append-nil, append_assoc, Option, Some, None, is_some, refl, sym, ap, subst, ◌∙◌, ◌*◌, ◌+◌, ◌||◌, nat_cmp}
+use Rattle.law_run_recovers.proofs.Vocabulary.{◌≡◌, ◌≢◌, ◌⊎◌, inl, inr, ⊎_elim, ℕ, Bool, true, false, cond, List, [], ◌∷◌, ◌++◌, append-nil, append_assoc, Option, Some, None, is_some, refl, sym, ap, subst, ◌∙◌, ◌*◌, ◌+◌, nat_cmp}
 use Rattle.law_run_recovers.proofs.Vocabulary.{eq-eqb, none-some, same_Some, IsOrdered, Identity, IsValid, Opening, Prefix, LockMode, Shared, Exclusive, Op, row_of, IsSoAt, Lock, Request, Reply, is_prepared}
 use Rattle.law_run_recovers.proofs.Vocabulary.{in_the_way, copy_of, State, record_of, reply_of, reply_up, reply_down, poll_reply, locking_reply, stands_prepared, can_prepare, recorded, verdict_of, Asked, Poll, Upgrade, request_for}
 use Rattle.law_run_recovers.proofs.Vocabulary.{mode_asked, Cache, forgotten, Ending, Undecided, Cause, Transaction, Replied, Suites, suite_of, known_of, parts_at, Task, Phase, Gathering, Fetching, Preparing, Deciding, Finishing}
 use Rattle.law_run_recovers.proofs.Vocabulary.{TransactionRun, Running, After, GoesOn, Ends, home_of, execute, given_in, changes_of, decision_of, request_in, after_reply, Agent, Taken, fixed_of, is_idle, next_in, next_of}
 use Rattle.law_run_recovers.proofs.Vocabulary.{left, with_step, take_in, take, begins, begin, started, exchanges, is_decide, said_by, asks_same, Keeps, nothing_held, plus_all, begin_keeps, after-append, Served, Event, Begin}
 use Rattle.law_run_recovers.proofs.Vocabulary.{Step, Actor, World, server_at, actor_at, step, run, decisions, table_of, holds_of, service_stays, agent_of, WasPrefix, beginning, machine_of, CanBe, all_keep, IsMine, can_front, Finds}
-use Rattle.law_run_recovers.proofs.Vocabulary.{Stands, has_any, ◌==◌, is_resolve, never_resolves, is_up, locks_asked, asks_for, first_mode, runs, world_after}
+use Rattle.law_run_recovers.proofs.Vocabulary.{Stands, has_any, ◌==◌, is_resolve, never_resolves, is_up, locks_asked, asks_for, first_mode, runs, world_after, or_right}
 use Rattle.file_ops.specs.Rows as rows
 use Rattle.file_exec.specs.Known as known
 use Rattle.rep_core.specs.declared.request.Request.TheVariants as request
@@ -25,7 +25,7 @@ use Rattle.law_run_recovers.proofs.Apart.{Apart, hint_forgotten}
 use Rattle.law_run_recovers.proofs.Asked.{asked_exclusive, onto_so_far}
 use Rattle.law_run_recovers.proofs.Asking.{onto}
 use Rattle.law_run_recovers.proofs.AtWork.{stands_next, locks_stand}
-use Rattle.law_run_recovers.proofs.BesideNext.{mine_taken}
+use Rattle.law_run_recovers.proofs.Busy.{mine_taken}
 use Rattle.law_run_recovers.proofs.Early.{early_asks, fetch_is}
 use Rattle.law_run_recovers.proofs.Executes.{begin_stands}
 use Rattle.law_run_recovers.proofs.Found.{Answering}
@@ -42,10 +42,6 @@ use Rattle.law_run_recovers.proofs.Unrobbed.{unrecorded_at, finds_then}
 use Rattle.law_run_recovers.proofs.MeetQuiet.{GoesQuietly, next_is, parts, heard_first, first_untold, heard_at, idle_before}
 use Rattle.law_run_recovers.proofs.MeetHeard.{AllTold, HeardNext, heard_next, told_running, told_none}
 use Rattle.law_run_recovers.proofs.Picks.{along}
-
-either : (a b : Bool) → b ≡ true → (a || b) ≡ true
-either true b is = refl
-either false b is = is
 
 module _ (given : Opening) (base events later : List Event) (agent t : ℕ) (caller : Identity) (site : ℕ) (ops : List Op) (actor : Actor) (goes : GoesQuietly given base events later agent t caller site ops actor) where
   abbrev pub world_at : List Event → World
@@ -298,7 +294,7 @@ module _ (given : Opening) (base events later : List Event) (agent t : ℕ) (cal
           let is = sym (asks_same server took.asked.0 (request.Prepare its.t parts') took.asked.1 asks') in
           ap is_prepared
           (replies_up ∙ ap (reply_up took.st) is
-          ∙ ap (λ b. cond b reply.Prepared reply.Lost) (either (stands_prepared took.st its.t parts') (can_prepare took.st its.t parts') (subst (Finds took.st) is its_finds)))
+          ∙ ap (λ b. cond b reply.Prepared reply.Lost) (or_right (stands_prepared took.st its.t parts') (can_prepare took.st its.t parts') (subst (Finds took.st) is its_finds)))
       right_for now suites (Deciding outcome) at open' asks' =
           let decision = decision_of its outcome in
           let is = sym (asks_same (home_of (fixed_of given).service its.t) took.asked.0 (request.Decide its.t decision) took.asked.1 asks') in

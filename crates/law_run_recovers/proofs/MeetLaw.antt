@@ -3,9 +3,9 @@ use Rattle.law_run_recovers.proofs.Vocabulary.{Bool, Contains, List, Some, [], a
 use Rattle.law_run_recovers.proofs.Vocabulary.{eq-eqb, eqb-true, false≢true, list_any, is_decided, machine_of, IsNotDecided, beginning, row, find_some, Has, contains_from, has_any, has_from, State, Lock, decisions}
 use Rattle.law_run_recovers.proofs.Vocabulary.{run, table_of, server_at, step, EndedJob, Served, Event, Begin, Step, mode_of, Opening, LockMode, Exclusive, fixed_of, has_vote, Transaction, Configuration, votes_at, Begun, clashes}
 use Rattle.law_run_recovers.proofs.Vocabulary.{any_has, append_has_left, append_has_right, has_append, CanBe, ◌&&◌, votes_set, EndsThen, AreTight, first_clash, locks_at, locks_in, SetsApart, votes_now, asks_for, shown_at, world_after}
-use Rattle.law_run_recovers.proofs.Vocabulary.{IsTrue, not, ◌≤◌, World, begun_world, needed_of, shared_member, total_votes, votes_in}
+use Rattle.law_run_recovers.proofs.Vocabulary.{IsTrue, not, ◌≤◌, World, begun_world, needed_of, shared_member, total_votes, votes_in, Always, OneThatMeetsBesideIsDecidedAt}
 use Rattle.txn_core.specs.Doing as doing
-use Rattle.law_run_recovers.specs.MeetsBeside.{AllOthers, OneThatMeetsBesideIsDecided, TheyMeetBeside, first_asks, meets_some}
+use Rattle.law_run_recovers.specs.MeetsBeside.{AllOthers, TheyMeetBeside, first_asks, meets_some}
 use Rattle.law_run_recovers.proofs.AmongCourse.{head_or, tail_or}
 use Rattle.law_run_recovers.proofs.Keeps.{IsAtWork, at_work_before}
 use Rattle.law_run_recovers.proofs.MeetApart.{clashes_back, Room, granted_since, stand_apart}
@@ -489,5 +489,5 @@ module _ (given : Opening) (events later : List Event) (one other : Begun given 
   pub decided_one : (is_decided job.ending || is_decided outcome.ending) ≡ true
   decided_one = not_neither (is_decided job.ending) (is_decided outcome.ending) (λ one_is other_is. neither one_is other_is)
 
-pub one_that_meets_beside_is_decided : OneThatMeetsBesideIsDecided
+pub one_that_meets_beside_is_decided : Always OneThatMeetsBesideIsDecidedAt
 one_that_meets_beside_is_decided given events later one other meets job outcome ends other_ends = decided_one given events later one other meets job outcome ends other_ends

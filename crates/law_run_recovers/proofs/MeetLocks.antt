@@ -4,7 +4,7 @@ use Rattle.law_run_recovers.proofs.Vocabulary.{filter, map, slice_get, slice_set
 use Rattle.law_run_recovers.proofs.Vocabulary.{AuditItem, Op, Lock, Request, Verdict, Stamped, in_the_way, conflicts, has_lock, is_own, raised, raised_lock, with_lock, before, prepared_lock, copy_of, intended, State, record_of}
 use Rattle.law_run_recovers.proofs.Vocabulary.{reply_of, reply_up, reply_down, locking_reply, after_up, after_down, after_locking, after_record, prepares, served, Has, filter_has, between_has, map_has, any_has, has_any, find_none}
 use Rattle.law_run_recovers.proofs.Vocabulary.{mode_of, Transaction, fixed_of, Served, Event, Begin, Step, Crash, Return, Forget, Lack, Actor, World, server_at, actor_at, step, run, same_or, at_puts, step_is, puts_in, AllAt, MayAsk}
-use Rattle.law_run_recovers.proofs.Vocabulary.{asks_servers, clashes, locks_in, locks_at, takes, robs, hinders_itself, world_after, drops, bereaves}
+use Rattle.law_run_recovers.proofs.Vocabulary.{asks_servers, clashes, locks_in, locks_at, takes, robs, hinders_itself, world_after, drops, bereaves, serves_itself}
 use Rattle.rep_core.specs.declared.request.Request.TheVariants as request
 use Rattle.rep_core.specs.declared.reply.Reply.TheVariants as reply
 use Rattle.rep_core.specs.Locks.{locked}
@@ -28,10 +28,6 @@ pub record HasMode (t z : ℕ) (mode : LockMode) (locks : List Lock) : Type 0 wh
   pub has : Has locks lock
   pub own : is_own t z lock ≡ true
   pub strong : serves lock.mode mode ≡ true
-
-serves_itself : (m : LockMode) → serves m m ≡ true
-serves_itself Shared = refl
-serves_itself Exclusive = refl
 
 serves_stronger : (a m : LockMode) → serves (stronger a m) m ≡ true
 serves_stronger Shared m = serves_itself m

@@ -1,9 +1,9 @@
 -- A transaction in whose run nothing is decided that touches it: no server is down or crashes, nobody takes a lock of it, and of what it asks for stored copies and rows stand still.
-use Rattle.law_run_recovers.proofs.Vocabulary.{◌≡◌, ◌⊎◌, inl, ⊎_elim, ℕ, Bool, true, false, cond, List, [], ◌∷◌, ◌++◌, Some, None, is_some, refl, sym, ap, subst, ◌∙◌, arith, ◌==◌, ◌&&◌, ◌||◌, not, nat_lt, false≢true, and_parts}
-use Rattle.law_run_recovers.proofs.Vocabulary.{and_from, eq-eqb, nat_tests, same_Some, Identity, Opening, Prefix, LockMode, Shared, Exclusive, serves, Op, Request, reply_of, copy_of, State, Has, has_any, find_some, Said, is_held}
+use Rattle.law_run_recovers.proofs.Vocabulary.{◌≡◌, ◌⊎◌, inl, ⊎_elim, ℕ, Bool, true, false, cond, List, [], ◌∷◌, ◌++◌, Some, None, is_some, refl, sym, ap, subst, ◌∙◌, ◌==◌, ◌&&◌, ◌||◌, not, nat_lt, false≢true, and_parts, or_parts}
+use Rattle.law_run_recovers.proofs.Vocabulary.{and_from, eq-eqb, same_Some, Identity, Opening, Prefix, LockMode, Shared, Exclusive, serves, Op, Request, reply_of, copy_of, State, Has, has_any, find_some, Said, is_held}
 use Rattle.law_run_recovers.proofs.Vocabulary.{mode_of, Transaction, Replied, Agent, fixed_of, is_idle, has_sense, max_jobs, next_of, take, begin, forget, after_all, Exchange, exchange_of, of_job, locks, has_said, is_said, holding}
 use Rattle.law_run_recovers.proofs.Vocabulary.{refusing, heard_in, after-append, exchanges-take, exchanges-forget, Served, Event, Begin, Step, Actor, World, server_at, actor_at, step, run, table_of, gathers_in_order, WasPrefix}
-use Rattle.law_run_recovers.proofs.Vocabulary.{beginning, machine_of, append_has_left, append_has_right, CanBe, begins_job, is_up, shown_at, asks_for, row_of, MayStart, begun_world, world_after, robs, hinders_itself, bereaves}
+use Rattle.law_run_recovers.proofs.Vocabulary.{beginning, machine_of, append_has_left, append_has_right, CanBe, begins_job, is_up, shown_at, asks_for, row_of, MayStart, begun_world, world_after, robs, hinders_itself, bereaves, not-true}
 use Rattle.rep_core.specs.declared.request.Request.TheVariants as request
 use Rattle.txn_core.specs.Agents as agents
 use Rattle.law_agents.specs.Gathers as gathers
@@ -48,15 +48,8 @@ busy_open agent = of agent.doing
     of None open' = absurd open'
     of (Some doing) open' = refl
 
-or_first : (a b : Bool) → (a || b) ≡ false → a ≡ false
-or_first a b is = grind (arith, nat_tests)
-
 three : (a b c : Bool) → (a && b && c) ≡ true → (a ≡ true) × (b ≡ true) × (c ≡ true)
 three a b c is = let front = and_parts (a && b) c is in let two = and_parts a b front.0 in (two.0, two.1, front.1)
-
-not_so : (b : Bool) → not b ≡ true → b ≡ false
-not_so true is = sym is
-not_so false is = refl
 
 module _ (given : Opening) (base events later : List Event) (agent t : ℕ) (caller : Identity) (site : ℕ) (ops : List Op) (actor : Actor) (goes : GoesQuietly given base events later agent t caller site ops actor) where
   abbrev pub world_at : List Event → World
@@ -103,7 +96,7 @@ module _ (given : Opening) (base events later : List Event) (agent t : ℕ) (cal
   module _ (so_far rest : List Event) (event : Event) (split : later ≡ so_far ++ event ∷ rest) (work : IsAtWork (world_after given events agent caller site ops so_far) agent t) where
     pub unhindered : hinders_itself given agent (world_after given events agent caller site ops so_far) event ≡ false
     unhindered =
-        or_first (hinders_itself given agent (world_at so_far) event) (robs given agent t (world_at so_far) event || bereaves given agent t (world_at so_far) event) (goes.spared so_far rest event split work)
+        (or_parts (hinders_itself given agent (world_at so_far) event) (robs given agent t (world_at so_far) event || bereaves given agent t (world_at so_far) event) (goes.spared so_far rest event split work)).0
 
     pub here_open : (here : Actor) → actor_at (world_after given events agent caller site ops so_far) agent ≡ Some here → is_idle here.agent.doing ≡ false
     here_open here there =
@@ -194,7 +187,7 @@ module _ (given : Opening) (base events later : List Event) (agent t : ℕ) (cal
     left =
         let parts = three (nat_lt 0 asking.has) (not (has_said (past_of h.told) z (holding asking.mode) asked.0)) (not (has_said (past_of h.told) z refusing asked.0))
         (find_some (gathers.is_left (past_of h.told) z asking.mode) asking.votes.reps (asked.0, asking.has) asking.first).1 in
-        (parts.0, not_so (has_said (past_of h.told) z (holding asking.mode) asked.0) parts.1, not_so (has_said (past_of h.told) z refusing asked.0) parts.2)
+        (parts.0, not-true (has_said (past_of h.told) z (holding asking.mode) asked.0) parts.1, not-true (has_said (past_of h.told) z refusing asked.0) parts.2)
 
     mode_is : mode_of asked.1 ≡ asking.mode
     mode_is = of (has_said (past_of h.told) z (holding Shared) asked.0) refl asking.mode asking.asks left.1

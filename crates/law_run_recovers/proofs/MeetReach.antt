@@ -5,7 +5,7 @@ use Rattle.law_run_recovers.proofs.Vocabulary.{Contains, false≢true, and_parts
 use Rattle.law_run_recovers.proofs.Vocabulary.{Refusal, Request, Reply, row_of, needs, transaction, find_some, Has, has_from, has_map, contains_from, holds, newest, Collector, all_told, Asked, Poll, Upgrade, needed_of, wanted, mode_of, mode_asked, request_for, Cache, Undecided, Replied, Suites, suite_of, parts_at}
 use Rattle.law_run_recovers.proofs.Vocabulary.{Phase, Gathering, Fetching, Preparing, Deciding, Finishing, home_of, request_in, asked_for, changes_of, decision_of, fixed_of, next_in, next_of, is_decide, asks_same, Served, Event, Step}
 use Rattle.law_run_recovers.proofs.Vocabulary.{Actor, actor_at, step, run, table_of, WasPrefix, IsQuorum, beginning, machine_of, row_at, all_keep, is_up, shown_at, newer_by, locks_asked, votes_set, is_met, demand_by, led_to_by, MayStart, ending_by, ending_of, answer_on}
-use Rattle.law_run_recovers.proofs.Vocabulary.{asks_for, Want, first_mode, world_after, says_held, votes_now}
+use Rattle.law_run_recovers.proofs.Vocabulary.{asks_for, Want, first_mode, world_after, says_held, votes_now, same_mode}
 use Rattle.rep_core.specs.declared.request.Request.TheVariants as request
 use Rattle.rep_core.specs.declared.reply.Reply.TheVariants as reply
 use Rattle.suite_collect.specs.Collecting.{mode_or}
@@ -23,7 +23,6 @@ use Rattle.law_run_recovers.proofs.OpenRows.{weaker_first, up_to}
 use Rattle.law_run_recovers.proofs.Polled.{Sight, finds_at, opens_wider, held_open}
 use Rattle.law_run_recovers.proofs.Rows.{row_votes}
 use Rattle.law_run_recovers.proofs.Stands.{asks_of, IsRight, IsHad, locks_on, sets_on, of_lock, of_votes, unmet, EndsAs, IsLed}
-use Rattle.law_run_recovers.proofs.Widened.{same_mode}
 use Rattle.law_run_recovers.proofs.MeetAsks.{sets_asked}
 use Rattle.law_run_recovers.proofs.MeetCourse.{Course, Short, PhaseIn, its, number, sight, answering, Fits, course_at}
 use Rattle.law_run_recovers.proofs.MeetQuiet.{GoesQuietly}

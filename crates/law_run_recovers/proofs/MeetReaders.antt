@@ -3,8 +3,8 @@ use Rattle.law_run_recovers.proofs.Vocabulary.{Contains, List, Some, [], ap, app
 use Rattle.law_run_recovers.proofs.Vocabulary.{◌⊎◌, eq-eqb, false≢true, CanBe, can_front, is_decided, machine_of, IsNotDecided, beginning, WasPrefix, Has, has_any, has_from, State, Lock, decisions, run, table_of}
 use Rattle.law_run_recovers.proofs.Vocabulary.{server_at, step, EndedJob, Served, Event, Begin, Step, mode_of, needed_of, is_exclusive, serves, Opening, Prefix, LockMode, Exclusive, Shared, fixed_of, Transaction}
 use Rattle.law_run_recovers.proofs.Vocabulary.{shared_member, Configuration, total_votes, votes_at, votes_in, Begun, clashes, votes_set, EndsThen, votes_now, asks_for, any_has, contains_from, has_append, list_any, locks_at, locks_in}
-use Rattle.law_run_recovers.proofs.Vocabulary.{only_reads, begun_world}
-use Rattle.law_run_recovers.specs.MeetsBeside.{ReaderMeetsBeside, ReadsToo, WriterOrReaderBesideIsDecided, first_sets}
+use Rattle.law_run_recovers.proofs.Vocabulary.{only_reads, begun_world, Always, WriterOrReaderBesideIsDecidedAt, serves_itself}
+use Rattle.law_run_recovers.specs.MeetsBeside.{ReaderMeetsBeside, ReadsToo, first_sets}
 use Rattle.law_run_recovers.proofs.AmongCourse.{tail_or}
 use Rattle.law_run_recovers.proofs.Unmoved.{first_votes_at}
 use Rattle.law_run_recovers.proofs.MeetApart.{clashes_back}
@@ -13,7 +13,7 @@ use Rattle.law_run_recovers.proofs.MeetBarred.{Barred, barred_by}
 use Rattle.law_run_recovers.proofs.MeetBoth.{Place, place, its_event, cancel, held_in, none_yet, reached_then}
 use Rattle.law_run_recovers.proofs.MeetCalm.{Calm, Ours}
 use Rattle.law_run_recovers.proofs.MeetClear.{calm_clear}
-use Rattle.law_run_recovers.proofs.MeetCount.{votes_split, serves_own}
+use Rattle.law_run_recovers.proofs.MeetCount.{votes_split}
 use Rattle.law_run_recovers.proofs.MeetEnds.{Fixed, undecided_not, fixed_at}
 use Rattle.law_run_recovers.proofs.MeetLaw.{any_back, any_front, exclusive_clashes, none_apart, open_not, some_more, some_shut, not_neither}
 use Rattle.law_run_recovers.proofs.MeetLocks.{owned_at}
@@ -161,7 +161,7 @@ module _ (given : Opening) (events later : List Event) (writer reader : Begun gi
           (ap (λ w. (step (fixed_of given) w (Step writer.agent)).done.served) (run_is given events later calm writer at.mid ∙ ap (λ all. run given (events ++ all)) (sym at.parts))
           ∙ ap (λ i. (step (fixed_of given) (run given (events ++ so_far)) (Step i)).done.served) (sym at.who_is) ∙ served)
           (four_from (what.server == what.server) (for_lock writer.t y what.request.value) (says_held what.reply.value) (serves (mode_of what.request.value) (mode_of what.request.value)) (eq-eqb what.server what.server refl)
-          (subst (λ t. for_lock t y what.request.value ≡ true) at.number lock) held (serves_own (mode_of what.request.value))));
+          (subst (λ t. for_lock t y what.request.value ≡ true) at.number lock) held (serves_itself (mode_of what.request.value))));
     }
       where
         begins : Event
@@ -340,5 +340,5 @@ module _ (given : Opening) (events later : List Event) (writer reader : Begun gi
   pub decided_one : (is_decided job.ending || is_decided outcome.ending) ≡ true
   decided_one = not_neither (is_decided job.ending) (is_decided outcome.ending) neither
 
-pub writer_or_reader_beside_is_decided : WriterOrReaderBesideIsDecided
+pub writer_or_reader_beside_is_decided : Always WriterOrReaderBesideIsDecidedAt
 writer_or_reader_beside_is_decided given events later writer reader meets job outcome ends other_ends = decided_one given events later writer reader meets job outcome ends other_ends

@@ -11,7 +11,7 @@ use Rattle.txn_core.specs.Doing as doing
 use Rattle.law_run_recovers.specs.MeetsBeside.{upsets}
 use Rattle.law_run_recovers.proofs.BesideUnmet.{then_is, begins_there}
 use Rattle.law_run_recovers.proofs.AtWork.{mine_where}
-use Rattle.law_run_recovers.proofs.BesideAll.{asks_busy}
+use Rattle.law_run_recovers.proofs.Busy.{asks_busy}
 use Rattle.law_run_recovers.proofs.Keeps.{IsAtWork, last_of, step_asks}
 use Rattle.law_run_recovers.proofs.Polled.{dver_in, dver_at}
 use Rattle.law_run_recovers.proofs.Rows.{start_was}

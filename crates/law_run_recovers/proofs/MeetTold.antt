@@ -2,7 +2,7 @@
 use Rattle.law_run_recovers.proofs.Vocabulary.{◌≡◌, ⊎_elim, ℕ, Bool, true, false, List, [], ◌∷◌, ◌++◌, Option, Some, None, is_some, refl, sym, ap, subst, ◌∙◌, arith, ◌==◌, ◌&&◌, ◌||◌, not, false≢true, and_parts, and_from, eqb-true}
 use Rattle.law_run_recovers.proofs.Vocabulary.{eq-eqb, nat_tests, none-some, same_Some, Identity, Opening, Prefix, LockMode, Shared, Exclusive, serves, Op, Request, Reply, Said, is_held, Asked, Poll, Upgrade, mode_of, mode_asked}
 use Rattle.law_run_recovers.proofs.Vocabulary.{request_for, Transaction, Replied, Fixed, Doing, Running, RunningSweep, fixed_of, next_in, next_of, Exchange, locks, heard_in, is_finish, Served, Event, Begin, Step, Crash, Return, Forget}
-use Rattle.law_run_recovers.proofs.Vocabulary.{Lack, Actor, World, actor_at, step, after, run, task_of, names, may_sweep, agents_ask_for_themselves, names_mine, is_up, runs, begun_world, world_after}
+use Rattle.law_run_recovers.proofs.Vocabulary.{Lack, Actor, World, actor_at, step, after, run, task_of, names, may_sweep, agents_ask_for_themselves, names_mine, is_up, runs, begun_world, world_after, serves_itself, same_mode}
 use Rattle.rep_core.specs.declared.request.Request.TheVariants as request
 use Rattle.rep_core.specs.declared.reply.Reply.TheVariants as reply
 use Rattle.suite_collect.specs.declared.told.Said.TheVariants as said
@@ -10,8 +10,6 @@ use Rattle.law_run_recovers.proofs.Keeps.{IsAtWork, works, at_work, run_at, step
 use Rattle.law_run_recovers.proofs.Sides.{compared, names_one}
 use Rattle.law_run_recovers.proofs.Still.{IsOpen, open_where}
 use Rattle.law_run_recovers.proofs.StepsServed.{own_took}
-use Rattle.law_run_recovers.proofs.Widened.{same_mode}
-use Rattle.law_run_recovers.proofs.MeetCount.{serves_own}
 use Rattle.law_run_recovers.proofs.MeetCourse.{Fits}
 use Rattle.law_run_recovers.proofs.MeetQuiet.{GoesQuietly, Heard, heard_at, never_refused, never_held}
 
@@ -322,14 +320,14 @@ module _ (given : Opening) (base events later : List Event) (agent t : ℕ) (cal
         subst (λ events'. some_step (grants t z (mode_asked question) what.server) agent (fixed_of given) (begun_world given events agent caller site ops) events' ≡ true) (sym split)
         (there_in (grants t z (mode_asked question) what.server) agent (fixed_of given) so_far rest (begun_world given events agent caller site ops) what served
         (four_from (what.server == what.server) (for_lock t z what.request.value) (says_held what.reply.value) (serves (mode_of what.request.value) (mode_asked question)) (eq-eqb what.server what.server refl) lock_so (ap says_held said')
-        (ap (λ mode. serves mode (mode_asked question)) mode_so ∙ serves_own (mode_asked question))))
+        (ap (λ mode. serves mode (mode_asked question)) mode_so ∙ serves_itself (mode_asked question))))
 
     barred_so : (holder : ℕ) (prepared : Bool) → what.reply.value ≡ reply.Busy holder prepared → barred z (mode_asked question) what.server ≡ true
     barred_so holder prepared said' =
         subst (λ events'. some_step (refuses t z (mode_asked question) what.server) agent (fixed_of given) (begun_world given events agent caller site ops) events' ≡ true) (sym split)
         (there_in (refuses t z (mode_asked question) what.server) agent (fixed_of given) so_far rest (begun_world given events agent caller site ops) what served
         (four_from (what.server == what.server) (for_lock t z what.request.value) (says_busy what.reply.value) (serves (mode_asked question) (mode_of what.request.value)) (eq-eqb what.server what.server refl) lock_so (ap says_busy said')
-        (ap (λ mode. serves (mode_asked question) mode) mode_so ∙ serves_own (mode_asked question))))
+        (ap (λ mode. serves (mode_asked question) mode) mode_so ∙ serves_itself (mode_asked question))))
 
   closed_by : (a b : Bool) → (b ≡ true → ⊥) → (a && b) ≡ false
   closed_by true true none = absurd (none refl)

@@ -1,7 +1,7 @@
 -- Two users meet, and one that sets a list and one that reads, while another begins again and again beside, by computation.
 use Rattle.law_run_recovers.proofs.Vocabulary.{◌≡◌, ◌⊎◌, inl, inr, ⊎_elim, ℕ, Bool, true, false, List, [], ◌∷◌, ◌++◌, refl, sym, subst, arith, ◌==◌, ◌&&◌, ◌||◌, not, Contains, list_all, and_parts, eqb-true}
 use Rattle.law_run_recovers.proofs.Vocabulary.{false≢true, all_at, at_has, LockMode, Shared, Exclusive, Lock, State, Transaction, fixed_of, owner, a, Event, Begin, Lack, World, opening, after, run}
-use Rattle.law_run_recovers.proofs.Vocabulary.{EventGivesValidVotes, CanBe, some_run_revokes, Begun, puts, b, locks_at, hinders_itself, is_running}
+use Rattle.law_run_recovers.proofs.Vocabulary.{EventGivesValidVotes, CanBe, some_run_revokes, Begun, puts, b, locks_at, hinders_itself, is_running, not-true}
 use Rattle.rep_core.specs.declared.stamped.Lack.TheVariants as lack
 use Rattle.suite_prefix.specs.SettingsRules.{Opening}
 use Rattle.law_runs.specs.Worked.{close_a, read_a}
@@ -10,7 +10,7 @@ use Rattle.law_run_recovers.specs.MeetsBeside.{ReaderMeetsBeside, ReadsToo, They
 use Rattle.law_run_recovers.specs.MeetsBesideWorked.{SomeRunsMeetBeside, SomeRunsMeetReadersBeside, four_agents, fourth_writes, mid_write, reads_beside, turns_of_four, writes_beside}
 use Rattle.law_run_recovers.specs.ReadersWorked.{three_agents, turns_of_three}
 use Rattle.law_run_recovers.proofs.Keeps.{after_append}
-use Rattle.law_run_recovers.proofs.LawsWorked.{happens_at, holds, holds_at, not_so, unless}
+use Rattle.law_run_recovers.proofs.LawsWorked.{happens_at, holds, holds_at, unless}
 use Rattle.law_run_recovers.proofs.MeetAlone.{lock_in}
 use Rattle.law_run_recovers.proofs.MeetLaw.{one_that_meets_beside_is_decided}
 use Rattle.law_run_recovers.proofs.MeetReaders.{writer_or_reader_beside_is_decided}
@@ -59,7 +59,7 @@ module _ (given : Opening) (events later : List Event) (i t k u : ℕ) (so : Loc
   even : (before after' : List Event) (event : Event) → later ≡ before ++ event ∷ after' → upsets given (run given (events ++ before)) event ≡ false
   even before after' event split =
       let w = run given (events ++ before) in
-      not_so (upsets given w event)
+      not-true (upsets given w event)
       (and_parts (not (upsets given w event)) ((not (is_running w i t) || not (hinders_itself given i w event)) && (not (is_running w k u) || not (hinders_itself given k w event))) (goes_at before after' event split)).0
 
   both_served : (before after' : List Event) (event : Event) → later ≡ before ++ event ∷ after' → let w = run given (events ++ before) in
@@ -72,12 +72,12 @@ module _ (given : Opening) (events later : List Event) (i t k u : ℕ) (so : Loc
   first_served : (before after' : List Event) (event : Event) → later ≡ before ++ event ∷ after' → is_running (run given (events ++ before)) i t ≡ true → hinders_itself given i (run given (events ++ before)) event ≡ false
   first_served before after' event split running =
       let w = run given (events ++ before) in
-      not_so (hinders_itself given i w event) (unless (is_running w i t) (not (hinders_itself given i w event)) (both_served before after' event split).0 running)
+      not-true (hinders_itself given i w event) (unless (is_running w i t) (not (hinders_itself given i w event)) (both_served before after' event split).0 running)
 
   second_served : (before after' : List Event) (event : Event) → later ≡ before ++ event ∷ after' → is_running (run given (events ++ before)) k u ≡ true → hinders_itself given k (run given (events ++ before)) event ≡ false
   second_served before after' event split running =
       let w = run given (events ++ before) in
-      not_so (hinders_itself given k w event) (unless (is_running w k u) (not (hinders_itself given k w event)) (both_served before after' event split).1 running)
+      not-true (hinders_itself given k w event) (unless (is_running w k u) (not (hinders_itself given k w event)) (both_served before after' event split).1 running)
 
 -- ---- two write a file
 
@@ -123,7 +123,7 @@ they_meet = record {
   other_served = second_served three_agents mid_write writes_beside 0 64 1 1 is_aside all_hold;
   beside = λ before after' server lock split has. ⊎_elim
       (λ same. inl same)
-      (λ more. ⊎_elim (λ same. inr (inl same)) (λ aside. inr (inr (not_so (meets_some lock (asked ++ asked)) aside))) more)
+      (λ more. ⊎_elim (λ same. inr (inl same)) (λ aside. inr (inr (not-true (meets_some lock (asked ++ asked)) aside))) more)
       (kind_at three_agents mid_write writes_beside 0 64 1 1 is_aside all_hold before after' server lock split has);
   suite = 1;
   mine = Exclusive;
@@ -196,7 +196,7 @@ shared_is Exclusive is = absurd (false≢true is)
 reads_too : (lock : Lock) → reads_so lock ≡ true → ReadsToo 1 asked reads lock
 reads_too lock so =
     let parts = and_parts (not (meets_some lock reads)) (not (meets_some lock asked) || ((lock.suite == 1) && is_shared lock.mode)) so in
-    record { of_reader = not_so (meets_some lock reads) parts.0; of_writer = of (meets_some lock asked) refl parts.1 }
+    record { of_reader = not-true (meets_some lock reads) parts.0; of_writer = of (meets_some lock asked) refl parts.1 }
   where
     of : (x : Bool) → meets_some lock asked ≡ x → (not x || ((lock.suite == 1) && is_shared lock.mode)) ≡ true → (meets_some lock asked ≡ false) ⊎ ((lock.suite ≡ 1) × (lock.mode ≡ Shared))
     of false is all = inl is

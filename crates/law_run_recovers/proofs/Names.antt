@@ -1,5 +1,5 @@
 -- Which suites the requests of a transaction name, and how many requests it may make.
-use Rattle.law_run_recovers.proofs.Vocabulary.{◌≡◌, inl, ℕ, zero, suc, ◌+◌, ◌≤◌, true, List, [], ◌∷◌, length, Option, Some, None, refl, sym, ap, subst, ◌∙◌, arith, ◌*◌, ◌==◌, ◌&&◌, map, list_any, and_parts, eqb-true, nat_tests}
+use Rattle.law_run_recovers.proofs.Vocabulary.{◌≡◌, inl, ℕ, zero, suc, ◌+◌, ◌≤◌, true, List, [], ◌∷◌, length, Option, Some, None, refl, sym, ap, subst, ◌∙◌, arith, ◌*◌, ◌==◌, ◌&&◌, map, list_any, and_parts, eqb-true, eq-eqb}
 use Rattle.law_run_recovers.proofs.Vocabulary.{none-some, Identity, Opening, Prefix, LockMode, Shared, Exclusive, serves, Request, Has, any_has, has_any, map_has, Op, PlainTable, Asked, Poll, Upgrade, request_for, Cache, Transaction}
 use Rattle.law_run_recovers.proofs.Vocabulary.{ReadPoint, GatheredSuite, Suites, suite_of, Fixed, Task, Phase, Gathering, Fetching, Preparing, Deciding, Finishing, home_of, numbers_from, asked_for, fetched_at, fetched_for, request_in}
 use Rattle.law_run_recovers.proofs.Vocabulary.{changes_of, decision_of, parts_at, Agent, fixed_of, is_idle, begin, exchanges, among, asks_only, names_of, names_only, asks_same, ends_in_time, Event, World, table_of, has_asked, locks_asked}
@@ -12,9 +12,6 @@ use Rattle.law_run_recovers.proofs.Early.{fetch_is}
 use Rattle.law_run_recovers.proofs.Heard.{asks_for}
 use Rattle.law_run_recovers.proofs.Polled.{Sight}
 use Rattle.law_run_recovers.proofs.Stands.{Ground, locks_on, PhaseStands}
-
-pub itself : (n : ℕ) → (n == n) ≡ true
-itself n = grind (arith, nat_tests)
 
 names_lock : (numbers : List ℕ) (t z : ℕ) (question : Asked) → names_of numbers (request_for t z question) ≡ among numbers z
 names_lock numbers t z (Poll mode) = refl
@@ -29,7 +26,7 @@ suites_named table task = map (λ (one : ℕ × LockMode). one.0) (locks_on tabl
 module _ (fixed : Fixed) (world : World) (sight : Sight) (table : PlainTable) (task : Task) (cache : Cache) (Was : ℕ → Prefix → Type 0) (ground : Ground fixed world sight cache task.site (locks_on table task) Was) where
   -- the suites that it names are those that it locks
   lock_named : (one : ℕ × LockMode) → Has (locks_on table task) one → among (suites_named table task) one.0 ≡ true
-  lock_named one has = has_any (λ n. n == one.0) (suites_named table task) one.0 (map_has (λ (one : ℕ × LockMode). one.0) (locks_on table task) one has) (itself one.0)
+  lock_named one has = has_any (λ n. n == one.0) (suites_named table task) one.0 (map_has (λ (one : ℕ × LockMode). one.0) (locks_on table task) one has) (eq-eqb one.0 one.0 refl)
 
   asked_named : (asked left : List (ℕ × LockMode)) (z : ℕ) → locks_on table task ≡ onto asked left → list_any (λ (lock : ℕ × LockMode). lock.0 == z) asked ≡ true → among (suites_named table task) z ≡ true
   asked_named asked left z are is =

@@ -5,7 +5,7 @@ use Rattle.law_run_recovers.proofs.Vocabulary.{State, served, all_at, Job, Trans
 use Rattle.law_run_recovers.proofs.Vocabulary.{started, next_in, next_of, left, Event, Begin, Step, Crash, Return, Forget, Lack, Actor, World, server_at, actor_at, has_no_job, becomes, asks, steps_once, step, after, run, begins_now}
 use Rattle.law_run_recovers.proofs.Vocabulary.{same_or, holds_of, Leaves, leaves_begin, agent_of, puts_in, CanBe, begins_job, IsOwnAt, nothing_in_the_way, with_job, at_has, none_own, no_lock, IsCalm, busy, can_front, starts}
 use Rattle.law_run_recovers.proofs.Vocabulary.{cache_valid, up_in, is_up, hinders, unhindered_from, GoesAlone, asks_for, way_in, is_way_met, in_its_way, runs, running_in, is_running, is_telling, begun_world, world_after, takes, of_up}
-use Rattle.law_run_recovers.proofs.Vocabulary.{robs, hinders_itself, StandsOpen, GoesUnmet, StandsStill, GoesAmongLocks}
+use Rattle.law_run_recovers.proofs.Vocabulary.{robs, hinders_itself, StandsOpen, GoesUnmet, StandsStill, GoesAmongLocks, not-true, up_as}
 use Rattle.rep_core.specs.declared.reply.Verdict.TheVariants as verdict
 use Rattle.law_run_alone.proofs.Goes as alone
 use Rattle.law_run_recovers.proofs.Serves.{Serves, event_serves}
@@ -40,10 +40,6 @@ own_way true t suite mode st own =
     ∙ ap (λ found. is_way_met (Some (option_map (λ (lock : Lock). lock.t) found))) (nothing_in_the_way t suite mode st.locks own.1)
 own_way false t suite mode st own = ap (λ b. is_way_met (cond b (Some (option_map (λ (lock : Lock). lock.t) (in_the_way t suite mode st.locks))) None)) own.0
 
-own_up : (b : Bool) (t : ℕ) (st : State) → IsOwnAt b t st → st.up ≡ b
-own_up true t st own = own.0
-own_up false t st own = own.0
-
 none_where : (b : Bool) (n : ℕ) → (not b || (n == 0)) ≡ true → b ≡ true → (n == 0) ≡ true
 none_where true n is up = is
 none_where false n is up = absurd (false≢true up)
@@ -61,7 +57,7 @@ plain_way t suite mode (Some st) is = of st.up (in_the_way t suite mode st.locks
 
 -- ---- an agent
 
-busy_of : (t : ℕ) (found : Option Actor) → running_in t found ≡ true → has_no_job found ≡ false
+pub busy_of : (t : ℕ) (found : Option Actor) → running_in t found ≡ true → has_no_job found ≡ false
 busy_of t None is = absurd (false≢true is)
 busy_of t (Some actor) is = of actor.agent.doing is
   where
@@ -126,10 +122,6 @@ none_comes fixed w event i none = ⊎_elim (λ same. ap (λ servers. slice_get s
 
 -- ---- GoesAlone gives GoesUnmet
 
-pub not_true : (b : Bool) → not b ≡ true → b ≡ false
-not_true true is = sym is
-not_true false is = refl
-
 module _ (given : Opening) (events later : List Event) (agent t : ℕ) (caller : Identity) (site : ℕ) (ops : List Op) (actor : Actor) (goes : GoesAlone given events later agent t caller site ops actor) where
   abbrev fixed : Fixed
   fixed = fixed_of given
@@ -170,7 +162,7 @@ module _ (given : Opening) (events later : List Event) (agent t : ℕ) (caller :
   walk (event ∷ so_far) rest w here =
       let parts = and_parts (not (hinders given agent w event)) (unhindered_from given agent (step fixed w event).world (so_far ++ rest)) here.calm in
       walk so_far rest (step fixed w event).world (record {
-        g = alone.goes_next given (is_up first) t agent w event (so_far ++ rest) here.g (is_calm given (is_up first) agent w event (not_true (hinders given agent w event) parts.0));
+        g = alone.goes_next given (is_up first) t agent w event (so_far ++ rest) here.g (is_calm given (is_up first) agent w event (not-true (hinders given agent w event) parts.0));
         missing = λ i none. here.missing i (none_comes fixed w event i none);
         calm = parts.1;
       })
@@ -183,7 +175,7 @@ module _ (given : Opening) (events later : List Event) (agent t : ℕ) (caller :
     where
       same_up : (server : ℕ) (found : Option State) → server_at w server ≡ found → is_up w server ≡ is_up first server
       same_up server None at = ap up_in at ∙ sym (ap up_in (here.missing server at))
-      same_up server (Some st) at = ap up_in at ∙ own_up (is_up first server) t st (here.g.owns.servers server st at)
+      same_up server (Some st) at = ap up_in at ∙ up_as (is_up first server) t st (here.g.owns.servers server st at)
 
       no_way : (server : ℕ) (one : ℕ × LockMode) (found : Option State) → server_at w server ≡ found → in_its_way w t one.0 one.1 server ≡ false
       no_way server one None at = ap (λ found. is_way_met (way_in t one.0 one.1 found)) at
@@ -201,7 +193,7 @@ module _ (given : Opening) (events later : List Event) (agent t : ℕ) (caller :
         let here = here_at so_far (event ∷ rest) is in
         let w = world_after given events agent caller site ops so_far in
         let parts = and_parts (not (hinders given agent w event)) (unhindered_from given agent (step fixed w event).world rest) here.calm in
-        free_hand given agent t w event (not_true (hinders given agent w event) parts.0) running;
+        free_hand given agent t w event (not-true (hinders given agent w event) parts.0) running;
   }
 
   pub near_alone : (server : ℕ) → alone_is_unmet.near server ≡ true

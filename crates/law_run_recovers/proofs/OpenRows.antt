@@ -4,7 +4,7 @@ use Rattle.law_run_recovers.proofs.Vocabulary.{unwrap_or, list_all, nat_cmp, fal
 use Rattle.law_run_recovers.proofs.Vocabulary.{Exclusive, is_exclusive, serves, Op, row_of, Need, Hold, Know, needs, transaction, Lock, IsConsistent, conflicts, in_the_way, State, copy_of, Has, has_from, find_none, needed_of, fixed_of}
 use Rattle.law_run_recovers.proofs.Vocabulary.{Event, Begin, Transaction, Actor, actor_at, server_at, run, table_of, IsQuorum, in_effect, effect, plan_of, Shows, servers_of, home_in, machine_of, AllKeepSides, row_at, CanBe, all_keep}
 use Rattle.law_run_recovers.proofs.Vocabulary.{begins_job, no_lock, all_consistent, up_in, shown_at, shown_in, demand_by, is_met, led_to_by, has_asked, not_asked, locks_asked, votes_set, votes_of_row, MayStart, is_open_way, way_in}
-use Rattle.law_run_recovers.proofs.Vocabulary.{is_open_at, Want, mode_or, first_mode, open_demand, OpenVotesAreRows}
+use Rattle.law_run_recovers.proofs.Vocabulary.{is_open_at, Want, mode_or, first_mode, open_demand, OpenVotesAreRows, or_parts, serves_itself}
 use Rattle.rep_core.specs.Intentions as server
 use Rattle.rep_core.specs.State as state
 use Rattle.run_core.specs.Worlds as worlds
@@ -15,6 +15,7 @@ use Rattle.law_run_recovers.proofs.Leading.{led}
 use Rattle.law_run_recovers.proofs.Picks.{find_nobody}
 use Rattle.law_run_recovers.proofs.Rows.{row_votes, start_was}
 use Rattle.law_run_recovers.proofs.Stand.{free_where, in_conflict}
+use Rattle.law_run_recovers.proofs.Aside.{both_false}
 
 -- ---- what an open server shows is in effect
 
@@ -83,23 +84,11 @@ open_wider world t z m k stronger i = of (server_at world i)
 
 -- ---- a suite is asked for in its first mode, or a stronger one
 
-serves_itself : (mode : LockMode) → serves mode mode ≡ true
-serves_itself Shared = refl
-serves_itself Exclusive = refl
-
 must_be : (m k : LockMode) → serves m k ≡ false → serves k m ≡ true
 must_be Shared Shared is = absurd (false≢true (sym is))
 must_be Shared Exclusive is = refl
 must_be Exclusive Shared is = absurd (false≢true (sym is))
 must_be Exclusive Exclusive is = absurd (false≢true (sym is))
-
-or_none : (a b : Bool) → (a || b) ≡ false → (a ≡ false) × (b ≡ false)
-or_none false b is = (refl, is)
-or_none true b is = absurd (false≢true (sym is))
-
-and_none : (a b : Bool) → (a && b) ≡ false → a ≡ true → b ≡ false
-and_none true b is so = is
-and_none false b is so = absurd (false≢true so)
 
 -- what is asked for was not asked for before
 not_had : (asked : List (ℕ × LockMode)) (left : List Need) (one : ℕ × LockMode) → Has (not_asked asked left) one → has_asked asked one.0 one.1 ≡ false
@@ -111,7 +100,7 @@ not_had asked (Hold suite mode ∷ left) one has = of (has_asked asked suite mod
         → Has (cond b (not_asked asked left) ((suite, mode) ∷ not_asked ((suite, mode) ∷ asked) left)) one → has_asked asked one.0 one.1 ≡ false
     of true is go more has = go has
     of false is go more has =
-        ⊎_elim (λ same. ap (λ (one : ℕ × LockMode). has_asked asked one.0 one.1) (sym same) ∙ is) (λ has. (or_none ((suite == one.0) && serves mode one.1) (has_asked asked one.0 one.1) (more has)).1) has
+        ⊎_elim (λ same. ap (λ (one : ℕ × LockMode). has_asked asked one.0 one.1) (sym same) ∙ is) (λ has. (or_parts ((suite == one.0) && serves mode one.1) (has_asked asked one.0 one.1) (more has)).1) has
 
 pub weaker_first : (asked : List (ℕ × LockMode)) (left : List Need) (one : ℕ × LockMode) → Has (not_asked asked left) one → serves one.1 (first_mode (not_asked asked left) one.0) ≡ true
 weaker_first asked [] one has = absurd has
@@ -125,7 +114,7 @@ weaker_first asked (Hold suite mode ∷ left) one has = of (has_asked asked suit
         → serves one.1 (mode_or Shared (cond b (Some (suite, mode)) (find (λ (other : ℕ × LockMode). other.0 == one.0) rest))) ≡ true
     by true same has more =
         let had = not_had ((suite, mode) ∷ asked) left one has in
-        must_be mode one.1 (and_none (suite == one.0) (serves mode one.1) (or_none ((suite == one.0) && serves mode one.1) (has_asked asked one.0 one.1) had).0 same)
+        must_be mode one.1 (both_false (suite == one.0) (serves mode one.1) (or_parts ((suite == one.0) && serves mode one.1) (has_asked asked one.0 one.1) had).0 same)
     by false other has more = more has
 
     of : (b : Bool) → (Has (not_asked asked left) one → serves one.1 (first_mode (not_asked asked left) one.0) ≡ true) → (Has rest one → serves one.1 (first_mode rest one.0) ≡ true)

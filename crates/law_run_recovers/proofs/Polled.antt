@@ -36,10 +36,6 @@ pub serves_all : (mode : LockMode) → serves Exclusive mode ≡ true
 serves_all Shared = refl
 serves_all Exclusive = refl
 
-pub serves_own : (mode : LockMode) → serves mode mode ≡ true
-serves_own Shared = refl
-serves_own Exclusive = refl
-
 -- ---- a collector that nothing widens
 
 abbrev pub gathering : Prefix → LockMode → List Told → Collector

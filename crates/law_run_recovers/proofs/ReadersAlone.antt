@@ -1,7 +1,7 @@
 -- Where all that begin but one only read nobody else is beside: so what is promised to one that writes and one that reads while others are beside is promised to them.
-use Rattle.law_run_recovers.proofs.Vocabulary.{Bool, Contains, List, ap, false, inl, inr, refl, subst, sym, true, ℕ, ⊎_elim, ◌++◌, ◌==◌, ◌||◌, ◌∙◌, ◌≡◌, ◌⊎◌}
+use Rattle.law_run_recovers.proofs.Vocabulary.{Bool, Contains, List, ap, false, inl, inr, refl, subst, sym, true, ℕ, ⊎_elim, ◌++◌, ◌==◌, ◌||◌, ◌∙◌, ◌≡◌, ◌⊎◌, WriterOrReadersAreDecidedAt}
 use Rattle.law_run_recovers.proofs.Vocabulary.{and_parts, and_from, eq-eqb, eqb-true, false≢true, list_any, is_decided, IsNotDecided, Has, any_has, contains_from, has_any, has_from, Lock, decisions, run, EndedJob, Event, is_exclusive}
-use Rattle.law_run_recovers.proofs.Vocabulary.{Opening, LockMode, Exclusive, Shared, Begun, clashes, its_asks, EndsThen, asks_for, ReadersMeet, WriterOrReadersAreDecided, only_reads}
+use Rattle.law_run_recovers.proofs.Vocabulary.{Opening, LockMode, Exclusive, Shared, Begun, clashes, its_asks, EndsThen, asks_for, ReadersMeet, only_reads, Always}
 use Rattle.law_run_recovers.specs.MeetsBeside.{GoesOn, ReaderMeetsBeside, ReadsToo, first_asks, meets_some}
 use Rattle.law_run_recovers.proofs.MeetAlone.{all_served, idle_unswept, lock_in, never_upset}
 use Rattle.law_run_recovers.proofs.MeetAsked.{all_asked}
@@ -122,5 +122,5 @@ module _ (given : Opening) (events later : List Event) (writer reader : Begun gi
       of true is = refl
       of false is = ap (λ a. a || is_decided outcome.ending) (sym is) ∙ decided_one given events later writer reader (beside is) job outcome ends other_ends
 
-pub writer_or_readers_are_decided : WriterOrReadersAreDecided
+pub writer_or_readers_are_decided : Always WriterOrReadersAreDecidedAt
 writer_or_readers_are_decided given events later writer reader meets reads job outcome ends other_ends = decided_alone given events later writer reader meets reads job outcome ends other_ends

@@ -3,7 +3,7 @@ use Rattle.law_run_recovers.proofs.Vocabulary.{◌≡◌, inl, inr, ⊎_elim, �
 use Rattle.law_run_recovers.proofs.Vocabulary.{not, nat_le, list_any, option_map, map, filter, AllByRecursion, nat_cmp, is_eq, insert, nat_cmp_total, false≢true, eqb-true, eq-eqb, nat_tests, none-some, same_Some, Identity}
 use Rattle.law_run_recovers.proofs.Vocabulary.{Representative, Configuration, IsValid, Opening, Prefix, Exclusive, Answer, Op, Refusal, PlainTable, Service, Row, Rows, row_of, Change, Edit, Need, Hold, Know, some, makes, sets_acl, sets_votes}
 use Rattle.law_run_recovers.proofs.Vocabulary.{Edits, Ended, seen, is_set, needs, ending, transaction, Known, known_rows, is_opened, Done, heard, exec_of, first_unmet, AgreesWith, IsSoAt, goes_alike, on_table, on_transaction, Has, has_any, has_filter, has_map}
-use Rattle.law_run_recovers.proofs.Vocabulary.{Event, Decided, decisions, table_of, table_after_all, WasPrefix, none_or_some, beginning, machine_of, CanBe, all_keep, change_in, changes_on, votes_set, votes_of_row, fixed_of}
+use Rattle.law_run_recovers.proofs.Vocabulary.{Event, Decided, decisions, table_of, table_after_all, WasPrefix, none_or_some, beginning, machine_of, CanBe, all_keep, change_in, changes_on, votes_set, votes_of_row, fixed_of, listed}
 use Rattle.std.proofs.lemmas.List.Elements.{All-from_recursion}
 use Rattle.std.specs.Cmp.{unsigned_tied}
 use Rattle.file_exec.proofs.StepOnTable.{row_of-with_edits}

@@ -240,6 +240,7 @@ module _ (fixed : Fixed) (world : World) (sight : Sight) (table : PlainTable) (t
     pub from : MayStartAll fixed cache task.site start
     pub none : find (unmet sight) (wants_of fixed world sight table task.t task.caller task.ops start) ≡ None
     pub answer_is : answer ≡ answer_to table task
+    pub right : Each IsRight suites
     pub gathered : Gathers suites
 
   abbrev pub answer_in : doing.Proposal → Result (List Answer) Refusal

@@ -3,7 +3,7 @@ use Rattle.law_run_recovers.proofs.Vocabulary.{◌≡◌, ℕ, Bool, true, false
 use Rattle.law_run_recovers.proofs.Vocabulary.{nat_tests, none-some, same_Some, Identity, Opening, Op, Lock, Request, Stamped, State, after_up, after_down, is_full, served, answer_of, Has, any_has, Transaction, Fixed, fixed_of, next_of}
 use Rattle.law_run_recovers.proofs.Vocabulary.{Served, Event, Begin, Step, Crash, Return, Forget, Lack, Actor, World, server_at, actor_at, operates, operated, step, run, CanBe, begins_job, puts_in, up_in, is_up, locks_in, locks_at}
 use Rattle.law_run_recovers.proofs.Vocabulary.{AreNear, asks_for, running_in, is_running, is_telling, begun_world, world_after, up_and, of_up, robs, hinders_itself, GoesAmongLocks, AsAtItsBegin, ToldAsAtItsBegin, bereaves, drops}
-use Rattle.law_run_recovers.proofs.Vocabulary.{everywhere}
+use Rattle.law_run_recovers.proofs.Vocabulary.{everywhere, and_right}
 use Rattle.rep_core.specs.declared.request.Request.TheVariants as request
 use Rattle.rep_core.specs.Service.{after}
 use Rattle.law_run_recovers.proofs.Keeps.{IsAtWork, OfAsks, after_append, as_at_its_begin, operates_it}
@@ -69,10 +69,6 @@ pub record GoesSteadily (given : Opening) (events later : List Event) (agent t :
       → ((server z : ℕ) → On (locks_at (world_after given events agent caller site ops so_far) server) t z → (near server && is_up (run given events) server) ≡ true)
       → bereaves given agent t (world_after given events agent caller site ops so_far) event ≡ false
 
-both : (a b : Bool) → b ≡ false → (a && b) ≡ false
-both true b is = is
-both false b is = refl
-
 module _ (given : Opening) (events later : List Event) (agent t : ℕ) (caller : Identity) (site : ℕ) (ops : List Op) (actor : Actor) where
   abbrev then : List Event → World
   then so_far = world_after given events agent caller site ops so_far
@@ -126,7 +122,7 @@ module _ (given : Opening) (events later : List Event) (agent t : ℕ) (caller :
               → (not (is_telling (world_after given events agent caller site ops so_far) agent)
               && of_up (drops t) (world_after given events agent caller site ops so_far) (step (fixed_of given) (world_after given events agent caller site ops so_far) (Crash server)).done.served) ≡ false
           by true some = absurd (served_so (step (fixed_of given) (then so_far) (Crash server)).done.served refl some)
-          by false none = both (not (is_telling (then so_far) agent)) _ none
+          by false none = and_right (not (is_telling (then so_far) agent)) _ none
 
     pub among_kept : (so_far rest : List Event) (event : Event) → later ≡ so_far ++ event ∷ rest → IsAtWork (world_after given events agent caller site ops so_far) agent t → Answered so_far
         → bereaves given agent t (world_after given events agent caller site ops so_far) event ≡ false

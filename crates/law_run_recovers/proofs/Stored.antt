@@ -1,6 +1,6 @@
 -- Once all servers were swept, what is stored is in effect, and was before.
 use Rattle.law_run_recovers.proofs.Vocabulary.{◌≡◌, ℕ, true, List, [], ◌++◌, length, Option, Some, None, refl, sym, ap, subst, ◌∙◌, ◌==◌, unwrap_or, nat_cmp, get, Opening, Intention, IsConsistent, copy_of, State, Has, has_from, all_at}
-use Rattle.law_run_recovers.proofs.Vocabulary.{World, server_at, run, servers_of, servers_are_consistent, Event, answered_in, copy_at, at_has, all_free, sweeps, AllIsStored}
+use Rattle.law_run_recovers.proofs.Vocabulary.{World, server_at, run, servers_of, servers_are_consistent, Event, answered_in, copy_at, at_has, all_free, sweeps, AllIsStoredAt, Always}
 use Rattle.rep_core.specs.Store as store
 use Rattle.rep_core.specs.State as state
 use Rattle.law_run_recovers.proofs.Found.{no_locks}
@@ -30,7 +30,7 @@ stored_is given events free z i =
     let none = no_intention st (servers_are_consistent given events i) (free_at given (run given events) i free) z (get nat_cmp st.store.intentions z) refl in
     ap (λ found. store.in_effect found (answered_in given events) (copy_of st.store z)) (sym none)
 
-pub all_is_stored : AllIsStored
+pub all_is_stored : Always AllIsStoredAt
 all_is_stored given events agent sweep_run can up goes all =
     let calm : Calm given (run given events) (sweeps agent sweep_run) = calm_round given agent (run given events) sweep_run goes in
     let free = no_lock_is_left given events agent sweep_run can up goes all in

@@ -2,7 +2,7 @@
 use Rattle.law_run_recovers.proofs.Vocabulary.{◌≡◌, ◌⊎◌, inl, inr, ⊎_elim, ℕ, ◌+◌, true, false, cond, List, [], ◌∷◌, Option, Some, None, is_some, refl, sym, ap, subst, ◌∙◌, arith, ◌*◌, ◌&&◌, not, nat_lt, slice_get, slice_set}
 use Rattle.law_run_recovers.proofs.Vocabulary.{cons_option, false≢true, and_parts, not-true, none-some, same_Some, Opening, rise, State, Has, has_from, Ending, Sweep, Fixed, Listing, SweepRun, RunningSweep, After, GoesOn, Ends, Agent}
 use Rattle.law_run_recovers.proofs.Vocabulary.{fixed_of, is_idle, has_sense, max_jobs, next_in, left, end_of, begin, started, Event, Begin, Step, EndedJob, Actor, World, Stepped, opening, server_at, actor_at, outcome_of, becomes, asks}
-use Rattle.law_run_recovers.proofs.Vocabulary.{steps_once, step, after, dones, outcomes, run, begins_now, puts_in, begins_job, with_job, all_consistent, up_in, is_up, locks_in, locks_at, hinders, unhindered_from, SweepsLeaveDoubts}
+use Rattle.law_run_recovers.proofs.Vocabulary.{steps_once, step, after, dones, outcomes, run, begins_now, puts_in, begins_job, with_job, all_consistent, up_in, is_up, locks_in, locks_at, hinders, unhindered_from, Always, SweepsLeaveDoubtsAt}
 use Rattle.run_core.proofs.Appending.{after-append}
 use Rattle.law_run_recovers.proofs.Aside.{Aside, event_aside}
 use Rattle.law_run_recovers.proofs.Doubts.{filter_all}
@@ -210,7 +210,7 @@ module _ (given : Opening) (events : List Event) (agent t server : ℕ) (begins 
             | false ↦ λ none. absurd (none-some (t, Sweep server) none)
           ] begins
 
-pub sweeps_leave_doubts : SweepsLeaveDoubts
+pub sweeps_leave_doubts : Always SweepsLeaveDoubtsAt
 sweeps_leave_doubts given events later agent t server alone job there own =
     let result = goes given agent (run given events) server alone.up (rises given events agent t server alone.begins alone.up) later
     (begun given events agent t server alone.begins alone.up) (busy_first given events agent t server alone.begins alone.up) alone.alone in

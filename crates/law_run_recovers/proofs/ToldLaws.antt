@@ -1,9 +1,8 @@
 -- What is promised to a transaction that is told what it would have been told as it began; and one that goes among locks that stay is told so.
-use Rattle.law_run_recovers.proofs.Vocabulary.{◌≡◌, ⊎_elim, ℕ, Bool, true, false, List, ◌∷◌, ◌++◌, Some, is_some, refl, sym, ap, subst, ◌∙◌, arith, ◌||◌, nat_tests, same_Some, Identity, Opening, Op, Request, Transaction, fixed_of}
-use Rattle.law_run_recovers.proofs.Vocabulary.{next_of, Event, Begin, Step, Actor, World, actor_at, step, run, is_running, world_after, robs, hinders_itself, GoesAmongLocks, AsAtItsBegin, bereaves, AmongLocksAreToldAsBegun}
-use Rattle.law_run_recovers.proofs.Vocabulary.{ToldEndByVotes, ToldEndInTime, ToldHadVotesOpen, ToldAreDecidedWhereVotesAre, ToldAreAnsweredAsBegun, ToldGatherTheirAsks}
+use Rattle.law_run_recovers.proofs.Vocabulary.{◌≡◌, ⊎_elim, ℕ, true, false, List, ◌∷◌, ◌++◌, Some, is_some, refl, sym, ap, subst, ◌∙◌, same_Some, Identity, Opening, Op, Request, Transaction, fixed_of, AreAnsweredAsBegun, EndInTime, HadVotesOpen, ToldEndByVotesAt}
+use Rattle.law_run_recovers.proofs.Vocabulary.{next_of, Event, Begin, Step, Actor, World, actor_at, step, run, is_running, world_after, robs, hinders_itself, GoesAmongLocks, AsAtItsBegin, bereaves, AmongLocksAreToldAsBegun, Always, AreDecidedWhereOpen, GatherTheirAsks, ToldAsAtItsBegin}
 use Rattle.law_run_recovers.proofs.AmongAsks.{of_its_asks}
-use Rattle.law_run_recovers.proofs.AmongCourse.{Course, RunsIt, runs_it}
+use Rattle.law_run_recovers.proofs.AmongCourse.{Course, RunsIt, runs_it, both_so}
 use Rattle.law_run_recovers.proofs.AmongDecided.{answered_begun, was_gathered, was_had}
 use Rattle.law_run_recovers.proofs.AmongLaws.{among_by_votes, among_where_votes}
 use Rattle.law_run_recovers.proofs.AmongLeft.{left_at}
@@ -75,9 +74,6 @@ module _ (given : Opening) (events later : List Event) (agent t : ℕ) (caller :
       goes.kept so_far rest event split work
       (λ server z on. opens_up given events later agent t caller site ops actor goes z (first_asked given events later agent t caller site ops actor goes z) server (c.locks server z on))
 
-all_three : (a b c : Bool) → (a || b) ≡ false → c ≡ false → (a || (b || c)) ≡ false
-all_three a b c one two = grind (arith, nat_tests)
-
 pub among_locks_are_told_as_begun : AmongLocksAreToldAsBegun
 among_locks_are_told_as_begun given events later agent t caller site ops actor goes = record {
   can = goes.can;
@@ -87,32 +83,32 @@ among_locks_are_told_as_begun given events later agent t caller site ops actor g
       same_so given events later agent t caller site ops actor goes so_far rest split (record { running = running; untold = untold }) here asked there next;
   free_hand = λ so_far rest event split running untold.
       let w = world_after given events agent caller site ops so_far in
-      all_three (hinders_itself given agent w event) (robs given agent t w event) (bereaves given agent t w event) (goes.free_hand so_far rest event split running)
+      both_so (hinders_itself given agent w event) (robs given agent t w event) (bereaves given agent t w event) (goes.free_hand so_far rest event split running)
       (kept_so given events later agent t caller site ops actor goes so_far rest event split (record { running = running; untold = untold }));
 }
 
 -- ---- the laws
 
-pub told_end_by_votes : ToldEndByVotes
+pub told_end_by_votes : Always ToldEndByVotesAt
 told_end_by_votes given events later agent t caller site ops actor goes job ends =
     among_by_votes given events later agent t caller site ops actor (told_steady given events later agent t caller site ops actor goes) job ends
 
-pub told_end_in_time : ToldEndInTime
+pub told_end_in_time : Always (EndInTime ToldAsAtItsBegin)
 told_end_in_time given events later agent t caller site ops actor goes more =
     in_time given events later agent t caller site ops actor (told_steady given events later agent t caller site ops actor goes) more
 
-pub told_had_votes_open : ToldHadVotesOpen
+pub told_had_votes_open : Always (HadVotesOpen ToldAsAtItsBegin)
 told_had_votes_open given events later agent t caller site ops actor goes was =
     was_had given events later agent t caller site ops actor (told_steady given events later agent t caller site ops actor goes) was
 
-pub told_are_decided_where_votes_are : ToldAreDecidedWhereVotesAre
+pub told_are_decided_where_votes_are : Always (AreDecidedWhereOpen ToldAsAtItsBegin)
 told_are_decided_where_votes_are given events later agent t caller site ops actor goes unmoved job ends =
     among_where_votes given events later agent t caller site ops actor (told_steady given events later agent t caller site ops actor goes) unmoved job ends
 
-pub told_are_answered_as_begun : ToldAreAnsweredAsBegun
+pub told_are_answered_as_begun : Always (AreAnsweredAsBegun ToldAsAtItsBegin)
 told_are_answered_as_begun given events later agent t caller site ops actor goes one there of_it =
     answered_begun given events later agent t caller site ops actor (told_steady given events later agent t caller site ops actor goes) one there of_it
 
-pub told_gather_their_asks : ToldGatherTheirAsks
+pub told_gather_their_asks : Always (GatherTheirAsks ToldAsAtItsBegin)
 told_gather_their_asks given events later agent t caller site ops actor goes was =
     was_gathered given events later agent t caller site ops actor (told_steady given events later agent t caller site ops actor goes) was

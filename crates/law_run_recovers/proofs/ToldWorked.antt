@@ -1,14 +1,14 @@
 -- A transaction that is told as at its begin, though a lock came in its way and went, by computation. And all runs that the laws are about.
 use Rattle.law_run_recovers.proofs.Vocabulary.{◌≡◌, ℕ, Bool, true, false, [], ◌∷◌, ◌++◌, Option, Some, None, refl, sym, ap, ◌∙◌, ◌==◌, ◌&&◌, ◌||◌, not, and_parts, eqb-true, eq-eqb, Opening, LockMode, Exclusive, Request}
 use Rattle.law_run_recovers.proofs.Vocabulary.{State, copy_of, Transaction, fixed_of, next_of, owner, a, Event, Begin, Step, Crash, Return, Forget, Lack, Actor, World, server_at, actor_at, run, way_at, is_up, is_running, is_telling}
-use Rattle.law_run_recovers.proofs.Vocabulary.{hinders_itself, robs, bereaves, begun_world, world_after, puts}
+use Rattle.law_run_recovers.proofs.Vocabulary.{hinders_itself, robs, bereaves, begun_world, world_after, puts, not-true}
 use Rattle.rep_core.specs.declared.request.Request.TheVariants as request
 use Rattle.suite_prefix.specs.code.Equality.{same_prefix, same_prefix_decides}
 use Rattle.law_run_recovers.specs.Contending.{one_server, both_made}
 use Rattle.law_run_recovers.specs.LawsWorked.{read_between, IsToldAsAtItsBegin, SomeRunsShowTheLaws}
 use Rattle.law_run_recovers.specs.Told.{shows_same, SameWay, told_as_first, AsAtItsBegin, ToldAsAtItsBegin}
 use Rattle.law_run_recovers.proofs.ToldLaws.{told_end_by_votes}
-use Rattle.law_run_recovers.proofs.LawsWorked.{happens_at, unless, not_so, same_bool, same_is, same_way, way_is, one_can, its_actor, goes_by_itself, met_by_nobody, among_locks, doubts_left}
+use Rattle.law_run_recovers.proofs.LawsWorked.{happens_at, unless, same_bool, same_is, same_way, way_is, one_can, its_actor, goes_by_itself, met_by_nobody, among_locks, doubts_left}
 
 -- ---- what it is told at a moment
 
@@ -93,7 +93,7 @@ module _ (given : Opening) (first : World) (agent t : ℕ) where
   free_hand : (w : World) (event : Event) → happens w event ≡ true → is_running w agent t ≡ true → is_telling w agent ≡ false
       → (hinders_itself given agent w event || (robs given agent t w event || bereaves given agent t w event)) ≡ false
   free_hand w event all running untold =
-      not_so (hinders_itself given agent w event || (robs given agent t w event || bereaves given agent t w event))
+      not-true (hinders_itself given agent w event || (robs given agent t w event || bereaves given agent t w event))
       (unless (works w) (not (hinders_itself given agent w event || (robs given agent t w event || bereaves given agent t w event))) (and_parts (step_so w event) (free_so w event) all).1 (at_work w running untold))
 
 -- ---- the run

@@ -1,12 +1,12 @@
 -- One try of a transaction where its votes are up: it is decided where its home is up, and leaves all as it was where it is not.
-use Rattle.law_run_recovers.proofs.Vocabulary.{◌≡◌, ◌⊎◌, inl, inr, ⊎_elim, ℕ, ◌+◌, true, false, cond, List, [], ◌∷◌, ◌++◌, append-nil, length, Option, Some, None, is_some, Result, Ok, Err, refl, sym, ap, subst, ◌∙◌, ◌&&◌, not}
-use Rattle.law_run_recovers.proofs.Vocabulary.{false≢true, none-some, same_Some, Identity, Opening, Prefix, Answer, Op, Refusal, reply_of, Cache, Transaction, Doing, home_of, after_reply, Agent, fixed_of, is_idle, next_in, begin}
+use Rattle.law_run_recovers.proofs.Vocabulary.{◌≡◌, ◌⊎◌, inl, inr, ⊎_elim, ℕ, ◌+◌, true, false, cond, List, [], ◌∷◌, ◌++◌, append-nil, length, Some, None, is_some, refl, sym, ap, subst, ◌∙◌, ◌&&◌, not, none_of as idle_none}
+use Rattle.law_run_recovers.proofs.Vocabulary.{false≢true, none-some, same_Some, Identity, Opening, Prefix, Op, reply_of, Cache, Transaction, home_of, after_reply, Agent, fixed_of, next_in, begin}
 use Rattle.law_run_recovers.proofs.Vocabulary.{started, Event, Begin, Step, Actor, World, server_at, actor_at, has_no_job, step, dones, outcomes, run, table_of, machine_of, all_keep, is_decided, all_consistent, is_up, up_free, Demand}
-use Rattle.law_run_recovers.proofs.Vocabulary.{demands, first_short, is_met, all_met, led_to, led_to_by, newer_from, MayStart, VotesAreUp, GoesAlone, ending_of, answer_on, OneIsDecided, is_open_at, way_at, begun_world, world_after}
+use Rattle.law_run_recovers.proofs.Vocabulary.{demands, first_short, is_met, all_met, led_to, led_to_by, newer_from, MayStart, VotesAreUp, GoesAlone, answer_on, OneIsDecided, is_open_at, way_at, begun_world, world_after}
 use Rattle.law_one_table.proofs.Effects as effects
 use Rattle.law_run_recovers.specs.Ends as laws
-use Rattle.law_run_recovers.proofs.AloneKept.{calm, up_same, many, free_then, table_same, shown_then}
-use Rattle.law_run_recovers.proofs.AloneLaws.{steadily, own_then}
+use Rattle.law_run_recovers.proofs.AloneKept.{up_same, many, free_then, table_same, shown_then}
+use Rattle.law_run_recovers.proofs.AloneLaws.{steadily, calm, now_at, own_then}
 use Rattle.law_run_recovers.proofs.AmongCourse.{Course, RunsIt, runs_it, course_runs, next_is, apart_on}
 use Rattle.law_run_recovers.proofs.AmongEnds.{Over}
 use Rattle.law_run_recovers.proofs.AmongLeft.{left_at}
@@ -16,7 +16,6 @@ use Rattle.law_run_recovers.proofs.AmongStep.{here_is, own_on, there_then}
 use Rattle.law_run_recovers.proofs.Apart.{event_apart}
 use Rattle.law_run_recovers.proofs.Aside.{Aside, event_aside}
 use Rattle.law_run_recovers.proofs.Found.{all_answer}
-use Rattle.law_run_recovers.proofs.HadVotes.{count_then, last_now}
 use Rattle.law_run_recovers.proofs.Hinted.{execute_hints, reply_hints}
 use Rattle.law_run_recovers.proofs.Led.{rules_of}
 use Rattle.law_run_recovers.proofs.NearGround.{its, first_asked, sight, Known, ground, can_first}
@@ -28,6 +27,7 @@ use Rattle.law_run_recovers.proofs.Steady.{GoesSteadily, never_hindered}
 use Rattle.law_run_recovers.proofs.StepsServed.{OwnTook, own_took}
 use Rattle.law_run_recovers.proofs.UnmetLaws.{open_where_free, unmet_by_votes}
 use Rattle.law_run_recovers.proofs.Picks.{along}
+use Rattle.law_run_recovers.proofs.Unmoved.{decided_ending}
 
 -- ---- how it ends
 
@@ -38,14 +38,6 @@ none_of (one ∷ all) met =
       | true ↦ λ met. none_of all met
       | false ↦ λ met. absurd (false≢true met)
     ] met
-
-decided_of : (answer : Result (List Answer) Refusal) → is_decided (ending_of answer) ≡ true
-decided_of (Ok answers) = refl
-decided_of (Err refusal) = refl
-
-none_doing : (doing : Option Doing) → is_idle doing ≡ true → doing ≡ None
-none_doing None is = refl
-none_doing (Some doing) is = absurd (false≢true is)
 
 -- ---- one try
 
@@ -128,7 +120,7 @@ module _ (given : Opening) (events later : List Event) (agent t : ℕ) (caller :
       own_then' own served = subst (λ event. Along (so_far ++ event ∷ [])) (sym own)
           (⊎_elim
           (λ on. inl (on.0, subst (λ (here : Actor). LedTo here.agent.cache) (same_Some took.new on.0.here (sym there_so ∙ on.0.there)) led_then))
-          (λ ended. inr (record { here = took.new; there = there_so; none = none_doing took.new.agent.doing ended.3; led = led_then }))
+          (λ ended. inr (record { here = took.new; there = there_so; none = idle_none took.new.agent.doing ended.3; led = led_then }))
           (own_on given events later agent t caller site ops actor steady_so so_far rest split' c runs took))
         where
           split' : later ≡ so_far ++ Step agent ∷ rest
@@ -196,7 +188,7 @@ module _ (given : Opening) (events later : List Event) (agent t : ℕ) (caller :
             of_it = own_then given events later agent t caller site ops actor goes it.job it.ends;
             decided = ap is_decided (by.ends
                 ∙ ap (λ found. laws.ending_by found home answer) (none_of (demands (fixed_of given) (run given events) (table_of given events) t caller ops by.start) (met by.start by.from))
-                ∙ ap (λ up. laws.ending_by None up answer) up) ∙ decided_of answer;
+                ∙ ap (λ up. laws.ending_by None up answer) up) ∙ decided_ending answer;
           }
 
     -- what is there then
@@ -213,8 +205,8 @@ module _ (given : Opening) (events later : List Event) (agent t : ℕ) (caller :
     module _ (down : is_up (run given events) (home_of (fixed_of given).service t) ≡ false) where
       count_so : at_end.here.agent.count ≡ actor.agent.count + 1
       count_so =
-          let now = last_now given events later agent t caller site ops actor goes in
-          ap (λ (here : Actor). here.agent.count) (same_Some at_end.here now.here (sym at_end.there ∙ now.there)) ∙ now.count_is ∙ count_then given events later agent t caller site ops actor goes
+          let now = now_at given events later agent t caller site ops actor goes later [] (sym (append-nil later)) in
+          ap (λ (here : Actor). here.agent.count) (same_Some at_end.here now.here (sym at_end.there ∙ now.there)) ∙ now.count_is
 
       -- all are open to it that are up
       open_all : (z i : ℕ) → finds_at (sight given events later agent t caller site ops actor steady_so) z i ≡ is_up (run given events) i

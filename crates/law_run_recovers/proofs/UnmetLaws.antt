@@ -3,7 +3,7 @@ use Rattle.law_run_recovers.proofs.Vocabulary.{◌≡◌, inl, inr, ℕ, Bool, t
 use Rattle.law_run_recovers.proofs.Vocabulary.{none-some, same_Some, Identity, Representative, Configuration, votes_in, votes_in-wider, Opening, Prefix, LockMode, Op, row_of, Has, contains_from, needed_of, home_of, fixed_of, Event}
 use Rattle.law_run_recovers.proofs.Vocabulary.{EndedJob, Actor, World, server_at, run, table_of, is_decided, is_up, Demand, demand, is_met, all_met, demands, demands_of_rows, first_short, led_to, votes_set, votes_of_row, MayStart}
 use Rattle.law_run_recovers.proofs.Vocabulary.{MayStartAll, EndsByVotes, ending_by, answer_on, asks_for, is_open_way, is_way_met, way_at, is_open_at, in_its_way, GoesUnmet, EndsOpenly, first_wanting, has_votes_open, UnmetAreAmongLocks}
-use Rattle.law_run_recovers.proofs.Vocabulary.{Want, open_demand, open_demands, first_mode, wants, wants_of_rows, EndsThen, VotesNeverMovedOf, UnmetEndByVotes, UnmetAreDecidedWhereVotesAre}
+use Rattle.law_run_recovers.proofs.Vocabulary.{Want, open_demand, open_demands, first_mode, wants, wants_of_rows, EndsThen, VotesNeverMovedOf, Always, UnmetAreDecidedWhereVotesAreAt, UnmetEndByVotesAt}
 use Rattle.law_run_recovers.proofs.Steady.{GoesSteadily, steady}
 use Rattle.law_run_recovers.proofs.AmongLaws.{map_members, among_by_votes, found_by, led_first, row_first}
 use Rattle.law_run_recovers.proofs.NearRows.{first_in, start_near, same_so_far, open_is_up}
@@ -171,10 +171,10 @@ module _ (given : Opening) (events later : List Event) (agent t : ℕ) (caller :
         ap is_decided by.ends ∙ decided_by (demands (fixed_of given) (run given events) (table_of given events) t caller ops by.start) up (answer_on (table_of given events) t caller ops)
         ∙ ap (λ all. all_met all && up) (rows_same by.start by.from)
 
-pub unmet_end_by_votes : UnmetEndByVotes
+pub unmet_end_by_votes : Always UnmetEndByVotesAt
 unmet_end_by_votes given events later agent t caller site ops actor goes job ends = unmet_by_votes given events later agent t caller site ops actor goes job ends
 
-pub unmet_are_decided_where_votes_are : UnmetAreDecidedWhereVotesAre
+pub unmet_are_decided_where_votes_are : Always UnmetAreDecidedWhereVotesAreAt
 unmet_are_decided_where_votes_are given events later agent t caller site ops actor goes unmoved job ends = unmet_where_votes given events later agent t caller site ops actor goes unmoved job ends
 
 pub unmet_are_among_locks : UnmetAreAmongLocks

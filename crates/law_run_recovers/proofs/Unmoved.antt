@@ -7,7 +7,7 @@ pub map_alike : {X Y : Type 0} (f g : X → Y) → ((x : X) → f x ≡ g x) →
 map_alike f g same [] = refl
 map_alike f g same (x ∷ xs) = ap (λ y. y ∷ map f xs) (same x) ∙ ap (λ ys. g x ∷ ys) (map_alike f g same xs)
 
-decided_ending : (answer : Result (List Answer) Refusal) → is_decided (ending_of answer) ≡ true
+pub decided_ending : (answer : Result (List Answer) Refusal) → is_decided (ending_of answer) ≡ true
 decided_ending (Ok answers) = refl
 decided_ending (Err refusal) = refl
 

@@ -1,10 +1,10 @@
 -- An event that takes nothing of a transaction leaves the locks standing that it was told of, whoever asks for it.
-use Rattle.law_run_recovers.proofs.Vocabulary.{◌≡◌, ℕ, Bool, true, false, cond, List, [], ◌∷◌, Option, Some, None, refl, sym, ap, subst, ◌∙◌, arith, ◌==◌, ◌&&◌, ◌||◌, not, find, unwrap_or, list_any, false≢true, and_parts, eqb-true}
-use Rattle.law_run_recovers.proofs.Vocabulary.{nat_tests, none-some, Opening, Lock, Request, Reply, Stamped, is_own, lock_at, State, reply_up, reply_down, reply_of, is_full, answer_of, find_some, has_any, Job, Replied, Lacked, fixed_of}
+use Rattle.law_run_recovers.proofs.Vocabulary.{◌≡◌, ℕ, Bool, true, false, cond, List, [], ◌∷◌, Option, Some, None, refl, sym, ap, subst, ◌∙◌, ◌==◌, ◌&&◌, ◌||◌, not, find, unwrap_or, list_any, false≢true, and_parts, eqb-true}
+use Rattle.law_run_recovers.proofs.Vocabulary.{none-some, Opening, Lock, Request, Reply, Stamped, is_own, lock_at, State, reply_up, reply_down, reply_of, is_full, answer_of, find_some, has_any, Job, Replied, Lacked, fixed_of}
 use Rattle.law_run_recovers.proofs.Vocabulary.{next_of, take, begin, Served, Event, Begin, Step, Crash, Return, Forget, Lack, Actor, server_at, actor_at, answered, asks_at, asks, steps_once, operated, operates, step, Beginning, kept}
 use Rattle.law_run_recovers.proofs.Vocabulary.{lost, at2, left_by_break, left_by_crash, moves, ended_as, hold_of, ShowsAt, Shows, beginning, decision_by, own_events, home_in, servers_of, answered_events, asked_at_events, asked_events}
 use Rattle.law_run_recovers.proofs.Vocabulary.{step_events, lacks_for_events, lack_events, begin_events, operated_events, operator_events, run-append, StandsAs, Stands, Spares, AllSpare, stands_all, spare_begun, spare_own}
-use Rattle.law_run_recovers.proofs.Vocabulary.{spare_decision, spare_moves, takes, drops}
+use Rattle.law_run_recovers.proofs.Vocabulary.{spare_decision, spare_moves, takes, drops, and_from, or_parts, eq-eqb}
 use Rattle.rep_core.specs.declared.request.Request.TheVariants as request
 use Rattle.rep_core.specs.declared.reply.Reply.TheVariants as reply
 use Rattle.rep_core.specs.declared.reply.Verdict as replied
@@ -17,27 +17,17 @@ use Rattle.law_suite_machine.specs.Events as machine
 use Rattle.law_suite_machine.specs.Events.{finished, run}
 use Rattle.law_server_moves.specs.Moves.{is_prepared}
 use Rattle.law_run_machine.specs.Machines.{moved}
+use Rattle.law_run_recovers.proofs.Aside.{both_false}
 
 -- ---- locks at a server
 
-itself : (a : ℕ) → (a == a) ≡ true
-itself a = grind (arith, nat_tests)
-
-or_later : (a b : Bool) → (a || b) ≡ false → b ≡ false
-or_later true b is = absurd (false≢true (sym is))
-or_later false b is = is
-
-or_first : (a b : Bool) → (a || b) ≡ false → a ≡ false
-or_first true b is = absurd (false≢true (sym is))
-or_first false b is = refl
-
 none_any : {X : Type 0} (p q : X → Bool) (xs : List X) → ((x : X) → q x ≡ true → p x ≡ true) → list_any p xs ≡ false → find q xs ≡ None
 none_any p q [] so is = refl
-none_any p q (x ∷ xs) so is = of (q x) refl (none_any p q xs so (or_later (p x) (list_any p xs) is))
+none_any p q (x ∷ xs) so is = of (q x) refl (none_any p q xs so (or_parts (p x) (list_any p xs) is).1)
   where
     of : (b : Bool) → q x ≡ b → find q xs ≡ None → cond b (Some x) (find q xs) ≡ None
     of false other none = none
-    of true passes none = absurd (false≢true (sym (or_first (p x) (list_any p xs) is) ∙ so x passes))
+    of true passes none = absurd (false≢true (sym (or_parts (p x) (list_any p xs) is).0 ∙ so x passes))
 
 own_t : (t z : ℕ) (lock : Lock) → is_own t z lock ≡ true → (lock.t == t) ≡ true
 own_t t z lock is = (and_parts (lock.t == t) (lock.suite == z) is).0
@@ -78,35 +68,26 @@ or_there : (a c : Bool) → (a ≡ true → c ≡ true) → (not a || c) ≡ tru
 or_there true c so = so refl
 or_there false c so = refl
 
-and_rest : (a b : Bool) → (a && b) ≡ false → a ≡ true → b ≡ false
-and_rest true b is so = is
-and_rest false b is so = absurd (false≢true so)
-
-both_of : (a b : Bool) → a ≡ true → b ≡ true → (a && b) ≡ true
-both_of true true a b = refl
-both_of true false a b = absurd (false≢true b)
-both_of false b a c = absurd (false≢true a)
-
 -- what is taken from a server that has this of the suite
 module _ (z t i : ℕ) (w : World) (st : State) (shows : ShowsAt z st w i) (stands : Stands w t) where
   finish_stands : (u : ℕ) (v : replied.Verdict) (verdict : Verdict) → takes t st (request.Finish u v) ≡ false → Stands (finished w i u verdict) t
   finish_stands u v verdict calm = stands_finish w t stands i u verdict (λ same.
-      shows.lock t ∙ ap hold_of (none_any (λ (lock : Lock). lock.t == t) (is_own t z) st.locks (own_t t z) (and_rest (u == t) (list_any (λ (lock : Lock). lock.t == t) st.locks) calm (ap (λ u. u == t) (sym same) ∙ itself t))))
+      shows.lock t ∙ ap hold_of (none_any (λ (lock : Lock). lock.t == t) (is_own t z) st.locks (own_t t z) (both_false (u == t) (list_any (λ (lock : Lock). lock.t == t) st.locks) calm (ap (λ u. u == t) (sym same) ∙ eq-eqb t t refl))))
 
   break_stands : (u : ℕ) → takes t st (request.Break u z) ≡ false → Stands (lost w (left_by_break w i u)) t
   break_stands u calm = stands_lose w t stands (left_by_break w i u) (λ j h is. or_kept (j == i) (t == u) (is_prepared (w.lock j t)) (λ here same.
       let at : j ≡ i = eqb-true j i here in
       let lock : w.lock j t ≡ hold_of (lock_at t z st.locks) = ap (λ i. w.lock i t) at ∙ shows.lock t in
       ap is_prepared lock
-      ∙ found_prepared t z (λ (lock : Lock). is_own t z lock && not lock.prepared) st.locks (λ lock own unprepared. both_of (is_own t z lock) (not lock.prepared) own (ap not unprepared))
-      (and_rest (u == t) (list_any (λ (lock : Lock). is_own t z lock && not lock.prepared) st.locks) calm (ap (λ u. u == t) (sym (eqb-true t u same)) ∙ itself t)) h (sym lock ∙ is)))
+      ∙ found_prepared t z (λ (lock : Lock). is_own t z lock && not lock.prepared) st.locks (λ lock own unprepared. and_from (is_own t z lock) (not lock.prepared) own (ap not unprepared))
+      (both_false (u == t) (list_any (λ (lock : Lock). is_own t z lock && not lock.prepared) st.locks) calm (ap (λ u. u == t) (sym (eqb-true t u same)) ∙ eq-eqb t t refl)) h (sym lock ∙ is)))
 
   crash_stands : drops t st request.Crash ≡ false → Stands (lost w (left_by_crash w i)) t
   crash_stands calm = stands_lose w t stands (left_by_crash w i) (λ j h is. or_there (j == i) (is_prepared (w.lock j t)) (λ here.
       let at : j ≡ i = eqb-true j i here in
       let lock : w.lock j t ≡ hold_of (lock_at t z st.locks) = ap (λ i. w.lock i t) at ∙ shows.lock t in
       ap is_prepared lock
-      ∙ found_prepared t z (λ (lock : Lock). (lock.t == t) && not lock.prepared) st.locks (λ lock own unprepared. both_of (lock.t == t) (not lock.prepared) (own_t t z lock own) (ap not unprepared)) calm h (sym lock ∙ is)))
+      ∙ found_prepared t z (λ (lock : Lock). (lock.t == t) && not lock.prepared) st.locks (λ lock own unprepared. and_from (lock.t == t) (not lock.prepared) (own_t t z lock own) (ap not unprepared)) calm h (sym lock ∙ is)))
 
   -- a reply to a request that takes nothing
   module _ (start : Beginning) (home : ℕ → ℕ) (decision : machine.Event) (spares : Spares decision) where

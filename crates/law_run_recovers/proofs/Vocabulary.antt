@@ -2,7 +2,7 @@
 pub use Rattle.std.proofs.Common.{All, Bool, Contains, Equal, Err, Greater, IsTrue, Less, List, None, Ok, Option, Result, Some, [], ap, append-nil, append_assoc, arith, cond, false, filter, find, inl, inr, is_some, le_trans, length, map}
 pub use Rattle.std.proofs.Common.{max, nat_le, nat_lt, not, option_map, refl, slice_get, slice_set, subst, suc, sym, true, zero, ℕ, ⊎_elim, ◌%◌, ◌&&◌, ◌*◌, ◌++◌, ◌+◌, ◌-◌, ◌/◌, ◌<◌, ◌==◌, ◌||◌, ◌∙◌, ◌∷◌, ◌≡◌, ◌≢◌, ◌≤◌, ◌⊎◌}
 pub use Rattle.std.proofs.Math.Nat.{add-mod_right, mod-lt}
-pub use Rattle.std.proofs.lemmas.Bool.{and_from, and_parts, and_right, cases_Bool, eq-eqb, eqb-true, false_from_ne_true, false≢true, le-leb, leb-true, ltb-false, ltb-true, not-false, not-true, or_cases, or_right}
+pub use Rattle.std.proofs.lemmas.Bool.{and_from, and_parts, and_right, cases_Bool, eq-eqb, eqb-true, false_from_ne_true, false≢true, le-leb, leb-true, ltb-false, ltb-true, not-false, not-true, or_cases, or_left, or_parts, or_right}
 pub use Rattle.std.proofs.lemmas.Bool.Decides.{nat_tests}
 pub use Rattle.std.proofs.lemmas.Cmp.{eq_by_cmp_equiv, nat_cmp_total}
 pub use Rattle.std.proofs.lemmas.List.Elements.{All-contains, Contains-append_right}
@@ -70,7 +70,7 @@ pub use Rattle.law_run_alone.proofs.Exchanged.{IsFree, Since, TellsValid, never_
 pub use Rattle.law_run_alone.proofs.Holding.{PhaseStands, doing_any}
 pub use Rattle.law_run_alone.proofs.Known.{is_known, known_owed}
 pub use Rattle.law_run_alone.proofs.Named.{no_lock, no_record}
-pub use Rattle.law_run_alone.proofs.Own.{IsOwnAt, is_crash, nothing_in_the_way, replies_down, up_stays}
+pub use Rattle.law_run_alone.proofs.Own.{IsOwnAt, is_crash, nothing_in_the_way, replies_down, up_as, up_stays}
 pub use Rattle.law_run_alone.proofs.Owns.{IsCalm, IsMine, names_mine}
 pub use Rattle.law_run_alone.proofs.Reached.{can_front, facts_of, run_more, valid_back}
 pub use Rattle.law_run_alone.proofs.Requests.{Finds, HasSome, finds, stands_where}
@@ -81,7 +81,7 @@ pub use Rattle.law_run_alone.proofs.Turns.{all_none, doing_at, doing_of, none_of
 pub use Rattle.law_run_alone.proofs.Unhindered.{all_consistent, up_valid}
 pub use Rattle.law_run_alone.proofs.Unswept.{is_resolve, never_resolves}
 pub use Rattle.law_run_alone.proofs.Untold.{begun_stands, started_untold}
-pub use Rattle.law_run_alone.proofs.Votes.{HasValidVotes, cache_valid, copy_valid}
+pub use Rattle.law_run_alone.proofs.Votes.{HasValidVotes, cache_valid, copy_valid, listed, tied}
 pub use Rattle.law_run_alone.proofs.Walks.{AllAt, AllServers, BeginsNone, MayAsk, asks_servers, event_doing, none_begins}
 pub use Rattle.law_run_alone.proofs.Went.{busy}
 pub use Rattle.law_run_alone.proofs.Whole.{Carried, carried_by}
@@ -90,6 +90,7 @@ pub use Rattle.law_run_alone.specs.Undisturbed.{all_up, is_decided, no_locks}
 pub use Rattle.law_run_knowledge.proofs.Decided.{newest_prefix, suite_was}
 pub use Rattle.law_run_knowledge.proofs.Events.{knowledge_was}
 pub use Rattle.law_run_machine.proofs.Consistent.{servers_are_consistent}
+pub use Rattle.law_run_machine.proofs.Decided.{some_of}
 pub use Rattle.law_run_machine.proofs.Joining.{run-append}
 pub use Rattle.law_run_machine.specs.Deciding.{aim_of, aims, aims_once, begun_events, decision_by, fixed_in, gives_up, is_at_an_end, is_finishing, known_by, own_events, showed, showed_to, tells_aborted, to_write}
 pub use Rattle.law_run_machine.specs.Machines.{answered_events, asked_at_events, asked_events, begin_events, events_of, history_from, history_of, home_in, lack_events, lacks_for_events, machine_of, operated_events, operator_events}
@@ -135,6 +136,7 @@ pub use Rattle.rep_core.proofs.FittingReplies.{reply_fits}
 pub use Rattle.rep_core.proofs.Intentions.{copy_in-with_copies}
 pub use Rattle.rep_core.proofs.Members.{Has, all_at, any_has, between_has, contains_from, filter_has, find_none, has_any, has_between, has_filter, has_from, has_map, map_has}
 pub use Rattle.rep_core.proofs.Records.{record_apart}
+pub use Rattle.rep_core.proofs.Stays.{serves_itself}
 pub use Rattle.rep_core.proofs.Ways.{Ways, by_step}
 pub use Rattle.rep_core.specs.Consistency.{HasPreparedLock, IsConsistent}
 pub use Rattle.rep_core.specs.Fits.{is_busy, is_down, is_lost, is_prepared}
@@ -185,7 +187,8 @@ pub use Rattle.txn_core.proofs.Asks.{asked_as, asks_same, fetched_as}
 pub use Rattle.txn_core.proofs.Bound.{ends_in_time}
 pub use Rattle.txn_core.proofs.Gathers.{Each, EachBut, but_with, each_but, each_with, self, with_at}
 pub use Rattle.txn_core.proofs.Growing.{known_from}
-pub use Rattle.txn_core.proofs.Locks.{Keeps, begin_keeps, nothing_held, plus_all}
+pub use Rattle.txn_core.proofs.Heard.{mode_stays, same_mode}
+pub use Rattle.txn_core.proofs.Locks.{Keeps, begin_keeps, nothing_held, plus_all, serves_shared}
 pub use Rattle.txn_core.proofs.Quorums.{decides_on_quorums}
 pub use Rattle.txn_core.proofs.Setting.{known_at}
 pub use Rattle.txn_core.proofs.ToldLists.{are_nil}
@@ -218,32 +221,32 @@ pub use Rattle.weak_cache.proofs.Origins.{forgotten_has, search_keeps_all}
 pub use Rattle.weak_cache.specs.Cache.{Limits, has_room, hint, put, searched, within_budget, within_quota}
 pub use Rattle.weak_cache.specs.Entries.{Cache, Entry, entry_of, forgotten, is_at, is_of, size_of, without}
 pub use Rattle.law_run_recovers.specs.Alone.{hinders, its_step, own_steps, unhindered_from}
-pub use Rattle.law_run_recovers.specs.Among.{AmongLocksAreAnsweredAsBegun, AmongLocksAreDecidedWhereVotesAre, AmongLocksAreToldAsBegun, AmongLocksEndByVotes, AmongLocksEndInTime, AmongLocksGatherTheirAsks, AmongLocksHadVotesOpen}
-pub use Rattle.law_run_recovers.specs.Among.{AmongLocksLeaveNoLock, GoesAmongLocks, StandsStill, UnmetAreAmongLocks}
-pub use Rattle.law_run_recovers.specs.Beside.{GoSideBySide, SideBySideAreDecided, SideBySideAreToldFreely, SideBySideEndInTime, clash, its_asks, spoils}
-pub use Rattle.law_run_recovers.specs.BesideDown.{GoSideBySideWhileDown, SideBySideAreUnmet, SideBySideEndByVotes, SideBySideEndWhileDown}
+pub use Rattle.law_run_recovers.specs.Among.{AmongLocksAreToldAsBegun, AmongLocksEndByVotesAt, AmongLocksLeaveNoLockAt, GoesAmongLocks, StandsStill, UnmetAreAmongLocks}
+pub use Rattle.law_run_recovers.specs.Beside.{GoSideBySide, SideBySideAreDecidedAt, SideBySideAreToldFreelyAt, SideBySideEndInTimeAt, clash, its_asks, spoils}
+pub use Rattle.law_run_recovers.specs.BesideDown.{GoSideBySideWhileDown, SideBySideAreUnmetAt, SideBySideEndByVotesAt, SideBySideEndWhileDownAt}
 pub use Rattle.law_run_recovers.specs.BesideWorked.{SomeRunsGoSideBySide, first_down, turns, two_made, two_write}
-pub use Rattle.law_run_recovers.specs.Blocking.{BlockedByDoubts, DoubtedAt, IsBlocker, OneCrashBlocks, SomeServerBlocks, SweepsAll, WasItsHome, blocks, can_have}
+pub use Rattle.law_run_recovers.specs.Blocking.{BlockedByDoubtsAt, DoubtedAt, IsBlocker, OneCrashBlocksAt, SomeServerBlocksAt, SweepsAll, WasItsHome, blocks, can_have}
 pub use Rattle.law_run_recovers.specs.Clashing.{AreTight, Begun, HasFirstVotes, SetsApart, clashes, first_clash, only_reads, votes_now}
 pub use Rattle.law_run_recovers.specs.Contending.{NoneOfThree, NoneOfTwoCrossed, NoneOfTwoOfWhichOneRaises, NoneOfTwoThatRaise, NoneOfTwoThatSetVotes, NoneOfTwoThatWriteAll, SomeRunsStarve, b, puts}
 pub use Rattle.law_run_recovers.specs.Demands.{Demand, MayStart, MayStartAll, all_met, change_in, changes_on, demand_by, has_asked, is_met, led_on, led_so_far_by, led_to_by, locks_asked, newer_by, not_asked, shows_newer_by, votes_of_row}
 pub use Rattle.law_run_recovers.specs.Demands.{votes_set}
-pub use Rattle.law_run_recovers.specs.Ends.{EndsByOpenVotes, EndsOpenly, EndsThen, WasDecidedThen, answer_on, ending_by, ending_of, few_steps, first_wanting, has_votes_open}
-pub use Rattle.law_run_recovers.specs.Further.{GathersItsAsks, ToldAreDecidedWhereVotesAre, ToldGatherTheirAsks, VotesNeverMovedOf, is_gathered}
+pub use Rattle.law_run_recovers.specs.Ends.{Always, AreAnsweredAsBegun, EndInTime, EndsByOpenVotes, EndsOpenly, EndsThen, HadVotesOpen, WasDecidedThen, answer_on, ending_by, ending_of, few_steps, first_wanting, has_votes_open}
+pub use Rattle.law_run_recovers.specs.Further.{AreDecidedWhereOpen, GatherTheirAsks, GathersItsAsks, VotesNeverMovedOf, is_gathered}
 pub use Rattle.law_run_recovers.specs.Going.{begun_world, hinders_itself, is_running, is_telling, is_told, of_up, robs, running_in, runs, takes, telling_in, tells, up_and, world_after}
 pub use Rattle.law_run_recovers.specs.Histories.{ChangesAreMetAtServer, FinishedBeforeAtServer, if_at, served_at}
 pub use Rattle.law_run_recovers.specs.InTime.{RunsEndByTheBounds}
-pub use Rattle.law_run_recovers.specs.Laws.{DecidedHadVotesUp, DecidedWhereVotesAre, EndsAreByVotes, EndsByVotes, EndsInTime, GoesAlone, HadVotesUp, HomesGoRound, MetDemandsAreRows, OneIsDecided, OneOfThemIsDecided, again, goes_again}
-pub use Rattle.law_run_recovers.specs.Local.{NearVotesAreRows, OpenVotesAreRows, UnmetAreDecidedWhereVotesAre, UnmetEndByVotes, UnmetEndInTime, UnmetHadVotesUp}
-pub use Rattle.law_run_recovers.specs.Meets.{OneThatMeetsIsDecided, TheyMeet, its_votes}
-pub use Rattle.law_run_recovers.specs.MeetsByRows.{OneThatMeetsByRowsIsDecided, TheyMeetByRows}
+pub use Rattle.law_run_recovers.specs.Laws.{DecidedHadVotesUpAt, DecidedWhereVotesAreAt, EndsAreByVotesAt, EndsByVotes, EndsInTimeAt, GoesAlone, HadVotesUp, HomesGoRound, MetDemandsAreRows, OneIsDecided, OneOfThemIsDecidedAt, again, goes_again}
+pub use Rattle.law_run_recovers.specs.Local.{NearVotesAreRows, OpenVotesAreRows, UnmetAreDecidedWhereVotesAreAt, UnmetEndByVotesAt, UnmetHadVotesUpAt}
+pub use Rattle.law_run_recovers.specs.Meets.{OneThatMeetsIsDecidedAt, TheyMeet, its_votes}
+pub use Rattle.law_run_recovers.specs.MeetsBeside.{OneThatMeetsBesideIsDecidedAt, WriterOrReaderBesideIsDecidedAt}
+pub use Rattle.law_run_recovers.specs.MeetsByRows.{OneThatMeetsByRowsIsDecidedAt, TheyMeetByRows}
 pub use Rattle.law_run_recovers.specs.MeetsWorked.{SomeRunsMeet, SomeRunsMeetByRows, two_meet, votes_moved}
 pub use Rattle.law_run_recovers.specs.OpenDemands.{Want, first_mode, mode_or, open_demand, open_demands, wants, wants_of_rows}
 pub use Rattle.law_run_recovers.specs.Promises.{IsAvailable, Lends}
-pub use Rattle.law_run_recovers.specs.Readers.{ReadersMeet, WriterOrReadersAreDecided}
+pub use Rattle.law_run_recovers.specs.Readers.{ReadersMeet, WriterOrReadersAreDecidedAt}
 pub use Rattle.law_run_recovers.specs.Standing.{all_free, holders, in_doubt, is_in_doubt, is_up, locks_at, locks_in, one_if, shown_at, shown_in, up_in}
-pub use Rattle.law_run_recovers.specs.Sweeping.{AllIsStored, NoLockIsLeft, OnlyDoubtsAreLeft, SweepsKeepEffects, SweepsLeaveDoubts, TakenAwayAreNeverDecided, goes_round, stands, sweeps}
-pub use Rattle.law_run_recovers.specs.Told.{AsAtItsBegin, SameWay, ToldAreAnsweredAsBegun, ToldAsAtItsBegin, ToldEndByVotes, ToldEndInTime, ToldHadVotesOpen, bereaves, drops, everywhere, shows_same, told_as_first}
+pub use Rattle.law_run_recovers.specs.Sweeping.{AllIsStoredAt, NoLockIsLeftAt, OnlyDoubtsAreLeftAt, SweepsKeepEffectsAt, SweepsLeaveDoubtsAt, TakenAwayAreNeverDecidedAt, goes_round, stands, sweeps}
+pub use Rattle.law_run_recovers.specs.Told.{AsAtItsBegin, SameWay, ToldAsAtItsBegin, ToldEndByVotesAt, bereaves, drops, everywhere, shows_same, told_as_first}
 pub use Rattle.law_run_recovers.specs.Unmet.{AreNear, GoesUnmet, StandsOpen}
 pub use Rattle.law_run_recovers.specs.Up.{VotesAreUp, demand, demands, demands_of_rows, first_short, led_to, newer_from, up_free}
 pub use Rattle.law_run_recovers.specs.Ways.{asks_for, in_its_way, is_open_at, is_open_way, is_way_met, way_at, way_in}

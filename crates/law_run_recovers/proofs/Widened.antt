@@ -1,6 +1,6 @@
 -- A collector of whatever votes to which servers stand as a sight says: what it hears, and where one that is widened ends.
 use Rattle.law_run_recovers.proofs.Vocabulary.{◌≡◌, ℕ, ◌≤◌, true, false, List, ◌++◌, Option, Some, None, refl, sym, ap, subst, ◌∙◌, arith, nat_le, nat_tests, Configuration, votes_in, votes_in-wider, absent_prefix, Prefix, Exclusive}
-use Rattle.law_run_recovers.proofs.Vocabulary.{Reply, Told, holds, Collector, Asked, Poll, Upgrade, request_for, mode_asked, mode_of, said_to, all_told, tell, tell_at, told_by, Current, Ask, Short, next, all_told-tell, Fixed, World}
+use Rattle.law_run_recovers.proofs.Vocabulary.{Reply, Told, holds, Collector, Asked, Poll, Upgrade, request_for, said_to, all_told, tell, tell_at, told_by, Current, Ask, Short, next, all_told-tell, Fixed, World}
 use Rattle.rep_core.specs.declared.reply.Reply.TheVariants as reply
 use Rattle.suite_collect.specs.Collecting.{Widening}
 use Rattle.txn_core.specs.Transactions as txn_run
@@ -28,10 +28,6 @@ same_said t number asked reply.Prepared = refl
 same_said t number asked (reply.Verdict v) = refl
 same_said t number asked reply.Done = refl
 same_said t number asked (reply.Locked locks) = refl
-
-pub same_mode : (t number : ℕ) (asked : Asked) → mode_of (request_for t number asked) ≡ mode_asked asked
-same_mode t number (Poll mode) = refl
-same_mode t number Upgrade = refl
 
 -- ---- whose servers answer rightly
 

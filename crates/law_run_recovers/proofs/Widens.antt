@@ -92,6 +92,7 @@ module _ (fixed : Fixed) (world : World) (sight : Sight) (table : PlainTable) (t
     none = none_short fixed world sight table task cache (starts fixed world sight table task cache suites) s.so_far done s.all
         (λ other has. had_met fixed world sight table task cache suites other (s.had other has)) s.sets (λ other has. ap not (s.met other has));
     answer_is = s.answer_is;
+    right = s.right;
     gathered = s.modes;
   }
 

@@ -16,9 +16,8 @@ use Rattle.law_run_alone.specs.Alone.{begins_job}
 use Rattle.law_run_recovers.specs.Standing.{is_up, locks_at}
 use Rattle.law_run_recovers.specs.Ways.{asks_for, way_at}
 use Rattle.law_run_recovers.specs.Going.{hinders_itself, is_running, robs, world_after}
-use Rattle.law_run_recovers.specs.Ends.{AreAnsweredAsBegun, EndInTime, Ended, EndsByOpenVotes, EndsThen, HadVotesOpen}
+use Rattle.law_run_recovers.specs.Ends.{Ended, EndsByOpenVotes, EndsThen}
 use Rattle.law_run_recovers.specs.Told.{ToldAsAtItsBegin}
-use Rattle.law_run_recovers.specs.Further.{AreDecidedWhereOpen, GatherTheirAsks}
 use Rattle.law_run_recovers.specs.Sweeping.{has_any}
 use Rattle.law_run_recovers.specs.Unmet.{AreNear, GoesUnmet}
 
@@ -66,50 +65,9 @@ AmongLocksEndByVotesAt given events =
     → (goes : GoesAmongLocks given events later agent t caller site ops actor)
     → (job : EndedJob) → EndsThen given events later agent t caller site ops job → EndsByOpenVotes given events t caller site ops actor.agent.cache goes.near job
 
-abbrev pub AmongLocksEndByVotes : Type 0
-AmongLocksEndByVotes = (given : Opening) (events : List Event) → AmongLocksEndByVotesAt given events
-
--- in time
-abbrev pub AmongLocksEndInTimeAt : Opening → List Event → Type 0
-AmongLocksEndInTimeAt = EndInTime GoesAmongLocks
-
-abbrev pub AmongLocksEndInTime : Type 0
-AmongLocksEndInTime = (given : Opening) (events : List Event) → AmongLocksEndInTimeAt given events
-
--- Where votes were never moved it is decided just where enough are open.
-abbrev pub AmongLocksAreDecidedWhereVotesAreAt : Opening → List Event → Type 0
-AmongLocksAreDecidedWhereVotesAreAt = AreDecidedWhereOpen GoesAmongLocks
-
-abbrev pub AmongLocksAreDecidedWhereVotesAre : Type 0
-AmongLocksAreDecidedWhereVotesAre = (given : Opening) (events : List Event) → AmongLocksAreDecidedWhereVotesAreAt given events
-
--- And wherever votes were moved it is decided only where they are.
-abbrev pub AmongLocksHadVotesOpenAt : Opening → List Event → Type 0
-AmongLocksHadVotesOpenAt = HadVotesOpen GoesAmongLocks
-
-abbrev pub AmongLocksHadVotesOpen : Type 0
-AmongLocksHadVotesOpen = (given : Opening) (events : List Event) → AmongLocksHadVotesOpenAt given events
-
--- What is decided of it is answered as the table answers it that there was as it began.
-abbrev pub AmongLocksAreAnsweredAsBegunAt : Opening → List Event → Type 0
-AmongLocksAreAnsweredAsBegunAt = AreAnsweredAsBegun GoesAmongLocks
-
-abbrev pub AmongLocksAreAnsweredAsBegun : Type 0
-AmongLocksAreAnsweredAsBegun = (given : Opening) (events : List Event) → AmongLocksAreAnsweredAsBegunAt given events
-
--- And then it has gathered just what it asks for on that table.
-abbrev pub AmongLocksGatherTheirAsksAt : Opening → List Event → Type 0
-AmongLocksGatherTheirAsksAt = GatherTheirAsks GoesAmongLocks
-
-abbrev pub AmongLocksGatherTheirAsks : Type 0
-AmongLocksGatherTheirAsks = (given : Opening) (events : List Event) → AmongLocksGatherTheirAsksAt given events
-
 -- And once it has ended no server has a lock of it, up or down.
 abbrev pub AmongLocksLeaveNoLockAt : Opening → List Event → Type 0
 AmongLocksLeaveNoLockAt given events =
     (later : List Event) (agent t : ℕ) (caller : Identity) (site : ℕ) (ops : List Op) (actor : Actor)
     → GoesAmongLocks given events later agent t caller site ops actor → Ended given events later agent t caller site ops
     → (server : ℕ) → has_any t (locks_at (run given (events ++ Begin agent (Transaction caller site ops) ∷ later)) server) ≡ false
-
-abbrev pub AmongLocksLeaveNoLock : Type 0
-AmongLocksLeaveNoLock = (given : Opening) (events : List Event) → AmongLocksLeaveNoLockAt given events

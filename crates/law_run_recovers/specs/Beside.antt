@@ -58,18 +58,12 @@ SideBySideAreDecidedAt given events =
     → (job : EndedJob) → EndsThen given (events ++ one.before) one.after one.agent one.t one.caller one.site one.ops job
     → job.ending ≡ ending_of (answer_on (table_of given (events ++ one.before)) one.t one.caller one.ops)
 
-abbrev pub SideBySideAreDecided : Type 0
-SideBySideAreDecided = (given : Opening) (events : List Event) → SideBySideAreDecidedAt given events
-
 -- And it ends, before its agent took more steps than its locks and the servers bound.
 abbrev pub SideBySideEndInTimeAt : Opening → List Event → Type 0
 SideBySideEndInTimeAt given events =
     (later : List Event) → GoSideBySide given events later → (one : Begun given events later)
     → few_steps given (events ++ one.before) one.t one.caller one.ops < own_steps one.agent one.after
     → Ended given (events ++ one.before) one.after one.agent one.t one.caller one.site one.ops
-
-abbrev pub SideBySideEndInTime : Type 0
-SideBySideEndInTime = (given : Opening) (events : List Event) → SideBySideEndInTimeAt given events
 
 -- And none is ever told Busy, Down or Lost.
 pub record IsToldFreely (what : Served) : Type 0 where
@@ -81,6 +75,3 @@ abbrev pub SideBySideAreToldFreelyAt : Opening → List Event → Type 0
 SideBySideAreToldFreelyAt given events =
     (later : List Event) → GoSideBySide given events later → (before after : List Event) (agent : ℕ) (what : Served) → later ≡ before ++ Step agent ∷ after
     → (step (fixed_of given) (run given (events ++ before)) (Step agent)).done.served ≡ Some what → IsToldFreely what
-
-abbrev pub SideBySideAreToldFreely : Type 0
-SideBySideAreToldFreely = (given : Opening) (events : List Event) → SideBySideAreToldFreelyAt given events

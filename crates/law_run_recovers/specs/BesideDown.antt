@@ -37,9 +37,6 @@ SideBySideAreUnmetAt given events =
     (later : List Event) → GoSideBySideWhileDown given events later → (one : Begun given events later) (actor : Actor) → actor_at (run given (events ++ one.before)) one.agent ≡ Some actor
     → GoesUnmet given (events ++ one.before) one.after one.agent one.t one.caller one.site one.ops actor
 
-abbrev pub SideBySideAreUnmet : Type 0
-SideBySideAreUnmet = (given : Opening) (events : List Event) → SideBySideAreUnmetAt given events
-
 -- So each that ends, ends as the votes say that are up,
 abbrev pub SideBySideEndByVotesAt : Opening → List Event → Type 0
 SideBySideEndByVotesAt given events =
@@ -47,15 +44,9 @@ SideBySideEndByVotesAt given events =
     → (job : EndedJob) → EndsThen given (events ++ one.before) one.after one.agent one.t one.caller one.site one.ops job
     → EndsByVotes given (events ++ one.before) one.t one.caller one.site one.ops actor.agent.cache job
 
-abbrev pub SideBySideEndByVotes : Type 0
-SideBySideEndByVotes = (given : Opening) (events : List Event) → SideBySideEndByVotesAt given events
-
 -- and it ends, within so many steps of its agent as its locks and the servers bound.
 abbrev pub SideBySideEndWhileDownAt : Opening → List Event → Type 0
 SideBySideEndWhileDownAt given events =
     (later : List Event) → GoSideBySideWhileDown given events later → (one : Begun given events later)
     → few_steps given (events ++ one.before) one.t one.caller one.ops < own_steps one.agent one.after
     → Ended given (events ++ one.before) one.after one.agent one.t one.caller one.site one.ops
-
-abbrev pub SideBySideEndWhileDown : Type 0
-SideBySideEndWhileDown = (given : Opening) (events : List Event) → SideBySideEndWhileDownAt given events

@@ -43,9 +43,6 @@ BlockedByDoubtsAt given events =
     (agent : ℕ) (sweep_run : List (ℕ × List Event)) → SweepsAll given events agent sweep_run → (t : ℕ) (want : Want)
     → can_have given (events ++ sweeps agent sweep_run) t want ≡ nat_le (needed_of want.mode want.votes + votes_in want.votes.reps (blocks (fixed_of given) (run given events) t want.suite want.mode)) (total_votes want.votes.reps)
 
-abbrev pub BlockedByDoubts : Type 0
-BlockedByDoubts = (given : Opening) (events : List Event) → BlockedByDoubtsAt given events
-
 -- ---- who blocks
 
 -- a lock at a server that conflicts and is in doubt
@@ -68,9 +65,6 @@ SomeServerBlocksAt given events =
     (agent : ℕ) (sweep_run : List (ℕ × List Event)) → SweepsAll given events agent sweep_run → (t : ℕ) (want : Want) → IsValid want.votes
     → can_have given (events ++ sweeps agent sweep_run) t want ≡ false → IsBlocker given (run given events) t want
 
-abbrev pub SomeServerBlocks : Type 0
-SomeServerBlocks = (given : Opening) (events : List Event) → SomeServerBlocksAt given events
-
 -- ---- one crash
 
 -- a server was the home of a transaction that stood prepared at a server with a vote, and that had a lock there which conflicts
@@ -89,6 +83,3 @@ OneCrashBlocksAt given events =
     (server agent : ℕ) (sweep_run : List (ℕ × List Event)) → all_up (run given events) ≡ true → SweepsAll given (events ++ Crash server ∷ []) agent sweep_run
     → (t : ℕ) (want : Want) → IsAccepted given.servers want.votes → can_have given ((events ++ Crash server ∷ []) ++ sweeps agent sweep_run) t want ≡ false
     → (has_vote want.votes server ≡ true) ⊎ WasItsHome given (run given events) t want server
-
-abbrev pub OneCrashBlocks : Type 0
-OneCrashBlocks = (given : Opening) (events : List Event) → OneCrashBlocksAt given events

@@ -116,6 +116,10 @@ has_votes_open given events t caller ops =
 
 -- ---- promises, each by what is asked of it
 
+-- It is so after any events, whatever the settings.
+abbrev pub Always : (Opening → List Event → Type 0) → Type 0
+Always law = (given : Opening) (events : List Event) → law given events
+
 -- what is asked of a transaction that an agent begins after these events, and of what follows
 abbrev pub Premise : Type 1
 Premise = (given : Opening) (events later : List Event) (agent t : ℕ) (caller : Identity) (site : ℕ) (ops : List Op) (actor : Actor) → Type 0

@@ -21,7 +21,6 @@ use Rattle.law_run_alone.specs.Undisturbed.{is_decided}
 use Rattle.law_run_recovers.specs.Demands.{has_asked}
 use Rattle.law_run_recovers.specs.Ways.{asks_for}
 use Rattle.law_run_recovers.specs.Ends.{EndsThen, Premise, WasDecidedThen, has_votes_open}
-use Rattle.law_run_recovers.specs.Told.{ToldAsAtItsBegin}
 use Rattle.law_run_recovers.specs.Clashing.{HasFirstVotes}
 
 -- ---- where votes were never moved
@@ -36,13 +35,6 @@ AreDecidedWhereOpen goes given events =
     (later : List Event) (agent t : ℕ) (caller : Identity) (site : ℕ) (ops : List Op) (actor : Actor) → goes given events later agent t caller site ops actor
     → VotesNeverMovedOf given events (asks_for given events t caller ops)
     → (job : EndedJob) → EndsThen given events later agent t caller site ops job → is_decided job.ending ≡ has_votes_open given events t caller ops
-
--- of one that is told as at its begin
-abbrev pub ToldAreDecidedWhereVotesAreAt : Opening → List Event → Type 0
-ToldAreDecidedWhereVotesAreAt = AreDecidedWhereOpen ToldAsAtItsBegin
-
-abbrev pub ToldAreDecidedWhereVotesAre : Type 0
-ToldAreDecidedWhereVotesAre = (given : Opening) (events : List Event) → ToldAreDecidedWhereVotesAreAt given events
 
 -- ---- what it has gathered
 
@@ -70,10 +62,3 @@ abbrev pub GatherTheirAsks : Premise → Opening → List Event → Type 0
 GatherTheirAsks goes given events =
     (later : List Event) (agent t : ℕ) (caller : Identity) (site : ℕ) (ops : List Op) (actor : Actor) → goes given events later agent t caller site ops actor
     → WasDecidedThen given events later agent t caller site ops → GathersItsAsks given events later agent t caller site ops
-
--- of one that is told as at its begin
-abbrev pub ToldGatherTheirAsksAt : Opening → List Event → Type 0
-ToldGatherTheirAsksAt = GatherTheirAsks ToldAsAtItsBegin
-
-abbrev pub ToldGatherTheirAsks : Type 0
-ToldGatherTheirAsks = (given : Opening) (events : List Event) → ToldGatherTheirAsksAt given events

@@ -58,9 +58,6 @@ EndsAreByVotesAt given events =
     → (job : EndedJob) → Contains (outcomes (dones (fixed_of given) (step (fixed_of given) (run given events) (Begin agent (Transaction caller site ops))).world later)) job → job.agent ≡ agent
     → EndsByVotes given events t caller site ops actor.agent.cache job
 
-abbrev pub EndsAreByVotes : Type 0
-EndsAreByVotes = (given : Opening) (events : List Event) → EndsAreByVotesAt given events
-
 -- some job of the agent among these ended
 pub record OneEnded (jobs : List EndedJob) (agent : ℕ) : Type 0 where
   pub job : EndedJob
@@ -75,9 +72,6 @@ EndsInTimeAt given events =
     → GoesAlone given events later agent t caller site ops actor
     → length (locks_asked (table_of given events) t caller ops) * (2 * given.servers + 1) + 2 * given.servers + 1 < own_steps agent later
     → OneEnded (outcomes (dones (fixed_of given) (step (fixed_of given) (run given events) (Begin agent (Transaction caller site ops))).world later)) agent
-
-abbrev pub EndsInTime : Type 0
-EndsInTime = (given : Opening) (events : List Event) → EndsInTimeAt given events
 
 -- ---- what votes must be up, and what is enough
 
@@ -104,9 +98,6 @@ DecidedWhereVotesAreAt given events =
     → GoesAlone given events later agent t caller site ops actor → VotesNeverMoved given events
     → (job : EndedJob) → Contains (outcomes (dones (fixed_of given) (step (fixed_of given) (run given events) (Begin agent (Transaction caller site ops))).world later)) job → job.agent ≡ agent
     → is_decided job.ending ≡ (all_met (demands_of_rows (fixed_of given) (run given events) (table_of given events) t caller ops) && is_up (run given events) (home_of (fixed_of given).service t))
-
-abbrev pub DecidedWhereVotesAre : Type 0
-DecidedWhereVotesAre = (given : Opening) (events : List Event) → DecidedWhereVotesAreAt given events
 
 -- ---- it begins again
 
@@ -152,9 +143,6 @@ OneOfThemIsDecidedAt given events =
     → goes_again given agent job world tries ≡ true
     → OneIsDecided (outcomes (dones (fixed_of given) world (again agent job tries))) agent
 
-abbrev pub OneOfThemIsDecided : Type 0
-OneOfThemIsDecided = (given : Opening) (events : List Event) → OneOfThemIsDecidedAt given events
-
 -- ---- what is decided had its votes
 
 -- A transaction that went alone was decided: this was its decision, in a step of its agent. Its home was up when it began. Of each suite that it had
@@ -194,6 +182,3 @@ DecidedHadVotesUpAt given events =
     → GoesAlone given events later agent t caller site ops actor
     → WasDecided given events later agent t (Transaction caller site ops)
     → HadVotesUp given events later agent t caller site ops
-
-abbrev pub DecidedHadVotesUp : Type 0
-DecidedHadVotesUp = (given : Opening) (events : List Event) → DecidedHadVotesUpAt given events

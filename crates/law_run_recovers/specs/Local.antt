@@ -21,7 +21,7 @@ use Rattle.law_run_recovers.specs.Standing.{is_up}
 use Rattle.law_run_recovers.specs.Demands.{MayStartAll, all_met}
 use Rattle.law_run_recovers.specs.Ways.{asks_for, in_its_way}
 use Rattle.law_run_recovers.specs.OpenDemands.{open_demands, wants, wants_of_rows}
-use Rattle.law_run_recovers.specs.Ends.{EndInTime, EndsThen, WasDecidedThen}
+use Rattle.law_run_recovers.specs.Ends.{EndsThen, WasDecidedThen}
 use Rattle.law_run_recovers.specs.Further.{VotesNeverMovedOf}
 use Rattle.law_run_recovers.specs.Up.{demands, demands_of_rows}
 use Rattle.law_run_recovers.specs.Laws.{EndsByVotes, GoesAlone}
@@ -42,25 +42,12 @@ UnmetEndByVotesAt given events =
     → GoesUnmet given events later agent t caller site ops actor
     → (job : EndedJob) → EndsThen given events later agent t caller site ops job → EndsByVotes given events t caller site ops actor.agent.cache job
 
-abbrev pub UnmetEndByVotes : Type 0
-UnmetEndByVotes = (given : Opening) (events : List Event) → UnmetEndByVotesAt given events
-
--- in time
-abbrev pub UnmetEndInTimeAt : Opening → List Event → Type 0
-UnmetEndInTimeAt = EndInTime GoesUnmet
-
-abbrev pub UnmetEndInTime : Type 0
-UnmetEndInTime = (given : Opening) (events : List Event) → UnmetEndInTimeAt given events
-
 abbrev pub UnmetAreDecidedWhereVotesAreAt : Opening → List Event → Type 0
 UnmetAreDecidedWhereVotesAreAt given events =
     (later : List Event) (agent t : ℕ) (caller : Identity) (site : ℕ) (ops : List Op) (actor : Actor)
     → GoesUnmet given events later agent t caller site ops actor → VotesNeverMovedOf given events (asks_for given events t caller ops)
     → (job : EndedJob) → EndsThen given events later agent t caller site ops job
     → is_decided job.ending ≡ (all_met (demands_of_rows (fixed_of given) (run given events) (table_of given events) t caller ops) && is_up (run given events) (home_of (fixed_of given).service t))
-
-abbrev pub UnmetAreDecidedWhereVotesAre : Type 0
-UnmetAreDecidedWhereVotesAre = (given : Opening) (events : List Event) → UnmetAreDecidedWhereVotesAreAt given events
 
 -- And wherever votes were moved, it is decided only where its home was up as it began, and enough votes by the rows.
 abbrev pub UnmetHadVotesUpAt : Opening → List Event → Type 0
@@ -69,9 +56,6 @@ UnmetHadVotesUpAt given events =
     → GoesUnmet given events later agent t caller site ops actor
     → WasDecidedThen given events later agent t caller site ops
     → (all_met (demands_of_rows (fixed_of given) (run given events) (table_of given events) t caller ops) && is_up (run given events) (home_of (fixed_of given).service t)) ≡ true
-
-abbrev pub UnmetHadVotesUp : Type 0
-UnmetHadVotesUp = (given : Opening) (events : List Event) → UnmetHadVotesUpAt given events
 
 -- ---- votes that are found are the rows', whatever locks there are
 

@@ -50,6 +50,3 @@ abbrev pub OneThatMeetsIsDecidedAt : Opening → List Event → Type 0
 OneThatMeetsIsDecidedAt given events =
     (later : List Event) (one other : Begun given events later) → TheyMeet given events later one other
     → OneIsDecidedOf given events later one other
-
-abbrev pub OneThatMeetsIsDecided : Type 0
-OneThatMeetsIsDecided = (given : Opening) (events : List Event) → OneThatMeetsIsDecidedAt given events

@@ -94,9 +94,6 @@ OneThatMeetsBesideIsDecidedAt given events =
     (later : List Event) (one other : Begun given events later) → TheyMeetBeside given events later one other
     → OneIsDecidedOf given events later one other
 
-abbrev pub OneThatMeetsBesideIsDecided : Type 0
-OneThatMeetsBesideIsDecided = (given : Opening) (events : List Event) → OneThatMeetsBesideIsDecidedAt given events
-
 -- ---- one that writes and one that reads
 
 -- a lock of somebody else is in the way of nothing that the reader asks for, and of what the writer asks for only as another reader's of this suite
@@ -122,6 +119,3 @@ abbrev pub WriterOrReaderBesideIsDecidedAt : Opening → List Event → Type 0
 WriterOrReaderBesideIsDecidedAt given events =
     (later : List Event) (writer reader : Begun given events later) → ReaderMeetsBeside given events later writer reader
     → OneIsDecidedOf given events later writer reader
-
-abbrev pub WriterOrReaderBesideIsDecided : Type 0
-WriterOrReaderBesideIsDecided = (given : Opening) (events : List Event) → WriterOrReaderBesideIsDecidedAt given events

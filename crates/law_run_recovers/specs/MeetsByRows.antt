@@ -39,6 +39,3 @@ abbrev pub OneThatMeetsByRowsIsDecidedAt : Opening → List Event → Type 0
 OneThatMeetsByRowsIsDecidedAt given events =
     (later : List Event) (one other : Begun given events later) → TheyMeetByRows given events later one other
     → OneIsDecidedOf given events later one other
-
-abbrev pub OneThatMeetsByRowsIsDecided : Type 0
-OneThatMeetsByRowsIsDecided = (given : Opening) (events : List Event) → OneThatMeetsByRowsIsDecidedAt given events

@@ -12,18 +12,20 @@ use Rattle.law_run_alone.specs.Endings.{EndAsTheTable, EndingsAreOne, Undisturbe
 use Rattle.law_run_alone.specs.Undisturbed.{NothingIsInTheWayAt, UndisturbedAreDecidedAt}
 use Rattle.law_run_recovers.specs.Laws.{EndsAreByVotesAt, EndsInTimeAt, MetDemandsAreRowsAt, DecidedWhereVotesAreAt, HomesGoRoundOf, OneOfThemIsDecidedAt, DecidedHadVotesUpAt}
 use Rattle.law_run_recovers.specs.InTime.{RunsEndByTheBoundsAt}
-use Rattle.law_run_recovers.specs.Local.{UnmetEndByVotesAt, UnmetEndInTimeAt, UnmetHadVotesUpAt, UnmetAreDecidedWhereVotesAreAt}
+use Rattle.law_run_recovers.specs.Local.{UnmetEndByVotesAt, UnmetHadVotesUpAt, UnmetAreDecidedWhereVotesAreAt}
 use Rattle.law_run_recovers.specs.Meets.{OneThatMeetsIsDecidedAt}
 use Rattle.law_run_recovers.specs.MeetsBeside.{OneThatMeetsBesideIsDecidedAt, WriterOrReaderBesideIsDecidedAt}
 use Rattle.law_run_recovers.specs.MeetsByRows.{OneThatMeetsByRowsIsDecidedAt}
-use Rattle.law_run_recovers.specs.Among.{AmongLocksEndByVotesAt, AmongLocksEndInTimeAt, AmongLocksHadVotesOpenAt, AmongLocksAreDecidedWhereVotesAreAt, AmongLocksAreAnsweredAsBegunAt, AmongLocksGatherTheirAsksAt, AmongLocksLeaveNoLockAt}
-use Rattle.law_run_recovers.specs.Told.{ToldEndByVotesAt, ToldEndInTimeAt, ToldHadVotesOpenAt, ToldAreAnsweredAsBegunAt}
-use Rattle.law_run_recovers.specs.Further.{ToldAreDecidedWhereVotesAreAt, ToldGatherTheirAsksAt}
+use Rattle.law_run_recovers.specs.Among.{AmongLocksEndByVotesAt, AmongLocksLeaveNoLockAt, GoesAmongLocks}
+use Rattle.law_run_recovers.specs.Told.{ToldEndByVotesAt, ToldAsAtItsBegin}
 use Rattle.law_run_recovers.specs.Beside.{SideBySideAreDecidedAt, SideBySideEndInTimeAt, SideBySideAreToldFreelyAt}
 use Rattle.law_run_recovers.specs.BesideDown.{SideBySideAreUnmetAt, SideBySideEndByVotesAt}
 use Rattle.law_run_recovers.specs.Histories.{FinishedBeforeAtServerAt, ChangesAreMetAtServerAt}
 use Rattle.law_run_recovers.specs.Blocking.{BlockedByDoubtsAt, SomeServerBlocksAt, OneCrashBlocksAt}
 use Rattle.law_run_recovers.specs.Sweeping.{SweepsLeaveDoubtsAt, SweepsKeepEffectsAt, OnlyDoubtsAreLeftAt, NoLockIsLeftAt, AllIsStoredAt, TakenAwayAreNeverDecidedAt}
+use Rattle.law_run_recovers.specs.Ends.{AreAnsweredAsBegun, EndInTime, HadVotesOpen}
+use Rattle.law_run_recovers.specs.Further.{AreDecidedWhereOpen, GatherTheirAsks}
+use Rattle.law_run_recovers.specs.Unmet.{GoesUnmet}
 
 -- after these events of a run
 pub record IsAvailable (given : Opening) (events : List Event) : Type 0 where
@@ -40,25 +42,25 @@ pub record IsAvailable (given : Opening) (events : List Event) : Type 0 where
   pub rows : MetDemandsAreRowsAt given events
   -- one that begins now and that nobody meets ends so too, whatever locks others have elsewhere, and whatever they do there
   pub unmet_ends : UnmetEndByVotesAt given events
-  pub unmet_in_time : UnmetEndInTimeAt given events
+  pub unmet_in_time : EndInTime GoesUnmet given events
   pub unmet_had_votes : UnmetHadVotesUpAt given events
   pub unmet_where_votes : UnmetAreDecidedWhereVotesAreAt given events
   -- and one in whose way nothing comes or goes, by the votes that are open to it, whatever locks others left
   pub among_ends : AmongLocksEndByVotesAt given events
-  pub among_in_time : AmongLocksEndInTimeAt given events
-  pub among_had_votes : AmongLocksHadVotesOpenAt given events
-  pub among_where_votes : AmongLocksAreDecidedWhereVotesAreAt given events
-  pub among_answers : AmongLocksAreAnsweredAsBegunAt given events
+  pub among_in_time : EndInTime GoesAmongLocks given events
+  pub among_had_votes : HadVotesOpen GoesAmongLocks given events
+  pub among_where_votes : AreDecidedWhereOpen GoesAmongLocks given events
+  pub among_answers : AreAnsweredAsBegun GoesAmongLocks given events
   -- what is decided of it has gathered just what it asks for on that table; and it leaves no lock
-  pub among_gathers : AmongLocksGatherTheirAsksAt given events
+  pub among_gathers : GatherTheirAsks GoesAmongLocks given events
   pub among_leaves : AmongLocksLeaveNoLockAt given events
   -- and so one that is told, whenever it asks, what it would have been told as it began, and whose locks stay
   pub told_ends : ToldEndByVotesAt given events
-  pub told_in_time : ToldEndInTimeAt given events
-  pub told_had_votes : ToldHadVotesOpenAt given events
-  pub told_where_votes : ToldAreDecidedWhereVotesAreAt given events
-  pub told_answers : ToldAreAnsweredAsBegunAt given events
-  pub told_gathers : ToldGatherTheirAsksAt given events
+  pub told_in_time : EndInTime ToldAsAtItsBegin given events
+  pub told_had_votes : HadVotesOpen ToldAsAtItsBegin given events
+  pub told_where_votes : AreDecidedWhereOpen ToldAsAtItsBegin given events
+  pub told_answers : AreAnsweredAsBegun ToldAsAtItsBegin given events
+  pub told_gathers : GatherTheirAsks ToldAsAtItsBegin given events
   -- transactions that begin from now on, each where it clashes with none that runs, are decided when they end, as the table at their begin answers them;
   -- they end in time, and are never told Busy, Down or Lost; as long as all servers are up, nobody sweeps and each request is served
   pub beside_decided : SideBySideAreDecidedAt given events

@@ -41,6 +41,3 @@ abbrev pub WriterOrReadersAreDecidedAt : Opening → List Event → Type 0
 WriterOrReadersAreDecidedAt given events =
     (later : List Event) (writer reader : Begun given events later) → ReadersMeet given events later writer → only_reads (its_asks given events later reader) ≡ true
     → OneIsDecidedOf given events later writer reader
-
-abbrev pub WriterOrReadersAreDecided : Type 0
-WriterOrReadersAreDecided = (given : Opening) (events : List Event) → WriterOrReadersAreDecidedAt given events

@@ -44,9 +44,6 @@ SweepsLeaveDoubtsAt given events =
     → (job : EndedJob) → Contains (outcomes (dones (fixed_of given) (step (fixed_of given) (run given events) (Begin agent (Sweep server))).world later)) job → job.agent ≡ agent
     → LeavesDoubts given events later agent server job
 
-abbrev pub SweepsLeaveDoubts : Type 0
-SweepsLeaveDoubts = (given : Opening) (events : List Event) → SweepsLeaveDoubtsAt given events
-
 -- At no moment of it is another copy in effect anywhere, and it decides nothing.
 pub record KeepsEffects (given : Opening) (events later : List Event) (agent server : ℕ) : Type 0 where
   pub effects : (z i : ℕ) → copy_at given (events ++ Begin agent (Sweep server) ∷ later) z i ≡ copy_at given events z i
@@ -56,9 +53,6 @@ abbrev pub SweepsKeepEffectsAt : Opening → List Event → Type 0
 SweepsKeepEffectsAt given events =
     (later : List Event) (agent t server : ℕ) → SweepsAlone given events later agent t server
     → KeepsEffects given events later agent server
-
-abbrev pub SweepsKeepEffects : Type 0
-SweepsKeepEffects = (given : Opening) (events : List Event) → SweepsKeepEffectsAt given events
 
 -- ---- each server once
 
@@ -87,18 +81,12 @@ OnlyDoubtsAreLeftAt given events =
     → (server : ℕ) → is_up (run given events) server ≡ true
     → locks_at (run given (events ++ sweeps agent sweep_run)) server ≡ in_doubt (fixed_of given) (run given events) (locks_at (run given events) server)
 
-abbrev pub OnlyDoubtsAreLeft : Type 0
-OnlyDoubtsAreLeft = (given : Opening) (events : List Event) → OnlyDoubtsAreLeftAt given events
-
 -- So once all servers are up, no server has a lock.
 abbrev pub NoLockIsLeftAt : Opening → List Event → Type 0
 NoLockIsLeftAt given events =
     (agent : ℕ) (sweep_run : List (ℕ × List Event)) → CanBe given (events ++ sweeps agent sweep_run)
     → all_up (run given events) ≡ true → goes_round given agent (run given events) sweep_run ≡ true
     → covers sweep_run (is_up (run given events)) → all_free (run given (events ++ sweeps agent sweep_run)) ≡ true
-
-abbrev pub NoLockIsLeft : Type 0
-NoLockIsLeft = (given : Opening) (events : List Event) → NoLockIsLeftAt given events
 
 -- And what is stored is what is in effect, and was before.
 pub record IsStored (given : Opening) (events later : List Event) : Type 0 where
@@ -110,9 +98,6 @@ AllIsStoredAt given events =
     (agent : ℕ) (sweep_run : List (ℕ × List Event)) → CanBe given (events ++ sweeps agent sweep_run)
     → all_up (run given events) ≡ true → goes_round given agent (run given events) sweep_run ≡ true
     → covers sweep_run (is_up (run given events)) → IsStored given events (sweeps agent sweep_run)
-
-abbrev pub AllIsStored : Type 0
-AllIsStored = (given : Opening) (events : List Event) → AllIsStoredAt given events
 
 -- ---- what was taken away
 
@@ -131,6 +116,3 @@ TakenAwayAreNeverDecidedAt given events =
     → has_any t (locks_at (run given events) server) ≡ true → has_any t (locks_at (run given (events ++ between)) server) ≡ false
     → stands t (decisions given (events ++ between)) ≡ false
     → stands t (decisions given (events ++ between ++ later)) ≡ false
-
-abbrev pub TakenAwayAreNeverDecided : Type 0
-TakenAwayAreNeverDecided = (given : Opening) (events : List Event) → TakenAwayAreNeverDecidedAt given events

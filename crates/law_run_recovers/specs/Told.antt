@@ -24,7 +24,7 @@ use Rattle.rep_core.specs.declared.request.Request.TheVariants as request
 use Rattle.law_run_recovers.specs.Standing.{is_up}
 use Rattle.law_run_recovers.specs.Ways.{is_open_at, way_at}
 use Rattle.law_run_recovers.specs.Going.{hinders_itself, is_running, is_telling, of_up, robs, world_after}
-use Rattle.law_run_recovers.specs.Ends.{AreAnsweredAsBegun, EndInTime, EndsByOpenVotes, EndsThen, HadVotesOpen}
+use Rattle.law_run_recovers.specs.Ends.{EndsByOpenVotes, EndsThen}
 
 -- ---- what it is told
 
@@ -90,27 +90,3 @@ ToldEndByVotesAt given events =
     (later : List Event) (agent t : ℕ) (caller : Identity) (site : ℕ) (ops : List Op) (actor : Actor)
     → ToldAsAtItsBegin given events later agent t caller site ops actor
     → (job : EndedJob) → EndsThen given events later agent t caller site ops job → EndsByOpenVotes given events t caller site ops actor.agent.cache everywhere job
-
-abbrev pub ToldEndByVotes : Type 0
-ToldEndByVotes = (given : Opening) (events : List Event) → ToldEndByVotesAt given events
-
--- in time
-abbrev pub ToldEndInTimeAt : Opening → List Event → Type 0
-ToldEndInTimeAt = EndInTime ToldAsAtItsBegin
-
-abbrev pub ToldEndInTime : Type 0
-ToldEndInTime = (given : Opening) (events : List Event) → ToldEndInTimeAt given events
-
--- It is decided only where its home was up and the votes of the rows were open to it.
-abbrev pub ToldHadVotesOpenAt : Opening → List Event → Type 0
-ToldHadVotesOpenAt = HadVotesOpen ToldAsAtItsBegin
-
-abbrev pub ToldHadVotesOpen : Type 0
-ToldHadVotesOpen = (given : Opening) (events : List Event) → ToldHadVotesOpenAt given events
-
--- What is decided of it is answered as the table answers it that there was as it began.
-abbrev pub ToldAreAnsweredAsBegunAt : Opening → List Event → Type 0
-ToldAreAnsweredAsBegunAt = AreAnsweredAsBegun ToldAsAtItsBegin
-
-abbrev pub ToldAreAnsweredAsBegun : Type 0
-ToldAreAnsweredAsBegun = (given : Opening) (events : List Event) → ToldAreAnsweredAsBegunAt given events

@@ -64,17 +64,20 @@ mod meeting;
 mod promises;
 mod told;
 
-ghost use Rattle.law_run_recovers.specs.Laws.{EndsAreByVotes, EndsInTime, MetDemandsAreRows, DecidedWhereVotesAre, HomesGoRound, OneOfThemIsDecided, DecidedHadVotesUp};
-ghost use Rattle.law_run_recovers.specs.Local.{AloneAreUnmet, NearVotesAreRows, OpenVotesAreRows, UnmetAreDecidedWhereVotesAre, UnmetEndByVotes, UnmetEndInTime, UnmetHadVotesUp};
-ghost use Rattle.law_run_recovers.specs.Among.{UnmetAreAmongLocks, AmongLocksEndByVotes, AmongLocksEndInTime, AmongLocksHadVotesOpen, AmongLocksAreDecidedWhereVotesAre, AmongLocksAreAnsweredAsBegun, AmongLocksGatherTheirAsks, AmongLocksLeaveNoLock};
-ghost use Rattle.law_run_recovers.specs.Beside.{SideBySideAreDecided, SideBySideEndInTime, SideBySideAreToldFreely};
-ghost use Rattle.law_run_recovers.specs.BesideDown.{SideBySideAreUnmet, SideBySideEndByVotes, SideBySideEndWhileDown};
+ghost use Rattle.law_run_recovers.specs.Ends.{Always, AreAnsweredAsBegun, EndInTime, HadVotesOpen};
+ghost use Rattle.law_run_recovers.specs.Laws.{MetDemandsAreRows, HomesGoRound, DecidedHadVotesUpAt, DecidedWhereVotesAreAt, EndsAreByVotesAt, EndsInTimeAt, OneOfThemIsDecidedAt};
+ghost use Rattle.law_run_recovers.specs.Unmet.{GoesUnmet};
+ghost use Rattle.law_run_recovers.specs.Local.{AloneAreUnmet, NearVotesAreRows, OpenVotesAreRows, UnmetAreDecidedWhereVotesAreAt, UnmetEndByVotesAt, UnmetHadVotesUpAt};
+ghost use Rattle.law_run_recovers.specs.Further.{AreDecidedWhereOpen, GatherTheirAsks};
+ghost use Rattle.law_run_recovers.specs.Among.{UnmetAreAmongLocks, AmongLocksEndByVotesAt, AmongLocksLeaveNoLockAt, GoesAmongLocks};
+ghost use Rattle.law_run_recovers.specs.Beside.{SideBySideAreDecidedAt, SideBySideAreToldFreelyAt, SideBySideEndInTimeAt};
+ghost use Rattle.law_run_recovers.specs.BesideDown.{SideBySideAreUnmetAt, SideBySideEndByVotesAt, SideBySideEndWhileDownAt};
 ghost use Rattle.law_run_recovers.specs.BesideWorked.{SomeRunsGoSideBySide};
 ghost use Rattle.law_run_recovers.specs.Histories.{FinishedBeforeAtServer, ChangesAreMetAtServer};
 ghost use Rattle.law_run_recovers.specs.InTime.{RunsEndByTheBounds};
-ghost use Rattle.law_run_recovers.specs.Sweeping.{SweepsLeaveDoubts, SweepsKeepEffects, OnlyDoubtsAreLeft, NoLockIsLeft, AllIsStored, TakenAwayAreNeverDecided};
+ghost use Rattle.law_run_recovers.specs.Sweeping.{AllIsStoredAt, NoLockIsLeftAt, OnlyDoubtsAreLeftAt, SweepsKeepEffectsAt, SweepsLeaveDoubtsAt, TakenAwayAreNeverDecidedAt};
 ghost use Rattle.law_run_recovers.specs.Worked.{SomeRunsRecover};
-ghost use Rattle.law_run_recovers.specs.Blocking.{BlockedByDoubts, SomeServerBlocks, OneCrashBlocks};
+ghost use Rattle.law_run_recovers.specs.Blocking.{BlockedByDoubtsAt, OneCrashBlocksAt, SomeServerBlocksAt};
 ghost use Rattle.law_run_recovers.specs.Contending.{SomeRunsStarve};
 ghost use Rattle.law_run_recovers.specs.LawsWorked.{SomeRunsShowTheLaws};
 
@@ -94,13 +97,13 @@ pub use told::{
 /// that are up: where a suite has too few of them, with the first such and its numbers; else, where its home is down, with
 /// that; else as the table answers it. It does nothing.
 pub fn ends_are_by_votes()
-    ensures { EndsAreByVotes }
+    ensures { Always EndsAreByVotesAt }
 {}
 
 /// A law: and such a transaction ends, within so many steps of its agent as its locks and the servers bound. It does
 /// nothing.
 pub fn ends_in_time()
-    ensures { EndsInTime }
+    ensures { Always EndsInTimeAt }
 {}
 
 /// A law: of every run that there can be, whatever its events: the votes that a job met which ended in it are valid, so each
@@ -114,7 +117,7 @@ pub fn runs_end_by_the_bounds()
 /// home up, and of each suite that it had gathered the votes of its mode, by the row that the table had as it began, and
 /// those that it left. It does nothing.
 pub fn decided_had_votes_up()
-    ensures { DecidedHadVotesUp }
+    ensures { Always DecidedHadVotesUpAt }
 {}
 
 /// A law: where servers that are up have enough votes of all that a transaction locks, as it finds these votes, and of all
@@ -145,24 +148,24 @@ pub fn alone_are_unmet()
 /// nothing conflicts with what it asks for at servers that it may ask, these stay up or down, its steps are served, and no
 /// sweep takes anything of it. It does nothing.
 pub fn unmet_end_by_votes()
-    ensures { UnmetEndByVotes }
+    ensures { Always UnmetEndByVotesAt }
 {}
 
 /// A law: and it ends, within so many steps of its agent as its locks and the servers bound. It does nothing.
 pub fn unmet_end_in_time()
-    ensures { UnmetEndInTime }
+    ensures { Always (EndInTime GoesUnmet) }
 {}
 
 /// A law: and it is decided only where its home was up as it began, and the votes of the rows of all that it locks and
 /// sets. It does nothing.
 pub fn unmet_had_votes_up()
-    ensures { UnmetHadVotesUp }
+    ensures { Always UnmetHadVotesUpAt }
 {}
 
 /// A law: and where the votes of what it asks for were never moved, it is decided exactly where its home and the votes of
 /// the rows are up. It does nothing.
 pub fn unmet_are_decided_where_votes_are()
-    ensures { UnmetAreDecidedWhereVotesAre }
+    ensures { Always UnmetAreDecidedWhereVotesAreAt }
 {}
 
 /// A law: a transaction that nobody meets goes among locks none of which is in its way: what is promised to one that goes
@@ -175,41 +178,41 @@ pub fn unmet_are_among_locks()
 /// it when it begins: where too few are, with their numbers where no voting member has a lock in its way, or with one that
 /// has; else as its home and the table say. It does nothing.
 pub fn among_locks_end_by_votes()
-    ensures { AmongLocksEndByVotes }
+    ensures { Always AmongLocksEndByVotesAt }
 {}
 
 /// A law: and it ends, within so many steps of its agent as its locks and the servers bound. It does nothing.
 pub fn among_locks_end_in_time()
-    ensures { AmongLocksEndInTime }
+    ensures { Always (EndInTime GoesAmongLocks) }
 {}
 
 /// A law: and it is decided only where its home was up as it began, and the votes of the rows of all that it locks and sets
 /// were open to it. It does nothing.
 pub fn among_locks_had_votes_open()
-    ensures { AmongLocksHadVotesOpen }
+    ensures { Always (HadVotesOpen GoesAmongLocks) }
 {}
 
 /// A law: and where the votes of what it asks for were never moved, it is decided exactly where its home is up and the votes
 /// of the rows are open to it. It does nothing.
 pub fn among_locks_are_decided_where_votes_are()
-    ensures { AmongLocksAreDecidedWhereVotesAre }
+    ensures { Always (AreDecidedWhereOpen GoesAmongLocks) }
 {}
 
 /// A law: and what is decided of it is answered as the table answers it that there was as it began, whatever others decided
 /// since. It does nothing.
 pub fn among_locks_are_answered_as_begun()
-    ensures { AmongLocksAreAnsweredAsBegun }
+    ensures { Always (AreAnsweredAsBegun GoesAmongLocks) }
 {}
 
 /// A law: and when it is decided it has gathered just what it asks for on the table as it began: each suite, in each mode.
 /// It does nothing.
 pub fn among_locks_gather_their_asks()
-    ensures { AmongLocksGatherTheirAsks }
+    ensures { Always (GatherTheirAsks GoesAmongLocks) }
 {}
 
 /// A law: and once it has ended no server has a lock of it, up or down. It does nothing.
 pub fn among_locks_leave_no_lock()
-    ensures { AmongLocksLeaveNoLock }
+    ensures { Always AmongLocksLeaveNoLockAt }
 {}
 
 /// A law: where all servers are up, no lock is left and no agent has a job, and then no server crashes, nobody sweeps and
@@ -217,41 +220,41 @@ pub fn among_locks_leave_no_lock()
 /// with what none asked for that runs then, are decided when they end, and answered as the table at their begin answers them.
 /// It does nothing.
 pub fn side_by_side_are_decided()
-    ensures { SideBySideAreDecided }
+    ensures { Always SideBySideAreDecidedAt }
 {}
 
 /// A law: and each ends, within so many steps of its agent as its locks and the servers bound, whatever the others do or do
 /// not. It does nothing.
 pub fn side_by_side_end_in_time()
-    ensures { SideBySideEndInTime }
+    ensures { Always SideBySideEndInTimeAt }
 {}
 
 /// A law: and none of them is ever told Busy, Down or Lost. It does nothing.
 pub fn side_by_side_are_told_freely()
-    ensures { SideBySideAreToldFreely }
+    ensures { Always SideBySideAreToldFreelyAt }
 {}
 
 /// A law: where servers are down, no server that is up has a lock and no agent has a job, and then each server stays up or
 /// down as it is, nobody sweeps and each request is served: transactions of which each begins only where it clashes with
 /// none that runs are met by nobody. It does nothing.
 pub fn side_by_side_are_unmet()
-    ensures { SideBySideAreUnmet }
+    ensures { Always SideBySideAreUnmetAt }
 {}
 
 /// A law: so each of them that ends, ends as the votes say that are up. It does nothing.
 pub fn side_by_side_end_by_votes()
-    ensures { SideBySideEndByVotes }
+    ensures { Always SideBySideEndByVotesAt }
 {}
 
 /// A law: and each ends, within so many steps of its agent as its locks and the servers bound. It does nothing.
 pub fn side_by_side_end_while_down()
-    ensures { SideBySideEndWhileDown }
+    ensures { Always SideBySideEndWhileDownAt }
 {}
 
 /// A law: where votes were never moved, such a transaction is decided exactly where its home and the votes of the rows are
 /// up. It does nothing.
 pub fn decided_where_votes_are()
-    ensures { DecidedWhereVotesAre }
+    ensures { Always DecidedWhereVotesAreAt }
 {}
 
 /// A law: where one server served the Finish of a transaction before a request of another that is none, as its Decide, the
@@ -274,57 +277,57 @@ pub fn homes_go_round()
 
 /// A law: so of as many tries of a transaction one is decided, where the votes and some server are up. It does nothing.
 pub fn one_of_them_is_decided()
-    ensures { OneOfThemIsDecided }
+    ensures { Always OneOfThemIsDecidedAt }
 {}
 
 /// A law: a sweep of a server that is up, which nobody hinders, leaves there the locks of transactions whose homes are
 /// down and that had a prepared one, and says how many transactions those are; it changes no other server's locks. It does
 /// nothing.
 pub fn sweeps_leave_doubts()
-    ensures { SweepsLeaveDoubts }
+    ensures { Always SweepsLeaveDoubtsAt }
 {}
 
 /// A law: such a sweep changes no copy in effect, and decides nothing. It does nothing.
 pub fn sweeps_keep_effects()
-    ensures { SweepsKeepEffects }
+    ensures { Always SweepsKeepEffectsAt }
 {}
 
 /// A law: sweeps of all servers that are up leave there just those locks. It does nothing.
 pub fn only_doubts_are_left()
-    ensures { OnlyDoubtsAreLeft }
+    ensures { Always OnlyDoubtsAreLeftAt }
 {}
 
 /// A law: where all servers are up they leave no lock, whatever other agents are in the middle of. It does nothing.
 pub fn no_lock_is_left()
-    ensures { NoLockIsLeft }
+    ensures { Always NoLockIsLeftAt }
 {}
 
 /// A law: and then what is stored is what was in effect, and nothing was decided. It does nothing.
 pub fn all_is_stored()
-    ensures { AllIsStored }
+    ensures { Always AllIsStoredAt }
 {}
 
 /// A law: after such sweeps enough votes are open for a lock just where those leave enough that are down, or that have a lock
 /// in doubt which is in the way. It does nothing.
 pub fn blocked_by_doubts()
-    ensures { BlockedByDoubts }
+    ensures { Always BlockedByDoubtsAt }
 {}
 
 /// A law: so where they are not enough some server with a vote is down, or has such a lock of a transaction that stands
 /// prepared there and whose home is down. It does nothing.
 pub fn some_server_blocks()
-    ensures { SomeServerBlocks }
+    ensures { Always SomeServerBlocksAt }
 {}
 
 /// A law: where all servers are up, one crashes and the others are swept, too few votes are open only where it has one, or
 /// was the home of a transaction that stood prepared at a server with one and had a lock in the way. It does nothing.
 pub fn one_crash_blocks()
-    ensures { OneCrashBlocks }
+    ensures { Always OneCrashBlocksAt }
 {}
 
 /// A law: a transaction whose locks at a server were taken away before it was decided is never decided. It does nothing.
 pub fn taken_away_are_never_decided()
-    ensures { TakenAwayAreNeverDecided }
+    ensures { Always TakenAwayAreNeverDecidedAt }
 {}
 
 /// A law: runs of which the laws above say something, among them votes that are up and are not found, fewer votes to write

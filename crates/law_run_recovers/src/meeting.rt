@@ -1,33 +1,34 @@
 //! Transactions that meet.
 
-ghost use Rattle.law_run_recovers.specs.Meets.{OneThatMeetsIsDecided};
-ghost use Rattle.law_run_recovers.specs.MeetsByRows.{OneThatMeetsByRowsIsDecided};
-ghost use Rattle.law_run_recovers.specs.MeetsBeside.{OneThatMeetsBesideIsDecided, WriterOrReaderBesideIsDecided};
 ghost use Rattle.law_run_recovers.specs.MeetsBesideWorked.{SomeRunsMeetBeside, SomeRunsMeetReadersBeside};
 ghost use Rattle.law_run_recovers.specs.MeetsWorked.{SomeRunsMeet, SomeRunsMeetByRows};
-ghost use Rattle.law_run_recovers.specs.Readers.{WriterOrReadersAreDecided};
 ghost use Rattle.law_run_recovers.specs.ReadersWorked.{SomeRunsMeetReaders};
+ghost use Rattle.law_run_recovers.specs.Ends.{Always};
+ghost use Rattle.law_run_recovers.specs.MeetsBeside.{OneThatMeetsBesideIsDecidedAt, WriterOrReaderBesideIsDecidedAt};
+ghost use Rattle.law_run_recovers.specs.MeetsByRows.{OneThatMeetsByRowsIsDecidedAt};
+ghost use Rattle.law_run_recovers.specs.Meets.{OneThatMeetsIsDecidedAt};
+ghost use Rattle.law_run_recovers.specs.Readers.{WriterOrReadersAreDecidedAt};
 
 /// A law: two transactions begin, and no other job, where every agent is idle, every server is up and no lock is left,
 /// and nothing spoils what follows. They meet first at one suite, in modes that clash: not both read it and then write
 /// it. Its votes are tight for both, and nobody moved votes of what they ask for, nor do they. Once both have ended one
 /// was decided. It does nothing.
 pub fn one_that_meets_is_decided()
-    ensures { OneThatMeetsIsDecided }
+    ensures { Always OneThatMeetsIsDecidedAt }
 {}
 
 /// A law: of two that meet so one is decided too where votes were set before, or files were made with votes of their own:
 /// the votes of the suite at which they meet are those that are in effect as they begin, which are tight for both, and
 /// neither sets other votes of what the other asks for. It does nothing.
 pub fn one_that_meets_by_rows_is_decided()
-    ensures { OneThatMeetsByRowsIsDecided }
+    ensures { Always OneThatMeetsByRowsIsDecidedAt }
 {}
 
 /// A law: so it is where others are beside, who may be at work already and begin again and again, whatever they do and however
 /// they end, as long as no lock of theirs is ever in the way of what the two ask for; every server is up and stays so, nobody
 /// sweeps, and each step of the two is served. It does nothing.
 pub fn one_that_meets_beside_is_decided()
-    ensures { OneThatMeetsBesideIsDecided }
+    ensures { Always OneThatMeetsBesideIsDecidedAt }
 {}
 
 /// A law: a run in which two users meet, who write one file at once, step by step in turn; one is answered. It does
@@ -47,13 +48,13 @@ pub fn some_runs_meet_by_rows()
 /// it move them; r + w is one more than the votes. Once it has ended and a reader has, one of both was decided: so it was, or
 /// each reader that ended. It does nothing.
 pub fn writer_or_readers_are_decided()
-    ensures { WriterOrReadersAreDecided }
+    ensures { Always WriterOrReadersAreDecidedAt }
 {}
 
 /// A law: so it is of one that writes and one that reads, where others are beside, who may also read the one suite. It does
 /// nothing.
 pub fn writer_or_reader_beside_is_decided()
-    ensures { WriterOrReaderBesideIsDecided }
+    ensures { Always WriterOrReaderBesideIsDecidedAt }
 {}
 
 /// A law: a run in which one sets the list of a file while two read it, step by step in turn; it is refused, and each of
