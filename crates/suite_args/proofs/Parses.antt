@@ -9,15 +9,15 @@ use Rattle.std.specs.Option.{option_map_or}
 use Rattle.std.specs.Str.{chars}
 use Rattle.clap.proofs.WalkLemmas.{both}
 use Rattle.clap.specs.Faults.{bundle_fault, bundle_step_fault, check_fault, defaults_fault, entered_fault, fault_of, flag_word_fault, flags_fault, level_fault, long_fault}
-use Rattle.clap.specs.Faults.{settle_fault, short_fault, walk_fault}
+use Rattle.clap.specs.Faults.{settle_fault, short_fault, step_fault, turn_fault, walk_fault}
 use Rattle.clap.specs.Kinds.{IsAmong, Kinds, or_else, range_kinds, values_kinds}
 use Rattle.clap.specs.Lexer.{long_of, short_of, usize_max}
 use Rattle.clap.specs.Simple.{App, Shape, built, entered, filled, help_rule, names_of, new_shape, subcommand_of}
-use Rattle.clap.specs.Walk.{Held, Row, Rule, Step, Text, Waiting, Walk, after_flag, arg_by_long, arg_by_short, bundle_met, bundle_step, finished, idle, long_met, long_or_other}
+use Rattle.clap.specs.Walk.{Held, Names, Row, Rule, Step, Text, Waiting, Walk, after_flag, after_step, arg_by_long, arg_by_short, bundle_met, bundle_step, finished, idle, long_met, long_or_other}
 use Rattle.clap.specs.Walk.{nothing_held, option as option_waits, plain, plain_word, positional, reacted, settled, short_or_plain, subcommand_met, used, walk_from, walked}
 use Rattle.clap.specs.declared.builder.value_parser.ValueParser.TheVariants as vp
 use Rattle.clap.specs.declared.error.kind.ErrorKind.{ErrorKind}
-use Rattle.clap.specs.declared.error.kind.ErrorKind.TheVariants.{DisplayHelp, InvalidSubcommand, OutOfMemory, TooManyValues, UnknownArgument}
+use Rattle.clap.specs.declared.error.kind.ErrorKind.TheVariants.{DisplayHelp, OutOfMemory, TooManyValues, UnknownArgument}
 use Rattle.suite_args.specs.Answering.{Answers, AnswersServe, AnswersTo, asked_in}
 use Rattle.suite_args.specs.CommandLine.{Asked, Known, Token, agents, agents_of, asked_after, asked_at_end, asked_by, asked_of, awaited, commands, ends, help, helps}
 use Rattle.suite_args.specs.CommandLine.{names, nothing, operand, option_or_operand, script, serves, short_option, told, tokens, topic, unknown, unnamed, untold, with_token}
@@ -92,9 +92,12 @@ module _ (rules : List Rule) (again : Bool) (rows : List Row) (pending : Option 
       (after_flag rules waiting word (long_met rules found value h).0 (long_met rules found value h).1)
   by_name true true is_help value found either is = rw is (refl, refl)
   by_name false true is_help value found either is = rw (is, either refl) (refl, refl)
-  by_name takes false true None found either is = rw is refl
-  by_name takes false true (Some value) found either is = rw is (TooManyValues, (refl, refl))
-  by_name takes false false value found either is = rw is (UnknownArgument, (refl, refl))
+  by_name true false true None found either is = rw is refl
+  by_name false false true None found either is = rw is refl
+  by_name true false true (Some value) found either is = rw is (TooManyValues, (refl, refl))
+  by_name false false true (Some value) found either is = rw is (TooManyValues, (refl, refl))
+  by_name true false false value found either is = rw is (UnknownArgument, (refl, refl))
+  by_name false false false value found either is = rw is (UnknownArgument, (refl, refl))
 
   by_flag : (takes is_help : Bool) (rest : Text) (next : Held → Kinds) (found : Option Rule) → found ≡ (if (is_help || false) then Some help_flag else None) → (met : Held × Step)
       → Reads takes (if is_help then helps else unknown) (short_fault rules again found rest h next) met
@@ -167,12 +170,30 @@ checks_of s end has =
     or_else (settle_fault s.rules s.args_override_self end)
     (or_else (defaults_fault (settled s.rules end).rows s.rules) (check_fault s (finished s.rules end) has))
 
+-- the words from where a walk stands ask for this, by what is checked and found after them
+module _ (s : Shape) (below : Names) (checks : Walk → Kinds) (found : Walk → Asked) (asked : Asked) where
+  abbrev MeetsOn : Walk → List Text → Type 0
+  MeetsOn w words = let end = fold (walked s.rules below) w words in Meets asked (or_else (walk_fault s below w words) (checks end)) (found end)
+
+  goes_on : (w next : Walk) (word : Text) (words : List Text) → turn_fault s below w word ≡ [] → walked s.rules below w word ≡ next → MeetsOn next words → MeetsOn w (word ∷ words)
+  unfolding walk_fault
+  goes_on w next word words right there later =
+      let end = fold (walked s.rules below) (walked s.rules below w word) words in
+      subst (λ (k : Kinds). Meets asked (or_else (or_else k (walk_fault s below (walked s.rules below w word) words)) (checks end)) (found end)) (sym right)
+      (subst (λ (x : Walk). MeetsOn x words) (sym there) later)
+
+abbrev checks_at : Shape → Walk → Kinds
+checks_at s end = checks_of s end.held false
+
+abbrev found_at : Shape → Walk → Asked
+found_at s end = asked_in (Some (s.name, finished s.rules end.held))
+
+abbrev At : Shape → Asked → Walk → List Text → Type 0
+At s asked w words = MeetsOn s [] (checks_at s) (found_at s) asked w words
+
 -- the words from there ask for this, behind `--` or not
 abbrev MeetsFrom : Asked → Bool → Stand → List Text → Type 0
-MeetsFrom asked ended stand words =
-    let end = (fold (walked (shape_of stand).rules []) (walk_of ended stand) words).held in
-    Meets asked (or_else (walk_fault (shape_of stand) [] (walk_of ended stand) words) (checks_of (shape_of stand) end false))
-    (asked_in (Some ((shape_of stand).name, finished (shape_of stand).rules end)))
+MeetsFrom asked ended stand words = At (shape_of stand) asked (walk_of ended stand) words
 
 abbrev takes_of : Stand → Bool
 takes_of stand = is_some (arg_by_long (shape_of stand).rules (codes "agents"))
@@ -191,23 +212,50 @@ read : (stand : Stand) (word : Text) → ReadsAt stand word (option_or_operand (
 read stand word =
     by_option (shape_of stand).rules (shape_of stand).args_override_self (place stand).1 (place stand).2 (place stand).3 word (takes_of stand) (knows_of stand) (long_of word)
 
+no_command : (waiting : Waiting) (word : Text) → subcommand_met [] waiting word ≡ None
+no_command idle word = refl
+no_command positional word = refl
+no_command (option_waits name) word = refl
+
+-- `--`
+dashes : (asked : Asked) (stand : Stand) (word : Text) (words : List Text) → bytes_eq word (codes "--") ≡ true → MeetsFrom asked true stand words → MeetsFrom asked false stand (word ∷ words)
+unfolding walked
+dashes asked stand word words end later =
+    goes_on (shape_of stand) [] (checks_at (shape_of stand)) (found_at (shape_of stand)) asked (walk_of false stand) (walk_of true stand) word words
+    (rw (no_command (place stand).3 word, end) refl) (rw (no_command (place stand).3 word, end) refl) later
+
+-- a word by which the walk comes to stand elsewhere
+leads : {faults : Kinds} {met : Held × Step} (asked : Asked) (stand next : Stand) (word : Text) (words : List Text) → bytes_eq word (codes "--") ≡ false
+    → flag_word_fault (shape_of stand).rules (shape_of stand).args_override_self (long_of word) word (held_of stand) ≡ faults
+    → long_or_other (shape_of stand).rules (place stand).3 word (long_of word) (held_of stand) ≡ met
+    → or_else faults (step_fault (shape_of stand) 1 met.0 met.1) ≡ [] → after_step (shape_of stand).rules word (walk_of false stand) met.0 met.1 ≡ walk_of false next
+    → At (shape_of stand) asked (walk_of false next) words → MeetsFrom asked false stand (word ∷ words)
+unfolding walked
+leads {faults} {met} asked stand next word words other of_word to right there later =
+    goes_on (shape_of stand) [] (checks_at (shape_of stand)) (found_at (shape_of stand)) asked (walk_of false stand) (walk_of false next) word words
+    (rw (no_command (place stand).3 word, other, of_word, to) right) (rw (no_command (place stand).3 word, other, to) there) later
+
+-- what holds of the tokens of a line, by whether its first word is `--`
+by_dashes : (P : List Token → Type 0) (word : Text) (words : List Text) → (bytes_eq word (codes "--") ≡ true → P (ends ∷ map operand words))
+    → (bytes_eq word (codes "--") ≡ false → P (option_or_operand (long_of word) word ∷ tokens words)) → P (tokens (word ∷ words))
+by_dashes P word words end other = elim (cases_Bool (bytes_eq word (codes "--"))) [ inl e ↦ rw e (end e) | inr e ↦ rw e (other e) ]
+
 -- ---- where the number is told again
 
 lost_word : (text : Text) (more : Option Text) (word : Text) (words : List Text) → bytes_eq word (codes "--") ≡ false → MeetsFrom nothing false (retold text (Some word)) words
     → (token : Token) → ReadsAt (retold text more) word token → MeetsFrom nothing false (retold text more) (word ∷ words)
 unfolding walk_fault walked
-lost_word text None word words other later (operand t) r = rw (other, r.1, r.2) later
+lost_word text None word words other later (operand t) r = leads nothing (retold text None) (retold text (Some word)) word words other r.1 r.2 refl refl later
 lost_word text (Some more) word words other later (operand t) r = rw (other, r.1, r.2) refl
 lost_word text more word words other later ends r = absurd r
-lost_word text more word words other later helps r = rw (other, r) refl
-lost_word text more word words other later unknown r = rw (other, r.1.0, r.1.1) refl
-lost_word text more word words other later (agents None) r = rw (other, r.0) refl
-lost_word text more word words other later (agents (Some value)) r = rw (other, r.0) refl
-
-no_command : (waiting : Waiting) (word : Text) → subcommand_met [] waiting word ≡ None
-no_command idle word = refl
-no_command positional word = refl
-no_command (option_waits name) word = refl
+lost_word text None word words other later helps r = rw (other, r) refl
+lost_word text (Some more) word words other later helps r = rw (other, r) refl
+lost_word text None word words other later unknown r = rw (other, r.1.0, r.1.1) refl
+lost_word text (Some more) word words other later unknown r = rw (other, r.1.0, r.1.1) refl
+lost_word text None word words other later (agents None) r = rw (other, r.0) refl
+lost_word text (Some more) word words other later (agents None) r = rw (other, r.0) refl
+lost_word text None word words other later (agents (Some value)) r = rw (other, r.0) refl
+lost_word text (Some more) word words other later (agents (Some value)) r = rw (other, r.0) refl
 
 lost : (ended : Bool) (text : Text) (more : Option Text) (words : List Text) → MeetsFrom nothing ended (retold text more) words
 unfolding walk_fault walked
@@ -216,7 +264,7 @@ lost ended text (Some more) [] = refl
 lost true text None (word ∷ words) = refl
 lost true text (Some more) (word ∷ words) = refl
 lost false text more (word ∷ words) = elim (cases_Bool (bytes_eq word (codes "--"))) [
-  | inl end ↦ rw (no_command (place (retold text more)).3 word, end) (lost true text more words)
+  | inl end ↦ dashes nothing (retold text more) word words end (lost true text more words)
   | inr other ↦ lost_word text more word words other (lost false text (Some word) words) (option_or_operand (long_of word) word) (read (retold text more) word)
 ]
 
@@ -272,31 +320,37 @@ step : (stand : Stand) (word : Text) (words : List Text) → bytes_eq word (code
 unfolding walk_fault walked
 step (retold text more) word words other fits later token r = absurd fits
 step stand word words other fits later ends r = absurd r
+step (at_script Table) word words other fits later unknown r = rw (other, r.1.0, r.1.1) refl
+step (at_script Table) word words other fits later helps r = rw (other, r) refl
+step (at_script Table) word words other fits later (agents value) r = rw (other, r.0) refl
 step (at_script Table) word words other fits later (operand t) r = rw (other, r.1, r.2) refl
-step at_acl word words other fits later (operand t) r = rw (r.0, other, r.1, r.2) (later (after_names word []) (omega arith))
+step at_acl word words other fits later (operand t) r =
+    subst (λ (x : Text). MeetsFrom (asked_of (names (x ∷ [])) (tokens words)) false at_acl (word ∷ words)) (sym r.0)
+    (leads _ at_acl (after_names word []) word words other r.1 r.2 refl refl (later (after_names word []) (omega arith)))
 step (after_names name more) word words other fits later (operand t) r =
-    rw (r.0, other, r.1, r.2) (later (after_names name (more ++ word ∷ [])) (simp length-append (omega arith)))
+    subst (λ (x : Text). MeetsFrom (asked_of (names ((name ∷ more) ++ x ∷ [])) (tokens words)) false (after_names name more) (word ∷ words)) (sym r.0)
+    (leads _ (after_names name more) (after_names name (more ++ word ∷ [])) word words other r.1 r.2 refl refl
+    (later (after_names name (more ++ word ∷ [])) (simp length-append (omega arith))))
 step (after_names name more) word words other fits later helps r = rw (other, r, names_settle name more (omega arith)) refl
-step at_serve word words other fits later (agents None) r = rw (other, r.0, r.1) (later waits tt)
-step at_serve word words other fits later (agents (Some text)) r = rw (other, r.0, r.1) (later (counted text) tt)
-step waits word words other fits later (operand t) r = rw (r.0, other, r.1, r.2) (later (given word) tt)
+step at_serve word words other fits later (agents None) r = leads _ at_serve waits word words other r.0 r.1 refl refl (later waits tt)
+step at_serve word words other fits later (agents (Some text)) r = leads _ at_serve (counted text) word words other r.0 r.1 refl refl (later (counted text) tt)
+step waits word words other fits later (operand t) r =
+    subst (λ (x : Text). MeetsFrom (asked_of (told x) (tokens words)) false waits (word ∷ words)) (sym r.0)
+    (leads _ waits (given word) word words other r.1 r.2 refl refl (later (given word) tt))
 step waits word words other fits later (agents None) r = rw (other, r.0) refl
-step (given text) word words other fits later (agents None) r = rw (other, r.0, r.1) (lost false text None words)
-step (counted text) word words other fits later (agents None) r = rw (other, r.0, r.1) (lost false text None words)
+step (given text) word words other fits later (agents None) r = leads nothing (given text) (retold text None) word words other r.0 r.1 refl refl (lost false text None words)
+step (counted text) word words other fits later (agents None) r = leads nothing (counted text) (retold text None) word words other r.0 r.1 refl refl (lost false text None words)
 step stand word words other fits later unknown r = rw (other, r.1.0, r.1.1) refl
 step stand word words other fits later helps r = rw (other, r) refl
 step stand word words other fits later (agents value) r = rw (other, r.0) refl
 step stand word words other fits later (operand t) r = rw (other, r.1, r.2) refl
 
 leaf_meets : (stand : Stand) (words : List Text) → Fits stand words → MeetsFrom (asked_of (known_of stand) (tokens words)) false stand words
-unfolding walk_fault walked
 leaf_meets stand [] fits = at_end false stand fits
-leaf_meets stand (word ∷ words) fits = elim (cases_Bool (bytes_eq word (codes "--"))) [
-  | inl end ↦ rw (no_command (place stand).3 word, end) (behind stand words (one_fewer stand word words fits))
-  | inr other ↦
-      subst (λ (b : Bool). MeetsFrom (asked_of (known_of stand) (if b then ends ∷ map operand words else option_or_operand (long_of word) word ∷ tokens words)) false stand (word ∷ words))
-      (sym other) (step stand word words other fits (λ next fits. leaf_meets next words fits) (option_or_operand (long_of word) word) (read stand word))
-]
+leaf_meets stand (word ∷ words) fits =
+    by_dashes (λ line. MeetsFrom (asked_of (known_of stand) line) false stand (word ∷ words)) word words
+    (λ end. dashes _ stand word words end (behind stand words (one_fewer stand word words fits)))
+    (λ other. step stand word words other fits (λ next fits. leaf_meets next words fits) (option_or_operand (long_of word) word) (read stand word))
 
 -- ---- the whole line
 
@@ -310,10 +364,11 @@ stopped_at name words = record start { stopped = Some (name, words) }
 abbrev faults_after : Walk → Kinds
 faults_after end = or_else (entered_fault program end.stopped) (checks_of program.top end.held (is_some (entered program end.stopped)))
 
+abbrev found_after : Walk → Asked
+found_after end = asked_in (entered program end.stopped)
+
 abbrev MeetsTop : Asked → Walk → List Text → Type 0
-MeetsTop asked w words =
-    let end = fold (walked program.top.rules (names_of program)) w words in
-    Meets asked (or_else (walk_fault program.top (names_of program) w words) (faults_after end)) (asked_in (entered program end.stopped))
+MeetsTop asked w words = MeetsOn program.top (names_of program) faults_after found_after asked w words
 
 left_alone : (name : Text) (seen all words : List Text) (asked : Asked) → (seen ++ words) ≡ all
     → Meets asked (faults_after (stopped_at name all)) (asked_in (entered program (Some (name, all)))) → MeetsTop asked (stopped_at name seen) words
@@ -355,14 +410,12 @@ module _ (word : Text) (words : List Text) (none : subcommand_met (names_of prog
   behind_first (next ∷ more) = refl
 
   first_word : MeetsTop (asked_of unnamed (tokens (word ∷ words))) start (word ∷ words)
-  unfolding walk_fault walked
-  first_word = elim (cases_Bool (bytes_eq word (codes "--"))) [
-    | inl end ↦ rw (none, end) (behind_first words)
-    | inr other ↦
-        subst (λ (b : Bool). MeetsTop (asked_of unnamed (if b then ends ∷ map operand words else option_or_operand (long_of word) word ∷ tokens words)) start (word ∷ words))
-        (sym other) (first_token other (option_or_operand (long_of word) word)
-        (by_option program.top.rules program.top.args_override_self [] None idle word false (record { long = λ name. refl; short = λ flag. refl }) (long_of word)))
-  ]
+  unfolding walked
+  first_word =
+      by_dashes (λ line. MeetsTop (asked_of unnamed line) start (word ∷ words)) word words
+      (λ end. goes_on program.top (names_of program) faults_after found_after (asked_of unnamed (map operand words)) start (record start { is_trailing = true }) word words (rw (none, end) refl) (rw (none, end) refl) (behind_first words))
+      (λ other. first_token other (option_or_operand (long_of word) word)
+      (by_option program.top.rules program.top.args_override_self [] None idle word false (record { long = λ name. refl; short = λ flag. refl }) (long_of word)))
 
 abbrev Line : List Text → Text → Type 0
 Line words word = Meets (asked_by (word ∷ words)) (fault_of suites (word ∷ words)) (asked_in (subcommand_of suites (word ∷ words)))
@@ -398,7 +451,7 @@ helps_topic (Err Memory) answers = tt
 helps_topic (Err CommandLine) answers = absurd answers
 
 fails_topic : (r : Result Invocation ArgsError) → Answers nothing r → Answers topic r
-fails_topic (Ok given) answers = absurd answers
+fails_topic (Ok invocation) answers = absurd answers
 fails_topic (Err CommandLine) answers = tt
 fails_topic (Err Memory) answers = tt
 

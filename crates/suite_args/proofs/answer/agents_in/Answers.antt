@@ -1,6 +1,6 @@
 use Rattle.std.proofs.Common.{◌≡◌, ◌∙◌, ap, sym, subst, refl, codes, ℕ, zero, suc, ◌<◌, ◌≤◌, Bor, [], Option, Some, None, Ok, Err, option_map, arith, unwrap_or}
 use Rattle.clap.proofs.WalkLemmas.{first_value-rows}
-use Rattle.clap.specs.Words.{Text, first_of, first_value, rows_of}
+use Rattle.clap.specs.Words.{Text, first_of, first_value, found_of, rows_of}
 use Rattle.clap.specs.declared.parser.matches.Found.{Found}
 use Rattle.script_text.specs.Numbers.{number_up_to}
 use Rattle.suite_args.specs.Answering.{AnswersServe}
@@ -28,12 +28,12 @@ zero_only (suc more) not = absurd (omega arith)
 
 pub returns-in-Some : goal.returns-in-Some
 returns-in-Some c =
-    let text = text_of c.get_str.result _ _ refl c.get_str.ensures ∙ sym (c.as_bytes.ensures.value ∙ ap (λ s. s.now) c.unwrap_or-text.ensures) in
+    let text = text_of c.get_str.result _ (found_of c.args.arguments.now) refl c.get_str.ensures ∙ sym (c.as_bytes.ensures.value ∙ ap (λ s. s.now) c.unwrap_or-text.ensures) in
     some_agents _ _ (ap (number_up_to max_agents) text ∙ sym c.read_number.ensures ∙ c.in-Some.is) c.if-agents-gt0.true
 
 pub returns-in_default : goal.returns-in_default
 returns-in_default c =
-    let text = text_of c.get_str.result _ _ refl c.get_str.ensures ∙ sym (c.as_bytes.ensures.value ∙ ap (λ s. s.now) c.unwrap_or-text.ensures) in
+    let text = text_of c.get_str.result _ (found_of c.args.arguments.now) refl c.get_str.ensures ∙ sym (c.as_bytes.ensures.value ∙ ap (λ s. s.now) c.unwrap_or-text.ensures) in
     no_agents _ (ap at_least_one (ap (number_up_to max_agents) text ∙ sym c.read_number.ensures) ∙ elim c.in_default.branch [
       | in_default-via-in-Some+else-agents-gt0 w ↦ ap at_least_one w.in-Some.is ∙ zero_only _ w.if-agents-gt0.false
       | in_default-via-in_default w ↦ ap at_least_one w.in_default.is
