@@ -1,8 +1,1 @@
-mod Vocabulary
-mod Meanings
-mod RequestLemmas
-mod Words
-mod Walks
-mod Stands
-mod Lines
-mod Verdicts
+mod Parses

@@ -2,16 +2,14 @@
 -- a word that begins with two hyphens is a long option, perhaps with a value behind `=`, and one that begins with one and has more
 -- is short options.
 use Rattle.std.specs.Prelude.{◌==◌, ◌++◌, ℕ, suc, List, [], ◌∷◌, Option, Some, None, Result, Ok, Err, codes}
-use Rattle.std.specs.Prelude.{find, if◌then◌else◌, is_some, map, slice_get}
+use Rattle.std.specs.Prelude.{find, if◌then◌else◌, is_some, map, option_and_then, slice_get}
 use Rattle.std.specs.Option.{option_map_or}
 use Rattle.std.specs.Str.{bytes_eq, chars}
 use Rattle.clap.specs.Lexer.{long_of, short_of}
+use Rattle.clap.specs.Words.{Text}
 use Rattle.script_text.specs.Numbers.{number_up_to}
 use Rattle.suite_args.specs.declared.script.Script.{Script}
 use Rattle.suite_args.specs.declared.script.Script.TheVariants.{Play, Table}
-
-abbrev pub Text : Type 0
-Text = List ℕ
 
 pub data Asked : Type 0 where
   -- a command that plays a script
@@ -46,18 +44,13 @@ long_option name value =
     if bytes_eq (codes "agents") name then agents value
     else (if bytes_eq (codes "help") name then (if is_some value then unknown else helps) else unknown)
 
--- by the first character after the hyphen, which a text that is no UTF-8 may lack
-abbrev pub short_option : Option ℕ → Text → Token
-short_option None word = operand word
-short_option (Some flag) word = if 104 == flag then helps else unknown
+abbrev pub short_option : ℕ → Token
+short_option flag = if 104 == flag then helps else unknown
 
-abbrev pub short_or_operand : Option Text → Text → Token
-short_or_operand None word = operand word
-short_or_operand (Some flags) word = short_option (slice_get (chars flags) 0) word
-
+-- short options by the first character behind the hyphen, which a text that is no UTF-8 may lack
 abbrev pub option_or_operand : Option (Text × Option Text) → Text → Token
-option_or_operand None word = short_or_operand (short_of word) word
 option_or_operand (Some option) word = long_option option.0 option.1
+option_or_operand None word = option_map_or short_option (option_and_then (λ flags. slice_get (chars flags) 0) (short_of word)) (operand word)
 
 abbrev pub tokens : List Text → List Token
 tokens [] = []

@@ -1,9 +1,9 @@
 //! What `clap` answered, as a request.
 
-ghost use Rattle.std.specs.Prelude.{◌≡◌, [], IfOk, codes, unwrap_or};
+ghost use Rattle.std.specs.Prelude.{[], codes, unwrap_or};
 ghost use Rattle.clap.specs.Words.{all_of, first_of, found_of, kind_of, rows_of, subcommand_rows_of};
 ghost use Rattle.suite_args.specs.Answering.{Answers, AnswersServe, AnswersTo, asked_in};
-ghost use Rattle.suite_args.specs.CommandLine.{agents_of};
+ghost use Rattle.suite_args.specs.CommandLine.{acl, agents_of};
 
 use crate::commands::{ACL, AGENTS, NAME, PLAY, SERVE, TABLE};
 use crate::request::{ArgsError, HelpText, Invocation, NameWords};
@@ -11,17 +11,14 @@ use crate::script::Script;
 use clap::error::ErrorKind;
 use clap::{ArgMatches, Error};
 use script_text::read_number;
-use std::alloc::{AllocError, Global};
+use std::alloc::Global;
 
-/// The names among the arguments of `acl`.
-fn names_in<'a>(alloc: Global, arguments: &ArgMatches<'a>) -> Result<NameWords<'a>, AllocError>
-    ensures { IfOk result (λ names. names
-        ≡ unwrap_or (all_of (codes "NAME") (rows_of (found_of arguments.now))) []) }
+/// The command `acl`, with the names among its arguments.
+fn names_in<'a>(alloc: Global, arguments: &ArgMatches<'a>) -> Result<Invocation<'a>, ArgsError>
+    ensures { Answers (acl (unwrap_or (all_of (codes "NAME") (rows_of (found_of arguments.now))) [])) result }
 {
-    match arguments.get_raw(NAME) {
-        Some(words) => NameWords::new(alloc, words),
-        None => NameWords::new(alloc, &[]),
-    }
+    let words = arguments.get_raw(NAME).unwrap_or(&[]);
+    Ok(Invocation::Acl(NameWords::new(alloc, words)?))
 }
 
 /// The most agents.
@@ -49,7 +46,7 @@ pub(crate) fn request_of<'a>(
         return Err(ArgsError::CommandLine);
     };
     if command == ACL {
-        return Ok(Invocation::Acl(names_in(alloc, arguments)?));
+        return names_in(alloc, arguments);
     }
     if command == TABLE {
         return Ok(Invocation::Plays(Script::Table));

@@ -1,25 +1,18 @@
 //! The commands of the program, as `clap` reads them and as help tells them.
 
 ghost use Rattle.std.specs.Prelude.{◌≡◌, IfOk};
-ghost use Rattle.clap.specs.Words.{app_of};
-ghost use Rattle.suite_args.specs.code.Commands.{IsCommand, acl_command, script_command, serve_command, suites};
-ghost use Rattle.suite_args.specs.declared.script.Script.TheVariants.{Play, Table};
+ghost use Rattle.clap.specs.Words.{app_of, new_app};
+ghost use Rattle.suite_args.specs.code.Commands.{IsCommand, acl_command, serve_command, suites};
 
 use clap::{Arg, Command};
 use std::alloc::{AllocError, Global};
 
-const PROGRAM: &str = "suites";
-
-/// The command that prints a list.
 pub(crate) const ACL: &str = "acl";
 
-/// The command that plays a script on one table.
 pub(crate) const TABLE: &str = "table";
 
-/// The command that plays a script of events.
 pub(crate) const PLAY: &str = "play";
 
-/// The command that has a script of jobs carried out.
 pub(crate) const SERVE: &str = "serve";
 
 /// The words after `acl`.
@@ -28,10 +21,6 @@ pub(crate) const NAME: &str = "NAME";
 /// The option of `serve` that tells how many agents there are.
 pub(crate) const AGENTS: &str = "agents";
 
-const ABOUT: &str = "Reads access lists, and plays scripts over files that are guarded by them.";
-
-const ACL_ABOUT: &str = "Reads list text, prints the list as canonical long text";
-
 const ACL_NAME: &str = "A name that the list may use, with its number: \
     user:lisa=1001 or group:toolies=200";
 
@@ -39,11 +28,6 @@ const TABLE_ABOUT: &str = "Reads a script, plays it on one plain table, prints a
 
 const PLAY_ABOUT: &str =
     "Reads a script of events, plays it on servers and agents, prints a line an outcome";
-
-const SERVE_ABOUT: &str =
-    "Reads a script of jobs, has agents carry them out at once, prints a line a job, certifies all";
-
-const AGENTS_ABOUT: &str = "How many agents there are: 1 to 64";
 
 const TABLE_SCRIPT: &str = "A script is lines of words, with spaces or tabs between them.
 An empty line, and one that begins with #, says nothing.
@@ -207,25 +191,15 @@ fn acl_command<'a>(alloc: Global) -> Result<Command<'a>, AllocError>
 {
     let name = Arg::new(alloc, NAME).num_args(0..).help(ACL_NAME);
     Command::new(alloc, ACL)
-        .about(ACL_ABOUT)
+        .about("Reads list text, prints the list as canonical long text")
         .after_help(STREAMS)
         .arg(name)
 }
 
-fn table_command<'a>(alloc: Global) -> Command<'a>
-    ensures { IsCommand (script_command Table) result }
+fn script_command<'a>(alloc: Global, name: &'a str, about: &'a str, script: &'a str) -> Command<'a>
+    ensures { IsCommand (new_app name.entry.now) result }
 {
-    Command::new(alloc, TABLE)
-        .about(TABLE_ABOUT)
-        .after_help(TABLE_SCRIPT)
-}
-
-fn play_command<'a>(alloc: Global) -> Command<'a>
-    ensures { IsCommand (script_command Play) result }
-{
-    Command::new(alloc, PLAY)
-        .about(PLAY_ABOUT)
-        .after_help(PLAY_SCRIPT)
+    Command::new(alloc, name).about(about).after_help(script)
 }
 
 fn serve_command<'a>(alloc: Global) -> Result<Command<'a>, AllocError>
@@ -235,9 +209,11 @@ fn serve_command<'a>(alloc: Global) -> Result<Command<'a>, AllocError>
         .long(AGENTS)
         .value_name("N")
         .required(true)
-        .help(AGENTS_ABOUT);
+        .help("How many agents there are: 1 to 64");
     Command::new(alloc, SERVE)
-        .about(SERVE_ABOUT)
+        .about(
+            "Reads a script of jobs, has agents carry them out at once, prints a line a job, certifies all",
+        )
         .after_help(SERVE_SCRIPT)
         .arg(agents)
 }
@@ -246,14 +222,14 @@ fn serve_command<'a>(alloc: Global) -> Result<Command<'a>, AllocError>
 pub(crate) fn commands<'a>(alloc: Global) -> Result<Command<'a>, AllocError>
     ensures { IfOk result (λ c. app_of c ≡ suites) }
 {
-    Command::new(alloc, PROGRAM)
-        .bin_name(PROGRAM)?
-        .about(ABOUT)
+    Command::new(alloc, "suites")
+        .bin_name("suites")?
+        .about("Reads access lists, and plays scripts over files that are guarded by them.")
         .after_help(STREAMS)
         .no_binary_name(true)
         .subcommand_required(true)
         .subcommand(acl_command(alloc)?)?
-        .subcommand(table_command(alloc))?
-        .subcommand(play_command(alloc))?
+        .subcommand(script_command(alloc, TABLE, TABLE_ABOUT, TABLE_SCRIPT))?
+        .subcommand(script_command(alloc, PLAY, PLAY_ABOUT, PLAY_SCRIPT))?
         .subcommand(serve_command(alloc)?)
 }

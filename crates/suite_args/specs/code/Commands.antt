@@ -1,14 +1,11 @@
 -- The commands of the program, as `clap` sees them.
 use Rattle.std.specs.Prelude.{◌≡◌, Some, true, false, codes}
 use Rattle.clap.specs.Lexer.{usize_max}
-use Rattle.clap.specs.Words.{App, Rule, app_of, new_app, new_rule, with_rule}
-use Rattle.clap.specs.Words.{with_subcommand}
+use Rattle.clap.specs.Simple.{new_shape}
+use Rattle.clap.specs.Words.{App, Rule, app_of, new_app, new_rule, with_rule, with_subcommand}
 use Rattle.clap.specs.declared.builder.command.Command.{Command}
 use Rattle.clap.specs.declared.builder.range.ValueRange.{ValueRange}
 use Rattle.clap.specs.declared.builder.command.Command.TheViews.{out-Command}
-use Rattle.suite_args.specs.CommandLine.{Text}
-use Rattle.suite_args.specs.declared.script.Script.{Script}
-use Rattle.suite_args.specs.declared.script.Script.TheVariants.{Play, Table}
 
 abbrev pub any_number : ValueRange
 any_number = record { start_inclusive = 0; end_inclusive = usize_max }
@@ -18,14 +15,6 @@ name_rule = record (new_rule (codes "NAME")) { range = Some any_number }
 
 abbrev pub acl_command : App
 acl_command = with_rule (new_app (codes "acl")) name_rule
-
--- how a command that plays a script is written
-abbrev pub script_word : Script → Text
-script_word Table = codes "table"
-script_word Play = codes "play"
-
-abbrev pub script_command : Script → App
-script_command script = new_app (script_word script)
 
 -- the option of `serve`
 abbrev pub agents_rule : Rule
@@ -40,7 +29,7 @@ no_commands =
     record app { top = record app.top { no_binary_name = true; subcommand_required = true } }
 
 abbrev pub suites : App
-suites = with_subcommand (with_subcommand (with_subcommand (with_subcommand no_commands acl_command.top) (script_command Table).top) (script_command Play).top) serve_command.top
+suites = with_subcommand (with_subcommand (with_subcommand (with_subcommand no_commands acl_command.top) (new_shape (codes "table"))) (new_shape (codes "play"))) serve_command.top
 
 -- the command is this one, and no argument of it goes to the commands below it
 abbrev pub IsCommand : App → Command → Type 0

@@ -1,5 +1,9 @@
-use Rattle.suite_args.proofs.Vocabulary.{◌≡◌, ◌∙◌, ap, ap₂, rules, codes, false, ◌||◌, Option, Some, None, IsSomeAnd, IfOk-weaker, app_of, new_app, rule_of}
-use Rattle.suite_args.proofs.Vocabulary.{with_rule, out-Command, ValueRange, any_number, name_rule}
+use Rattle.std.proofs.Common.{◌≡◌, ◌∙◌, ap, ap₂, rules, codes, false, ◌||◌, Option, Some, None, IsSomeAnd}
+use Rattle.std.proofs.lemmas.Result.{IfOk-weaker}
+use Rattle.clap.specs.Words.{app_of, new_app, rule_of, with_rule}
+use Rattle.clap.specs.declared.builder.command.Command.TheViews.{out-Command}
+use Rattle.clap.specs.declared.builder.range.ValueRange.{ValueRange}
+use Rattle.suite_args.specs.code.Commands.{any_number, name_rule}
 use Rattle.suite_args.proofs.commands.acl_command.Goals as goal
 
 range_is : (given : Option ValueRange) → IsSomeAnd given (λ r. r ≡ any_number) → given ≡ Some any_number
