@@ -1,5 +1,5 @@
 -- What is told of the line that was asked.
-use Rattle.std.proofs.Common.{◌≡◌, ◌⊎◌, ℕ, true, false, is_some, List, [], ◌∷◌, ◌++◌, Option, Some, None, Result, Ok, Err, Vec, IfOk, Contains, refl, ◌∙◌, ap, sym, subst, inl, inr, append_assoc, append-nil, bytes_eq, codes, decimal}
+use Rattle.std.proofs.Common.{◌≡◌, ◌⊎◌, ℕ, true, false, is_some, List, [], ◌∷◌, ◌++◌, Option, Some, None, Result, Ok, Err, Vec, IfOk, Contains, refl, ◌∙◌, ap, sym, subst, inl, inr, append_assoc, append-nil, true≢false, bytes_eq, codes, decimal}
 use Rattle.std.specs.Str.Lines.{lines}
 use Rattle.std.specs.declared.alloc.Global.{Global}
 use Rattle.acl_text.specs.Places.{item_place}
@@ -88,12 +88,12 @@ found_fit scope forms form rest number fault there is none =
 
 -- ---- a line that has no fault
 
+not_some : {P : Type 0} (told : LineFault) (fault : Option LineFault) → fault ≡ Some told → is_some fault ≡ false → P
+not_some told fault is none = absurd (true≢false (ap is_some (sym is) ∙ none))
+
 no_misfit : (misfit : Option Misfit) (number : ℕ) (fault : Option LineFault) → IsAt misfit number fault → is_some fault ≡ false → misfit ≡ None
 no_misfit None number fault at none = refl
-no_misfit (Some misfit) number fault at none = let no : true ≡ false = ap is_some (sym at.1) ∙ none in cc
-
-not_some : {P : Type 0} (told : LineFault) (fault : Option LineFault) → fault ≡ Some told → is_some fault ≡ false → P
-not_some told fault is none = let no : true ≡ false = ap is_some (sym is) ∙ none in cc
+no_misfit (Some misfit) number fault at none = not_some misfit.fault fault at.1 none
 
 words_fit : (scope : Scope) (forms : Forms) (words : List Word) (number : ℕ) (fault : Option LineFault) → IsFaultOf scope forms words number fault → is_some fault ≡ false
     → FitsOne scope (all_of forms) words
@@ -108,7 +108,7 @@ words_fit scope forms words number fault (TooLarge first rest is old two some) n
 
 pub fits_one : (scope : Scope) (forms : Forms) (line : List ℕ) (number : ℕ) (fault : Option LineFault) → IsFound scope forms line number fault → is_skipped line ≡ false
     → is_some fault ≡ false → FitsOne scope (all_of forms) (words line)
-fits_one scope forms line number fault (inl due) says none = let no : true ≡ false = sym due.0 ∙ says in cc
+fits_one scope forms line number fault (inl due) says none = absurd (true≢false (sym due.0 ∙ says))
 fits_one scope forms line number fault (inr found) says none = words_fit scope forms (words line) number fault found.1 none
 
 -- ---- the line that was asked

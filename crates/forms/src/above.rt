@@ -14,13 +14,6 @@ pub(crate) struct Above<'a> {
     pub(crate) number: u64,
 }
 
-/// A line by its number, and the number that it gives a name.
-#[derive(Clone, Copy)]
-pub(crate) struct Named {
-    pub(crate) line: u64,
-    pub(crate) number: u64,
-}
-
 impl<'a> Above<'a> {
     /// The line of this number; no bytes where there is none.
     pub(crate) fn line(self) -> &'a [u8]
@@ -43,31 +36,28 @@ impl<'a> Above<'a> {
 
     /// The first line that begins with the word of a form, by its number, and the words after it.
     pub(crate) fn line_of(self, word: &[u8]) -> Option<(u64, Words<'a>)> {
-        (1..self.number)
-            .zip(Lines::new(self.script))
-            .find_map(|(number, line)| {
-                let mut words = Words::new(line);
-                match words.next() {
-                    Some(first) if first == word => Some((number, words)),
-                    _ => None,
-                }
-            })
+        (1..self.number).zip(Lines::new(self.script)).find_map(|(number, line)| {
+            let mut words = Words::new(line);
+            match words.next() {
+                Some(first) if first == word => Some((number, words)),
+                _ => None,
+            }
+        })
     }
 
-    /// The line that names a user or a group so.
-    pub(crate) fn named(self, kind: Kind, name: &[u8]) -> Option<Named> {
+    /// The line that names a user or a group so, by its number, and the number that it gives the name.
+    pub(crate) fn named(self, kind: Kind, name: &[u8]) -> Option<(u64, u64)> {
         (1..self.number)
             .zip(Lines::new(self.script))
-            .find_map(|(line, text)| {
-                let number = named_in(text, kind, name)?;
-                Some(Named { line, number })
-            })
+            .find_map(|(line, text)| Some((line, named_in(text, kind, name)?)))
     }
 
     /// The number of a user or a group, told by digits or by a name.
     pub(crate) fn number_of(self, kind: Kind, whom: &[u8]) -> Option<u64> {
-        let named = self.named(kind, whom).map(|named| named.number);
-        read_number(whom, u64::from(u32::MAX)).or(named)
+        match read_number(whom, u64::from(u32::MAX)) {
+            Some(number) => Some(number),
+            None => self.named(kind, whom).map(|named| named.1),
+        }
     }
 }
 

@@ -15,7 +15,7 @@ use crate::old::unheld;
 use crate::places::name;
 use crate::reading::{Reading, Standing, is_skipped};
 use crate::reason::{Reason, Reasoned};
-use crate::spot::{spot_of, told_at};
+use crate::spot::explained;
 use crate::table::push_places;
 use acl_text::{TextFault, item_place};
 use script_text::{Words, push_number};
@@ -42,7 +42,7 @@ pub(crate) fn found_in(
     alloc: Global,
     forms: Forms,
     script: &[u8],
-    pub(crate) number: u64,
+    number: u64,
 ) -> Result<Vec<u8>, AllocError>
     ensures { IfOk result (λ text. IsOfLine forms script.now number text.items) }
 {
@@ -75,8 +75,6 @@ pub(crate) fn fits(trial: Trial<'_>) -> Result<bool, AllocError>
 }
 
 /// What is found of a line.
-#[tactic(auto, using(crate::proofs::Answering::found_none, crate::proofs::Answering::found_blank, crate::proofs::Answering::found_misplaced,
-    crate::proofs::Answering::found_unknown, crate::proofs::Answering::found_standing))]
 fn found_of<'a>(trial: Trial<'a>) -> Result<Found<'a>, AllocError>
     ensures { IfOk result (λ found. IsFoundIn trial.entry found.number found.fault) }
 {
@@ -114,8 +112,7 @@ fn of_nothing<'a>(trial: Trial<'a>, due: Option<LineForm>) -> Found<'a>
 }
 
 /// What is found of a line whose first word stands in its place: it may stand there once, or ask for what cannot be.
-#[tactic(auto, using(crate::proofs::Answering::found_again, crate::proofs::Answering::found_misfit, crate::proofs::Answering::found_large,
-    crate::proofs::Answering::found_fit))]
+#[tactic(auto, using(crate::proofs::Answering::found_again, crate::proofs::Answering::found_misfit, crate::proofs::Answering::found_fit))]
 fn of_standing<'a>(
     trial: Trial<'a>,
     form: LineForm,
@@ -184,27 +181,6 @@ fn of_misfit(form: LineForm, misfit: Misfit) -> Found<'static>
     }
 }
 
-/// The same with why the word does not fit, and the form that has its place.
-fn explained<'a>(trial: Trial<'a>, found: Found<'a>) -> Found<'a> {
-    let (Some(form), Some(fault), Some(expected)) = (found.form, found.fault, found.expected) else {
-        return found;
-    };
-    let misfit = Misfit {
-        number: found.number,
-        expected,
-        fault,
-    };
-    let spot = spot_of(form, trial.line, misfit);
-    let (told, is_shifted) = told_at(&trial.reading.scope, trial.above, spot, misfit);
-    Found {
-        form: Some(spot.form),
-        begin: spot.begin,
-        is_shifted,
-        told,
-        ..found
-    }
-}
-
 /// What is printed first: the number of the word that does not fit, and the code of its fault.
 fn head_at(alloc: Global, number: u64, fault: Option<LineFault>) -> Result<Vec<u8>, AllocError>
     ensures { IfOk result (λ text. text.items ≡ head_at number fault) }
@@ -223,13 +199,14 @@ fn head_at(alloc: Global, number: u64, fault: Option<LineFault>) -> Result<Vec<u
 /// The fields behind these: what was expected, a form, an item, what would mend the line, and the reason.
 fn rest_of(trial: Trial<'_>, found: Found<'_>) -> Result<Vec<u8>, AllocError> {
     let mut text = Vec::new(trial.alloc);
-    push_field(&mut text, match (found.fault, found.expected) {
+    let expected: &[u8] = match (found.fault, found.expected) {
         (None, _) => b"-",
         (_, None) => b"LINE",
         (_, Some(Expected::Place(place))) => name(place),
         (_, Some(Expected::Operation)) => b"OPERATION",
         (_, Some(Expected::End)) => b"END",
-    })?;
+    };
+    push_field(&mut text, expected)?;
     match found.form {
         Some(form) if form.places.is_empty() => text.extend_from_slice(form.word)?,
         Some(form) => {
@@ -243,10 +220,11 @@ fn rest_of(trial: Trial<'_>, found: Found<'_>) -> Result<Vec<u8>, AllocError> {
     let item = found.fault.and_then(|fault| item_in(word, fault));
     push_item(&mut text, word, item)?;
     push_mends(&mut text, trial, found)?;
-    push_field(&mut text, match found.fault {
+    let unseen = match found.fault {
         Some(LineFault::Form) => hidden(word, trial.line),
         _ => b"-",
-    })?;
+    };
+    push_field(&mut text, unseen)?;
     found.told.push(trial.alloc, &mut text, trial.above)?;
     text.push(b'\n')?;
     Ok(text)

@@ -51,7 +51,7 @@ impl Kind {
     }
 }
 
-/// The items of a text, one after another, empty ones too.
+/// What the items of a text say, one after another, empty ones too.
 #[derive(Drop)]
 pub(crate) struct Items<'a> {
     rest: &'a [u8],
@@ -72,11 +72,11 @@ impl<'a> Iterator for Items<'a> {
     ghost use Rattle.std.specs.Prelude.{◌+◌, if◌then◌else◌, length};
     ghost use Rattle.std.specs.Iterator.{at_most};
 
-    type Item = &'a [u8];
+    type Item = Item<'a>;
 
     ghost remaining = { λ left. at_most (if left.is_done then 0 else length left.rest.now + 1) };
 
-    fn next(&mut self) -> Option<&'a [u8]> {
+    fn next(&mut self) -> Option<Item<'a>> {
         if self.is_done {
             return None;
         }
@@ -86,7 +86,7 @@ impl<'a> Iterator for Items<'a> {
             [_, more @ ..] => self.rest = more,
             [] => self.is_done = true,
         }
-        Some(item)
+        Some(Item::of(item))
     }
 }
 
@@ -218,15 +218,14 @@ impl<'a> Item<'a> {
 
     /// Whether it is an entry of the same one as another item.
     fn is_same(self, above: Above<'_>, other: Item<'_>) -> bool {
-        let (Some(kind), Some(of)) = (self.kind, other.kind) else {
+        let (Some(kind), true) = (self.kind, self.marker.is_some() == other.marker.is_some()) else {
             return false;
         };
-        if kind != of || self.marker.is_some() != other.marker.is_some() {
-            return false;
+        if self.kind != other.kind || self.whom() == other.whom() {
+            return self.kind == other.kind;
         }
         let number = above.number_of(kind, self.whom());
-        self.whom() == other.whom()
-            || number.is_some() && number == above.number_of(kind, other.whom())
+        number.is_some() && number == above.number_of(kind, other.whom())
     }
 
     fn told(self, reason: Reason) -> Reasoned<'a> {
@@ -414,18 +413,14 @@ fn entries_told<'a>(
         AclFault::UserTwice => doubled_told(above, text, of_default, Some(Kind::User)),
         AclFault::GroupTwice => doubled_told(above, text, of_default, Some(Kind::Group)),
         AclFault::MaskMissing => {
-            let named = Items::new(text)
-                .map(Item::of)
-                .take_while(|item| !item.is_of(of_default) || item.whom().is_empty())
-                .count() as u64;
-            Reasoned::of(Reason::Unmasked, text).with(named.saturating_add(1))
+            let items = Items::new(text);
+            let before = items.take_while(|item| !item.is_of(of_default) || item.whom().is_empty());
+            Reasoned::of(Reason::Unmasked, text).with((before.count() as u64).saturating_add(1))
         }
         AclFault::TooMany => {
-            let entries = Items::new(text).map(Item::of);
-            let count = entries.filter(|item| item.is_of(of_default)).count() as u64;
-            Reasoned::of(Reason::Many, text)
-                .with(count)
-                .and(MAX_ENTRIES as u64)
+            let entries = Items::new(text).filter(|item| item.is_of(of_default));
+            let many = Reasoned::of(Reason::Many, text).with(entries.count() as u64);
+            many.and(MAX_ENTRIES as u64)
         }
     }
 }
@@ -438,17 +433,16 @@ fn doubled_told<'a>(
     named: Option<Kind>,
 ) -> Reasoned<'a> {
     for (number, item) in (1..usize::MAX).zip(Items::new(text)) {
-        let item = Item::of(item);
-        let may_double = item.whom().is_empty() == named.is_none() && named.or(item.kind) == item.kind;
-        if item.is_of(of_default) && may_double {
-            let mut later = Items::new(text).skip(number).map(Item::of);
-            if later.any(|other| item.is_same(above, other)) {
-                let doubled = Reasoned::of(Reason::Doubled, text).with(number as u64);
-                return match item.kind {
-                    Some(kind) => doubled.of_kind(kind).at(item.whom()),
-                    None => doubled,
-                };
-            }
+        let is_named = named.is_none() || item.kind == named;
+        let (Some(kind), true) = (item.kind, is_named && item.is_of(of_default)) else {
+            continue;
+        };
+        let mut later = Items::new(text).skip(number);
+        if item.whom().is_empty() == named.is_none()
+            && later.any(|other| item.is_same(above, other))
+        {
+            let doubled = Reasoned::of(Reason::Doubled, text).with(number as u64);
+            return doubled.of_kind(kind).at(item.whom());
         }
     }
     Reasoned::of(Reason::Due, text)
@@ -463,7 +457,7 @@ pub(crate) fn push_same(
 ) -> Result<(), AllocError> {
     let sought = Item::of(item_in(list, first as usize));
     for (number, item) in (1..u64::MAX).zip(Items::new(list)) {
-        if number > first && sought.is_same(above, Item::of(item)) {
+        if number > first && sought.is_same(above, item) {
             push_number(text, number)?;
             text.push(b' ')?;
         }

@@ -6,7 +6,7 @@ ghost use Rattle.forms.specs.Finding.{BeginsWith, place_text, tab};
 
 use crate::above::Above;
 use crate::finding::{item_of_text, push_item};
-use crate::list::{Item, Items, item_in, text_told};
+use crate::list::{Items, item_in, text_told};
 use crate::reason::{Reason, Reasoned};
 use acl_text::{NameError, Names, TextFault, item_place, push_text_code, read_acl};
 use std::alloc::{AllocError, Global};
@@ -28,7 +28,8 @@ pub(crate) fn found_in_list(
     if number == 0 {
         let fault = fault_of(alloc, list, &names)?;
         let place = fault.and_then(|fault| item_of_text(list, fault));
-        return printed(alloc, list, place, coded(alloc, fault, told_of(list, fault))?);
+        let code = coded(alloc, fault, told_of(list, fault))?;
+        return printed(alloc, list, place, code);
     }
     let Some(place) = item_place(list, number as usize) else {
         let few = Reasoned::of(Reason::Few, b"").with(Items::new(list).count() as u64);
@@ -76,7 +77,7 @@ fn with_number(fault: TextFault, number: usize) -> Option<TextFault> {
 /// Gives each name of a list a number of its own, as a user's and as a group's.
 fn name_all(names: &mut Names, list: &[u8]) -> Result<(), AllocError> {
     let mut number = u32::MAX;
-    for item in Items::new(list).map(Item::of).filter(|item| item.kind.is_some()) {
+    for item in Items::new(list).filter(|item| item.kind.is_some()) {
         is_noted(names.add_user(item.whom(), number))?;
         is_noted(names.add_group(item.whom(), number))?;
         number = number.saturating_sub(1);

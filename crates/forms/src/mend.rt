@@ -10,7 +10,7 @@ ghost use Rattle.forms.specs.code.Trials.{AddsFields, AddsMends, IsCutIn, IsMiss
 use crate::above::Above;
 use crate::finding::{Found, fits};
 use crate::number::is_digits;
-use crate::places::sample;
+use crate::places::about;
 use crate::reading::{Reading, Standing};
 use crate::reason::Reason;
 use script_text::{Words, push_number};
@@ -207,7 +207,7 @@ impl<'a> Trial<'a> {
         };
         let numbers = found.begin.saturating_add(1)..=found.number;
         for (at, place) in numbers.zip(form.places.iter().copied().chain(last)) {
-            if self.fits(at, Change::Before(sample(place)))? {
+            if self.fits(at, Change::Before(about(place)[1]))? {
                 return Ok(true);
             }
         }

@@ -50,11 +50,10 @@ pub(crate) fn number_told(word: &[u8], least: u64, most: u64) -> Reasoned<'_>
     ensures told { TellsNumber (number_reason least most word.now) result }
     ensures part { result.part.now ≡ word.now }
 {
-    match number_reason(word, least, most) {
-        Some((reason, Some(limit))) => Reasoned::of(reason, word).with(limit),
-        Some((reason, None)) => Reasoned::of(reason, word),
-        None => Reasoned::of(Reason::Due, word),
-    }
+    Reasoned::numbered(
+        number_reason(word, least, most).unwrap_or((Reason::Due, None)),
+        word,
+    )
 }
 
 /// How many parts a word has, with a separator between them.
@@ -114,10 +113,7 @@ pub(crate) fn bytes_told(word: &[u8]) -> Reasoned<'_>
     ensures told { Tells (bytes_reason word.now) result }
     ensures part { result.part.now ≡ word.now }
 {
-    match bytes_reason(word) {
-        (reason, Some(count)) => Reasoned::of(reason, word).with(count),
-        (reason, None) => Reasoned::of(reason, word),
-    }
+    Reasoned::numbered(bytes_reason(word), word)
 }
 
 /// What is told of a name.
@@ -129,7 +125,7 @@ pub(crate) fn name_told<'a>(
 ) -> Reasoned<'a> {
     if fault == LineFault::NameTwice {
         return match above.named(kind, word) {
-            Some(named) => Reasoned::of(Reason::Taken, word).with(named.line),
+            Some((line, _)) => Reasoned::of(Reason::Taken, word).with(line),
             None => Reasoned::of(Reason::Due, word),
         };
     }

@@ -1,7 +1,7 @@
 //! Why the root folder of a script has no form 1.
 
 use crate::above::Above;
-use crate::list::{Item, Items};
+use crate::list::Items;
 use crate::reason::{Reason, Reasoned};
 use crate::votes::last_listed;
 use script_text::WordParts;
@@ -21,10 +21,10 @@ fn list_unheld<'a>(above: Above<'a>, word: &'a [u8]) -> Option<Reasoned<'a>> {
     let (Some(_), Some(_), Some(list)) = (words.next(), words.next(), words.next()) else {
         return None;
     };
-    if Items::new(list).any(|item| Item::of(item).marker.is_some()) {
+    if Items::new(list).any(|item| item.marker.is_some()) {
         return Some(Reasoned::of(Reason::OldDefault, word));
     }
-    let items = Items::new(list).filter(|item| !Item::of(item).is_empty());
+    let items = Items::new(list).filter(|item| !item.is_empty());
     let count = items.count() as u64;
     let entries = Reasoned::of(Reason::OldEntries, word).with(count);
     (count > OLD_ENTRIES).then_some(entries.and(OLD_ENTRIES))

@@ -1,6 +1,7 @@
 //! Why a word does not fit, as data: a reason, the numbers that matter, and the part of the word of which it speaks.
 
 ghost use Rattle.std.specs.Prelude.{◌≡◌, None, Some};
+ghost use Rattle.forms.specs.Reasons.{Tells};
 
 use crate::above::Above;
 use crate::first::push_commands;
@@ -98,6 +99,17 @@ impl<'a> Reasoned<'a> {
             other: None,
             word,
             part: word,
+        }
+    }
+
+    /// A reason with the number that is told of it, if one is.
+    pub(crate) fn numbered(reason: (Reason, Option<u64>), word: &'a [u8]) -> Reasoned<'a>
+        ensures told { Tells reason result }
+        ensures part { result.part.now ≡ word.now }
+    {
+        Reasoned {
+            one: reason.1,
+            ..Reasoned::of(reason.0, word)
         }
     }
 

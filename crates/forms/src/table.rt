@@ -1,7 +1,7 @@
 //! The table of forms, as it is printed.
 
 use crate::mend::{push_field, push_word};
-use crate::places::{PLACES, name, push_limits};
+use crate::places::{PLACES, about, name, push_limits};
 use crate::reading::widest;
 use std::alloc::{AllocError, Global};
 use suite_script::{FormEnding, Forms, LineForm, PLAY_LINES, SERVE_LINES, TABLE_LINES, VERBS};
@@ -23,7 +23,8 @@ pub(crate) fn lines_of(command: &[u8]) -> Option<Forms> {
 pub(crate) fn table(alloc: Global) -> Result<Vec<u8>, AllocError> {
     let mut text = Vec::new(alloc);
     let scope = widest(alloc);
-    for (place, [name, sample, meaning]) in PLACES {
+    for place in PLACES {
+        let [name, sample, meaning] = about(place);
         push_fields(&mut text, &[b"place", name])?;
         push_limits(&mut text, &scope, place)?;
         text.push(b'\t')?;
