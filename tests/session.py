@@ -166,7 +166,7 @@ def is_full(path: str, tally: Tally, folder: str) -> None:
 
     given = text_of((b"begin 0 1000 100 0 file /a 644", b"crash 1", b"bad", b"run 0"))
     done = subprocess.run(
-        [path, "--marks", "--journal", name], input=given, stdout=subprocess.PIPE, preexec_fn=bounded
+        [path, "session", "--marks", "--journal", name], input=given, stdout=subprocess.PIPE, preexec_fn=bounded
     )
     told = b"= restored 5 lines\nfault journal\n= 1\n= 2\nfault line 3: S1\n= 3\n= 4\n"
     tally.holds((done.returncode, done.stdout) == (6, told), "a full disk", done)
@@ -292,7 +292,7 @@ def is_killed(path: str, tally: Tally, folder: str, times: int) -> None:
 
 def grows(path: str, tally: Tally, count: int) -> None:
     """So many lines that say nothing, and then some more of another length: memory does not grow with them."""
-    child = subprocess.Popen([path], stdin=subprocess.PIPE, stdout=subprocess.DEVNULL)
+    child = subprocess.Popen([path, "session"], stdin=subprocess.PIPE, stdout=subprocess.DEVNULL)
     assert child.stdin
     piece = b"# a line that says nothing\n" * 10_000
     sizes = []
@@ -409,7 +409,7 @@ def main() -> int:
     read.add_argument("program", nargs="?")
     given = read.parse_args()
     path, tally = spoken.program(given.program), Tally(most=20, width=600)
-    setattr(built, "program", lambda name: path)
+    setattr(built, "program", lambda: path)
     with tempfile.TemporaryDirectory(prefix="suites-") as folder:
         answers(path, tally)
         goes_on(path, tally)
