@@ -146,9 +146,7 @@ def limit() -> None:
 
 
 class Shown(typing.NamedTuple):
-    """What shows a wrong body: how much it weighs, how many events there are, what comes of them, the story, the
-    events.
-    """
+    """What shows a wrong body: how much it weighs, how many events, what comes of them, the story, the events."""
 
     weight: int
     events: int

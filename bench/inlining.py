@@ -64,9 +64,7 @@ def fits(path: typing.Any, own: typing.Any) -> bool:
 
 
 def hinted(module: str, roots: list[str]) -> str:
-    """The module with the hints of all sources under these roots; and none of its functions is checked for wrong
-    accesses.
-    """
+    """The module with the hints of all sources under these roots; no function is checked for wrong accesses."""
     known: dict[tuple[str, str], list[tuple[typing.Any, frozenset[str]]]] = {}
     for root in roots:
         for file in glob.glob(os.path.join(root, "*", "src", "**", "*.rt"), recursive=True):

@@ -3,7 +3,6 @@ import os
 import subprocess
 import sys
 import tempfile
-import typing
 
 TOP = os.path.realpath(os.path.join(os.path.dirname(os.path.abspath(__file__)), ".."))
 # What benches take of tests and tools: the one edit of where modules are looked for.
@@ -13,8 +12,6 @@ from common import console  # noqa: E402, F401
 from front import trial  # noqa: E402, F401
 
 PROGRAM = os.path.join(TOP, "crates", "suites", "out", "suites")
-# How much was done of a run, its input, its seconds and its peak.
-Played = tuple[int, bytes, float, float]
 # A child's peak begins with that of the process that starts it, so a process of its own starts it, which is small.
 STARTER = """
 import os
@@ -50,9 +47,7 @@ def least(words: list[str], data: bytes, times: int = 5) -> tuple[int, bytes, fl
 
 
 def work(words: list[str], data: bytes, times: int = 5) -> tuple[int, bytes, float]:
-    """The status, the output and the processor seconds of a run of these words, on these bytes: the least seconds of
-    some runs.
-    They say more than those of a clock where the machine has other work."""
+    """The status, the output, and the least processor seconds of some runs: more to trust than a clock's."""
     least_one: tuple[int, bytes, float] | None = None
     for _ in range(times):
         with tempfile.TemporaryFile() as source, tempfile.TemporaryFile() as target:
@@ -65,11 +60,6 @@ def work(words: list[str], data: bytes, times: int = 5) -> tuple[int, bytes, flo
         if least_one is None or one[2] < least_one[2]:
             least_one = one
     return least_one
-
-
-def suites(words: list[str], data: bytes, times: int = 5) -> tuple[int, bytes, float, float]:
-    """The same, of the program `suites`."""
-    return least([PROGRAM, *words], data, times)
 
 
 def two_programs(doc: str) -> tuple[str, str | None]:
@@ -85,13 +75,3 @@ def head(title: str) -> None:
     """Begins a table of figures."""
     idle = least(["/bin/true"], b"")
     print(f"{title} ({os.cpu_count()} cores; a program that does nothing: {1000 * idle[2]:.1f} ms, {idle[3]:.1f} MiB)")
-
-
-def growth(what: str, counts: list[int], played: typing.Callable[[int], "Played"]) -> None:
-    """A table of runs that grow, of these sizes. `played(count)` plays one: how much was done, the input, the seconds
-    and the peak.
-    """
-    print(f"{what:>10} {'input MiB':>10} {'seconds':>8} {'a second':>10} {'peak MiB':>9}")
-    for count in counts:
-        done, data, seconds, peak = played(count)
-        print(f"{done:>10} {len(data) / 2**20:>10.2f} {seconds:>8.3f} {done / seconds:>10.0f} {peak:>9.1f}")

@@ -117,9 +117,7 @@ def put_in(crates: str, edit: Edit, number: int) -> None:
 
 
 class Second(typing.NamedTuple):
-    """A function that stands a second time: its file, its first line, the impl that it stands in, its name, what it
-    took and takes, and its text.
-    """
+    """A function that stands a second time: file, first line, impl, name, what it took and takes, and text."""
 
     file: str
     line: str

@@ -34,8 +34,6 @@ import typing
 import played
 from kernel_trees import User, as_user
 
-from common import console
-
 UIDS, GIDS = [1001, 1002, 1003, 1004, 65534], [200, 201, 202, 203, 65533]
 COUNTED = "answers, agree, mask, texts, taken, refused, last id, octal, past, nothing, hyphens, mended, wrong"
 LETTERS = {"u": "user", "g": "group", "m": "mask", "o": "other"}
@@ -215,11 +213,8 @@ def check_text(program: str, place: str, dice: Dice, tally: dict[str, int]) -> N
 
 
 def main() -> int:
-    read = console.words(__doc__)
-    read.add_argument("--lists", type=int, default=300)
-    read.add_argument("--seed", type=int, default=1)
-    read.add_argument("program", nargs="?", default=os.path.join(played.TOP, "suites"))
-    given = read.parse_args()
+    given = played.words(__doc__, "program", lists=300, seed=1)
+    program = given.program or os.path.join(played.TOP, "suites")
     wanting = [name for name in ("setfacl", "getfacl") if not shutil.which(name)]
     if wanting or os.geteuid() != 0:
         sys.exit("this needs root" if not wanting else f"this needs {wanting[0]}, of Debian's package acl")
@@ -230,8 +225,8 @@ def main() -> int:
         os.mkdir(os.path.join(place, "d"))
         open(os.path.join(place, "f"), "w", encoding="utf-8").close()
         for _ in range(given.lists):
-            check_access(given.program, place, dice, tally)
-            check_text(given.program, place, dice, tally)
+            check_access(program, place, dice, tally)
+            check_text(program, place, dice, tally)
     print(", ".join(f"{count} {what}" for what, count in tally.items()))
     return 1 if tally["wrong"] or not tally["answers"] else 0
 

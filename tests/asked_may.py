@@ -1,6 +1,4 @@
 """Asks `./suites may` in this process, by its words, and reads what it tells."""
-from __future__ import annotations
-
 import contextlib
 import io
 import os

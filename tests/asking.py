@@ -185,7 +185,7 @@ def compare_faults(tally: Tally) -> None:
 
 def compare_random(given: argparse.Namespace, tally: Tally) -> None:
     """Asks of random scripts, of which the other program tells the ways."""
-    seed, count = given.first, 0
+    seed, count = given.from_, 0
     while count < given.scripts:
         script, words = explored.Explorable(seed).whole()
         seed += 1
@@ -196,15 +196,11 @@ def compare_random(given: argparse.Namespace, tally: Tally) -> None:
                 file.write(script)
                 file.flush()
                 compare(file.name, words.split(), ways.lines, random.Random(seed), tally)
-    print(f"{count} scripts of {seed - given.first}")
+    print(f"{count} scripts of {seed - given.from_}")
 
 
 def main() -> int:
-    read = console.words(__doc__)
-    read.add_argument("--against", metavar="PROTOTYPE")
-    read.add_argument("--scripts", type=int, default=200)
-    read.add_argument("--from", type=int, default=0, dest="first")
-    given, tally = read.parse_args(), Tally()
+    given, tally = played.words(__doc__, against="", scripts=200, from_=0), Tally()
     if given.against:
         compare_random(given, tally)
     else:

@@ -1,5 +1,4 @@
 """A headless Chromium that a test drives: the protocol of its developer tools goes over two pipes."""
-import argparse
 import base64
 import contextlib
 import json
@@ -12,7 +11,7 @@ import time
 from collections.abc import Iterator
 from typing import Any
 
-from played import Tally
+from played import Tally, words
 
 NAMES = ("chromium", "chromium-browser", "google-chrome")
 # How long an answer of the browser may take, and how much of it is read at once.
@@ -36,11 +35,9 @@ def opened(tally: Tally) -> Iterator["Browser | None"]:
         driver.close()
 
 
-def shots() -> str | None:
+def shots(doc: str) -> str:
     """The folder for pictures of the pages, where the words of the test name one."""
-    read = argparse.ArgumentParser()
-    read.add_argument("--shots")
-    return read.parse_args().shots
+    return words(doc, shots="").shots
 
 
 class Browser:

@@ -80,8 +80,7 @@ def main() -> int:
         own_modules = {os.path.basename(part) for part in MADE_OF[ROOT]}
         root = as_root(texts.pop(ROOT), sorted(set(texts) - own_modules))
         for name, text in {**texts, "main": root}.items():
-            with open(os.path.join(own, "src", f"{name}.rt"), "w", encoding="utf-8") as file:
-                file.write(text)
+            played.put(os.path.join(own, "src", f"{name}.rt"), text)
         done = subprocess.run(["rt", "try"], cwd=own, stdin=subprocess.DEVNULL, capture_output=True, text=True)
     if done.returncode != 0:
         wrong.append((done.stdout + done.stderr)[-4000:])

@@ -12,9 +12,10 @@ What `./suites explain` says of the fault is held against the damage: it has to 
 told the command too, nothing where another code is told, and to name what was done. Where a word is dropped or added a
 number may come to be read in the place of another, and pass its limit: so of these 49 of 50 have to be named. Prints
 how many of each kind were named. Status 1 where too few are, nothing is found, or `forms` tells another word. --kind
-NAME tries one kind, as word_dropped.
+NAME tries one kind, as word_dropped; --tell tells each case that is not named.
 """
 import collections
+import contextlib
 import os
 import random
 import re
@@ -24,7 +25,7 @@ import typing
 
 import played
 
-from common import built, console, forms
+from common import built, forms
 from compare import scenario
 from explain import explain
 from explain.faults import WORD
@@ -59,18 +60,13 @@ def script_of(command: str, seed: int) -> list[str]:
     lines = scenario.Scenario(seed, 30).script().splitlines()
     if command == "play":
         return lines
-    if command == "serve":
-        kept = [
-            re.sub(r"^begin \d+", "do", re.sub(r"^sweep \d+", "sweep", line))
-            for line in lines
-            if line.split()[0] not in OF_PLAY
-        ]
-        return [*kept[: len(kept) // 2], "together", *kept[len(kept) // 2 :]]
-    return [
-        re.sub(r"^begin \d+ (\d+ \S+) \d+", r"do \1", line)
-        for line in lines
-        if line.split()[0] in ("root", "user", "group", "begin")
-    ]
+    first = {place: line.split()[0] for place, line in enumerate(lines)}
+    if command == "table":
+        kept = [line for place, line in enumerate(lines) if first[place] in ("root", "user", "group", "begin")]
+        return [re.sub(r"^begin \d+ (\d+ \S+) \d+", r"do \1", line) for line in kept]
+    kept = [re.sub(r"^sweep \d+", "sweep", line) for place, line in enumerate(lines) if first[place] not in OF_PLAY]
+    kept = [re.sub(r"^begin \d+", "do", line) for line in kept]
+    return [*kept[: len(kept) // 2], "together", *kept[len(kept) // 2 :]]
 
 
 def misspelt(dice: random.Random, word: str) -> str:
@@ -78,6 +74,10 @@ def misspelt(dice: random.Random, word: str) -> str:
     place = dice.randrange(len(word) - 1)
     front, one, two, rest = word[:place], word[place], word[place + 1], word[place + 2 :]
     return front + dice.choice([two + one, one + one + two, two]) + rest
+
+
+class Unfit(Exception):
+    """A damage does not fit the line that was drawn."""
 
 
 class Damage:
@@ -92,7 +92,8 @@ class Damage:
         self.kind, self.fits = kind[3:].replace("_", " "), False
         for self.at in dice.choices(range(len(lines)), k=60):
             self.lines, self.words = list(lines), lines[self.at].split()
-            if getattr(self, kind)() is not False:
+            with contextlib.suppress(Unfit):
+                getattr(self, kind)()
                 self.fits = True
                 break
 
@@ -104,118 +105,110 @@ class Damage:
         """Puts this in the place of a word."""
         self.put([*self.words[:place], bad, *self.words[place + 1 :]], *wanted)
 
-    def drawn(self, is_it: typing.Callable[[int, str], bool]) -> int | None:
-        """The place of a word that is it, if there is one."""
+    def drawn(self, is_it: typing.Callable[[int, str], bool]) -> int:
+        """The place of a word that is it."""
         found = [place for place, word in enumerate(self.words) if is_it(place, word)]
-        return self.dice.choice(found) if found else None
+        if not found:
+            raise Unfit
+        return self.dice.choice(found)
 
-    def place_of_word(self) -> int | None:
+    def place_of_word(self) -> int:
         """The place of a word that the line has by its form: of an operation, or its first one."""
         words = self.dice.choice([VERBS, FIRSTS[self.command]])
         return self.drawn(lambda place, word: word in words and (place == 0) == (words is not VERBS))
 
-    def do_word_misspelt(self) -> bool | None:
+    def do_word_misspelt(self) -> None:
         place = self.place_of_word()
-        if place is None:
-            return False
         bad = misspelt(self.dice, self.words[place])
         if bad in (*VERBS, *FIRSTS["play"], *FIRSTS["serve"]):
-            return False
+            raise Unfit
         self.swap(place, bad, f"'{bad}'", f"'{self.words[place]}' is near")
 
-    def do_word_dropped(self) -> bool | None:
+    def do_word_dropped(self) -> None:
         place = self.dice.randrange(len(self.words))
         if self.words[place] == ";":
-            return False
+            raise Unfit
         wanted = ("is missing", "ends, and", "an operation is due", "is due here")
         self.put([*self.words[:place], *self.words[place + 1 :]], wanted)
 
-    def do_word_added(self) -> bool | None:
+    def do_word_added(self) -> None:
         place, extra = self.dice.randint(1, len(self.words)), self.dice.choice(["extra", "7", "/x"])
         wanted = ("too many", f"'{extra}' stands where", f"'{extra}' is no operation", f"'{extra}' is not made of")
         self.put([*self.words[:place], extra, *self.words[place:]], f"'{extra}'", wanted)
 
-    def do_number_too_large(self) -> bool | None:
+    def do_number_too_large(self) -> None:
         limits = [None, *MOST.get(self.words[0], [])]
         place = self.drawn(lambda place, _: place < len(limits) and limits[place] is not None)
-        if place is None or self.command != "play" and self.words[0] == "sweep":
-            return False
+        if self.command != "play" and self.words[0] == "sweep":
+            raise Unfit
         most = limits[place]
         if most < 0:
             most = int(self.lines[-1 - most].split()[1]) - 1
         bad = str(most + self.dice.choice([1, 1, 10**6]))
         self.swap(place, bad, f"{bad} is above {most},")
 
-    def do_mark_in_front(self) -> bool | None:
+    def do_mark_in_front(self) -> None:
         self.at, self.words = 0, self.lines[0].split()
         self.put([f"\xef\xbb\xbf{self.lines[0]}"], "byte order mark")
 
-    def do_capitals(self) -> bool | None:
+    def do_capitals(self) -> None:
         place = self.place_of_word()
-        if place is None:
-            return False
         bad = self.dice.choice([self.words[place].upper(), self.words[place].capitalize()])
         self.swap(place, bad, f"'{bad}'", f"'{self.words[place]}' is near")
 
-    def do_text_as_bytes(self) -> bool | None:
+    def do_text_as_bytes(self) -> None:
         place = self.drawn(lambda place, word: place > 0 and word == "write")
-        if place is None:
-            return False
         bad = self.dice.choice(["hello", "0x6869", "686", "hi"])
         wanted = "has 3 hexadecimal digits" if bad == "686" else f"'{bad}' is not made of hexadecimal digits"
         self.swap(place + 2, bad, wanted)
 
-    def do_comment_behind(self) -> bool | None:
+    def do_comment_behind(self) -> None:
         if self.words[0] in ("user", "group", "step"):
             self.words = self.words[:3]
         self.put([*self.words, self.dice.choice(["#", "# a note", "#note"])], "comment stands in a line of its own")
 
-    def do_path_with_a_space(self) -> bool | None:
+    def do_path_with_a_space(self) -> None:
         others = {*VERBS} - {"file", "folder", "setacl"}
         place = self.drawn(lambda place, word: place > 0 and word in others)
-        if place is None:
-            return False
         wanted = ("a path is one word", "'file' stands where", "'file' is not made of")
         self.swap(place + 1, "/my file", "'file'", wanted)
 
-    def do_semicolon_without_a_space(self) -> bool | None:
+    def do_semicolon_without_a_space(self) -> None:
         if ";" not in self.words:
-            return False
+            raise Unfit
         line = " ".join(self.words).replace(" ; ", self.dice.choice(["; ", " ;"]), 1)
         self.put([line], ("has a semicolon", "is no mode", "stands where", "stands in no name", "is no permission"))
 
-    def do_bytes_changed(self) -> bool | None:
+    def do_bytes_changed(self) -> None:
         line = self.lines[self.at]
         for place in self.dice.choices(range(len(line)), k=self.dice.randint(1, 3)):
             line = line[:place] + self.dice.choice(BYTES) + line[place + self.dice.randint(0, 2) :]
         self.put([line])
 
-    def do_header_line_dropped(self) -> bool | None:
+    def do_header_line_dropped(self) -> None:
         self.at = self.dice.randrange(len(forms.lines_of(self.command, "header")))
         first = self.lines.pop(self.at).split()[0]
         self.wanted = [f"'{first} ", "is due here"]
 
-    def do_header_line_twice(self) -> bool | None:
+    def do_header_line_twice(self) -> None:
         count = len(forms.lines_of(self.command, "header"))
         whole = self.dice.randrange(count)
         self.at = self.dice.randrange(count, len(self.lines))
         self.lines.insert(self.at, self.lines[whole])
         self.wanted = [f"stands above, in line {whole + 1}"]
 
-    def do_name_below(self) -> bool | None:
+    def do_name_below(self) -> None:
         self.lines.append("user late 7")
         self.at, self.wanted = len(self.lines) - 1, ["Names stand above the first"]
 
-    def do_line_of_another_command(self) -> bool | None:
+    def do_line_of_another_command(self) -> None:
         other = {"play": "do 1000 100 list /", "serve": "run 0", "table": "begin 0 1000 100 0 list /"}[self.command]
         self.at = len(self.lines)
         self.lines.append(other)
         self.wanted = [f"'{other.split()[0]}' begins a line of"]
 
-    def do_list_changed(self) -> bool | None:
+    def do_list_changed(self) -> None:
         place = self.drawn(lambda _, word: word.count("::") > 1)
-        if place is None:
-            return False
         items = self.words[place].split(",")
         at = self.dice.randrange(len(items))
         bad, wanted = self.dice.choice(
@@ -229,14 +222,12 @@ class Damage:
             ]
         )
         if bad == items[at] or bad.startswith(("m:r", "m:-", "o:r", "o:-", "d:m:r", "d:o:r", "d:o:-")):
-            return False
+            raise Unfit
         items[at] = bad
         self.swap(place, ",".join(items), wanted)
 
-    def do_votes_changed(self) -> bool | None:
+    def do_votes_changed(self) -> None:
         place = self.drawn(lambda _, word: word.count("/") == 2 and not word.startswith("/"))
-        if place is None:
-            return False
         fields, read, write = self.words[place].split("/")
         total = sum(int(field) for field in fields.split(",") if field != "-")
         bad, wanted = self.dice.choice(
@@ -336,17 +327,11 @@ def tried(program: str, path: str, damage: Damage) -> tuple[str, str]:
 
 
 def main() -> int:
-    read = console.words(__doc__)
-    read.add_argument("--cases", type=int, default=2000)
-    read.add_argument("--from", type=int, default=0, dest="first")
-    read.add_argument("--kind")
-    read.add_argument("--tell", action="store_true", help="tells each case that is not named")
-    read.add_argument("program", nargs="?")
-    given = read.parse_args()
+    given = played.words(__doc__, "program", cases=2000, from_=0, kind="", tell=False)
     program = played.program(given.program)
     counts: collections.Counter[tuple[str, str]] = collections.Counter()
     with tempfile.TemporaryDirectory(prefix="suites-") as folder:
-        for seed in range(given.first, given.first + given.cases):
+        for seed in range(given.from_, given.from_ + given.cases):
             dice = random.Random(seed)
             command = dice.choice(["play", "play", "serve", "table"])
             damage = Damage(dice, command, script_of(command, seed), given.kind)

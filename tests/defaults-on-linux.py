@@ -1,10 +1,10 @@
 #!/usr/bin/env python3
-"""tests/defaults-on-linux.py [--rows] [PROGRAM]
+"""tests/defaults-on-linux.py [--rows]
 
 Measures on this Linux what a file and a folder get in a folder that has a default list, mode by mode, and what getfacl
 prints of such a folder; the lists that Linux gives are the ones wanted of the program. Without `--rows` it looks
-whether each row that comes of it stands in crates/rows/stdin and, where PROGRAM is there (crates/suites/out/suites if
-none is named), what that prints. With `--rows` it prints the rows.
+whether each row that comes of it stands in crates/rows/stdin, which tests/checked-build.py plays. With `--rows` it
+prints the rows.
 
 It needs Debian's package acl, and root on a file system with lists, here /dev/shm (tmpfs). It is no part of the gate.
 """
@@ -17,7 +17,7 @@ import typing
 
 import played
 
-from common import built, console, text_of
+from common import text_of
 
 ACCESS = "u::rwx,g::r-x,o::--x"
 # Without a mask, with named users and groups under wide and narrow masks, and with a mask alone.
@@ -129,30 +129,14 @@ def told(found: typing.Any) -> str:
 
 
 def main() -> None:
-    read = console.words(__doc__)
-    read.add_argument("--rows", action="store_true")
-    read.add_argument("program", nargs="?")
-    given = read.parse_args()
-    if given.rows:
+    if played.words(__doc__, rows=False).rows:
         print("".join(told(found) for found in measured()), end="")
         return
-    program = given.program or os.path.join(played.TOP, "crates", "suites", "out", "suites")
     kept = text_of("crates", "rows", "stdin")
     rows = [found for found in measured() if not isinstance(found, str)]
     absent = sum(told(row) not in kept for row in rows)
     print(f"{len(rows)} rows measured, of which {absent} do not stand in crates/rows/stdin")
-    differ = differences(program, rows) if os.path.exists(program) else 0
-    sys.exit(1 if absent or differ else 0)
-
-
-def differences(program: str, rows: list[typing.Any]) -> int:
-    """How many rows the program prints otherwise than Linux has it."""
-    count = 0
-    for command, given, printed in rows:
-        wanted, text = "".join(line + "\n" for line in printed), "".join(line + "\n" for line in given)
-        count += built.asked(command, text, path=program) != (0, wanted)
-    print(f"{program}: {count} of {len(rows)} rows differ")
-    return count
+    sys.exit(1 if absent else 0)
 
 
 main()

@@ -1,24 +1,12 @@
 #!/usr/bin/env python3
 """tests/drawn.py [PROGRAM]
 
-Draws runs with ./suites draw, reads the pictures as XML, and looks whether all that is promised of them holds. PROGRAM
-is `suites` (the checked build, if none is named): how many requests there are is what `play` tells. Status 1 where
-something differs.
-
-whole    nothing is off the canvas, no text is on another one, each label is on its arrow, and what is cut is there
-         whole
-names    agents and servers are named at the top and again within each screen; those that do nothing are left out
-begun    the number of a job stands where it begins, and no names stand between that and its first arrow
-folded   with --fold each request stands in one arrow or dot
-chosen   --agent, --suite, --from and --to draw what they say, and --all all; what was so before is drawn as such
-many     above 2,000 requests nothing is drawn without --anyway, and it is said how many there are and how to choose
-told     a trace tells what the command `trace` prints in lines, with paths; of an agent and of a suite it tells what a
-         slow reading of those lines finds
-slow     a terminal is told how far it is, and nothing else is
+Draws runs with ./suites draw, reads the pictures as XML, and looks whether all that is promised of them holds, as the
+functions here say. PROGRAM is `suites` (the checked build, if none is named): how many requests there are is what
+`play` tells. Status 1 where something differs.
 """
 import io
 import os
-import pty
 import re
 import subprocess
 import sys
@@ -55,57 +43,34 @@ def begun(agent: int, asked: str, uid: int = 1000) -> str:
 
 SCRIPTS = {
     "two": script_of(
-        2,
-        2,
-        "1,1/1/2",
-        begun(0, "folder /d 777 ; file /d/f 644 ; write /d/f 6869"),
-        "forget 1 0",
-        begun(1, "read /d/f", 2000),
-        "crash 1",
-        begun(0, "write /d/f " + "00" * 200),
-        "return 1",
-        begun(1, "write /d/f 00", 2000),
-        "sweep 1 0",
-        "run 1",
+        2, 2, "1,1/1/2",
+        begun(0, "folder /d 777 ; file /d/f 644 ; write /d/f 6869"), "forget 1 0", begun(1, "read /d/f", 2000),
+        "crash 1", begun(0, "write /d/f " + "00" * 200), "return 1", begun(1, "write /d/f 00", 2000),
+        "sweep 1 0", "run 1",
     ),
     "five": script_of(
-        5,
-        4,
-        "1,1,1,1,1/3/3",
-        begun(0, "file /a 666 ; write /a 6869"),
-        f"crash 4\n{begun(2, f'file {LONG} 666 ; write {LONG} 00')}",
-        "begin 0 1000 100 0 write /a 00\nstep 0 5",
-        f"begin 1 1000 100 0 read /a\nbegin 1 1000 100 0 read {LONG}\nrun 1",
-        "sweep 2 1\nrun 2",
-        "return 4",
-        begun(2, "drop " + LONG),
-        begun(2, " ; ".join(["read /a"] * 9)),
-        begun(2, "read /a"),
+        5, 4, "1,1,1,1,1/3/3",
+        begun(0, "file /a 666 ; write /a 6869"), "crash 4", begun(2, f"file {LONG} 666 ; write {LONG} 00"),
+        "begin 0 1000 100 0 write /a 00", "step 0 5",
+        "begin 1 1000 100 0 read /a", f"begin 1 1000 100 0 read {LONG}", "run 1", "sweep 2 1", "run 2", "return 4",
+        begun(2, "drop " + LONG), begun(2, " ; ".join(["read /a"] * 9)), begun(2, "read /a"),
     ),
     "twenty": script_of(
-        20,
-        6,
-        ",".join(["1"] * 9 + ["-"] * 10 + ["1"]) + "/6/6",
-        begun(0, "file /a 666 ; write /a 00"),
-        begun(5, f"file {LONG} 600"),
-        "crash 12",
-        begun(3, "read /a"),
+        20, 6, ",".join(["1"] * 9 + ["-"] * 10 + ["1"]) + "/6/6",
+        begun(0, "file /a 666 ; write /a 00"), begun(5, f"file {LONG} 600"), "crash 12", begun(3, "read /a"),
     ),
     "late": script_of(
-        3, 2, "1,1,1/2/2", "begin 0 1000 100 0 file /late 666\nstep 0 5", "run 0", begun(1, "write /late 00"), "audit 0"
+        3, 2, "1,1,1/2/2",
+        "begin 0 1000 100 0 file /late 666", "step 0 5", "run 0", begun(1, "write /late 00"), "audit 0",
     ),
     "swept": script_of(
-        1,
-        3,
-        "1/1/1",
-        begun(0, "file /a 666 ; file /b 666"),
-        "begin 0 1000 100 0 read /a\nstep 0 4",
-        "begin 1 1000 100 0 read /b\nstep 1 4",
-        "sweep 2 0" + "\nstep 2" * 12,
+        1, 3, "1/1/1",
+        begun(0, "file /a 666 ; file /b 666"), "begin 0 1000 100 0 read /a", "step 0 4",
+        "begin 1 1000 100 0 read /b", "step 1 4", "sweep 2 0", *["step 2"] * 12,
     ),
     "alone": script_of(3, 3, "1/1/1", "forget 2 0"),
     "still": script_of(3, 3, "1/1/1"),
-}
+}  # fmt: skip
 
 
 def sides(boxes: list[etree.Element]) -> list[tuple[int, ...]]:
@@ -178,6 +143,8 @@ def scripts() -> typing.Iterator[tuple[str, str]]:
 
 
 def whole(tally: Tally, name: str, picture: Picture) -> None:
+    """Nothing is off the canvas, no text is on another one, each label is on its arrow, and what is cut is there whole.
+    """
     for text in picture.texts:
         is_on = 0 <= text.left and text.right <= picture.width and 0 <= text.top and text.bottom <= picture.height
         tally.holds(is_on, name, "off the canvas", text.shown)
@@ -239,17 +206,15 @@ def begun_there(tally: Tally, name: str, picture: Picture, lines: list[str]) -> 
     rows = sorted({text.y for text in picture.names})
     arrows = sorted(y for _, y, _ in picture.arrows)
     for text in picture.texts:
-        first = (
-            next((y for y in arrows if y > text.y), None)
-            if text.style == "event" and text.whole.startswith("job ")
-            else None
-        )
+        begins = text.style == "event" and text.whole.startswith("job ")
+        first = next((y for y in arrows if y > text.y), None) if begins else None
         is_near = first is not None and first - text.y < draw.NEAR * draw.BAND
         is_so = not is_near or not any(text.y < row < first for row in rows)
         tally.holds(is_so, name, "names between a job and its first arrow", text.whole)
 
 
 def folded(tally: Tally, name: str, script: str, lines: list[str]) -> None:
+    """With --fold each request stands in one arrow or dot."""
     picture = drawn(script, "--fold", "--anyway")
     count = sum("->" in line for line in lines if line.startswith("  "))
     is_so = len(picture.arrows) // 2 + len(picture.dots) == count
@@ -266,6 +231,7 @@ def everybody(tally: Tally) -> None:
 
 
 def chosen(tally: Tally) -> None:
+    """--agent, --suite, --from and --to draw what they say."""
     two, picture = SCRIPTS["two"], drawn(SCRIPTS["two"])
     every = picture.requests()
     tally.holds(("agent 1", "forgets its cache of site 0") in picture.said(), "forget is not drawn")
@@ -295,37 +261,21 @@ def stands(tally: Tally) -> None:
     at = next(place for place, one in enumerate(picture.requests(), 1) if one[0] == "agent 1") + 1
     later = drawn(script_of(3, 2, "1,1,1/2/2", *lines), "--from", str(at))
     tally.holds(later.requests() == picture.requests()[at - 1 :], "--from in a job")
-    tally.holds(
-        later.said()[:2] == [("server 2", "is down"), ("agent 1", "begun before, job 0 (t 1), user 1000: write /a 00")],
-        "before",
-        later.said(),
-    )
+    wanted = [("server 2", "is down"), ("agent 1", "begun before, job 0 (t 1), user 1000: write /a 00")]
+    tally.same(later.said()[:2], wanted, "before")
     server = next(x for x, name in later.places.items() if name == "server 2")
-    tally.holds(
-        [(x + wide / 2, high > later.height - 100 - draw.LEGEND) for x, _, wide, high in later.greys]
-        == [(server, True)],
-        "grey from before",
-        later.greys,
-    )
+    greys = [(x + wide / 2, high > later.height - 100 - draw.LEGEND) for x, _, wide, high in later.greys]
+    tally.same(greys, [(server, True)], "grey from before")
     tally.holds(all("file /a" not in words for _, words in later.said()), "a job that ended before is drawn")
 
 
 def about(tally: Tally, program: str) -> None:
     """--suite draws the jobs that asked for it, of which `play` tells how many requests they took."""
-    lines = [
-        begun(0, "file /a 666"),
-        begun(0, "file /b 666"),
-        begun(0, "read /a"),
-        begun(0, "write /b 00"),
-        begun(0, "read /b"),
-        begun(0, "read /a"),
-    ]
+    asked = ("file /a 666", "file /b 666", "read /a", "write /b 00", "read /b", "read /a")
+    lines = [begun(0, one) for one in asked]
     counts = jobs(program, script_of(3, 1, "1,1,1/2/2", *lines))
     picture = drawn(script_of(3, 1, "1,1,1/2/2", *lines), "--suite", "/b")
-    wanted = [
-        f"job {job} (t {64 * job}), user 1000: {asked}"
-        for job, asked in ((1, "file /b 666"), (3, "write /b 00"), (4, "read /b"))
-    ]
+    wanted = [f"job {job} (t {64 * job}), user 1000: {asked[job]}" for job in (1, 3, 4)]
     tally.holds([words for _, words in picture.said()] == wanted, "--suite /b", picture.said())
     own = counts[1] + counts[3] + counts[4]
     # of a job is drawn what it asks of the suite itself, and of its transaction
@@ -335,9 +285,9 @@ def about(tally: Tally, program: str) -> None:
 
 
 def many(tally: Tally, program: str) -> None:
-    script = script_of(
-        3, 2, "1,1,1/2/2", begun(0, "file /a 666"), *[begun(number % 2, "read /a") for number in range(250)]
-    )
+    """Above 2,000 requests nothing is drawn without --anyway, and it is said how many there are and how to choose."""
+    reads = [begun(number % 2, "read /a") for number in range(250)]
+    script = script_of(3, 2, "1,1,1/2/2", begun(0, "file /a 666"), *reads)
     total = sum(jobs(program, script))
     tally.holds(total > 2000, "the script has too few requests", total)
     status, text, said = run(script)
@@ -363,6 +313,9 @@ def written(script: str, agent: int | None, suite: int | None) -> str:
 
 
 def told(tally: Tally, name: str, script: str, lines: list[str]) -> None:
+    """A trace tells what the command `trace` prints in lines, with paths; of an agent and of a suite it tells what a
+    slow reading of those lines finds.
+    """
     whole = traced.told(lines)
     tally.holds(written(script, None, None) == whole, name, "told otherwise than in lines")
     verbs = ("begin", "sweep", "step", "run", "crash", "return", "forget", "audit")
@@ -401,10 +354,7 @@ def slow(tally: Tally) -> None:
     script, folder = SCRIPTS["five"].encode(), os.path.join(played.TOP, "tools")
     for name in ("trace", "draw"):
         words = [sys.executable, "-c", SLOW.format(name)]
-        own, terminal = pty.openpty()
-        done = subprocess.run(words, input=script, stdout=subprocess.PIPE, stderr=terminal, cwd=folder)
-        os.close(terminal)
-        said = played.shown_on(own)
+        done, said = played.on_terminal(words, input=script, cwd=folder)
         is_so = done.returncode == 0 and " % of the script is played, 0 s" in said
         tally.holds(is_so, name, "a terminal is told", said)
         tally.holds(said.endswith("\r\033[K"), name, "what was said last stays", said[-60:])

@@ -16,54 +16,7 @@ from common import console, functions, text_of
 from front import sources
 from wrong_bodies import changes
 
-SOURCE = """//! A sample.
-
-use std::fmt;
-
-fn first(left: u8) -> u8
-    ensures { IfOk result (λ x. x ≡ left) }
-{
-    let next = left;
-    next
-}
-
-struct Pair<T> {
-    left: T,
-}
-
-impl<T> Pair<T> {
-    pub(crate) const fn first(&self) -> u8 {
-        let next = left;
-        if next > 3 {
-            return 3;
-        }
-        next
-    }
-
-    fn none(&self) {}
-
-    fn text(&self) -> &str {
-        "left
-        let next = left;
-"
-    }
-}
-
-trait Named {
-    fn second(&self) -> u8;
-
-    fn third(&self) -> u8
-        ensures { result ≡ 3 };
-}
-
-impl Named for Pair<u8> {
-    fn second(&self) -> u8
-    {
-        let next = left; // of both
-        next
-    }
-}
-"""
+SOURCE = text_of("tests", "samples", "edited.rt.txt")
 FUNCTIONS = ("first", "Pair::first", "Pair::none", "Pair::text", "Pair::second")
 NEXT = "let next = left;"
 # The lines of an edit behind its file, and what is told of it; or how the line becomes that it changes.

@@ -6,12 +6,9 @@ or cannot be written, no memory, a stop, and a checked build of which a step is 
 played in a copy of the repository, with small scripts in place of the programs and of the kit. Prints each end that is
 another; status 1 where one is.
 """
-from __future__ import annotations
-
 import contextlib
 import os
 import pty
-import select
 import signal
 import subprocess
 import sys
@@ -42,6 +39,13 @@ DIES, ENDLESS = "#!/bin/sh\nread -r line\nkill -9 $$\n", "#!/bin/sh\nread -r lin
 ONE_WAY = "#!/bin/sh\ncat > /dev/null\necho 'way 1 in 1 of 1 ends\n0.0 answered set\nall 1 ways, 2 worlds'\n"
 OPENING = '{"event":0,"line":0,"kind":"opening","form":2,"servers":[],"agents":[]}'
 EVENTS = f"#!/bin/sh\ncat > /dev/null || exit 6\necho '{OPENING}'\necho '{OPENING}'\n"
+# Programs beside those that talk to a session, and those that do or stand beside them.
+PROGRAMS = {
+    "explore": "#!/bin/sh\ncat > /dev/null\necho 'all 0 ways, 0 worlds'\n",
+    "trace": "#!/bin/sh\ncat > /dev/null || exit 6\necho '{\"kind\":\"line\",\"text\":\"x\"}'\n",
+    "may": "#!/bin/sh\nwhile read -r line; do echo granted; done\n",
+}
+TALKED = {"session": ANSWERS, "explore": ONE_WAY, "trace": EVENTS, "judge": EVENTS}
 # The commands that talk to a session, or stand beside those that are looked at first; `dump` talks to one at its end.
 TALKING = ("shell", "show --live", "dump", "mount --foreground room")
 HELPED = ("mount", "shell", "import", "dump", "session", "judge", "explore", "show", "show --live")
@@ -63,8 +67,7 @@ MODULE = """printf 'BC\\300\\336\\0\\0\\0\\0\\003\\0\\0\\0suites::main' > "$TMPD
 
 def write(path: str, text: str) -> None:
     os.makedirs(os.path.dirname(path), exist_ok=True)
-    with open(path, "w", encoding="utf-8") as file:
-        file.write(text)
+    played.put(path, text)
     os.chmod(path, 0o755)
 
 
@@ -116,33 +119,27 @@ def mounts(copy: wrapper.Copy) -> list[str]:
     return [words for words in TALKING if words.startswith("mount") and os.path.exists("/dev/fuse")]
 
 
-def by_streams_of_sessions(copy: wrapper.Copy) -> None:
-    """The same of what talks to a session, of a page of ways, and of all that tells its help."""
-    for name, text in (("session", ANSWERS), ("explore", ONE_WAY), ("trace", EVENTS), ("judge", EVENTS)):
-        copy.build(name, text)
-    helps = [f"{one} --help" for one in HELPED]
-    for words in ("shell", "show --live", "import tools", "explore --page", "judge", *helps):
-        holds(copy, f"./suites {words} > /dev/full", 6, "a write failed: No space left on device")
-        holds(copy, f"./suites {words} >&-", 6, "a write failed: standard output is closed")
-    for words in ("shell", "dump", "explore --page", "judge"):
-        holds(copy, f"./suites {words} <&-", 6, "a read failed: standard input is closed")
-    for words in ("shell", "import tools"):
-        done = asked(copy, f"./suites {words} 2>&-")
-        copy.holds((done.returncode, done.stderr) == (0, b""), f"{words} with a closed standard error: {done}")
-
-
 def by_streams(copy: wrapper.Copy) -> None:
-    """Streams that are closed, and those that cannot be written."""
-    copy.build("explore", "#!/bin/sh\ncat > /dev/null\necho 'all 0 ways, 0 worlds'\n")
-    copy.build("trace", "#!/bin/sh\ncat > /dev/null || exit 6\necho '{\"kind\":\"line\",\"text\":\"x\"}'\n")
-    copy.build("may", "#!/bin/sh\nwhile read -r line; do echo granted; done\n")
-    for words in ("explore", "votes 1/1/1", "explain U1", "votes --help", "may --help", "may 0 r /", "trace"):
-        holds(copy, f"./suites {words} > /dev/full", 6, "a write failed: No space left on device")
-        holds(copy, f"./suites {words} >&-", 6, "a write failed: standard output is closed")
-    holds(copy, "./suites trace <&-", 6, "a read failed: standard input is closed")
-    holds(copy, "./suites explain x - <&-", 6, "a read failed: standard input is closed")
-    done = asked(copy, "./suites may 0 r / 2>&-")
-    copy.holds((done.returncode, done.stderr) == (0, b""), f"a closed standard error: {done}")
+    """Streams that are closed, and those that cannot be written: of tools, of what talks to a session, of a page of
+    ways, and of all that tells its help.
+    """
+    alone = ("explore", "votes 1/1/1", "explain U1", "votes --help", "may --help", "may 0 r /", "trace")
+    helps = [f"{one} --help" for one in HELPED]
+    for programs, written, read, silent in (
+        (PROGRAMS, alone, ("trace", "explain x -"), ("may 0 r /",)),
+        (TALKED, ("shell", "show --live", "import tools", "explore --page", "judge", *helps),
+         ("shell", "dump", "explore --page", "judge"), ("shell", "import tools")),
+    ):  # fmt: skip
+        for name, text in programs.items():
+            copy.build(name, text)
+        for words in written:
+            holds(copy, f"./suites {words} > /dev/full", 6, "a write failed: No space left on device")
+            holds(copy, f"./suites {words} >&-", 6, "a write failed: standard output is closed")
+        for words in read:
+            holds(copy, f"./suites {words} <&-", 6, "a read failed: standard input is closed")
+        for words in silent:
+            done = asked(copy, f"./suites {words} 2>&-")
+            copy.holds((done.returncode, done.stderr) == (0, b""), f"{words} with a closed standard error: {done}")
     done = asked(copy, "./suites may 0 r / <&- >&- 2>&-")
     copy.holds((done.returncode, done.stdout) == (6, b""), f"all streams closed: {done}")
 
@@ -184,20 +181,22 @@ def until(is_so: typing.Callable[[], object]) -> bool:
     return False
 
 
+def started(copy: wrapper.Copy, words: str, kept: str, **how: typing.Any) -> tuple[subprocess.Popen[bytes], int]:
+    """A command of the copy that is at work, and its program, which wrote its number there."""
+    with contextlib.suppress(FileNotFoundError):
+        os.unlink(kept)
+    how = {"stdout": subprocess.DEVNULL, "start_new_session": True, **how}
+    process = subprocess.Popen(["./suites", *words.split()], cwd=copy.top, **how)
+    until(lambda: os.path.exists(kept) and os.path.getsize(kept))
+    return process, int(played.text_of(kept))
+
+
 def by_stops_of_sessions(copy: wrapper.Copy) -> None:
     """A stop of what talks to a session stops that too, though it has not answered."""
     kept = os.path.join(copy.top, "process")
     copy.build("session", SLEEPS.format(kept))
     for words in ("shell", "show --live", *mounts(copy)):
-        with contextlib.suppress(FileNotFoundError):
-            os.unlink(kept)
-        process = subprocess.Popen(
-            ["./suites", *words.split()], cwd=copy.top, stdin=subprocess.PIPE, stdout=subprocess.DEVNULL,
-            stderr=subprocess.PIPE, start_new_session=True,
-        )  # fmt: skip
-        until(lambda: os.path.exists(kept) and os.path.getsize(kept))
-        with open(kept, encoding="ascii") as file:
-            child = int(file.read())
+        process, child = started(copy, words, kept, stdin=subprocess.PIPE, stderr=subprocess.PIPE)
         process.send_signal(signal.SIGTERM)
         is_stopped = until(lambda: not played.is_alive(child))
         _, told = process.communicate(timeout=120)
@@ -211,29 +210,16 @@ def by_stops(copy: wrapper.Copy) -> None:
     copy.build("suites", SLEEPS.format(kept))
     for on_terminal in (False, True):
         for number in (signal.SIGTERM, signal.SIGINT):
-            with contextlib.suppress(FileNotFoundError):
-                os.unlink(kept)
             leader, end = pty.openpty()
             given = os.open(os.path.join(copy.top, "two"), os.O_RDONLY | os.O_CREAT)
-            process = subprocess.Popen(
-                ["./suites", "play"], cwd=copy.top, stdin=given, stdout=subprocess.DEVNULL,
-                stderr=end if on_terminal else subprocess.DEVNULL, start_new_session=True,
-            )  # fmt: skip
-            begun = until(lambda: os.path.exists(kept) and os.path.getsize(kept))
-            with open(kept, encoding="ascii") as file:
-                child = int(file.read())
+            process, child = started(copy, "play", kept, stdin=given, stderr=end if on_terminal else subprocess.DEVNULL)
             process.send_signal(number)
             status, is_stopped = process.wait(120), until(lambda: not played.is_alive(child))
             about = f"{number.name} {'on a terminal' if on_terminal else ''}"
-            copy.holds(begun and is_stopped and status == 128 + number, f"{about}: {status}, stopped: {is_stopped}")
+            copy.holds(is_stopped and status == 128 + number, f"{about}: {status}, stopped: {is_stopped}")
             os.close(given)
             os.close(end)
-            while select.select([leader], [], [], 0)[0]:
-                with contextlib.suppress(OSError):
-                    if os.read(leader, 4096):
-                        continue
-                break
-            os.close(leader)
+            played.shown_on(leader)
 
 
 def kept(copy: wrapper.Copy) -> list[str]:
@@ -270,8 +256,7 @@ def main() -> int:
     with tempfile.TemporaryDirectory(prefix="suites-") as room:
         copy = wrapper.Copy(room)
         for part in (
-            by_signals, by_streams, by_streams_of_sessions, by_memory, by_settings, by_stops, by_stops_of_sessions,
-            by_builds,
+            by_signals, by_streams, by_memory, by_settings, by_stops, by_stops_of_sessions, by_builds,
         ):
             part(copy)
     return copy.told("ends")

@@ -84,8 +84,7 @@ def kind(text: str) -> str:
 
 def printed(*words: str, script: str = "", behind: str = "", says: bool = False) -> typing.Iterator[str]:
     """What `./suites` prints of a script with more lines behind it; and what it says on standard error."""
-    with open(script or os.devnull, "rb") as given:
-        text = given.read() + behind.encode()
+    text = played.got(script or os.devnull) + behind.encode()
     done = subprocess.run(["./suites", *words], cwd=played.TOP, input=text, capture_output=True, check=False)
     told = done.stdout + (done.stderr if says else b"")
     yield from (line for line in told.decode("latin1").splitlines() if line.strip())
@@ -110,8 +109,7 @@ def of_sessions() -> typing.Iterator[Line]:
         told = printed("shell", script=story, behind=behind, says=True)
         yield from (Line("shell", text) for text in told if text not in BYTES)
     with tempfile.TemporaryDirectory(prefix="suites-") as folder:
-        with open(os.path.join(folder, "plan"), "w", encoding="utf-8") as file:
-            file.write("the plan")
+        played.put(os.path.join(folder, "plan"), "the plan")
         os.symlink("plan", os.path.join(folder, "link"))
         os.mkdir(os.path.join(folder, "a b"))
         os.chmod(os.path.join(folder, "plan"), 0o4644)
@@ -200,8 +198,7 @@ def obeyed(tally: played.Tally) -> None:
     """A script with bytes that a terminal would obey: none comes out of the tools that show it."""
     path = os.path.join(played.TOP, "out", "obeyed.script")
     os.makedirs(os.path.dirname(path), exist_ok=True)
-    with open(path, "w", encoding="latin1") as file:
-        file.write(OBEYED)
+    played.put(path, OBEYED.encode("latin1"))
     try:
         for words in (["explain", "0.0 1 refused F1 op 1", path], ["draw"], ["show"]):
             text = "\n".join(printed(*words, script="" if words[0] == "explain" else path))
@@ -212,9 +209,7 @@ def obeyed(tally: played.Tally) -> None:
 
 
 def main() -> int:
-    read = console.words(__doc__)
-    read.add_argument("--told", action="store_true")
-    is_told = read.parse_args().told
+    is_told = played.words(__doc__, told=False).told
     kinds: dict[tuple[str, bool], Line] = {}
     for line in lines():
         if line.text.strip():

@@ -20,6 +20,7 @@ import typing
 
 import played
 import scripting
+from played import Tally
 
 from common import built, forms, text_of
 from compare import scenario
@@ -76,90 +77,11 @@ ON_TERMINAL = (
     ("my script", "play", "servers 3\nagents 0\n", "0 is below 1"),
     ("list", "acl", "u:rw,g::r,o::-\n", "A colon is missing"),
 )
-# Of a line that a story of examples/play/ prints, what is to be told with the script.
-STORIES = (
-    (
-        "revocation",
-        "1.2 9 denied op 1 suite 1 wants r-- by other::",
-        [
-            "line 29, for user 2000 of groups 300: read /a",
-            "came to /a (suite 1), and wanted r-- of it",
-            "Its list was then user::rw-,group::r--,other::---, its owner user 1000, and its group 100",
-        ],
-    ),
-    ("revocation", "t 129 uid 2000 op 1 suite 1 wants r-- by other::", ["job 2 of agent 1: line 29"]),
-    (
-        "dropped",
-        "1.1 10 denied op 1 suite 1025 wants r-- by other::",
-        ["/a (suite 1025)", "user::rw-,group::---,other::---"],
-    ),
-    (
-        "quorum-lost",
-        "3.0 13 undecided U1 suite 1 got 3 of 4",
-        [
-            "It wanted 4 votes of /a (suite 1), and had 3. Server 0 has a vote, and was " "down, since line 17",
-            "Server 1 has a vote, and was down, since line 18",
-            "Server 2 gave its vote",
-        ],
-    ),
-    ("votes-moved-to-up", "1.0 8 undecided U1 suite 1 got 1 of 2", ["enough of them are up: they were moved"]),
-    (
-        "home-down",
-        "0.3 8 undecided U2 server 0 holder 65",
-        [
-            "transaction 65, is job 1 of agent 1: line 27",
-            "its home, server 2, is down " "since line 29",
-            "`return 2`, then `sweep 0 0`",
-        ],
-    ),
-    (
-        "crashed-writer",
-        "1.0 9 undecided U2 server 0 holder 64",
-        ["job 1 of agent 0: line 15", "its home, server 1, is up", "`run 0`"],
-    ),
-    ("crashed-writer", "0.1 10 undecided U4", ["sweep of job 1 of agent 1 (line 24, a sweep of server 0)"]),
-    ("locks-lost", "0.1 8 undecided U3 server 0", ["Server 0 crashed in line 17"]),
-    (
-        "begin-again",
-        "1.0 13 undecided U5",
-        ["Its home is server 1: (1 + 0) mod 3", "down, since line 16", "whose home is server 2"],
-    ),
-    (
-        "dropped",
-        "0.2 12 answered made 1025; wrote",
-        ["made 1025, which is 8 * 128 + 1: operation 1 of transaction 128"],
-    ),
-    ("home-down", "0.1 2 swept 0 0 1", ["Transaction 65, job 1 of agent 1: its home, server 2, is down"]),
-)
-# Texts that are told by themselves.
-ALONE = {
-    "begin 0 1000 100 0 file /a 644 ; write /a 6869": [
-        "operation 1: makes a file",
-        "the mode of the list u::rw-,g::r--,o::r--",
-        "the text hi",
-    ],
-    "votes 1,1,1/2/2": ["1 of server 0", "a read collects 2, and a write 2"],
-    "step 0 3": ["A, the number of an agent", "N, how many steps"],
-    "prefix": ["kind, owner, group, lists and votes"],
-    "sweep": ["sweep A S", "sweep S"],
-    "site": ["a place for which an agent works"],
-    "home": ["decide"],
-    "may be lost   any 1": ["whichever they are"],
-    "not found     {0,1}: got 1 of 2": ["votes that were moved"],
-    "/etc/shadow  r--  denied by other::---": ["what its list says"],
-    "1.0 1 swept 0 0 0": ["it took 1 request."],
-    "nobody (65534; groups 65534) may not r: /etc/shadow wants r--, other grants ---": [
-        "the entry that decides grants"
-    ],
-}
-RIGHT = scripting.header() + "begin 0 1000 100 0 file /a 644\nrun 1\n"
-# Faults that are told of a script or a list which has been mended, and what is said.
+# What is to be said, and what has been mended, by the names of files that stand there.
+SAID = os.path.join("tests", "explained.txt")
 MENDED = {
-    "fault line 3: S2": (RIGHT, "no fault S2 in line 3. The line is right as it is now. Was it changed since?"),
-    "fault line 6: S1": (RIGHT, "no fault S1 in line 6. The line is right as it is now."),
-    "fault line 12: S1": (RIGHT, "has no line 12. Was it changed"),
-    "fault line 4: G1": (RIGHT, "The line is right as it is now"),
-    "fault A9 item 1": ("u::rw,g::r,o::-\n", "has no fault A9 item 1. The list is right as it is now."),
+    "mended-script": scripting.header() + "begin 0 1000 100 0 file /a 644\nrun 1\n",
+    "mended-list": "u::rw,g::r,o::-\n",
 }
 SEEDS = 6
 NOT_FOUND = "Was it changed since?"
@@ -204,37 +126,30 @@ def untold(command: str, path: str, fault: str, told: str) -> str | None:
     return None if NOT_FOUND in as_one(explain.answer([other, path])) else f"{other} is found too"
 
 
-def play_examples(program: str) -> tuple[int, list[str]]:
-    """Plays the examples; how many there are, and what differs."""
-    count, wrong = 0, list[str]()
+def play_examples(program: str, tally: Tally) -> None:
+    """Plays the examples."""
     about: dict[str, bool] = {}
     with tempfile.TemporaryDirectory(prefix="suites-") as folder:
         path = os.path.join(folder, "given")
         for code, words, lines, wanted, told in examples():
-            count += 1
             text = "".join(line + "\n" for line in lines)
-            last = built.asked(words[0], text, *words[1:], path=program)[1].splitlines()[-1:]
+            last, why = built.asked(words[0], text, *words[1:], path=program)[1].splitlines()[-1:], None
             if last != [wanted]:
-                wrong.append(f"{code}: {words} of {lines} prints {last}, and not {wanted}")
+                why = f"{words} prints {last}"
             elif re.match(r"fault (line|[A-Z])", wanted):
-                with open(path, "w", encoding="latin1", newline="") as file:
-                    file.write(text)
-                why = untold(words[0], path, wanted, told)
-                wrong += [f"{code}: of {lines}, {wanted}, is wanted: {told}; {why}"] if why else []
+                why = untold(words[0], played.put(path, text.encode("latin1")), wanted, told)
             elif told and told not in as_one(explain.explained(wanted).split("\n\n")[0]):
-                wrong.append(f"{code}: of {wanted} explain does not say {told}")
+                why = "explain does not say it"
+            tally.holds(not why, f"{code}: of {lines}, {wanted}, is wanted: {told}; {why}")
             about[code] = about.get(code) or f"{code} (" in explain.explained(wanted)
-    return count, wrong + [f"explain says nothing of {code} where it is printed" for code in about if not about[code]]
+    for code in about:
+        tally.fails(not about[code] and f"explain says nothing of {code} where it is printed")
 
 
-def on_terminal(words: list[str], path: str, folder: str) -> str:
+def on_terminal(command: str, path: str, folder: str) -> str:
     """What a terminal is told of a file that is read."""
-    terminal, end = os.openpty()
     with open(path, "rb") as file:
-        given: dict[str, typing.Any] = {"stdin": file, "stdout": subprocess.DEVNULL, "stderr": end, "cwd": folder}
-        subprocess.run([os.path.join(TOP, "suites"), *words], check=False, **given)
-    os.close(end)
-    return played.shown_on(terminal)
+        return played.on_terminal([os.path.join(TOP, "suites"), command], stdin=file, cwd=folder)[1]
 
 
 def told_on_terminal() -> typing.Iterator[str]:
@@ -242,14 +157,13 @@ def told_on_terminal() -> typing.Iterator[str]:
     of `explore` it has to be told so.
     """
     for command in ("play", "trace", "draw", "show"):
-        said = on_terminal([command], os.path.join(TOP, EXPLORED), TOP)
+        said = on_terminal(command, os.path.join(TOP, EXPLORED), TOP)
         if f"explore --way 1 < {EXPLORED}" not in said.replace("'", ""):
             yield f"{command} says of {EXPLORED}: {said}"
     with tempfile.TemporaryDirectory(prefix="suites-") as folder:
         for name, command, text, told in ON_TERMINAL:
-            with open(os.path.join(folder, name), "w", encoding="utf-8") as file:
-                file.write(text)
-            said = on_terminal([command], os.path.join(folder, name), folder)
+            played.put(os.path.join(folder, name), text)
+            said = on_terminal(command, os.path.join(folder, name), folder)
             found = re.search(r"\./suites (explain 'fault .*) shows it", said)
             how: dict[str, typing.Any] = {"shell": True, "cwd": folder, "stdout": subprocess.PIPE, "text": True}
             shown = found and subprocess.run(f"{TOP}/suites {found[1]}", **how).stdout
@@ -281,20 +195,13 @@ def random_runs(program: str) -> typing.Iterator[tuple[str, str, str, play_lines
         yield f"seed {seed}", script, printed, play_lines.played(script.encode("latin1"), "the script")
 
 
-def told_of_runs(program: str) -> tuple[int, list[str]]:
-    """What differs of what is told of lines with their scripts: of stories, and of random scripts, where each line has
-    to be
-    told, and a list that is told of a denial has to deny it."""
-    count, wrong = 0, []
-    for story, line, wanted in STORIES:
-        path, count = os.path.join(TOP, "examples", "play", f"{story}.script"), count + 1
-        said = as_one(explain.answer([line, path]))
-        wrong += [
-            f"{story}: of {line} explain does not say {words}: {said[:600]}" for words in wanted if words not in said
-        ]
+def told_of_runs(program: str, tally: Tally) -> None:
+    """What is told of lines of random scripts: each line has to be told, and a list that is told of a denial has to
+    deny it.
+    """
     for seed, script, printed, run in random_runs(program):
         for line in dict.fromkeys(printed.splitlines()):
-            said, count = " ".join(play_lines.of_run(run, line, script, "the script")), count + 1
+            said = " ".join(play_lines.of_run(run, line, script, "the script"))
             found = re.search(
                 r"Its list was then (\S+), its owner user (\d+), and its group (\d+)\. User (\d+) of groups (\S+) ",
                 said,
@@ -302,32 +209,27 @@ def told_of_runs(program: str) -> tuple[int, list[str]]:
             denial = re.search(r"wants (\S+) by (\S+)$", line)
             if denial and denial[2] != "owner":
                 decider = found and denies(found[1], found[2], found[3], found[4], found[5].split(","), denial[1])
-                wrong += [] if decider == denial[2] else [f"{seed}: of {line} is told: {said}"]
-            if not said or ("undecided" in line and len(said) < 150):
-                wrong.append(f"{seed}: of {line} is told too little: {said}")
-    return count, wrong
+                tally.fails(decider != denial[2] and f"{seed}: of {line} is told: {said}")
+            is_short = not said or ("undecided" in line and len(said) < 150)
+            tally.holds(not is_short, f"{seed}: of {line} is told too little: {said}")
 
 
-def told_alone() -> tuple[int, list[str]]:
-    """What differs of what is told of words and lines by themselves, and of faults of what has been mended."""
-    wrong = [
-        f"of {text} explain does not say {words}"
-        for text, wanted in ALONE.items()
-        for words in wanted
-        if words not in as_one(explain.answer([text]))
-    ]
-    for fault, (given, words) in MENDED.items():
-        with tempfile.NamedTemporaryFile("w", prefix="suites-", encoding="latin1") as file:
-            file.write(given)
-            file.flush()
-            said = as_one(explain.answer([fault, file.name]))
-        wrong += [] if words in said else [f"of {fault} in what is right explain says: {said}"]
-    return len(ALONE) + len(MENDED), wrong
+def told_of_lines(tally: Tally) -> None:
+    """What is told of words and lines by themselves, of those of stories, and of faults of what has been mended."""
+    cases = re.findall(r"^([a-z-]*) ?\| (.*)\n((?:    .*\n)+)", text_of(SAID), re.M)
+    tally.fails(len(cases) < 25 and f"{SAID} has {len(cases)} lines")
+    with tempfile.TemporaryDirectory(prefix="suites-") as folder:
+        for name, line, wanted in cases:
+            path = os.path.join(TOP, "examples", "play", f"{name}.script")
+            if name in MENDED:
+                path = played.put(os.path.join(folder, name), MENDED[name])
+            said = as_one(explain.answer([line, path] if name else [line]))
+            missing = [words for words in wanted.splitlines() if words.strip() not in said]
+            tally.holds(not missing, f"{name}: of {line} explain does not say {missing}: {said[:600]}")
 
 
-def silent_lines(program: str) -> tuple[int, list[str]]:
+def silent_lines(program: str, tally: Tally) -> None:
     """What differs between the lines that remarks.py says did nothing and those that the trace says did nothing."""
-    wrong = []
     for seed, script, printed, run in random_runs(program):
         said = list(remarks.silent(remarks.lines_of(script), printed))
         found = {int(number) for number in re.findall(r"line (\d+) did nothing", "\n".join(said))}
@@ -335,30 +237,23 @@ def silent_lines(program: str) -> tuple[int, list[str]]:
             f"agent {agent} has a job that has not ended (line {job.number}); run {agent} ends it"
             for agent, job in run.busy.items()
         }
-        if found != run.silent or left != {line for line in said if line.startswith("agent")}:
-            wrong.append(f"{seed}: {said}, and the trace says {run.silent} {left}")
-    return SEEDS, wrong
+        is_so = found == run.silent and left == {line for line in said if line.startswith("agent")}
+        tally.holds(is_so, f"{seed}: {said}, and the trace says {run.silent} {left}")
 
 
-def play_commands() -> tuple[int, list[str]]:
-    """Runs the command lines that the page shows; how many there are, and which fail."""
+def play_commands(tally: Tally) -> None:
+    """Runs the command lines that the page shows."""
     spans = set(re.findall(explain.SPAN, text_of("docs", "FAULTS.md")))
-    shown = sorted(span for span in spans if re.match(r"(\./)?suites .*[a-z]", span))
-    wrong = []
-    for command in shown:
+    for command in sorted(span for span in spans if re.match(r"(\./)?suites .*[a-z]", span)):
         line = command if command.startswith("./") else f"./{command}"
         for word, put in PUT.items():
             line = re.sub(rf"(?<![A-Z]){word}(?![A-Z])", put, line)
         # what a script is to be read for, and has none, is help
-        line = (
-            line
-            if "<" in line or not re.fullmatch(r"\./suites (trace|draw|show|votes|play|table|acl)", line)
-            else f"{line} --help"
-        )
+        if "<" not in line and re.fullmatch(r"\./suites (trace|draw|show|votes|play|table|acl)", line):
+            line = f"{line} --help"
         done = subprocess.run(line, shell=True, cwd=TOP, stdin=subprocess.DEVNULL, capture_output=True, text=True)
-        if done.returncode != 0 or not done.stdout:
-            wrong.append(f"{command} ends with {done.returncode}: {(done.stdout + done.stderr).strip()[:200]}")
-    return len(shown), wrong
+        is_well = done.returncode == 0 and done.stdout
+        tally.holds(is_well, f"{command} ends with {done.returncode}: {(done.stdout + done.stderr).strip()[:200]}")
 
 
 def untold_words() -> typing.Iterator[str]:
@@ -437,13 +332,16 @@ def false_limits() -> typing.Iterator[str]:
 
 
 def main() -> int:
-    program = played.named_program(__doc__)
-    count, wrong = play_examples(program)
-    for told in (play_commands, lambda: told_of_runs(program), told_alone, lambda: silent_lines(program)):
-        more, differing = told()
-        count, wrong = count + more, wrong + differing
-    wrong += [*told_on_terminal(), *untold_words(), *unexplained(), *untold_reasons(), *false_limits()]
-    return played.verdict(count + len(LIMITS), "examples, lines, command lines and limits", wrong)
+    program, tally = played.named_program(__doc__), Tally()
+    play_examples(program, tally)
+    play_commands(tally)
+    told_of_runs(program, tally)
+    told_of_lines(tally)
+    silent_lines(program, tally)
+    for wrong in (told_on_terminal(), untold_words(), unexplained(), untold_reasons(), false_limits()):
+        tally.fails(*wrong)
+    tally.count += len(LIMITS)
+    return tally.told("examples, lines, command lines and limits")
 
 
 if __name__ == "__main__":

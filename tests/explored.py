@@ -283,7 +283,7 @@ def with_waits(script: str, ways: Ways, dice: random.Random) -> str:
 
 def compare_random(given: argparse.Namespace) -> int:
     """Compares with the other program for random scripts."""
-    tally, seed, count = Tally(), given.first, 0
+    tally, seed, count = Tally(), given.from_, 0
     while count < given.scripts:
         script, words = Explorable(seed).whole()
         seed += 1
@@ -303,7 +303,7 @@ def compare_random(given: argparse.Namespace) -> int:
         if "--forgets" not in words and "--returns" not in words:
             about = f"seed {seed - 1}: the ways are told in another order, or with other ends"
             tally.holds(told == wanted.printed(), about)
-    print(f"{count} scripts of {seed - given.first}, those with up to {MOST_WORLDS} worlds")
+    print(f"{count} scripts of {seed - given.from_}, those with up to {MOST_WORLDS} worlds")
     return tally.told("ways and answers compared")
 
 
@@ -313,21 +313,13 @@ def write(given: argparse.Namespace) -> int:
         ways = prototype_ways(given.write, one.text, one.words, given.merged)
         if not ways:
             sys.exit(f"{one.name}: too many worlds")
-        with open(one.ways_path, "w", encoding="utf-8") as file:
-            file.write(ways.joined(one.is_brief).printed())
+        played.put(one.ways_path, ways.joined(one.is_brief).printed())
     return 0
 
 
 def main() -> int:
-    asks = console.words(__doc__)
-    asks.add_argument("--every", type=int, default=1)
-    asks.add_argument("--against", metavar="PROTOTYPE")
-    asks.add_argument("--write", metavar="PROTOTYPE")
-    asks.add_argument("--scripts", type=int, default=300)
-    asks.add_argument("--from", type=int, default=0, dest="first")
-    asks.add_argument("--waits", action="store_true")
-    asks.add_argument("--merged", choices=["descent", "state", "history"], default="descent")
-    given = asks.parse_args()
+    merged = ("descent", "state", "history")
+    given = played.words(__doc__, every=1, against="", write="", scripts=300, from_=0, waits=False, merged=merged)
     if given.write:
         return write(given)
     return compare_random(given) if given.against else compare_kept(given.every)

@@ -6,8 +6,6 @@ it. Each line and each operation of the table is written with a word in each of 
 fault S1 with a word too few, with a word too many and with another first word. Each number has no fault at its limits,
 and beyond them the fault that the table tells. Prints what differs; status 1 where something does.
 """
-from __future__ import annotations
-
 import sys
 import typing
 

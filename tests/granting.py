@@ -5,8 +5,6 @@ In place of a session, for tests of what stands on one: a tree in memory without
 transaction is done whoever asks, with `deny` each is denied at the root folder. So what a mount over it lets through or
 keeps out is decided by nobody else.
 """
-from __future__ import annotations
-
 import sys
 from typing import NamedTuple
 

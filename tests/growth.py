@@ -8,8 +8,6 @@ folder's names are one content that is written whole: so no input of `play` has 
 FILE is a build of the program; else it is the one that `./suites` runs. Prints what grows more; status 1 where
 something does. Without valgrind it prints "skipped: .." and ends with 0.
 """
-from __future__ import annotations
-
 import random
 import resource
 import subprocess
@@ -19,8 +17,6 @@ import typing
 import counting
 import played
 from scripting import Make, header, job, repeated
-
-from common import console
 
 MOST, TIMES = 2.3, 16
 # A count that is less than this is that of a program which only begins and ends.
@@ -304,13 +300,9 @@ def grows(one: Input, program: str) -> str:
 
 
 def main() -> int:
-    read = console.words(__doc__)
-    read.add_argument("--only")
-    read.add_argument("--seconds", action="store_true")
-    read.add_argument("--program")
-    given = read.parse_args()
+    given = played.words(__doc__, only="", seconds=False, program="")
     program = played.program(given.program)
-    some = [one for one in INPUTS if not given.only or one[0].startswith(given.only)]
+    some = [one for one in INPUTS if one[0].startswith(given.only)]
     if given.seconds:
         for name, words, make, size in some:
             taken = [seconds([program, *words], make(size * times * TIMES)) for times in (1, 2, 4)]

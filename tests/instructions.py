@@ -90,10 +90,7 @@ def faults(counts: dict[str, int], wanted: dict[str, int]) -> list[str]:
 
 
 def main() -> int:
-    read = console.words(__doc__)
-    read.add_argument("--write", action="store_true")
-    read.add_argument("program", nargs="?")
-    given = read.parse_args()
+    given = played.words(__doc__, "program", write=False)
     if counting.skipped():
         return 0
     with tempfile.TemporaryDirectory() as folder:

@@ -1,6 +1,4 @@
 """File systems for tests: /dev/shm, and others in loop files, where root may mount."""
-from __future__ import annotations
-
 import contextlib
 import os
 import shutil

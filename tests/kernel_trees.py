@@ -1,8 +1,6 @@
 """Random trees of files, folders, links, pipes and devices with random lists, and what this Linux lets users do
 there. It shares no code with `may`: lists are packed here, and a child that has become a user makes the call.
 """
-from __future__ import annotations
-
 import ctypes
 import errno
 import json

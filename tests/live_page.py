@@ -1,17 +1,9 @@
 #!/usr/bin/env python3
 """tests/live_page.py [--shots FOLDER]
 
-Holds the page of a session (`./suites show --live`). Prints what differs; status 1 where something does.
-
-asks     who is answered: nobody without the token, for another host or from another page; what is sent is bounded, and
-         of what is refused the session hears nothing. It is served on the loopback address alone
-tells    what a line is answered is what `play` prints for the script that is saved; a name may come late, a fault and a
-         question are no part of the script, a journal is gone on with
-ends     a session that has ended is told, and Ctrl-C ends all
-clicks   the same by hand, in a headless Chromium: what the page shows is what the page of the saved script shows
+Holds the page of a session (`./suites show --live`): who is answered, what lines are told, how it ends, and the same by
+hand in a headless Chromium. Prints what differs; status 1 where something does.
 """
-from __future__ import annotations
-
 import contextlib
 import json
 import os
@@ -54,7 +46,7 @@ class Live:
         # the page has one event at first
         self.epoch, self.have = 0, 1
 
-    def __enter__(self) -> Live:
+    def __enter__(self) -> "Live":
         return self
 
     def __exit__(self, *_: object) -> None:
@@ -92,15 +84,8 @@ class Live:
         return told
 
     def session(self) -> int:
-        """The process of the session."""
-        with open(f"/proc/{self.child.pid}/task/{self.child.pid}/children", encoding="ascii") as file:
-            left = [int(word) for word in file.read().split()]
-        while True:
-            with open(f"/proc/{left[0]}/task/{left[0]}/children", encoding="ascii") as file:
-                below = [int(word) for word in file.read().split()]
-            if not below:
-                return left[0]
-            left = below
+        """The process of the session, below which is none."""
+        return played.below(self.child.pid)[-1]
 
 
 def by_address(live: Live, line: dict[str, object]) -> dict[str, tuple[bytes, int]]:
@@ -169,6 +154,9 @@ def refuses(tally: Tally, live: Live, line: dict[str, object]) -> None:
 
 
 def asks(tally: Tally) -> None:
+    """Nobody is answered without the token, for another host or from another page; the page is served on the loopback
+    address alone.
+    """
     with Live(*OWN) as live:
         line: dict[str, object] = {"line": "crash 1", "epoch": 0, "have": 1}
         refuses(tally, live, line)
@@ -189,6 +177,9 @@ def asks(tally: Tally) -> None:
 
 
 def tells(tally: Tally, folder: str) -> None:
+    """What a line is answered is what `play` prints for the script that is saved; a name may come late, a fault and a
+    question are no part of the script, and a journal is gone on with.
+    """
     name = os.path.join(folder, "journal")
     with Live(*OWN, "--journal", name) as live:
         answers = [live.tell(line) for line in STORY]
@@ -223,12 +214,12 @@ def tells(tally: Tally, folder: str) -> None:
 
 
 def ends(tally: Tally) -> None:
+    """A session that has ended is told, and Ctrl-C ends all."""
     with Live(*OWN) as live:
         live.tell("begin 0 1000 100 0 file /a 644")
         os.kill(live.session(), signal.SIGKILL)
         told = live.tell("run 0")
-        is_told = "The session has ended" in told["ended"] and told["script"] == live.script()
-        tally.holds(is_told, "it ended", told)
+        tally.holds("The session has ended" in told["ended"] and told["script"] == live.script(), "it ended", told)
         tally.holds("The session has ended" in live.tell("run 0")["ended"], "and is told again")
         page = live.asks(live.request("GET", f"/{live.token}/"))
         tally.holds(page[0] == 200 and b"The session has ended" in page[2], "the page tells it", page[0])
@@ -277,7 +268,8 @@ class Hand:
         return self.driver.value("document.getElementById('told').innerText")
 
 
-def clicks(tally: Tally, driver: browser.Browser, folder: str, shots: str | None) -> None:
+def clicks(tally: Tally, driver: browser.Browser, folder: str, shots: str) -> None:
+    """What the page shows by hand is what the page of the saved script shows."""
     with Live(*OWN) as live:
         hand = Hand(driver, live)
         whole = "begin, and run to its end"
@@ -346,8 +338,7 @@ def same_as_saved(tally: Tally, driver: browser.Browser, live: Live, folder: str
     """The page shows what the page of the saved script shows, at each moment."""
     text = "".join(f"{line}\n" for line in live.script()).encode()
     path = os.path.join(folder, "saved.html")
-    with open(path, "w", encoding="utf-8") as file:
-        file.write(show.page_of(text, show.Shown(show.events_of(text))))
+    played.put(path, show.page_of(text, show.Shown(show.events_of(text))))
     moments = range(0, driver.value("Page.run.last") + 1, 5)
     ours = [driver.value(f"(Page.go({place}), {SEEN})") for place in moments]
     rows = driver.value("JSON.stringify(Page.run.rows)")
@@ -369,7 +360,7 @@ def same_as_saved(tally: Tally, driver: browser.Browser, live: Live, folder: str
 
 
 def main() -> int:
-    tally, shots = Tally(most=20, width=600), browser.shots()
+    tally, shots = Tally(most=20, width=600), browser.shots(__doc__)
     asks(tally)
     with tempfile.TemporaryDirectory() as folder:
         tells(tally, folder)

@@ -7,7 +7,6 @@ below that, one where it was told; what was called is what the script asks for, 
 and a job above `together` was told before any below it was called. Looks too how `./suites serve --log` ends where its
 words, the script or the file are faulty. Status 1 where one differs.
 """
-import argparse
 import os
 import random
 import re
@@ -72,8 +71,7 @@ class Run:
         text = "\n".join([*self.lines, ""]).encode()
         done = subprocess.run(words, input=text, stdout=subprocess.PIPE, check=False)
         self.status, self.printed = done.returncode, done.stdout.decode().splitlines()
-        with open(log, encoding="ascii") as file:
-            self.history = file.read()
+        self.history = played.text_of(log)
         self.events = [found for found in map(LINE.fullmatch, self.history.splitlines()) if found]
 
     def jobs(self) -> list[str]:
@@ -127,13 +125,10 @@ def ends(tally: played.Tally, folder: str) -> None:
 
 
 def main() -> int:
-    read = argparse.ArgumentParser(description=__doc__, formatter_class=argparse.RawDescriptionHelpFormatter)
-    read.add_argument("--runs", type=int, default=200)
-    read.add_argument("--from", type=int, default=1, dest="seed")
-    given = read.parse_args()
+    given = played.words(__doc__, runs=200, from_=1)
     tally, beside, decided = played.Tally(20, 300), 0, 0
     with tempfile.TemporaryDirectory(prefix="suites-") as folder:
-        for seed in range(given.seed, given.seed + given.runs):
+        for seed in range(given.from_, given.from_ + given.runs):
             run = Run(seed, folder)
             beside += run.look(tally)
             decided += sum(not event["mark"] for event in run.events) // 2

@@ -3,17 +3,6 @@
 
 Runs of `serve` that are too long for a row. The program is the one that `./suites` runs (a checked build where nothing
 is proved), or the one that is named. Prints counts, seconds and memory; status 1 where something differs.
-
-many:   100,000 jobs by 64 agents on 16 servers: files made, written, read, given lists and dropped in 96 folders,
-        sweeps of servers at work, and a server that is filled with suites. Chance decides how most jobs end; looked at
-        is that each has its line, that each ending of those that the script is to bring about comes, and that the last
-        line counts the steps of all jobs but those that a full server did not serve.
-long:   lists by 4 agents on one server, until its history is full: 1,000,000 steps are certified, and whoever asks
-        after that is told that the server is full.
-busy:   8,000 writes of one file on one server, which is so asked to prepare more suites than it has places for, but
-        one again and again: nobody is told that it is full.
-often:  a thousand runs (RUNS another number) of `examples/serve/files.script`, with 2, 4 and 64 agents in turn: one
-        output.
 """
 import collections
 import os
@@ -123,11 +112,19 @@ def judged(run: Run, jobs: int) -> tuple[collections.Counter[str], list[str], in
     return counts, wrong, steps
 
 
+def shown(counts: collections.Counter[str]) -> str:
+    return ", ".join(f"{count} {what}" for what, count in counts.most_common())
+
+
 def last(run: Run) -> str:
     return run.lines[-1] if run.lines else ""
 
 
 def many(program: str) -> list[str]:
+    """100,000 jobs by 64 agents on 16 servers: files made, written, read, given lists and dropped, sweeps of servers at
+    work, and a server that is filled with suites. Each job has its line, each ending that the script is to bring about
+    comes, and the last line counts the steps of all jobs but those that a full server did not serve.
+    """
     run = Run(program, AGENTS, many_jobs())
     counts, wrong, steps = judged(run, JOBS)
     served = steps - counts["undecided U6"]
@@ -135,12 +132,14 @@ def many(program: str) -> list[str]:
         wrong.append(f"{last(run)}, where the jobs tell of {served}")
     wanted = ["answered", "refused F4", "refused F5", "swept", *(f"undecided U{code}" for code in (2, 3, 4, 6))]
     wrong += [f"no job ended as {kind}" for kind in wanted if not counts[kind]]
-    told = ", ".join(f"{count} {kind}" for kind, count in counts.most_common())
-    print(f"many: {JOBS} jobs, {AGENTS} agents, {SERVERS} servers: {last(run)}; {told}; {run.cost()}")
+    print(f"many: {JOBS} jobs, {AGENTS} agents, {SERVERS} servers: {last(run)}; {shown(counts)}; {run.cost()}")
     return wrong
 
 
 def long(program: str) -> list[str]:
+    """Lists by 4 agents on one server, until its history is full: 1,000,000 steps are certified, and whoever asks after
+    that is told that the server is full.
+    """
     jobs = HISTORY // 5 + 200
     script = header(1, None, "1/1/1") + "together\n" + "do 1000 100 0 list /\n" * jobs
     run = Run(program, 4, script.encode())
@@ -150,12 +149,14 @@ def long(program: str) -> list[str]:
     answers = collections.Counter(line.split(" ", 2)[2] for line in run.lines[:-1])
     if set(answers) != {"answered list -", "undecided U6 server 0"}:
         wrong.append(f"{answers}")
-    told = ", ".join(f"{count} {answer}" for answer, count in answers.most_common())
-    print(f"long: {jobs} jobs, 4 agents, 1 server: {last(run)}; {told}; {run.cost()}")
+    print(f"long: {jobs} jobs, 4 agents, 1 server: {last(run)}; {shown(answers)}; {run.cost()}")
     return wrong
 
 
 def busy(program: str) -> list[str]:
+    """Writes of one file on one server, which is so asked to prepare more suites than it has places for, but one again
+    and again: nobody is told that it is full.
+    """
     jobs = 8_000
     script = header(1, None, "1/1/1") + "do 1000 100 0 file /f 666\n"
     run = Run(program, AGENTS, (script + "do 1000 100 0 write /f 00\n" * (jobs - 1)).encode())
@@ -164,14 +165,13 @@ def busy(program: str) -> list[str]:
         wrong.append(f"{last(run)}, where the jobs tell of {steps}")
     if counts["answered"] < PLACES or counts["undecided U6"]:
         wrong.append(f"{counts}")
-    told = ", ".join(f"{count} {kind}" for kind, count in counts.most_common())
-    print(f"busy: {jobs} jobs, {AGENTS} agents, 1 server: {last(run)}; {told}; {run.cost()}")
+    print(f"busy: {jobs} jobs, {AGENTS} agents, 1 server: {last(run)}; {shown(counts)}; {run.cost()}")
     return wrong
 
 
 def often(program: str, runs: int) -> list[str]:
-    with open(FILES, "rb") as file:
-        script = file.read()
+    """So many runs of `examples/serve/files.script`, with 2, 4 and 64 agents in turn: one output."""
+    script = played.got(FILES)
     outputs, seconds = collections.Counter[tuple[int, bytes]](), 0.0
     for number in range(runs):
         run = Run(program, (2, 4, AGENTS)[number % 3], script)

@@ -14,8 +14,6 @@ tests/may_cases.py are tried on each file system.
 Status 1 where anything differs. It needs root and a file system with lists. With --if-possible it says where these
 are wanting, and ends well: so `./suites --test` runs some questions.
 """
-from __future__ import annotations
-
 import argparse
 import os
 import shutil
@@ -28,28 +26,26 @@ import kernel_systems
 import kernel_trees as trees
 import may_cases
 import may_changes
-from common import console
+import played
 from asked_may import accounts, may, sentences, unquoted, wanted
 from kernel_trees import DENIED, GRANTED, UNJUDGED, Dice, Tree, User, letters, tried
-from may_changes import Count, differs, users_of
+from may_changes import Count, users_of
 
 # So many questions are asked of one tree.
 OF_A_TREE = 400
 
 
-def ask_users(dice: Dice, tree: Tree, count: int) -> Count:
+def ask_users(dice: Dice, tree: Tree, until: int, count: Count) -> None:
     """May this user?"""
-    asked, wrong, left = 0, 0, 0
-    while asked < count:
+    while count.asked < until:
         user, perms = dice.user(), dice.choice([1, 1, 2, 4, 4, 5, 6, 7])
-        some = [dice.choice(tree.paths) for _ in range(min(60, count - asked))]
+        some = [dice.choice(tree.paths) for _ in range(min(60, until - count.asked))]
         said = tried(user, [(path, perms) for path in some])
         for path, linux, (told, line) in zip(some, said, sentences(user, wanted(perms), some)):
-            left += told == UNJUDGED
+            count.left += told == UNJUDGED
             if told not in (linux, UNJUDGED):
-                wrong += differs(f"{path!r} {letters(perms)} {user}", told, linux, [line])
-        asked += len(some)
-    return Count(asked, wrong, left)
+                count.differs(f"{path!r} {letters(perms)} {user}", told, linux, [line])
+        count.asked += len(some)
 
 
 def is_there(path: str) -> bool:
@@ -80,10 +76,10 @@ def ask_creates(user: User, path: str) -> tuple[str, str, str]:
     return told, DENIED if said == trees.UNREAD and was_there else said, line
 
 
-def ask_names(dice: Dice, tree: Tree, count: int) -> Count:
+def ask_names(dice: Dice, tree: Tree, until: int, count: Count) -> None:
     """May this user make a name, or take it away?"""
-    wrong, left = 0, 0
-    for _ in range(count):
+    while count.asked < until:
+        count.asked += 1
         user, path = dice.user(), dice.choice(tree.paths)
         if path.endswith("/.") or path.endswith("/..") or path.endswith("//"):
             path = tree.paths[0]
@@ -93,10 +89,9 @@ def ask_names(dice: Dice, tree: Tree, count: int) -> Count:
             folder = path if os.path.isdir(path) else os.path.dirname(path)
             new = os.path.join(folder, "new" + dice.choice(["", "", "/"]))
             told, said, line = ask_creates(user, path if is_there(path) and dice.random() < 0.3 else new)
-        left += told == UNJUDGED
+        count.left += told == UNJUDGED
         if told not in (said, UNJUDGED):
-            wrong += differs(f"{path!r} {user}", told, said, [line])
-    return Count(count, wrong, left)
+            count.differs(f"{path!r} {user}", told, said, [line])
 
 
 def named_in(lines: list[str]) -> set[str]:
@@ -104,35 +99,32 @@ def named_in(lines: list[str]) -> set[str]:
     return set(lines[0].rpartition("  ")[2].replace(",", " ").replace(";", " ").split())
 
 
-def ask_who(dice: Dice, tree: Tree, count: int) -> Count:
+def ask_who(dice: Dice, tree: Tree, until: int, count: Count) -> None:
     """Who may? Of some users that have no accounts, as if these were all that have one."""
-    asked, wrong, left = 0, 0, 0
-    while asked < count:
+    while count.asked < until:
         users, path, perms = users_of(dice, 10), dice.choice(tree.paths), dice.choice([1, 1, 2, 4, 5, 6])
         with accounts(users):
             told = may(["--who", wanted(perms), "--", path])
         said = [tried(user, [(path, perms)])[0] for user in users]
         if told.status == 3:
-            left += "not judged" in told.lines[0]
+            count.left += "not judged" in told.lines[0]
             if GRANTED in said and "not judged" not in told.lines[0]:
-                wrong += differs(f"who {path!r} {letters(perms)}", "unread", "granted to some", told.lines)
-            asked += 1
+                count.differs(f"who {path!r} {letters(perms)}", "unread", "granted to some", told.lines)
+            count.asked += 1
             continue
         may_it = named_in(told.lines)
         for user, linux in zip(users, said):
             says = GRANTED if user.name in may_it else DENIED
             linux = DENIED if linux == trees.UNREAD and any("a script for" in line for line in told.lines) else linux
             if says != linux:
-                wrong += differs(f"who {path!r} {letters(perms)} {user}", says, linux, told.lines)
-        asked += len(users)
-    return Count(asked, wrong, left)
+                count.differs(f"who {path!r} {letters(perms)} {user}", says, linux, told.lines)
+        count.asked += len(users)
 
 
-def ask_under(dice: Dice, tree: Tree, count: int) -> Count:
+def ask_under(dice: Dice, tree: Tree, until: int, count: Count) -> None:
     """What under the tree, or under a part of it, to which a link may lead?"""
-    asked, wrong, left = 0, 0, 0
     tops = [path for path in tree.paths if os.path.isdir(path)]
-    while asked < count:
+    while count.asked < until:
         user, perms = dice.user(), dice.choice([1, 1, 2, 4, 6])
         top = dice.choice([tree.top, dice.choice(tops or [tree.top])])
         lists = [may([*user.words(), wanted(perms), f"--under={top}", *more]).lines for more in ((), ("--denied",))]
@@ -142,18 +134,16 @@ def ask_under(dice: Dice, tree: Tree, count: int) -> Count:
                 is_left = "not judged here" in by or "is not known" in by or "not followed" in by
                 rows[unquoted(path)] = (UNJUDGED if is_left else says, by)
         for (path, (says, by)), linux in zip(rows.items(), tried(user, [(path, perms) for path in rows])):
-            left += says == UNJUDGED and "not followed" not in by
+            count.left += says == UNJUDGED and "not followed" not in by
             linux = DENIED if linux == trees.UNREAD and "a script for" in by else linux
             if says not in (linux, UNJUDGED):
-                wrong += differs(f"under {path!r} {letters(perms)} {user}", says, linux, [by])
-        asked += max(1, len(rows))
-    return Count(asked, wrong, left)
+                count.differs(f"under {path!r} {letters(perms)} {user}", says, linux, [by])
+        count.asked += max(1, len(rows))
 
 
-def ask_many(dice: Dice, tree: Tree, count: int) -> Count:
+def ask_many(dice: Dice, tree: Tree, until: int, count: Count) -> None:
     """How many paths of a tree may each?"""
-    asked, wrong = 0, 0
-    while asked < count:
+    while count.asked < until:
         users, perms = users_of(dice, 6), dice.choice([1, 2, 4])
         with accounts(users):
             told = may(["-v", "--who", wanted(perms), f"--under={tree.top}"])
@@ -164,12 +154,11 @@ def ask_many(dice: Dice, tree: Tree, count: int) -> Count:
         for user in users if told.status == 0 else ():
             linux = sum(said == GRANTED for said in tried(user, [(path, perms) for path in paths]))
             if counts[user.name] != linux:
-                wrong += differs(f"{tree.top} {letters(perms)} {user}", f"{counts[user.name]}", f"{linux}", told.lines)
-        asked += len(users)
-    return Count(asked, wrong, 0)
+                count.differs(f"{tree.top} {letters(perms)} {user}", f"{counts[user.name]}", f"{linux}", told.lines)
+        count.asked += len(users)
 
 
-FORMS: dict[str, Callable[[Dice, Tree, int], Count]] = {
+FORMS: dict[str, Callable[[Dice, Tree, int, Count], None]] = {
     "user": ask_users,
     "names": ask_names,
     "who": ask_who,
@@ -197,14 +186,14 @@ def is_possible(place: str | None) -> bool:
 
 def ask(form: str, place: str, kind: str, given: argparse.Namespace, questions: int) -> Count:
     """Asks so many questions of a form on a file system."""
-    dice, count = Dice(f"{given.seed} {kind} {form}"), Count(0, 0, 0)
+    dice, count = Dice(f"{given.seed} {kind} {form}"), Count()
     while count.asked < questions:
         top = tempfile.mkdtemp(prefix="suites-may-", dir=place)
         tree = None
         try:
             tree = Tree(dice, top, given.mounts and form in ("user", "under", "who", "names", "many"), kind == "btrfs")
             asked_may.forget()
-            count = count.plus(FORMS[form](dice, tree, min(OF_A_TREE, questions - count.asked)))
+            FORMS[form](dice, tree, min(count.asked + OF_A_TREE, questions), count)
         finally:
             if tree:
                 tree.close()
@@ -213,23 +202,11 @@ def ask(form: str, place: str, kind: str, given: argparse.Namespace, questions: 
     return count
 
 
-def on_system(kind: str, place: str, forms: list[str], given: argparse.Namespace, questions: int) -> Count:
-    count = may_cases.tried(kind, place)
-    for form in forms:
-        count = count.plus(ask(form, place, kind, given, questions))
-    return count
-
-
 def main() -> int:
-    parser = console.words(__doc__)
-    parser.add_argument("--questions", type=int, default=2000)
-    parser.add_argument("--seed", type=int, default=1)
-    parser.add_argument("--form", choices=sorted(FORMS))
-    parser.add_argument("--on", choices=[*kernel_systems.KINDS, "all"], default="tmpfs")
-    parser.add_argument("--mounts", action="store_true")
-    parser.add_argument("--if-possible", action="store_true")
-    parser.add_argument("program", nargs="?")
-    given = parser.parse_args()
+    on, forms_of = (*kernel_systems.KINDS, "all"), ("", *FORMS)
+    given = played.words(
+        __doc__, "program", questions=2000, seed=1, form=forms_of, on=on, mounts=False, if_possible=False
+    )
     if given.program:
         os.environ["MAY"] = os.path.abspath(given.program)
     os.umask(0)
@@ -238,11 +215,13 @@ def main() -> int:
     if given.if_possible and not shutil.which("setfacl"):
         print("skipped: changes, which need setfacl (Debian's package `acl`)")
         forms = [form for form in forms if form not in NEED_SETFACL]
-    every = Count(0, 0, 0)
+    every = Count()
     for kind in kinds:
         with kernel_systems.mounted(kind) as place:
             if place and is_possible(place):
-                every = every.plus(on_system(kind, place, forms, given, -(-given.questions // len(kinds))))
+                every.add(may_cases.tried(kind, place))
+                for form in forms:
+                    every.add(ask(form, place, kind, given, -(-given.questions // len(kinds))))
             else:
                 print(f"skipped: {kind}, which needs root, and a file system with lists")
     print(f"{every.asked} questions, {every.wrong} differ")

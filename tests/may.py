@@ -1,67 +1,35 @@
 #!/usr/bin/env python3
 """tests/may.py [PROGRAM]
 
-Plays rows of the command `may` (lines of questions, and the status and the output that are wanted), and `./suites
-may` on
-a few files of its own. Looks whether the Rust code that docs/LIBRARY.md shows stands in crates/may/src, which the gate
-proves. PROGRAM
-is a build of `may`; where none is named, that which `./suites may` takes. Prints what differs; status 1 where
-something does.
+Plays `./suites may` on a few files of its own, and the command `may` with streams that fail. Looks whether the Rust
+code that docs/LIBRARY.md shows stands in crates/may/src, which the gate proves. PROGRAM is a build of `may`; where none
+is named, that which `./suites may` takes. Prints what differs; status 1 where something does.
 """
-from __future__ import annotations
-
 import contextlib
 import io
 import os
 import re
+import shlex
 import subprocess
 import sys
 import tempfile
 
 import played
+from kernel_trees import ACCESS, GROUP, MASK, NOTHING, OTHER, OWNER, OWNING, USER, packed
 from played import Tally
 
-from common import built, console, text_of, tool
+from common import built, text_of, tool
 from may import changes, everybody, lint, lists, mounts, people, program, saying
 from may.people import Caller
 
 LIST = "u::rw,u:1001:rw,g::r,m::r,o::-"
-MANY = ",".join(str(one) for one in range(1, 34))
-TWO_DENIED = "denied rw- by mask::\ndenied -w- by group::\n"
 # The most bytes of an input.
 MOST = 16 * 1024 * 1024
-# What is asked, the status, and what is printed.
-ROWS = [
-    ("", 0, ""),
-    (f"1000 100 1000 7 rw {LIST}", 0, "granted\n"),
-    (f"1000 100 1001 7 r {LIST}\r\n", 0, "granted\n"),
-    (f"\t1000  100 1001 7 rw {LIST} \n", 0, "denied rw- by mask::\n"),
-    (f"1000 100 1001 7 wr {LIST}\n1000 100 1002 7,100 -w- {LIST}\n", 0, TWO_DENIED),
-    (f"1000 100 4294967295 {MANY} r {LIST}\n", 0, "denied r-- by other::\n"),
-    ("1 1 1 1 x user::rwx\\ngroup::-,other::-\n".replace("\\n", ","), 0, "granted\n"),
-    ("1 1 2 1 x u::rw,g::rw,o::x,d:u::rwx,d:g::rwx,d:o::rwx\n", 0, "denied --x by group::\n"),
-    ("\n", 3, "fault line 1: S1\n"),
-    (f"1000 100 1000 7 {LIST}\n", 3, "fault line 1: S1\n"),
-    (f"1000 100 1000 7 r {LIST} r\n", 3, "fault line 1: S1\n"),
-    (f"1000 100 1000 7 rq {LIST}\n", 3, "fault line 1: S1\n"),
-    (f"1000 100 4294967296 7 r {LIST}\n", 3, "fault line 1: S1\n"),
-    (f"1000 100 1000 7, r {LIST}\n", 3, "fault line 1: S1\n"),
-    (f"1000 100 1000 {MANY},34 r {LIST}\n", 3, "fault line 1: S1\n"),
-    (f"1000 100 1000 7 r {LIST}\n1000 100 1000 7 r u::r,g::r\n", 3, "fault line 2: A3\n"),
-    ("1 1 1 1 r g::r,o::r\n", 3, "fault line 1: A1\n"),
-    ("1 1 1 1 r u::r,u:7:r,g::r,o::r\n", 3, "fault line 1: A7\n"),
-    ("1 1 1 1 r u::r,lisa,g::r,o::r\n", 3, "fault line 1: A9 item 2\n"),
-    ("1 1 1 1 r u::r,u:lisa:r,g::r,m::r,o::r\n", 3, "fault line 1: A10 item 2\n"),
-    ("1 1 1 1 r u::r,g::r,g:4294967296:r,m::r,o::r\n", 3, "fault line 1: A11 item 3\n"),
-    ("1 1 1 1 r u::r,g::r,o::r,d:g::r,d:o::r\n", 3, "fault line 1: A13 A1\n"),
-]
 
 
-def plays_rows(tally: Tally) -> None:
+def by_streams(tally: Tally) -> None:
+    """Streams that fail, and an input that is too long; crates/rows/stdin has rows of what is asked."""
     path = program.program()
-    for given, status, printed in ROWS:
-        told = built.asked("may", given, path=path)
-        tally.holds(told == (status, printed), f"{given!r}: {told}, and not {status} {printed!r}")
     told = built.asked("may", "", "-x", path=path)
     tally.holds(told == (2, "fault command line\n"), f"a word: {told}")
     with open("/dev/full", "wb") as full:
@@ -84,25 +52,11 @@ def asks(tally: Tally, words: list[str], status: int, last: str, strict: bool = 
 
 
 # Words that are refused, each with where to read.
-BAD_WORDS: tuple[list[str], ...] = (
-    [],
-    ["root", "r"],
-    ["root", "q", "/"],
-    ["no one", "r", "/"],
-    ["--groups", "a", "1", "r", "/"],
-    ["--json", "root", "r", "/"],
-    ["--who", "r"],
-    ["--who", "q", "/"],
-    ["--with", "u:1", "/"],
-    ["--without", "u::", "/"],
-    ["--with", "x:1:r", "/"],
-    ["--denied", "0", "r", "/"],
-    ["--lint", "/", "/"],
-    ["--no-mask", "0", "r", "/"],
-    ["--who", "r", "--lint", "/"],
-    ["--with", "m:7:r", "/"],
-    ["--without", "u:no one", "/"],
-)
+BAD_WORDS = (
+    "", "root r", "root q /", "'no one' r /", "--groups a 1 r /", "--json root r /", "--who r", "--who q /",
+    "--with u:1 /", "--without u:: /", "--with x:1:r /", "--denied 0 r /", "--lint / /", "--no-mask 0 r /",
+    "--who r --lint /", "--with m:7:r /", "--without 'u:no one' /",
+)  # fmt: skip
 
 
 def asks_of_files(tally: Tally) -> None:
@@ -129,7 +83,7 @@ def asks_of_files(tally: Tally) -> None:
         asks(tally, ["0", "x", file], 1, "Linux lets root execute no file that nobody may execute")
         asks(tally, ["0", "x", folder, "--under", room], 2, "a user and what it wants are told")
     for words in BAD_WORDS:
-        asks(tally, list(words), 2, "(./suites may --help)")
+        asks(tally, shlex.split(words), 2, "(./suites may --help)")
 
 
 def asks_of_names(tally: Tally) -> None:
@@ -160,29 +114,14 @@ def asks_of_names(tally: Tally) -> None:
         asks(tally, ["0", "x", "/dev/null"], 1, "is a device, and Linux executes files alone")
 
 
-def value_of(entries: list[tuple[int, int, int]]) -> bytes:
-    return lists.HEAD.pack(lists.VERSION) + b"".join(lists.ENTRY.pack(*entry) for entry in entries)
-
-
-def base(perms: int = 0) -> list[tuple[int, int, int]]:
-    nobody = 0xFFFFFFFF
-    return [
-        (lists.USER_OBJ, 6, nobody),
-        (lists.GROUP_OBJ, perms, nobody),
-        (lists.MASK, 7, nobody),
-        (lists.OTHER, 0, nobody),
-    ]
-
-
 def put_lists(many: str, twice: str) -> bool:
     """Puts a list of 154 entries, and one with a user and a group; tells whether lists can be put."""
-    longest = sorted(
-        [*base(), *((lists.USER, 4, 2000 + one) for one in range(150))], key=lambda one: (one[0], one[2])
-    )
-    both = [*base()[:1], (lists.USER, 4, 1001), *base(4)[1:2], (lists.GROUP, 4, 200), *base()[2:]]
+    base = [(OWNER, 6, NOTHING), (MASK, 7, NOTHING), (OTHER, 0, NOTHING)]
+    longest = [*base, (OWNING, 0, NOTHING), *((USER, 4, 2000 + one) for one in range(150))]
+    both = [*base, (OWNING, 4, NOTHING), (USER, 4, 1001), (GROUP, 4, 200)]
     try:
-        os.setxattr(many, lists.ACCESS, value_of(longest))
-        os.setxattr(twice, lists.ACCESS, value_of(both))
+        os.setxattr(many, ACCESS, packed(longest))
+        os.setxattr(twice, ACCESS, packed(both))
     except OSError:
         return False
     return True
@@ -302,13 +241,11 @@ def shown_code_stands(tally: Tally) -> None:
 
 
 def main() -> int:
-    read = console.words(__doc__)
-    read.add_argument("program", nargs="?")
-    named = read.parse_args().program
+    named = played.words(__doc__, "program").program
     if named:
         os.environ["MAY"] = os.path.abspath(named)
     tally = Tally()
-    plays_rows(tally)
+    by_streams(tally)
     asks_of_files(tally)
     asks_of_names(tally)
     asks_of_lists(tally)

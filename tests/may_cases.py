@@ -1,8 +1,6 @@
 """Cases for tests/may-against-the-kernel.py, tried on each file system: what random trees seldom have. Of each it is
 held what `may` tells against what a user meets who tries it.
 """
-from __future__ import annotations
-
 import contextlib
 import fcntl
 import os
@@ -40,8 +38,7 @@ class Room:
 
     def file(self, name: str | bytes, mode: int = 0o644, text: bytes = PROGRAM) -> str:
         path = self.path(name)
-        with open(path, "wb") as file:
-            file.write(text)
+        played.put(path, text)
         os.chmod(path, mode)
         return path
 
@@ -462,7 +459,7 @@ NEED_SETFACL = (advice, no_harm, more_findings)
 
 def tried(kind: str, place: str) -> Count:
     """Tries all cases on a file system."""
-    count = Count(0, 0, 0)
+    count = Count()
     for case in CASES:
         if case in NEED_SETFACL and not shutil.which("setfacl"):
             continue
@@ -470,10 +467,9 @@ def tried(kind: str, place: str) -> Count:
         forget()
         try:
             for label, told, wanted in case(room):
-                wrong = told != wanted
-                if wrong:
-                    print(f"{kind}, {case.__name__}, {label}: {told}, and not {wanted}", flush=True)
-                count = count.plus(Count(1, wrong, 0))
+                count.asked += 1
+                if told != wanted:
+                    count.differs(f"{kind}, {case.__name__}, {label}", told, wanted, [])
         finally:
             room.close()
     print(f"{kind}: {count.asked} cases, {count.wrong} differ", flush=True)

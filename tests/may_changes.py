@@ -1,12 +1,11 @@
 """Questions about changes of lists for tests/may-against-the-kernel.py: setfacl makes each change, which is tried
 before and after by users, and taken back.
 """
-from __future__ import annotations
-
+import dataclasses
 import os
 import re
 import subprocess
-from typing import Iterable, Iterator, NamedTuple
+from typing import Iterable, Iterator
 
 import kernel_trees as trees
 from asked_may import accounts, forget, may, unquoted
@@ -19,18 +18,20 @@ WORDS = {OWNER: "user::", USER: "user:", OWNING: "group::", GROUP: "group:", MAS
 IS_SNAPSHOT = re.compile(r"/(?:k|s)(?:/|$)")
 
 
-class Count(NamedTuple):
-    asked: int
-    wrong: int
-    left: int
+@dataclasses.dataclass
+class Count:
+    """How much was asked, what of it differs, and what was told as not judged."""
 
-    def plus(self, other: Count) -> Count:
-        return Count(self.asked + other.asked, self.wrong + other.wrong, self.left + other.left)
+    asked: int = 0
+    wrong: int = 0
+    left: int = 0
 
+    def add(self, other: "Count") -> None:
+        self.asked, self.wrong, self.left = self.asked + other.asked, self.wrong + other.wrong, self.left + other.left
 
-def differs(about: str, told: str, linux: str, lines: list[str]) -> int:
-    print(f"{about}: may says {told}, Linux {linux}", *lines, sep="\n  ", flush=True)
-    return 1
+    def differs(self, about: str, told: object, linux: object, lines: list[str]) -> None:
+        print(f"{about}: may says {told}, Linux {linux}", *lines, sep="\n  ", flush=True)
+        self.wrong += 1
 
 
 def powers(users: list[User], paths: list[str]) -> set[Power]:
@@ -121,20 +122,19 @@ def can_change(path: str) -> bool:
     return not os.path.islink(path) and os.path.exists(path) and not IS_SNAPSHOT.search(os.path.realpath(path))
 
 
-def ask_changes(dice: Dice, tree: Tree, count: int) -> Count:
+def ask_changes(dice: Dice, tree: Tree, until: int, count: Count) -> None:
     """Who gains and who loses?"""
-    asked, wrong, left = 0, 0, 0
     loosened(tree)
-    while asked < count:
+    while count.asked < until:
         path, is_put, computes = dice.choice(tree.paths), dice.random() < 0.6, dice.random() < 0.7
-        asked += 1
+        count.asked += 1
         if not can_change(path):
             continue
         users, text = users_of(dice, 6), an_entry(dice, is_put)
         with accounts(users):
             told = may(["--with" if is_put else "--without", text, *([] if computes else ["--no-mask"]), "--", path])
         if told.status != 0:
-            left += "not judged" in told.lines[0]
+            count.left += "not judged" in told.lines[0]
             continue
         before, state = powers(users, [path]), kept(path)
         if not setfacl([*([] if computes else ["-n"]), "-m" if is_put else "-x", text], path):
@@ -143,9 +143,8 @@ def ask_changes(dice: Dice, tree: Tree, count: int) -> Count:
         put_back(path, state)
         wanted = moved(before, after, path)
         if moved_in(told.lines) != wanted or now != told.lines[0].rpartition("  would be  ")[2]:
-            wrong += differs(f"{text} {path!r}", f"{moved_in(told.lines)}", f"{wanted}, {now}", told.lines)
-        asked += len(users) * 3
-    return Count(asked, wrong, left)
+            count.differs(f"{text} {path!r}", f"{moved_in(told.lines)}", f"{wanted}, {now}", told.lines)
+        count.asked += len(users) * 3
 
 
 def below(top: str) -> list[str]:
@@ -161,10 +160,10 @@ def has_entry(path: str, text: str) -> bool:
     return any(one[0] == tag and one[2] == int(text.split(":")[1]) for one in trees.unpacked(path))
 
 
-def ask_trees(dice: Dice, tree: Tree, count: int) -> Count:
+def ask_trees(dice: Dice, tree: Tree, until: int, count: Count) -> None:
     """Who gains and who loses by a change of each list of a tree?"""
-    asked, wrong = 0, 0
     loosened(tree)
+    begun = count.asked
     tops = [path for path in tree.paths if os.path.isdir(path) and can_change(path) and path == os.path.realpath(path)]
     for _ in range(3 if tops else 0):
         top, is_put, users = dice.choice(tops), dice.random() < 0.5, users_of(dice, 4)
@@ -172,7 +171,7 @@ def ask_trees(dice: Dice, tree: Tree, count: int) -> Count:
         with accounts(users):
             told = may(["--with" if is_put else "--without", text, f"--under={top}"])
         paths = below(top)
-        asked += len(paths) * len(users) * 3
+        count.asked += len(paths) * len(users) * 3
         if told.status != 0:
             continue
         before, states = powers(users, paths), {path: kept(path) for path in paths}
@@ -185,17 +184,16 @@ def ask_trees(dice: Dice, tree: Tree, count: int) -> Count:
         for path in paths if done else ():
             wanted, says = moved(before, after, path), moved_in(rows.get(path, ()))
             if wanted != says:
-                wrong += differs(f"{text} under {top!r}: {path!r}", f"{says}", f"{wanted}", rows.get(path, []))
-    return Count(max(asked, count // 3), wrong, 0)
+                count.differs(f"{text} under {top!r}: {path!r}", f"{says}", f"{wanted}", rows.get(path, []))
+    count.asked = max(count.asked, begun + (until - begun) // 3)
 
 
-def ask_defaults(dice: Dice, tree: Tree, count: int) -> Count:
+def ask_defaults(dice: Dice, tree: Tree, until: int, count: Count) -> None:
     """What will new files be?"""
-    asked, wrong = 0, 0
     loosened(tree)
-    while asked < count:
+    while count.asked < until:
         folder, is_put = dice.choice([tree.top, *tree.paths]), dice.random() < 0.7
-        asked += 1
+        count.asked += 1
         if not can_change(folder) or not os.path.isdir(folder):
             continue
         users, text, state = users_of(dice, 4), an_entry(dice, is_put), kept(folder)
@@ -213,10 +211,9 @@ def ask_defaults(dice: Dice, tree: Tree, count: int) -> Count:
                 says = moved_in(lines_below(told.lines, at)) if at >= 0 else set()
                 wanted = moved(before[0], after[0], path)
                 if at < 0 or says != wanted:
-                    wrong += differs(f"d:{text} {folder!r}", f"{says}", f"{wanted}: {line}", told.lines)
-                asked += len(users) * 3
+                    count.differs(f"d:{text} {folder!r}", f"{says}", f"{wanted}: {line}", told.lines)
+                count.asked += len(users) * 3
         put_back(folder, state)
-    return Count(asked, wrong, 0)
 
 
 def lines_below(lines: list[str], at: int) -> Iterator[str]:
@@ -248,7 +245,7 @@ def split(line: str) -> tuple[str, str]:
     return unquoted(match[1]), match[2]
 
 
-def ask_lint(dice: Dice, tree: Tree, count: int) -> Count:
+def ask_lint(dice: Dice, tree: Tree, _: int, count: Count) -> None:
     """What is to be mended? Whom an entry does not reach is tried, and whom none is told of reaches the file's folder.
     Each advice is typed, and just those may gain whom it names."""
     loosened(tree)
@@ -257,18 +254,17 @@ def ask_lint(dice: Dice, tree: Tree, count: int) -> Count:
         told = may([f"--lint={tree.top}"])
     lines = [split(line) for line in told.lines if not line.startswith("suites: ")]
     stopped = {(path, said.split(" reaches nobody")[0]) for path, said in lines if " reaches nobody" in said}
-    reached, wrong = ask_reach(tree, users, stopped)
-    asked = 0
+    before = count.asked
+    ask_reach(tree, users, stopped, count)
     for path, said in lines:
         advice = re.search(r": (setfacl .*)", said)
         if advice:
-            asked += len(users) * 3
-            wrong += tries_advice(users, advice[1], f"{path!r}: {said}")
-    return Count(max(1, reached + asked), wrong, 0)
+            count.asked += len(users) * 3
+            tries_advice(users, advice[1], f"{path!r}: {said}", count)
+    count.asked = max(before + 1, count.asked)
 
 
-def ask_reach(tree: Tree, users: list[User], stopped: set[tuple[str, str]]) -> tuple[int, int]:
-    asked, wrong = 0, 0
+def ask_reach(tree: Tree, users: list[User], stopped: set[tuple[str, str]], count: Count) -> None:
     for path in tree.paths:
         if os.path.islink(path) or not os.path.exists(path) or path != os.path.realpath(path):
             continue
@@ -279,14 +275,13 @@ def ask_reach(tree: Tree, users: list[User], stopped: set[tuple[str, str]]) -> t
             if not whom or not perms & mask:
                 continue
             reach = [trees.as_user(user, lambda: trees.checked(os.path.dirname(path), 1)) == GRANTED for user in whom]
-            told = (path, text_of([(tag, perms, one)])) in stopped
-            asked += 1
-            if told == any(reach):
-                wrong += differs(f"{path!r} {text_of([(tag, perms, one)])}", f"{told}", f"{not any(reach)}", [])
-    return asked, wrong
+            entry = text_of([(tag, perms, one)])
+            count.asked += 1
+            if ((path, entry) in stopped) == any(reach):
+                count.differs(f"{path!r} {entry}", (path, entry) in stopped, not any(reach), [])
 
 
-def tries_advice(users: list[User], command: str, about: str) -> int:
+def tries_advice(users: list[User], command: str, about: str, count: Count) -> None:
     """Types an advice in a shell; nobody may lose by it, and nobody gain whom it does not name."""
     found = subprocess.run(
         ["bash", "-c", f"set -- {command}; printf '%s\\0' \"$@\""], stdout=subprocess.PIPE, check=True
@@ -299,8 +294,7 @@ def tries_advice(users: list[User], command: str, about: str) -> int:
     put_back(path, state)
     gained = {name for name, _, _ in after - before}
     if done.returncode != 0 or before - after or gained - named:
-        return differs(about, "mends", f"{done.stderr} loses {before - after}, gains {gained - named}", [command])
-    return 0
+        count.differs(about, "mends", f"{done.stderr} loses {before - after}, gains {gained - named}", [command])
 
 
 def whom(path: str, entry: list[str], users: list[User]) -> set[str]:

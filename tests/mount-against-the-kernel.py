@@ -7,17 +7,15 @@ chmod, access, rename, truncate, times, and both lists got, set and removed, und
 What may differ is the list of docs/MOUNT.md, each here by a rule of its own (`RULES`), and is counted; --show prints
 each. Status 1 where anything else differs. Where a difference of the list leaves another tree, both begin anew.
 """
-from __future__ import annotations
-
-import argparse
 import collections
 import errno
+import functools
 import json
+import operator
 import os
 import random
 import shutil
 import stat
-import struct
 import subprocess
 import sys
 import tempfile
@@ -25,11 +23,12 @@ from collections.abc import Callable, Iterable
 from typing import Any
 
 import mounted
+import played
+from kernel_trees import ACCESS, DEFAULT, NOTHING, packed, unpacked
 
 USERS = ((1000, 100, (200,)), (1001, 100, (200, 201)), (1002, 300, (200, 201, 202)), (1003, 301, ()))
 UIDS, GIDS = (1000, 1001, 1002, 1003), (100, 200, 201, 300)
-ACCESS, DEFAULT = "system.posix_acl_access", "system.posix_acl_default"
-NOBODY, PLACE = 0xFFFFFFFF, "/dev/shm"
+PLACE = "/dev/shm"
 MODES = (0o777, 0o755, 0o644, 0o700, 0o640, 0o070, 0o007, 0o751, 0o666, 0o444)
 # After so many calls the tree is begun anew, and after so many more the mount, whose servers get full.
 OF_A_TREE, OF_A_MOUNT = 500, 5000
@@ -51,15 +50,15 @@ Call = list[Any]
 class Dice(random.Random):
     def lists(self) -> str:
         """A valid list, as Linux keeps it."""
-        entries = [(1, self.choice((7, 7, 7, 6, 5, 4, 0)), NOBODY)]
+        entries = [(1, self.choice((7, 7, 7, 6, 5, 4, 0)), NOTHING)]
         users, groups = (sorted(self.sample(some, self.choice((0, 0, 1, 2)))) for some in (UIDS, GIDS))
         entries += [(2, self.randrange(8), one) for one in users]
-        entries.append((4, self.randrange(8), NOBODY))
+        entries.append((4, self.randrange(8), NOTHING))
         entries += [(8, self.randrange(8), one) for one in groups]
         if users or groups or self.random() < 0.1:
-            entries.append((16, self.choice((7, 7, 7, 6, 5, 4, 3, 1, 0)) if self.random() < 0.9 else 7, NOBODY))
-        entries.append((32, self.choice((7, 5, 5, 4, 1, 0)), NOBODY))
-        return (struct.pack("<I", 2) + b"".join(struct.pack("<HHI", *one) for one in entries)).hex()
+            entries.append((16, self.choice((7, 7, 7, 6, 5, 4, 3, 1, 0)) if self.random() < 0.9 else 7, NOTHING))
+        entries.append((32, self.choice((7, 5, 5, 4, 1, 0)), NOTHING))
+        return packed(entries).hex()
 
     def path(self) -> str:
         return "/".join(self.choice("abcd") for _ in range(self.choice((1, 1, 2, 2, 3))))
@@ -176,28 +175,18 @@ class Caller:
 
 def has_empty_mask(path: str) -> bool:
     """Whether the list there has a mask without letters: Linux then reads no list."""
-    try:
-        value = os.getxattr(path, ACCESS)
-    except OSError:
-        return False
-    return any(tag == 16 and bits == 0 for tag, bits, _ in struct.iter_unpack("<HHI", value[4:]))
+    return any(tag == 16 and bits == 0 for tag, bits, _ in unpacked(path))
 
 
 def is_of_two(path: str, found: os.stat_result, user: tuple[int, int, tuple[int, ...]], wanted: int) -> bool:
     """Whether entries of a user's groups grant together what is wanted, and none of them alone."""
-    try:
-        value = os.getxattr(path, ACCESS)
-    except OSError:
-        return False
-    entries = [*struct.iter_unpack("<HHI", value[4:])]
+    entries = unpacked(path)
     groups, mask = (user[1], *user[2]), next((bits for tag, bits, _ in entries if tag == 16), 7)
     if user[0] == found.st_uid or any(tag == 2 and who == user[0] for tag, _, who in entries):
         return False
     is_own = found.st_gid in groups
     own = [bits & mask for tag, bits, who in entries if tag == 8 and who in groups or tag == 4 and is_own]
-    together = 0
-    for bits in own:
-        together |= bits
+    together = functools.reduce(operator.or_, own, 0)
     return together & wanted == wanted and not any(bits & wanted == wanted for bits in own)
 
 
@@ -328,13 +317,8 @@ def compare(calls: int, seed: int, is_shown: bool) -> int:
 
 
 def main() -> int:
-    read = argparse.ArgumentParser(description=__doc__, formatter_class=argparse.RawDescriptionHelpFormatter)
-    read.add_argument("--calls", type=int, default=5000)
-    read.add_argument("--seed", type=int, default=1)
-    read.add_argument("--show", action="store_true")
-    read.add_argument("--user", type=int)
-    given = read.parse_args()
-    if given.user is not None:
+    given = played.words(__doc__, calls=5000, seed=1, show=False, user=-1)
+    if given.user >= 0:
         answers(USERS[given.user])
         return 0
     return 0 if mounted.skipped() else compare(given.calls, given.seed, given.show)

@@ -6,9 +6,6 @@ the journal, where all has to be that `close` answered; 64 processes at once; 4,
 compaction that makes room; and the memory of the adapter, which must not grow with files read. Prints figures, and what
 differs; status 1 where something does.
 """
-from __future__ import annotations
-
-import argparse
 import errno
 import os
 import random
@@ -34,8 +31,7 @@ def work(top: str, number: int, log: str, seconds: float) -> None:
             name, count = f"w{number}-{dice.randrange(FILES)}", count + 1
             text = f"{name} {count} {'x' * dice.randrange(300)}"
             noted.write(f"begun {text}\n".encode())
-            with open(os.path.join(top, name), "w", encoding="ascii") as file:
-                file.write(text)
+            played.put(os.path.join(top, name), text)
             noted.write(f"done {text}\n".encode())
 
 
@@ -84,8 +80,7 @@ def is_restored(tally: played.Tally, rounds: int) -> None:
             for worker in range(LOADED):
                 known, begun = answered(os.path.join(mount.room, f"log{worker}"))
                 for name, text in known.items():
-                    with open(os.path.join(mount.top, name), encoding="ascii") as file:
-                        stands = file.read()
+                    stands = played.text_of(os.path.join(mount.top, name))
                     may_be = {text} | ({begun, ""} if begun.startswith(name + " ") else set())
                     seen += 1
                     tally.holds(stands in may_be, f"round {number}, {name}", f"{stands[:40]!r} and not {text[:40]!r}")
@@ -94,8 +89,7 @@ def is_restored(tally: played.Tally, rounds: int) -> None:
                     name = begun.split(" ")[0]
                     path = os.path.join(mount.top, name)
                     if begun and os.path.exists(path):
-                        with open(path, encoding="ascii") as stands_there:
-                            file.write(f"done {stands_there.read() or name}\n")
+                        file.write(f"done {played.text_of(path) or name}\n")
         print(f"{rounds} kills under load: {seen} files looked at, journal {os.path.getsize(mount.journal)} bytes")
 
 
@@ -113,11 +107,9 @@ def bears_many(tally: played.Tally) -> None:
         written = 0
         for worker in range(MANY):
             known, _ = answered(os.path.join(mount.room, f"log{worker}"))
-            with open(os.path.join(mount.room, f"log{worker}"), encoding="ascii") as file:
-                written += file.read().count("done ")
+            written += played.text_of(os.path.join(mount.room, f"log{worker}")).count("done ")
             for name, text in known.items():
-                with open(os.path.join(mount.top, name), encoding="ascii") as file:
-                    tally.holds(file.read() == text, f"{name} is another")
+                tally.holds(played.text_of(os.path.join(mount.top, name)) == text, f"{name} is another")
         print(f"{MANY} processes: {written} files written in {seconds:.0f} s, {written / seconds:.0f} a second")
 
 
@@ -162,8 +154,7 @@ def is_full(tally: played.Tally) -> None:
         said = mount.control("compact")
         print(f"{said.strip()} in {time.monotonic() - begun:.0f} s")
         tally.holds(said.startswith("compact "), f"compaction says {said}")
-        with open(os.path.join(mount.top, "d1", "new"), "wb") as file:
-            file.write(b"new")
+        played.put(os.path.join(mount.top, "d1", "new"), b"new")
         tally.holds(os.pread(held, 9, 0) == b"2001", "an open file is lost by compaction")
         os.pwrite(held, b"more", 0)
         os.close(held)
@@ -195,25 +186,21 @@ def keeps_its_memory(tally: played.Tally) -> None:
     """Reads many files of 64 KiB again and again: the adapter takes no more memory for it."""
     with Mounted("--root", "0:0:777") as mount:
         for number in range(64):
-            with open(os.path.join(mount.top, f"f{number}"), "wb") as file:
-                file.write(bytes([number]) * 65_536)
+            played.put(os.path.join(mount.top, f"f{number}"), bytes([number]) * 65_536)
         told = []
         for turn in range(9):
             for number in range(64):
                 with open(os.path.join(mount.top, f"f{number}"), "rb") as file:
                     if file.read() != bytes([number]) * 65_536:
                         tally.holds(False, f"f{number} has other bytes")
-            with open("/proc/sys/vm/drop_caches", "w", encoding="ascii") as file:
-                file.write("2")
+            played.put("/proc/sys/vm/drop_caches", "2")
             told.append(memory_of(mount.child.pid))
         print(f"memory of the adapter while 36 MiB are read: {told[0] >> 10} KiB, and at the end {told[-1] >> 10} KiB")
         tally.holds(told[-1] - told[0] < MORE, f"the adapter's memory grows with files read: {told}")
 
 
 def main() -> int:
-    read = argparse.ArgumentParser(description=__doc__, formatter_class=argparse.RawDescriptionHelpFormatter)
-    read.add_argument("--rounds", type=int, default=10)
-    given = read.parse_args()
+    given = played.words(__doc__, rounds=10)
     if mounted.skipped():
         return 0
     tally = played.Tally(most=20)

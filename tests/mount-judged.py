@@ -8,8 +8,6 @@ then planted into a copy of the mount, and of each the judge has to find that it
 in for a second more without being asked for, or has the bytes once more that it was told before. Needs root and
 /dev/fuse, else it is skipped. Status 1 where a run is no table's, or an error is not found.
 """
-from __future__ import annotations
-
 import os
 import shutil
 import subprocess
@@ -17,7 +15,6 @@ import sys
 import tempfile
 import threading
 import time
-import typing
 
 import mounted
 import played
@@ -109,8 +106,7 @@ def with_error(text: str, folder: str) -> None:
     whole = text_of(path)
     if whole.count(ASKED) != 1:
         sys.exit(f"{FILE} has not once: {ASKED}")
-    with open(path, "w", encoding="utf-8") as file:
-        file.write(whole.replace(ASKED, text))
+    played.put(path, whole.replace(ASKED, text))
     mounted.DOOR[:] = [sys.executable, os.path.join(folder, "tools"), "mount"]
 
 
@@ -131,10 +127,7 @@ def whole(tally: played.Tally, runs: int, calls: int) -> None:
 
 
 def main() -> int:
-    read = console.words(__doc__)
-    read.add_argument("--runs", type=int, default=20)
-    read.add_argument("--calls", type=int, default=250)
-    given: typing.Any = read.parse_args()
+    given = played.words(__doc__, runs=20, calls=250)
     if mounted.skipped():
         return 0
     tally, door = played.Tally(), list(mounted.DOOR)

@@ -6,30 +6,23 @@ everybody may all; over one that denies all, nobody may anything), umask and def
 error of its table, lines of control and who may give them, that nothing is recorded as denied of a call that is
 answered, and how it ends. Prints what differs; status 1 where something does.
 """
-from __future__ import annotations
-
 import errno
 import os
 import signal
-import struct
 import subprocess
 import sys
 import time
 from collections.abc import Callable
 from typing import Any
 
+import kernel_trees
 import mounted
 import played
+from kernel_trees import ACCESS, DEFAULT, NOTHING, packed
 from mounted import Mounted
 
 FAKE = f"{sys.executable} {os.path.join(played.TOP, 'tests', 'granting.py')}"
 STRANGER = (4321, 4322, (4323,))
-ACCESS, DEFAULT = "system.posix_acl_access", "system.posix_acl_default"
-NOBODY = 0xFFFFFFFF
-
-
-def acl(*entries: tuple[int, int, int]) -> bytes:
-    return struct.pack("<I", 2) + b"".join(struct.pack("<HHI", *one) for one in entries)
 
 
 def error_of(does: Callable[[], Any]) -> str:
@@ -43,21 +36,12 @@ def error_of(does: Callable[[], Any]) -> str:
 
 def as_user(user: tuple[int, int, tuple[int, ...]], does: Callable[[], Any], umask: int = 0o22) -> str:
     """What a call of another user answers: its error, or nothing."""
-    reader, writer = os.pipe()
-    child = os.fork()
-    if child == 0:
-        told = "stopped"
-        try:
-            mounted.as_user(*user, umask)
-            told = error_of(does)
-        finally:
-            os.write(writer, told.encode())
-            os._exit(0)
-    os.close(writer)
-    with open(reader, "rb") as pipe:
-        told = pipe.read().decode()
-    os.waitpid(child, 0)
-    return told
+
+    def told() -> str:
+        os.umask(umask)
+        return error_of(does)
+
+    return kernel_trees.as_user(kernel_trees.User(*user), told)
 
 
 def put(path: str, data: bytes, flags: int = os.O_CREAT | os.O_TRUNC, mode: int = 0o666) -> None:
@@ -70,11 +54,10 @@ def put(path: str, data: bytes, flags: int = os.O_CREAT | os.O_TRUNC, mode: int 
 
 
 def got(path: str) -> bytes:
-    with open(path, "rb") as file:
-        return file.read()
+    return played.got(path)
 
 
-LISTS = acl((1, 0, NOBODY), (2, 0, 1), (4, 0, NOBODY), (16, 0, NOBODY), (32, 0, NOBODY))
+LISTS = packed([(1, 0, NOTHING), (2, 0, 1), (4, 0, NOTHING), (16, 0, NOTHING), (32, 0, NOTHING)])
 
 
 def let(is_so: bool) -> None:
@@ -137,11 +120,11 @@ def minds_umask(tally: played.Tally) -> None:
         as_user(STRANGER, lambda: put(f"{top}/a", b"", mode=0o666), 0o027)
         as_user(STRANGER, lambda: os.mkdir(f"{top}/d", 0o777), 0o077)
         tally.holds((mode(f"{top}/a"), mode(f"{top}/d")) == (0o640, 0o700), "the umask does not cut a mode")
-        value = acl((1, 7, NOBODY), (2, 7, 1000), (4, 5, NOBODY), (16, 7, NOBODY), (32, 4, NOBODY))
+        value = packed([(1, 7, NOTHING), (2, 7, 1000), (4, 5, NOTHING), (16, 7, NOTHING), (32, 4, NOTHING)])
         as_user(STRANGER, lambda: os.setxattr(f"{top}/d", DEFAULT, value))
         as_user(STRANGER, lambda: put(f"{top}/d/a", b"x", mode=0o666), 0o077)
         as_user(STRANGER, lambda: os.mkdir(f"{top}/d/b", 0o777), 0o077)
-        wanted = acl((1, 6, NOBODY), (2, 7, 1000), (4, 5, NOBODY), (16, 6, NOBODY), (32, 4, NOBODY))
+        wanted = packed([(1, 6, NOTHING), (2, 7, 1000), (4, 5, NOTHING), (16, 6, NOTHING), (32, 4, NOTHING)])
         told = as_user(STRANGER, lambda: let(os.getxattr(f"{top}/d/a", ACCESS) == wanted))
         tally.holds(told == "", "a default list is not that of a new file")
         told = as_user(STRANGER, lambda: let(os.getxattr(f"{top}/d/b", DEFAULT) == value))
@@ -226,7 +209,7 @@ def wrong_calls(top: str) -> list[tuple[str, Callable[[], Any]]]:
         ("EINVAL", lambda: os.mkdir(f"{top}/1/2/3/4/5/6/7/8/9")),
         ("ENAMETOOLONG", lambda: os.mkdir(f"{top}/{'n' * 65}")),
         ("ENOTSUP", lambda: os.setxattr(f"{top}/a", "user.x", b"1")),
-        ("EINVAL", lambda: os.setxattr(f"{top}/a", ACCESS, acl((1, 7, NOBODY)))),
+        ("EINVAL", lambda: os.setxattr(f"{top}/a", ACCESS, packed([(1, 7, NOTHING)]))),
         ("EACCES", lambda: os.setxattr(f"{top}/a", DEFAULT, LISTS)),
     ]
 

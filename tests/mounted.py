@@ -1,6 +1,4 @@
 """A mount of suites for a test, and where there can be none, why the test is skipped."""
-from __future__ import annotations
-
 import os
 import shutil
 import subprocess
@@ -56,7 +54,7 @@ class Mounted:
         self.errors = open(os.path.join(self.room, "errors"), "wb")
         self.begin()
 
-    def __enter__(self) -> Mounted:
+    def __enter__(self) -> "Mounted":
         return self
 
     def __exit__(self, *_: object) -> None:
@@ -71,14 +69,12 @@ class Mounted:
         until = time.monotonic() + 300
         while not os.path.ismount(self.top):
             if self.child.poll() is not None or time.monotonic() > until:
-                with open(self.errors.name, encoding="utf-8", errors="replace") as file:
-                    sys.exit(f"it is not mounted: {file.read()}")
+                sys.exit(f"it is not mounted: {self.told()}")
             time.sleep(0.01)
 
     def told(self) -> str:
         """What the mount said on standard error."""
-        with open(self.errors.name, encoding="utf-8", errors="replace") as file:
-            return file.read()
+        return played.got(self.errors.name).decode("utf-8", "replace")
 
     def end(self) -> None:
         """Unmounts it, and waits for its program."""
@@ -96,12 +92,7 @@ class Mounted:
 
     def sessions(self) -> list[int]:
         """The processes of the session: the children of the mount's program, and theirs."""
-        found, left = [], [self.child.pid]
-        while left:
-            with open(f"/proc/{(one := left.pop())}/task/{one}/children", encoding="ascii") as file:
-                left += (children := [int(word) for word in file.read().split()])
-            found += children
-        return found
+        return played.below(self.child.pid)
 
 
 def as_user(uid: int, gid: int, groups: Sequence[int], umask: int = 0o22) -> None:

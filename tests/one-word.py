@@ -9,7 +9,7 @@ import glob
 import os
 import re
 
-from played import TOP, Tally
+from played import TOP, Tally, words
 
 from common import console, text_of
 from pages import proved_page
@@ -42,9 +42,7 @@ def records() -> dict[str, set[str]]:
 
 
 def main() -> int:
-    read = console.words(__doc__)
-    read.add_argument("--told", action="store_true")
-    is_told = read.parse_args().told
+    is_told = words(__doc__, told=False).told
     tally, owners = Tally(), collections.defaultdict(set)
     for crate in proved_page.crates():
         for name in types(crate):

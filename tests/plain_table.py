@@ -94,10 +94,6 @@ class Table:
     def __init__(self, owner: int, group: int, mode: str) -> None:
         self.nodes = {0: Node(owner, group, Lists(of_mode(int(mode, 8)), None), {})}
 
-    def key(self) -> str:
-        """What is the same of tables that are the same."""
-        return repr(sorted(self.nodes.items()))
-
     def permit(self, node: Node, caller: Caller, wanted: int) -> None:
         if not grants(node, caller, wanted):
             raise Refused("denied")

@@ -64,8 +64,7 @@ def program_with(planted: Planted, folder: str) -> str:
     text = text_of(path)
     if text.count(planted.old) != 1:
         sys.exit(f"{planted.file} has not once: {planted.old}")
-    with open(path, "w", encoding="utf-8") as file:
-        file.write(text.replace(planted.old, planted.new))
+    played.put(path, text.replace(planted.old, planted.new))
     target = os.path.join(folder, PROGRAM)
     environment = {**os.environ, "PYTHONPATH": os.path.join(folder, "tools")}
     words = [sys.executable, "-c", scratch.BUILD, target, PROGRAM]
@@ -104,8 +103,7 @@ def judged(program: str, seed: int, sweeps: float, folder: str) -> tuple[str, st
     log = os.path.join(folder, "history")
     words = [program, "serve", "--agents", str(AGENTS), "--log", log]
     done = subprocess.run(words, input=script(seed, sweeps).encode(), stdout=subprocess.PIPE, check=False)
-    with open(log, "rb") as file:
-        said = built.asked("judge", file.read())[1]
+    said = built.asked("judge", played.got(log))[1]
     return (done.stdout.decode().splitlines() or [f"status {done.returncode}"])[-1], said.strip()
 
 

@@ -1,4 +1,5 @@
-"""The program that a test plays, the rows of crates/rows/stdin, and what tests count."""
+"""The program that a test plays, the rows of crates/rows/stdin, the words of tests, and what tests count."""
+import argparse
 import contextlib
 import os
 import shutil
@@ -26,17 +27,54 @@ def program(named: str | None = None) -> str:
     return path
 
 
+def words(doc: str, *places: str, **options: typing.Any) -> argparse.Namespace:
+    """The words of a test: places that need not be filled, and options. Each option has what it is where it is not
+    given: a number, a text, False where its name alone is all, or some texts, of which it is one, and first the first.
+    The name `from_` is that of the option --from.
+    """
+    read = console.words(doc)
+    for place in places:
+        read.add_argument(place, nargs="?")
+    for name, value in options.items():
+        how: dict[str, typing.Any] = {"type": type(value), "default": value}
+        if isinstance(value, tuple):
+            how = {"choices": value, "default": value[0]}
+        elif value is False:
+            how = {"action": "store_true"}
+        read.add_argument(f"--{name.rstrip('_').replace('_', '-')}", dest=name, **how)
+    return read.parse_args()
+
+
 def named_program(doc: str) -> str:
     """The program of a test whose words name it or nothing."""
-    read = console.words(doc)
-    read.add_argument("program", nargs="?")
-    return program(read.parse_args().program)
+    return program(words(doc, "program").program)
+
+
+def put(path: str, content: str | bytes) -> str:
+    """Writes a file; its path."""
+    with open(path, "wb") as file:
+        file.write(content if isinstance(content, bytes) else content.encode())
+    return path
+
+
+def got(path: str) -> bytes:
+    """What a file has."""
+    with open(path, "rb") as file:
+        return file.read()
 
 
 def stories(folder: str = "play") -> dict[str, str]:
     """The scripts of a folder of examples/, by their names."""
     top = os.path.join(TOP, "examples", folder)
     return {name: text_of(top, name) for name in sorted(os.listdir(top)) if name.endswith(".script")}
+
+
+def on_terminal(words: list[str], **how: typing.Any) -> tuple["subprocess.CompletedProcess[bytes]", str]:
+    """How a command ends whose standard error is a terminal, and what that shows."""
+    own, terminal = os.openpty()
+    done = subprocess.run(words, stdout=subprocess.PIPE, stderr=terminal, **how)
+    os.close(terminal)
+    return done, shown_on(own)
 
 
 def shown_on(terminal: int) -> str:
@@ -75,9 +113,18 @@ class Library:
 
 def is_alive(process: int) -> bool:
     with contextlib.suppress(OSError):
-        with open(f"/proc/{process}/stat", encoding="ascii") as file:
-            return file.read().rpartition(") ")[2][0] != "Z"
+        return text_of(f"/proc/{process}/stat").rpartition(") ")[2][0] != "Z"
     return False
+
+
+def below(process: int) -> list[int]:
+    """The children of a process, and theirs."""
+    found, left = list[int](), [process]
+    while left:
+        one = left.pop()
+        children = [int(word) for word in text_of(f"/proc/{one}/task/{one}/children").split()]
+        found, left = found + children, left + children
+    return found
 
 
 class Tally:
@@ -96,6 +143,16 @@ class Tally:
             if self.wrong <= self.most:
                 print(": ".join(map(str, about))[: self.width], flush=True)
 
+    def fails(self, *texts: object) -> None:
+        """Tells what is wrong of things that are counted already, or stand for themselves; nothing of what is none."""
+        for text in filter(None, texts):
+            self.count -= 1
+            self.holds(False, text)
+
+    def same(self, told: object, wanted: object, *about: object) -> None:
+        """Holds what is told against what is wanted."""
+        self.holds(told == wanted, *about, told, f"and not {wanted}")
+
     def told(self, what: str) -> int:
         """The status of a test: 1 where something differs, or nothing was looked at. Prints the counts."""
         print(f"{self.count} {what}, {self.wrong} differ", flush=True)
@@ -106,7 +163,7 @@ def verdict(count: int, what: str, wrong: typing.Sequence[str], most: int = sys.
     """The status of a test that looked at so many: 1 where something is wrong, or there was nothing to look at. Prints
     the first of what is wrong, as many as `most`, and the counts.
     """
-    for line in wrong[:most]:
-        print(line)
-    print(f"{count} {what}, {len(wrong)} differ", flush=True)
-    return 1 if wrong or not count else 0
+    tally = Tally(most)
+    tally.count = count
+    tally.fails(*wrong)
+    return tally.told(what)

@@ -90,8 +90,7 @@ def done(words: list[str], folder: str) -> str:
 def linked(folder: str, made: str, target: str, options: typing.Sequence[str] = (), text: str = "") -> None:
     """Links a program of what was made, with these options and this C besides."""
     source, shim = os.path.join(folder, "shim.c"), os.path.join(folder, "shim.o")
-    with open(source, "w", encoding="ascii") as file:
-        file.write(f"{SHIM}\n{text}\n")
+    played.put(source, f"{SHIM}\n{text}\n")
     done(["gcc", "-w", "-O1", "-fno-builtin", "-fPIE", "-c", source, "-o", shim], folder)
     done(["gcc", "-fsanitize=thread", "-pie", *options, "-o", target, shim, made, *trial.libraries()], folder)
 
@@ -112,8 +111,7 @@ def built() -> tuple[str, str, int]:
         module = os.path.abspath(module) if module else trial.module_into(folder, lambda: None)
         plain, text, made = (os.path.join(folder, name) for name in ("plain.ll", "sanitized.ll", "sanitized.o"))
         done([trial.clang(), "-S", "-emit-llvm", "-Xclang", "-disable-llvm-passes", "-w", module, "-o", plain], folder)
-        with open(plain, encoding="latin1") as file, open(text, "w", encoding="latin1") as new:
-            new.write(sanitized(file.read()))
+        played.put(text, sanitized(played.got(plain).decode("latin1")).encode("latin1"))
         done(
             [trial.clang(), trial.LEVEL, "-fPIE", *trial.CAREFUL, "-w", "-fsanitize=thread", "-c", text, "-o", made],
             folder,

@@ -1,5 +1,5 @@
 #!/usr/bin/env python3
-"""tests/refuse-explore.py [--every N] [--words WORDS SCRIPT]
+"""tests/refuse-explore.py [--every N] [--script SCRIPT [--words WORDS]]
 
 Runs `explore` on scripts with its first, its second, .. allocation refused, until none is left to refuse: that one
 alone, and then all from it on. Each answer has to be the full one with its status; or `not all` with status 7 and no
@@ -91,14 +91,11 @@ def one_way(told: Run, script: bytes, words: list[str]) -> str | None:
 
 
 def main() -> int:
-    read = console.words(__doc__)
-    read.add_argument("--every", type=int, default=1)
-    read.add_argument("--words", nargs=2, metavar=("WORDS", "SCRIPT"))
-    given, tally = read.parse_args(), Tally(20)
+    given, tally = played.words(__doc__, every=1, words="", script=""), Tally(20)
     if not shutil.which("cc"):
         print("skipped: no cc")
         return 0
-    stories = [(given.words[1], given.words[0])] if given.words else STORIES
+    stories = [(given.script, given.words)] if given.script else STORIES
     with tempfile.TemporaryDirectory() as folder:
         library = played.Library("refuse", folder)
         if not library.is_made:

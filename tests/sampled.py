@@ -190,11 +190,8 @@ def make_small(tally: Tally) -> None:
 
 
 def main() -> int:
-    asks = console.words(__doc__)
-    asks.add_argument("--scripts", type=int, default=50)
-    asks.add_argument("--from", type=int, default=0, dest="first")
-    given, tally = asks.parse_args(), Tally()
-    others = compare_kept(tally) + compare_random(given.scripts, given.first, tally)
+    given, tally = played.words(__doc__, scripts=50, from_=0), Tally()
+    others = compare_kept(tally) + compare_random(given.scripts, given.from_, tally)
     tally.holds(others > 0, "no other seed tells other ways")
     play_many(tally)
     crash_each(tally)

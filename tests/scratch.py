@@ -17,7 +17,7 @@ import typing
 from played import TOP
 
 import take
-from common import console, crates
+from common import console, crates, of_kit
 
 BUILD = "import sys; from front import trial; trial.build(sys.argv[1], lambda: None, sys.argv[2])"
 
@@ -50,7 +50,7 @@ def placed(copy: str, program: str, direct: list[str], sources: dict[str, str]) 
 
 def lines(crate: str, kinds: typing.Sequence[str]) -> list[list[str]]:
     """The words of each line of a run that begins with one of these words."""
-    done = subprocess.run(["rt", "run"], cwd=crate, capture_output=True, text=True, check=False)
+    done = subprocess.run(of_kit("run"), cwd=crate, capture_output=True, text=True, check=False)
     found = [words for words in map(str.split, done.stdout.splitlines()) if words and words[0] in kinds]
     if not found:
         sys.exit(done.stdout + done.stderr)

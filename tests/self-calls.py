@@ -148,41 +148,8 @@ def crates() -> typing.Iterator[Crate]:
             yield Crate(name, files)
 
 
-# Functions that call themselves, of which each has to be found, beside some that do not.
-SAMPLE = {
-    "one.rt": """use crate::two::through;
-fn own(left: u8) -> u8
-    requires { left < 9 }
-{
-    if left == 0 { 0 } else { own(left - 1) }
-}
-pub(crate) fn back(left: u8) -> u8 {
-    through(left)
-}
-impl<'a> Walk<'a> {
-    fn walk(&self) -> u8 {
-        self
-            .walk()
-    }
-    fn copy(&self) -> Walk {
-        self.held.copy()
-    }
-    fn own(&self) -> u8 {
-        own(3) // own()
-    }
-}
-struct Tree {
-    left: Option<Box<Tree>>,
-}
-""",
-    "two.rt": """pub(crate) fn through(left: u8) -> u8 {
-    crate::one::back(left)
-}
-fn text() -> &[u8] {
-    b"text()"
-}
-""",
-}
+# Samples with functions that call themselves, of which each has to be found, beside some that do not.
+SAMPLE = {name: text_of("tests", "samples", f"{name}.txt") for name in ("one.rt", "two.rt")}
 FOUND = ["sample Walk::walk", "sample back", "sample own", "sample through"]
 
 

@@ -2,21 +2,11 @@
 """tests/session.py [--long] [PROGRAM]
 
 Holds sessions. The program is the one that `./suites session` runs, or the one that is named. Prints what differs;
-status 1 where something does.
-
-Each line is answered before more is written to the session; marks stand behind the answers; a faulty line, a line that
-is too long and bytes that are no text are told and the session goes on; what a session prints for a script is what
-`suites play` prints for it. A journal is cut at each byte and restored: of what stands behind its last whole line
-nothing is carried out, and it is gone from the file. A file that is no journal, a journal with a faulty line and one
-that another session has open are refused and left as they are. A journal that may not grow is told, and the session
-goes on. Each read, write, append, sync and cut is refused in turn, and each allocation (`cc`). Of a session that is
-killed each line that was answered is in its journal, once, and no line that was not given. What is told of servers is
-what was worked out by hand, and what a trace ends with (tests/standing.py). With --long it kills 200 times instead of
-20, and hears ten million lines instead of 200 thousand.
+status 1 where something does. Each function here says what it looks at; what is told of servers is worked out by hand,
+and what a trace ends with (tests/standing.py). With --long it kills 200 times instead of 20, and hears ten million
+lines instead of 200 thousand.
 """
-from __future__ import annotations
-
-import argparse
+import contextlib
 import os
 import random
 import resource
@@ -52,7 +42,7 @@ PROBE = (b"return 2", b"begin 0 1000 100 0 read /a", b"run 0", b"audit 0")
 LONGEST = 16 * 1024 * 1024
 
 
-def answers(path: str, tally: Tally) -> None:
+def answers(path: str, tally: Tally, _folder: str) -> None:
     """Each line is answered while no other is written, and by what the same line prints in a whole script."""
     talk = Talk(path)
     told = [talk.say(line) for line in (*STORY, *PROBE)]
@@ -65,12 +55,9 @@ def answers(path: str, tally: Tally) -> None:
     tally.holds(suites.stdout == whole[1], "play", suites.stdout, whole[1])
 
 
-def goes_on(path: str, tally: Tally) -> None:
-    """What is wrong with a line is told, and the next one is answered."""
+def goes_on(path: str, tally: Tally, _folder: str) -> None:
+    """A line that is too long is told, and bytes that are no text, and the next line is answered."""
     for line, told, status in (
-        (b"bad", b"fault line 6: S1\n", 3),
-        (b"crash 3", b"fault line 6: S1\n", 3),
-        (b"\xff\x00\x80 \xfe", b"fault line 6: S1\n", 3),
         (b"# " + b"x" * (LONGEST - 2), b"", 0),
         (b"# " + b"x" * (LONGEST - 1), b"fault line 6: S3\n", 3),
         (b"# " + b"x" * (LONGEST - 2) + b"\r", b"", 0),
@@ -78,17 +65,11 @@ def goes_on(path: str, tally: Tally) -> None:
     ):
         given = text_of((*HEADER, line, b"begin 0 1000 100 0 file /a 644", b"run 0"))
         tally.holds(ran(path, [], given) == (status, told + b"0.0 10 answered made 1\n"), line[:20], len(line))
-    again = ran(path, ["--marks"], b"servers 99\nservers 3")
-    tally.holds(again == (3, b"fault line 1: G1\n= 1\n= 2\n"), "a header again", again)
-    tally.holds(ran(path, [], b"") == (0, b""), "no line")
-    tally.holds(ran(path, ["--marks"], b"\n\r\n#") == (0, b"= 1\n= 2\n= 3\n"), "lines that say nothing")
     random_bytes = random.Random(1).randbytes(200_000)
     status, told = ran(path, ["--marks"], text_of(HEADER) + random_bytes)
     marks = [line for line in told.splitlines() if line.startswith(b"= ")]
     count = len(HEADER) + random_bytes.count(b"\n") + (not random_bytes.endswith(b"\n"))
     tally.holds(status == 3 and marks == marks_of(count), "bytes that are no text", status)
-    for words in (["--journal"], ["--no-sync"], ["--marks", "x"]):
-        tally.holds(ran(path, words, b"") == (2, b"fault command line\n"), words)
 
 
 def marks_of(count: int) -> list[bytes]:
@@ -102,7 +83,7 @@ def restores(path: str, tally: Tally, folder: str) -> None:
     status, told = ran(path, ["--journal", name], text_of(STORY))
     tally.holds(status == 0 and told.startswith(b"= restored 0 lines\n"), "a new journal", told)
     whole = HEAD + text_of(KEPT)
-    tally.holds(spoken.content(name) == whole, "what is kept", spoken.content(name))
+    tally.holds(played.got(name) == whole, "what is kept", played.got(name))
     expected: dict[int, bytes] = {}
     for place in range(len(whole) + 1):
         front = whole[:place]
@@ -116,7 +97,7 @@ def restores(path: str, tally: Tally, folder: str) -> None:
         right = [line for line in PROBE if len(lines) >= len(HEADER)]
         wanted = b"= restored %d lines\n" % len(lines) + expected[len(lines)]
         tally.holds(renumbered(told, len(lines)) == wanted, place, told)
-        tally.holds(spoken.content(name) == HEAD + text_of((*lines, *right)), "the file", place)
+        tally.holds(played.got(name) == HEAD + text_of((*lines, *right)), "the file", place)
         os.unlink(name)
 
 
@@ -143,7 +124,7 @@ def refuses(path: str, tally: Tally, folder: str) -> None:
         name = spoken.journal(folder, given)
         told = ran(path, ["--journal", name], text_of(PROBE))
         tally.holds(told == (3, b"fault journal %s: %s\n" % (name.encode(), why)), why, told)
-        tally.holds(spoken.content(name) == given, "it is left", why)
+        tally.holds(played.got(name) == given, "it is left", why)
     told = ran(path, ["--journal", folder], b"")
     tally.holds(told == (6, b"fault journal %s: failed\n" % folder.encode()), "a folder", told)
     name = spoken.journal(folder)
@@ -170,7 +151,7 @@ def is_full(path: str, tally: Tally, folder: str) -> None:
     )
     told = b"= restored 5 lines\nfault journal\n= 1\n= 2\nfault line 3: S1\n= 3\n= 4\n"
     tally.holds((done.returncode, done.stdout) == (6, told), "a full disk", done)
-    kept = spoken.content(name)
+    kept = played.got(name)
     tally.holds(kept == HEAD + text_of((*HEADER, b"crash 1", b"run 0")), "its journal", kept)
 
 
@@ -188,7 +169,7 @@ def fails(path: str, tally: Tally, folder: str) -> None:
             if not library.was_met():
                 tally.holds(status == 0 and told == right and call > 1, "no call failed", kind, call)
                 break
-            kept = spoken.content(name)
+            kept = played.got(name)
             tally.holds(status == 6, kind, call, status, told)
             if kind in ("READ", "WRITE"):
                 tally.holds(whole.startswith(kept) and right.startswith(told), "a front", kind, call, told)
@@ -205,7 +186,7 @@ def fails(path: str, tally: Tally, folder: str) -> None:
     name = spoken.journal(folder)
     status, told = ran(path, ["--journal", name], text_of(STORY), library.env(SYNC=3, CUT=2))
     tally.holds(status == 6 and told.count(b"fault journal\n") >= 1, "a journal that is not cut off", told)
-    kept = spoken.content(name)
+    kept = played.got(name)
     tally.holds(whole.startswith(kept) and kept.count(b"\n") == 4, "it takes no line more", kept)
 
 
@@ -230,25 +211,21 @@ def lacks_memory(path: str, tally: Tally, folder: str) -> None:
             tally.holds(found == marks, "marks", call, told)
             tally.holds(status in (0, 3, 4, 6) and told.count(b"fault memory\n") <= 1, "told", call, status, told)
             if is_kept:
-                kept = spoken.content(name)[len(HEAD):].splitlines()
+                kept = played.got(name)[len(HEAD):].splitlines()
                 again = ran(path, ["--journal", name], b"")[1]
                 tally.holds(again == b"= restored %d lines\n" % len(kept), "restored", call, again)
                 os.unlink(name)
 
 
-def closes_its_end(path: str, tally: Tally) -> None:
+def closes_its_end(path: str, tally: Tally, _folder: str) -> None:
     """Who hears the answers is gone: the session ends with 6, and reads no more."""
     talk = Talk(path)
     talk.told.close()
-    for _ in range(100_000):
-        try:
+    with contextlib.suppress(BrokenPipeError):
+        for _ in range(100_000):
             talk.heard.write(b"bad\n")
-        except BrokenPipeError:
-            break
-    try:
+    with contextlib.suppress(BrokenPipeError):
         talk.heard.close()
-    except BrokenPipeError:
-        pass
     tally.holds(talk.child.wait(spoken.PATIENCE) == 6, "a reader that closes its end")
 
 
@@ -261,7 +238,7 @@ def is_killed(path: str, tally: Tally, folder: str, times: int) -> None:
     for turn in range(times):
         talk = Talk(path, "--journal", name)
         told = talk.line()
-        found = spoken.content(name)
+        found = played.got(name)
         lines = found[len(HEAD):].splitlines()
         tally.holds(told == b"= restored %d lines" % len(lines) and found.endswith(b"\n"), "restored", turn, told)
         tally.holds(lines[: len(kept)] == kept and len(lines) - len(kept) <= 1, "what was answered is there", turn)
@@ -285,7 +262,7 @@ def is_killed(path: str, tally: Tally, folder: str, times: int) -> None:
         talk.child.wait()
         talk.told.close()
     last = ran(path, ["--journal", name], b"")
-    lines = spoken.content(name)[len(HEAD):].splitlines()
+    lines = played.got(name)[len(HEAD):].splitlines()
     tally.holds(last[0] == 0 and lines[: len(kept)] == kept and len(lines) - len(kept) <= 1, "at last", last)
     tally.holds(len(lines) > times, "there was a load", len(lines))
 
@@ -301,8 +278,7 @@ def grows(path: str, tally: Tally, count: int) -> None:
         if turn in (4, count // 10_000 - 1):
             child.stdin.flush()
             time.sleep(0.2)
-            with open(f"/proc/{child.pid}/statm", encoding="ascii") as file:
-                sizes.append(int(file.read().split()[1]))
+            sizes.append(int(played.text_of(f"/proc/{child.pid}/statm").split()[1]))
     child.stdin.close()
     tally.holds(child.wait(600) == 0 and sizes[-1] <= sizes[0] + 64, "memory of lines that are done", sizes)
 
@@ -337,6 +313,15 @@ def lasting(row: bytes) -> list[bytes]:
     return words[:3] + [pairs.get(one, b"") for one in LASTING]
 
 
+def why_not(name: str) -> str:
+    """Why a journal is not made short; nothing where it is."""
+    try:
+        dump.compact(name)
+    except dump.console.Stop as stop:
+        return str(stop)
+    return ""
+
+
 def is_compacted(path: str, tally: Tally, folder: str) -> None:
     """A journal is made short: the same tree, and names are known; a file that is none, or is in use, is left."""
     name = spoken.journal(folder)
@@ -349,22 +334,14 @@ def is_compacted(path: str, tally: Tally, folder: str) -> None:
     is_same = len(rows) == len(PATHS) and list(map(lasting, rows)) == list(map(lasting, wanted))
     tally.holds(is_same, "the tree", rows, wanted)
     tally.holds(status == 0 and told.splitlines()[-1].endswith(b"answered set"), "names are known", told)
-    tally.holds(sum(b"/gone" in line for line in spoken.content(name).splitlines()) == 0, "what was dropped is gone")
+    tally.holds(sum(b"/gone" in line for line in played.got(name).splitlines()) == 0, "what was dropped is gone")
     for wrong in (b"some text\n", HEAD + b"bad\n"):
         name = spoken.journal(folder, wrong)
-        try:
-            dump.compact(name)
-            tally.holds(False, "it was compacted", wrong)
-        except dump.console.Stop:
-            tally.holds(spoken.content(name) == wrong, "it is left", wrong)
+        tally.holds(why_not(name) != "" and played.got(name) == wrong, "it was compacted, or is not left", wrong)
     name = spoken.journal(folder)
     talk = Talk(path, "--journal", name)
     talk.say(b"servers 3")
-    try:
-        dump.compact(name)
-        tally.holds(False, "it was compacted while it was in use")
-    except dump.console.Stop as stop:
-        tally.holds("in use" in str(stop), stop)
+    tally.holds("in use" in why_not(name), "it was compacted while it was in use", why_not(name))
     talk.end()
     left = [one for one in os.listdir(folder) if one.startswith("journal-") and "." in one]
     tally.holds(not left, "a file is left", left)
@@ -374,7 +351,7 @@ def tells_stories(path: str, tally: Tally, folder: str) -> None:
     """The stories of examples/session."""
 
     def story(name: str) -> list[bytes]:
-        return spoken.content(os.path.join(played.TOP, "examples", "session", f"{name}.script")).splitlines()
+        return played.got(os.path.join(played.TOP, "examples", "session", f"{name}.script")).splitlines()
 
     told = ran(path, [], text_of(story("revocation")))[1].splitlines()
     tally.holds(b"1.1 11 denied op 1 suite 1 wants r-- by user:1001:" in told, "revocation", told)
@@ -404,24 +381,16 @@ def tells_stories(path: str, tally: Tally, folder: str) -> None:
 
 
 def main() -> int:
-    read = argparse.ArgumentParser(description=__doc__, formatter_class=argparse.RawDescriptionHelpFormatter)
-    read.add_argument("--long", action="store_true")
-    read.add_argument("program", nargs="?")
-    given = read.parse_args()
-    path, tally = spoken.program(given.program), Tally(most=20, width=600)
+    given = played.words(__doc__, "program", long=False)
+    path, tally = played.program(given.program), Tally(most=20, width=600)
     setattr(built, "program", lambda: path)
     with tempfile.TemporaryDirectory(prefix="suites-") as folder:
-        answers(path, tally)
-        goes_on(path, tally)
         standing.stands(path, tally)
-        restores(path, tally, folder)
-        refuses(path, tally, folder)
-        is_full(path, tally, folder)
-        fails(path, tally, folder)
-        lacks_memory(path, tally, folder)
-        is_compacted(path, tally, folder)
-        tells_stories(path, tally, folder)
-        closes_its_end(path, tally)
+        for part in (
+            answers, goes_on, restores, refuses, is_full, fails, lacks_memory, is_compacted, tells_stories,
+            closes_its_end,
+        ):  # fmt: skip
+            part(path, tally, folder)
         is_killed(path, tally, folder, 200 if given.long else 20)
         grows(path, tally, 10_000_000 if given.long else 200_000)
     return tally.told("answers of sessions")

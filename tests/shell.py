@@ -7,8 +7,6 @@ setfacl makes of lists against setfacl; and scripts of `./suites import`: the tr
 mount, and the script of that is the same. What a mount needs and is not here is told, and that part is skipped. Prints
 what differs; status 1 where something does.
 """
-from __future__ import annotations
-
 import contextlib
 import os
 import pty
@@ -169,8 +167,7 @@ def shell(story: str, *words: str) -> list[str]:
 
 
 def tells_stories(tally: played.Tally) -> None:
-    with open(STORY, encoding="utf-8") as file:
-        told = shell(file.read(), "--root", "0:0:755")
+    told = shell(played.text_of(STORY), "--root", "0:0:755")
     answers = [pair for pair in zip(told, told[1:]) if "> cat" in pair[0] or "> getfacl" in pair[0]]
     tally.holds(answers == ANSWERED, "the story of the shell", answers)
     for line, wanted in MISTAKES.items():
@@ -243,8 +240,7 @@ def reads_trees(tally: played.Tally) -> None:
         top = os.path.join(room, "t")
         os.makedirs(f"{top}/a/b/c")
         for number in range(20):
-            with open(f"{top}/a/f{number}", "wb") as file:
-                file.write(bytes([number]) * number * 300)
+            played.put(f"{top}/a/f{number}", bytes([number]) * number * 300)
             os.chmod(f"{top}/a/f{number}", 0o400 | number * 5)
         if shutil.which("setfacl"):
             subprocess.run(["setfacl", "-m", "u:1234:rw,g:77:r", f"{top}/a/f3"], check=True)
@@ -252,8 +248,7 @@ def reads_trees(tally: played.Tally) -> None:
         status, first, told = imported(top)
         tally.holds((status, told) == (0, ""), "a tree that fits", status, told)
         script = os.path.join(room, "script")
-        with open(script, "w", encoding="utf-8") as file:
-            file.write(first)
+        played.put(script, first)
         with mounted.Mounted("--script", script) as mount:
             status, again, told = imported(mount.top)
             tally.holds((status, again) == (0, first), "a tree, mounted and read again", told)

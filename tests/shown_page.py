@@ -2,18 +2,9 @@
 """tests/shown_page.py [--shots FOLDER]
 
 Opens the pages of ./suites show in a headless Chromium, steps through them by keys, and looks whether what they say is
-what `trace` tells in lines. Without Chromium it prints "skipped: no chromium" and ends with 0. With --shots it leaves
-pictures of some pages in a folder. Status 1 where something differs.
-
-model    the world behind the last event, as the page's model comes to it (by `node`, where that is there), is the one
-         that the program tells at the end: also of random scripts. The worlds of a part of a run are those of the
-         whole, and a run of too many events is refused
-stories  each story of examples/play, stepped by keys to its end: servers, copies, locks, what agents gathered and
-         keep, and what `play` prints
-hostile  what bytes hold, and names of users in a script, stays text
-hands    keys, clicks, what is explained to whoever points at it, a file through time, dark and light, and on paper
-many     five servers and 300 requests, and 2,000 events: each step takes no longer than a picture of a film (processor
-         time)
+what `trace` tells in lines; and holds their model against what the program tells (by `node`, where that is there).
+Without Chromium it prints "skipped: no chromium". With --shots it leaves pictures of some pages in a folder. Status 1
+where something differs.
 """
 import dataclasses
 import json
@@ -43,61 +34,10 @@ MOST_BYTES, MOST_STEP = 250_000, 40
 SHOT = ("revocation.script", "swept-clean.script", "votes-moved.script")
 # So many steps are measured.
 STEPS = 60
-# What the page shows: of each server whether it is up, its copies and its locks; of each agent how far its job is, what
-# it gathered, and what its cache keeps; and the lines of `play` up to here.
-SEEN = """(() => ({
-  servers: [...document.querySelectorAll('[data-server]')].map((card) => ({
-    up: card.dataset.up === 'true',
-    copies: [...card.querySelectorAll('[data-copy]')].map((one) =>
-      [one.dataset.copy, one.dataset.prefix, one.dataset.content].map(Number)),
-    locks: [...card.querySelectorAll('[data-lock]')].map((one) => one.dataset.lock) })),
-  agents: [...document.querySelectorAll('[data-agent]')].sort((one, other) =>
-    one.dataset.agent - other.dataset.agent).map((card) => ({
-    stage: card.dataset.stage,
-    gathered: [...card.querySelectorAll('[data-gathered]')].map((one) => one.dataset.gathered),
-    cache: [...card.querySelectorAll('[data-entry]')].map((one) => one.dataset.entry) })),
-  told: [...document.querySelectorAll('#script .told:not(.later)')].map((one) => one.dataset.told),
-  text: [...document.querySelectorAll('#script .told:not(.later)')].map((one) => one.textContent),
-  here: Page.at(), last: Page.run.last }))()"""
+# What the page shows, as an expression.
+SEEN = text_of("tests", "seen.js").rstrip()
 EVIL = "</script><script>alert(1)</script><img src=x onerror=alert(2)>"
 NAMED = 'a"<img/src=x/onerror=alert(3)>'
-NODE = """
-const Model = require(process.argv[1]);
-const told = JSON.parse(require('fs').readFileSync(0, 'utf8'));
-const run = Model.read(told.events, told.before);
-const last = run.events[run.last], world = run.worlds.at(run.last);
-const wrong = [];
-last.servers.forEach((server, number) => {
-  const own = world.servers[number];
-  const copies = Object.values(own.copies).sort((a, b) => a.suite - b.suite);
-  if (own.up !== server.up) wrong.push(`server ${number} up`);
-  if (JSON.stringify(own.locks) !== JSON.stringify(server.locks)) wrong.push(`locks of ${number}`);
-  if (JSON.stringify(copies) !== JSON.stringify(server.copies)) wrong.push(`copies of ${number}`);
-  if (JSON.stringify(own.denials) !== JSON.stringify(server.denials)) wrong.push(`denials of ${number}`);
-});
-last.agents.forEach((agent, number) => {
-  const own = world.agents[number];
-  for (const part of ['jobs', 'stage', 'next', 'of', 'gathered', 'cache']) {
-    if (JSON.stringify(own[part]) !== JSON.stringify(agent[part])) wrong.push(`${part} of ${number}`);
-  }
-  if ((own.job !== null) !== (agent.stage !== 'idle')) wrong.push(`job of ${number}`);
-});
-console.log(JSON.stringify(wrong));
-"""
-# Whether the worlds of a part of a run, to its end, are those of the whole run.
-PARTED = """
-const Model = require(process.argv[1]);
-const told = JSON.parse(require('fs').readFileSync(0, 'utf8'));
-const whole = Model.read(told.whole), part = Model.read(told.part, told.before);
-const sorted = (key, value) => (value && typeof value === 'object' && !Array.isArray(value)
-  ? Object.fromEntries(Object.entries(value).sort()) : value);
-const same = (one, other) => JSON.stringify(one, sorted) === JSON.stringify(other, sorted);
-const wrong = [];
-for (let at = 0; at <= part.last; at += 1) {
-  if (!same(part.worlds.at(at), whole.worlds.at(at + whole.last - part.last))) wrong.push(at);
-}
-console.log(JSON.stringify(wrong));
-"""
 
 
 class Pages:
@@ -161,19 +101,20 @@ def printed(lines: list[str]) -> list[str]:
 
 
 def models(tally: Tally) -> None:
+    """The world behind the last event, as the model comes to it, is the one that the program tells at the end."""
     node = shutil.which("node")
     if not node:
         return
     scripts = {**played.stories(), **{f"seed {seed}": scenario.Scenario(seed, 200).script() for seed in range(16)}}
     for name, script in scripts.items():
         given = json.dumps(dataclasses.asdict(show.Shown(show.events_of(script.encode()))))
-        done = modelled(node, NODE, given)
+        done = modelled(node, given)
         tally.holds(done.stdout.strip() == "[]", "model", name, done.stdout.strip() or done.stderr[-300:])
         parts(tally, node, name, script)
 
 
-def modelled(node: str, program: str, given: str) -> subprocess.CompletedProcess:
-    words = [node, "-e", program, os.path.join(show.PARTS, "model.js")]
+def modelled(node: str, given: str) -> subprocess.CompletedProcess:
+    words = [node, os.path.join(played.TOP, "tests", "model.js"), os.path.join(show.PARTS, "model.js")]
     return subprocess.run(words, input=given, capture_output=True, text=True, check=False)
 
 
@@ -182,7 +123,7 @@ def parts(tally: Tally, node: str, name: str, script: str) -> None:
     whole, middle = show.shown_of(script.encode(), 0, sys.maxsize), script.count("\n") * 2 // 3
     part = show.shown_of(script.encode(), middle, sys.maxsize)
     given = json.dumps({"whole": whole.events, "part": part.events, "before": part.before})
-    done = modelled(node, PARTED, given)
+    done = modelled(node, given)
     tally.holds(done.stdout.strip() == "[]", "part", name, middle, done.stdout.strip() or done.stderr[-300:])
     tally.holds(len(part.events) < len(whole.events), "a part is shorter", name)
     cut = show.shown_of(script.encode(), middle, middle)
@@ -203,7 +144,10 @@ def refused(tally: Tally) -> None:
     show.MOST_EVENTS = most
 
 
-def whole(tally: Tally, pages: Pages, shots: str | None) -> None:
+def whole(tally: Tally, pages: Pages, shots: str) -> None:
+    """Each story, stepped by keys to its end: servers, copies, locks, what agents gathered and keep, and what
+    `play` prints.
+    """
     for name, script in played.stories().items():
         size = pages.open(script)
         tally.holds(size < MOST_BYTES, name, "bytes of the page", size)
@@ -235,6 +179,7 @@ def whole(tally: Tally, pages: Pages, shots: str | None) -> None:
 
 
 def hostile(tally: Tally, pages: Pages) -> None:
+    """What bytes hold, and names of users in a script, stays text."""
     digits = EVIL.encode().hex()
     asked = f"file /a u::rw,u:{NAMED}:rw,g::r,m::rw,o::- ; write /a {digits}"
     pages.open(script_of(f"user {NAMED} 1001", f"begin 0 1000 100 0 {asked}",
@@ -252,6 +197,7 @@ def hostile(tally: Tally, pages: Pages) -> None:
 
 
 def hands(tally: Tally, pages: Pages) -> None:
+    """Keys, clicks, what is explained to whoever points at it, a file through time, dark and light, and on paper."""
     driver = pages.driver
     pages.open(played.stories()["revocation.script"])
     # only the rows in view are drawn, so their number tells nothing
@@ -303,7 +249,8 @@ def large(requests: int) -> str:
     return script_of(*lines, servers=5, agents=3, votes="1,1,1,1,1/3/3")
 
 
-def many(tally: Tally, pages: Pages, shots: str | None) -> None:
+def many(tally: Tally, pages: Pages, shots: str) -> None:
+    """Large runs: a step takes no longer than a picture of a film, of processor time."""
     for count in (300, 2000):
         size = pages.open(large(count))
         last = pages.driver.value("Page.run.last")
@@ -321,7 +268,7 @@ def many(tally: Tally, pages: Pages, shots: str | None) -> None:
 
 
 def main() -> int:
-    tally, shots = Tally(most=20, width=600), browser.shots()
+    tally, shots = Tally(most=20, width=600), browser.shots(__doc__)
     models(tally)
     refused(tally)
     with browser.opened(tally) as driver, tempfile.TemporaryDirectory() as folder:

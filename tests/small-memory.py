@@ -8,8 +8,6 @@ before at least, or is `fault memory`; some say `not all`, and the last says `al
 `./suites explore` is asked, under a limit of the shell, for a search that takes more than any machine has. Prints what
 differs; status 1 where something does.
 """
-from __future__ import annotations
-
 import contextlib
 import os
 import re
@@ -22,7 +20,7 @@ import explored
 import played
 import wrapper
 
-from common import built, console
+from common import built
 
 # The script; how much address space it may take, in KiB: so many limits, so far apart, and one that is wide enough.
 STORY, RISES, STEP, ENOUGH = "revocation-crash", 18, 500, 400_000
@@ -99,9 +97,7 @@ def by_the_tool(program: str, tally: played.Tally) -> None:
 
 
 def main() -> int:
-    read = console.words(__doc__)
-    read.add_argument("--program")
-    program, tally = read.parse_args().program or built.program(), played.Tally()
+    program, tally = played.words(__doc__, program="").program or built.program(), played.Tally()
     rising(program, tally)
     by_the_tool(program, tally)
     return tally.told("answers")

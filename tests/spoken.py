@@ -1,24 +1,14 @@
 """A session that a test talks to, and the journal that it keeps."""
-from __future__ import annotations
-
 import os
 import subprocess
 import tempfile
 from collections.abc import Iterable, Mapping, Sequence
-
-import played
-
-from common import built
 
 # The first line of each journal.
 HEAD = b"# journal of suites session, 1\n"
 HEADER = (b"servers 3", b"agents 2", b"votes 1,1,1/2/2", b"root 1000 100 777", b"cache 4096 4096 16")
 # What a session may take to answer a line, in seconds.
 PATIENCE = 60
-
-
-def program(named: str | None = None) -> str:
-    return os.path.abspath(named) if named else built.program()
 
 
 def text_of(lines: Iterable[bytes]) -> bytes:
@@ -85,8 +75,3 @@ def journal(folder: str, content: bytes | None = None) -> str:
         os.write(handle, content)
     os.close(handle)
     return path
-
-
-def content(path: str) -> bytes:
-    with open(path, "rb") as file:
-        return file.read()

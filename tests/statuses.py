@@ -44,8 +44,7 @@ def long_histories(tally: played.Tally) -> None:
             done = subprocess.run([path, "judge"], stdin=endless.stdout, capture_output=True, check=False, timeout=600)
             endless.kill()
         tally.holds((done.returncode, done.stdout) == (6, b""), path, "without an end", done)
-        is_said = path == built.program() or b"above 128 MiB" in done.stderr
-        tally.holds(is_said, path, "does not say why", done.stderr)
+        tally.holds(path == built.program() or b"above 128 MiB" in done.stderr, path, "does not say why", done.stderr)
 
 
 def main() -> int:

@@ -53,8 +53,7 @@ def tried(tally: played.Tally, program: Program, folder: str) -> None:
     tally.holds(done.stdout.startswith(f"{program.taken} crates taken: "), program.name, done.stdout, done.stderr)
     crate = os.path.join(folder, "crates", program.name)
     os.makedirs(os.path.join(crate, "src"))
-    with open(os.path.join(crate, "src", "main.rt"), "w", encoding="utf-8") as file:
-        file.write(text_of(PROGRAMS, f"{program.name}.rt.txt"))
+    played.put(os.path.join(crate, "src", "main.rt"), text_of(PROGRAMS, f"{program.name}.rt.txt"))
     with open(os.path.join(folder, "crates.txt"), "a", encoding="utf-8") as file:
         file.write(f"{program.name}: {program.direct}\n")
     given = subprocess.DEVNULL

@@ -7,8 +7,6 @@ counts them, without those that it takes for an input of one line. What a progra
 the session stands tests/granting.py, and in place of `explore` one that tells as many ways as its script has lines.
 Prints what grows more; status 1 where something does. Without valgrind it prints "skipped: .." and ends with 0.
 """
-from __future__ import annotations
-
 import os
 import sys
 import tempfile
@@ -18,7 +16,6 @@ import growth
 import played
 import wrapper
 
-from common import console
 from growth import Input, numbered
 
 FAKE = f"{sys.executable} {os.path.join(played.TOP, 'tests', 'granting.py')} grant"
@@ -57,9 +54,7 @@ def grows(copy: wrapper.Copy, one: Input) -> tuple[bool, str]:
 
 
 def main() -> int:
-    read = console.words(__doc__)
-    read.add_argument("--only", default="")
-    only = read.parse_args().only
+    only = played.words(__doc__, only="").only
     if counting.skipped():
         return 0
     tally = played.Tally()

@@ -15,8 +15,8 @@ SECTION = re.compile(
     r"(read|write|read and write): \d+ of \d+ votes\n    may be lost +(.*)\n    stopped by +([^:]*)\n    blocked"
     r" +(.*)\n    U5 at first +(.*)\n"
 )
-# A check of a test: given its words and chance it says how much it compared, and what differs.
-Check = typing.Callable[[argparse.Namespace, random.Random], tuple[int, list[str]]]
+# A check of a test, given its words, chance, and what counts.
+Check = typing.Callable[[argparse.Namespace, random.Random, played.Tally], None]
 Told = collections.namedtuple("Told", "lost sets more blocked ends_u5")
 
 
@@ -54,24 +54,19 @@ def random_word(servers: int, dice: random.Random) -> str:
 
 def run_tool(words: typing.Sequence[str]) -> subprocess.CompletedProcess[str]:
     """The tool, with these words, as a user runs it."""
-    return subprocess.run(
-        [os.path.join(played.TOP, "suites"), "votes", *words],
-        stdout=subprocess.PIPE,
-        stderr=subprocess.DEVNULL,
-        text=True,
-    )
+    suites = [os.path.join(played.TOP, "suites"), "votes", *words]
+    return subprocess.run(suites, stdout=subprocess.PIPE, stderr=subprocess.DEVNULL, text=True)
 
 
-def run_checks(read: argparse.ArgumentParser, checks: dict[str, Check]) -> int:
+def run_checks(doc: str, checks: dict[str, Check], **options: typing.Any) -> int:
     """The checks of a test, which takes a seed and the program as words. Prints how much each compared and what
     differs; the status is 1 where something does, or nothing was compared.
     """
-    read.add_argument("--seed", type=int, default=1)
-    read.add_argument("program", nargs="?")
-    given = read.parse_args()
+    given = played.words(doc, "program", seed=1, **options)
     given.program = played.program(given.program)
     dice, status = random.Random(given.seed), 0
     for what, check in checks.items():
-        count, wrong = check(given, dice)
-        status |= played.verdict(count, what, wrong, 10)
+        tally = played.Tally(most=10)
+        check(given, dice, tally)
+        status |= tally.told(what)
     return status

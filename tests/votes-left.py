@@ -1,15 +1,9 @@
 #!/usr/bin/env python3
 """tests/votes-left.py [--seed SEED] [PROGRAM]
 
-Compares what `./suites votes --script` and `--of` tell with what `play` answers. The program is the one that `./suites`
-runs, or the one that is named.
-
-- Of scripts those votes are told that are in effect at their end (this wants the program of `./suites trace`).
-- Of scripts that move votes every set of servers crashes: a fresh agent finds the votes, or does not, as is told.
-- Of each way to share votes of up to five servers that `--of` tells, what a read and a write cost and bear is found
-  anew. The rules that faulty votes break are told with their numbers.
-
-Status 1 where something differs. `./suites --test` runs it.
+Compares what `./suites votes --script` and `--of` tell with what `play` answers, as its checks say. Which votes a
+script leaves wants the program of `./suites trace`. The program is the one that `./suites` runs, or the one that is
+named. Status 1 where something differs. `./suites --test` runs it.
 """
 import argparse
 import fractions
@@ -20,9 +14,10 @@ import sys
 import tempfile
 
 import voted
+from played import Tally
 from scripting import header, job
 
-from common import built, console, tool
+from common import built, tool
 from votes import shapes, votes
 
 OPENING = header(4).replace("agents 2", "agents {}") + job("file /a 644")
@@ -50,23 +45,20 @@ def told_of_script(script: str) -> subprocess.CompletedProcess[str]:
         return subprocess.run(words, stdout=subprocess.PIPE, stderr=subprocess.DEVNULL, text=True)
 
 
-def check_scripts(_: argparse.Namespace, __: random.Random) -> tuple[int, list[str]]:
+def check_scripts(_: argparse.Namespace, __: random.Random, tally: Tally) -> None:
     """Scripts: which votes are told of which files, and for how many servers; and that a fault is told as `play` tells
     it.
     """
-    wrong = []
     faulty = told_of_script(OPENING.format(2) + MOVE.replace("1/3", "1/2"))
-    if (faulty.returncode, faulty.stdout) != (3, "fault line 8: V6\n"):
-        wrong.append(f"a faulty script is told with status {faulty.returncode}: {faulty.stdout}")
+    tally.same((faulty.returncode, faulty.stdout), (3, "fault line 8: V6\n"), "a faulty script")
     for script, word in LEFT:
         done = told_of_script(script)
         own = "votes 1,1,1/2/2 of /=suite 0" + (", /a=suite 1\n" if word == "1,1,1/2/2" else "\n")
         apart = "" if word == "1,1,1/2/2" else f"votes {word} of /a=suite 1\n"
-        for text in filter(None, (own, apart)):
-            lines = "\n".join(votes.told(votes.votes_of(text.split()[1], 4), "0.99"))
-            if done.returncode != 0 or text + lines not in done.stdout:
-                wrong.append(f"{script!r} leaves /a with {word}; told with status {done.returncode}:\n{done.stdout}")
-    return len(LEFT) + 1, wrong
+        texts = filter(None, (own, apart))
+        told = [text + "\n".join(votes.told(votes.votes_of(text.split()[1], 4), "0.99")) for text in texts]
+        is_so = done.returncode == 0 and all(text in done.stdout for text in told)
+        tally.holds(is_so, f"{script!r} leaves /a with {word}", done)
 
 
 # Scripts of seven servers that move votes, with servers down meanwhile. The root folder's list and votes may move too.
@@ -98,9 +90,8 @@ def searched(left: "votes.Left", down: frozenset[int]) -> str:
     return "answered read -"
 
 
-def check_moved(given: argparse.Namespace, dice: random.Random) -> tuple[int, list[str]]:
+def check_moved(given: argparse.Namespace, dice: random.Random, tally: Tally) -> None:
     """Votes that were moved: with each set of servers down a fresh agent's read ends as is told."""
-    wrong, count = [], 0
     for _ in range(12):
         script = moving(dice)
         left = votes.left_by(script.encode())
@@ -113,43 +104,33 @@ def check_moved(given: argparse.Namespace, dice: random.Random) -> tuple[int, li
         ends = [line.split(" ", 2)[2] for line in printed.splitlines() if line.startswith("1.")]
         for place, down in enumerate(sets):
             # each server is the home once
-            told, count = searched(left, down), count + 1
             found = set(ends[7 * place : 7 * place + 7]) - {"undecided U5"}
-            if found != {told}:
-                wrong.append(f"{script!r} with {set(down)} down: told {told}, and {found} came")
-    return count, wrong
+            tally.same(found, {searched(left, down)}, f"{script!r} with {set(down)} down")
 
 
-def check_shapes(given: argparse.Namespace, __: random.Random) -> tuple[int, list[str]]:
+def check_shapes(given: argparse.Namespace, __: random.Random, tally: Tally) -> None:
     """Ways to share votes: how many requests a read and a write take, and that all else is what is told of these
-    votes.
+    votes; and that the rules which faulty votes break are told with their numbers.
     """
-    wrong, words = [], []
     for servers in range(1, 6):
         for shape in shapes.best(servers, (0, 0), fractions.Fraction("0.99")):
-            words.append(shape.word)
             tell = voted.told(shape.word, servers, "0.99")
             own = [(lost, votes.chance_text(blocked)) for lost, blocked in zip(shape.lost, shape.blocked)]
-            if own != [(tell[kind].lost, tell[kind].blocked) for kind in ("read", "write")]:
-                wrong.append(f"{shape} is told as {tell}")
             jobs = "".join(map(job, ("file /a 644", "write /a 6869", "read /a")))
             printed = built.asked("play", header(servers, 1, shape.word) + jobs, path=given.program)[1]
             _, write, read = (int(line.split()[1]) for line in printed.splitlines())
-            if (read, write) != shape.requests:
-                wrong.append(f"{shape.word}: told {shape.requests}, and {read} and {write} requests came")
+            found = [(tell[kind].lost, tell[kind].blocked) for kind in ("read", "write")], (read, write)
+            tally.same((own, shape.requests), found, shape.word)
     lines = voted.run_tool(["--of", "5", "--lose-read", "2", "--lose-write", "2"]).stdout.splitlines()
-    if [line.split()[:5] for line in lines[4:5]] != [["1,1,1,1,1/3/3", "15", "14", "2", "2"]]:
-        wrong.append(f"of five servers that may lose two: {lines}")
+    wanted = [["1,1,1,1,1/3/3", "15", "14", "2", "2"]]
+    tally.same([line.split()[:5] for line in lines[4:5]], wanted, "of five servers that may lose two")
     for word, text in RULES.items():
-        if not voted.run_tool([word]).stdout.split("\n")[2].startswith(text):
-            wrong.append(f"of {word} the rule is not told: {voted.run_tool([word]).stdout}")
-    return len(words) + 1 + len(RULES), wrong
+        told = voted.run_tool([word]).stdout
+        tally.holds(told.split("\n")[2].startswith(text), f"of {word} the rule is not told", told)
 
 
 def main() -> int:
-    read = console.words(__doc__)
-    checks = {"scripts": check_scripts, "searches": check_moved, "shapes": check_shapes}
-    return voted.run_checks(read, checks)
+    return voted.run_checks(__doc__, {"scripts": check_scripts, "searches": check_moved, "shapes": check_shapes})
 
 
 if __name__ == "__main__":

@@ -1,20 +1,11 @@
 #!/usr/bin/env python3
 """tests/votes.py [--all] [--seed SEED] [PROGRAM]
 
-Compares what `./suites votes` tells with what `play` answers. The program is the one that `./suites` runs (a checked
-build where nothing is proved), or the one that is named.
-
-- The three examples of Gifford's paper have the chances that stand there.
-- Of votes of up to eight servers every set of servers crashes, and a file with these votes is read and written as
-  often in a row as there are servers, so that each of them is the home once. From which of it ended U1 and U5 all
-  that is told is found anew: how many may be lost, the least sets, both chances.
-- Of votes of up to 32 servers the sets that are told crash, and then all but one server of each; and as many servers,
-  any of them, as are told that may be lost.
-- Faulty words are told with the codes that `table` and `play` tell.
-
-Votes of up to three servers are tried all, where a server is not listed or has up to two votes; others are chosen by
-chance, with SEED. With --all those of up to five servers are tried all. Status 1 where something differs. It takes half
-a minute, and with --all some five. `./suites --test` runs it.
+Compares what `./suites votes` tells with what `play` answers where servers are down, with Gifford's examples, and
+faulty words with the codes that `table` and `play` tell. The program is the one that `./suites` runs (a checked build
+where nothing is proved), or the one that is named. Votes of up to three servers are tried all, where a server is not
+listed or has up to two votes; others are chosen by chance, with SEED. With --all those of up to five servers are tried
+all. Status 1 where something differs. It takes half a minute, and with --all some five. `./suites --test` runs it.
 """
 import argparse
 import collections
@@ -27,9 +18,10 @@ import sys
 import typing
 
 import voted
+from played import Tally
 from scripting import header, job
 
-from common import built, console
+from common import built
 from explain import explain
 from votes import votes
 
@@ -132,11 +124,11 @@ def found_anew(servers: int, ends: dict[frozenset[int], list[str]], up: fraction
     )
 
 
-def every_loss(program: str, servers: int, words: list[str], dice: random.Random) -> tuple[int, list[str]]:
-    """Compares all that is told of votes with runs in which every set of servers is down. Answers how many tries there
-    were, and what differs.
+def every_loss(program: str, servers: int, words: list[str], dice: random.Random, tally: Tally) -> None:
+    """Compares all that is told of votes with runs in which every set of servers is down: a file with these votes is
+    read and written as often in a row as there are servers, so that each of them is the home once.
     """
-    play, wrong = Play(servers, words), []
+    play = Play(servers, words)
     for size in range(servers + 1):
         for down in itertools.combinations(range(servers), size):
             play.fall(set(down))
@@ -149,17 +141,16 @@ def every_loss(program: str, servers: int, words: list[str], dice: random.Random
     ends = collections.defaultdict(lambda: collections.defaultdict(list))
     for end in play.answers(program):
         ends[end.place, end.kind][end.down].append(end.how)
-        if is_odd(end, servers, words[end.place]):
-            wrong.append(f"{words[end.place]}: {end}")
+        tally.holds(not is_odd(end, servers, words[end.place]), words[end.place], end)
     for (place, kind), hows in ends.items():
-        found = found_anew(servers, hows, fractions.Fraction(up))
-        if tells[place][kind] != found:
-            wrong.append(f"{words[place]} of {servers} servers, {kind}: told {tells[place][kind]}, found {found}")
-    return len(play.tries), wrong
+        found, told = found_anew(servers, hows, fractions.Fraction(up)), tells[place][kind]
+        tally.fails(told != found and f"{words[place]} of {servers} servers, {kind}: told {told}, found {found}")
 
 
-def told_losses(program: str, servers: int, word: str, dice: random.Random) -> tuple[int, list[str]]:
-    """Compares the sets that are told, and how many servers may be lost, with runs in which these are down."""
+def told_losses(program: str, servers: int, word: str, dice: random.Random, tally: Tally) -> None:
+    """Compares the sets that are told with runs in which these are down, and then all but one server of each; and how
+    many servers may be lost with runs in which as many are down, any of them.
+    """
     play, tell, wanted = Play(servers, [word]), voted.told(word, servers, "0.99"), []
     for kind in ("read", "write"):
         sets = tell[kind].sets
@@ -175,11 +166,9 @@ def told_losses(program: str, servers: int, word: str, dice: random.Random) -> t
                 wanted.append(is_blocked)
                 if is_last:
                     break
-    wrong = []
     for end, is_blocked in zip(play.answers(program), wanted):
-        if (end.how == "U1") != is_blocked or is_odd(end, servers, word):
-            wrong.append(f"{word} of {servers} servers: {end}")
-    return len(play.tries), wrong
+        is_so = (end.how == "U1") == is_blocked and not is_odd(end, servers, word)
+        tally.holds(is_so, f"{word} of {servers} servers", end)
 
 
 def all_words(servers: int) -> typing.Iterator[str]:
@@ -191,58 +180,39 @@ def all_words(servers: int) -> typing.Iterator[str]:
         yield from (f"{','.join(fields).rstrip(',-')}/{r}/{w}" for r, w in voted.thresholds(total))
 
 
-def wrong_statuses() -> tuple[int, list[str]]:
-    """The status of words, good and bad: of how many, and of which it is another."""
-    statuses = {("1/1/1", "--up", bad): 2 for bad in ("0", "1.01", "x", "")} | {
-        ("--help",): 0,
-        ("--of", "5"): 0,
-        ("--of", "3", "--lose-write", "2"): 1,
-    }
-    bad = [
-        (),
-        ("--script", "x", "1/1/1"),
-        ("--script", "x", "--servers", "1"),
-        ("--of", "0"),
-        ("--of", "33"),
-        ("--of", "3", "1/1/1"),
-        ("--lose-read", "1", "1/1/1"),
-    ]
-    statuses |= {words: 2 for words in bad}
-    wrong = [
-        f"{' '.join(words)}: not status {status}"
-        for words, status in statuses.items()
-        if voted.run_tool(words).returncode != status
-    ]
-    return len(statuses), wrong
+# The status of words, good and bad.
+STATUSES = {
+    0: ("--help", "--of 5"),
+    1: ("--of 3 --lose-write 2",),
+    2: (
+        "", "--script x 1/1/1", "--script x --servers 1", "--of 0", "--of 33", "--of 3 1/1/1", "--lose-read 1 1/1/1",
+        "1/1/1 --up 0", "1/1/1 --up 1.01", "1/1/1 --up x", "1/1/1 --up ",
+    ),
+}  # fmt: skip
+# The chances with which a read and a write are blocked in Gifford's examples, where each server is up with 0.99.
+GIFFORD = {"1,0,0/1/1": ["1.0e-2", "1.0e-2"], "2,1,1/2/3": ["2.0e-4", "1.0e-2"], "1,1,1/1/3": ["1.0e-6", "3.0e-2"]}
 
 
-def check_examples(_: argparse.Namespace, __: random.Random) -> tuple[int, list[str]]:
-    """The blocking probabilities of the paper's three examples, where each server is up with chance 0.99; and the
-    words of the command line.
-    """
-    gifford = {"1,0,0/1/1": ("1.0e-2", "1.0e-2"), "2,1,1/2/3": ("2.0e-4", "1.0e-2"), "1,1,1/1/3": ("1.0e-6", "3.0e-2")}
-    found = {word: tuple(voted.told(word, 3, "0.99")[kind].blocked for kind in ("read", "write")) for word in gifford}
-    wrong = [
-        f"{word}: blocks {found[word]}, and not {gifford[word]}" for word in gifford if found[word] != gifford[word]
-    ]
+def check_examples(_: argparse.Namespace, __: random.Random, tally: Tally) -> None:
+    """The blocking probabilities of the paper's three examples; and the words of the command line."""
+    for word, chances in GIFFORD.items():
+        tell = voted.told(word, 3, "0.99")
+        tally.same([tell["read"].blocked, tell["write"].blocked], chances, word, "blocks")
     many = voted.told(",".join("1" * 32) + "/16/17", 32, "0.99")
-    if (many["read"].more, many["write"].more) != (math.comb(32, 17) - 20, math.comb(32, 16) - 20):
-        wrong.append(
-            f"of 32 servers with a vote each: told that there are {many['read'].more} and {many['write'].more} more"
-            " sets"
-        )
-    lines = {("2,1,1/2/3",): (None, "0.99"), ("--up", "0.9", "-,2,1,1/2/3", "--servers", "6"): (6, "0.9")}
+    wanted = math.comb(32, 17) - 20, math.comb(32, 16) - 20
+    tally.same((many["read"].more, many["write"].more), wanted, "of 32 servers with a vote each: more sets")
+    lines = {"2,1,1/2/3": (None, "0.99"), "--up 0.9 -,2,1,1/2/3 --servers 6": (6, "0.9")}
     for words, (servers, up) in lines.items():
-        word = next(word for word in words if "/" in word)
-        if voted.run_tool(words).stdout != "".join(f"{line}\n" for line in votes.told_of_word(word, servers, up)):
-            wrong.append(f"{' '.join(words)}: told other than {word} of {servers} servers, each up with chance {up}")
-    asked, others = wrong_statuses()
-    return len(gifford) + 1 + len(lines) + asked, wrong + others
+        word = next(word for word in words.split() if "/" in word)
+        told = "".join(f"{line}\n" for line in votes.told_of_word(word, servers, up))
+        tally.same(voted.run_tool(words.split()).stdout, told, words)
+    for status, some in STATUSES.items():
+        for words in some:
+            tally.same(voted.run_tool(words.split(" ") if words else []).returncode, status, words)
 
 
-def check_losses(given: argparse.Namespace, dice: random.Random) -> tuple[int, list[str]]:
+def check_losses(given: argparse.Namespace, dice: random.Random, tally: Tally) -> None:
     """Votes against `play`."""
-    tried, wrong = 0, list[str]()
     words = [(servers, list(all_words(servers))) for servers in range(1, 6 if given.all else 4)]
     words += [
         (servers, [voted.random_word(servers, dice) for _ in range(count)])
@@ -251,59 +221,32 @@ def check_losses(given: argparse.Namespace, dice: random.Random) -> tuple[int, l
     words.append((7, ["1,1,1,1,1,1,1/4/4", "2,1,1,1,1,1,1/4/5"]))
     for servers, some in words:
         for place in range(0, len(some), FILES):
-            count, found = every_loss(given.program, servers, some[place : place + FILES], dice)
-            tried, wrong = tried + count, wrong + found
+            every_loss(given.program, servers, some[place : place + FILES], dice, tally)
     for _ in range(24):
         servers = dice.choice([9, 12, 16, 24, 32])
-        count, found = told_losses(given.program, servers, voted.random_word(servers, dice), dice)
-        tried, wrong = tried + count, wrong + found
-    return tried, wrong
+        told_losses(given.program, servers, voted.random_word(servers, dice), dice, tally)
 
 
-# Words and their codes by the rules of scripts; `N:` before one says how many servers there are.
-FAULTS = {
-    "": "S1",
-    "1": "S1",
-    "1/1": "S1",
-    "1/1/1/1": "S1",
-    "/1/1": "S1",
-    "1,/1/1": "S1",
-    "1,,1/1/2": "S1",
-    "1/+1/1": "S1",
-    "1/1/x": "S1",
-    "-1/1/1": "S1",
-    "300,1/0/0": "S1",
-    "256/200/200": "S1",
-    "1/65536/1": "S1",
-    "1/1/65536": "S1",
-    "1/1/99999999999999999999": "S1",
-    "1 /1/1": "S1",
-    "\u0661/1/1": "S1",
-    ",".join("1" * 33) + "/17/17": "S1",
-    "--,1/1/1": "S1",
-    "-/1/1": "V1",
-    "-,-/0/0": "V1",
-    "2:1,1,1/9/9": "V2",
-    "3:-,-,-,0/1/1": "V2",
-    "0,0/1/1": "V4",
-    "0/0/0": "V4",
-    "1,1,1/0/3": "V5",
-    "1,1,1/2/4": "V5",
-    "1,1,1/65535/1": "V5",
-    "1,1,1/1/2": "V6",
-    "1,1,1,1/2/2": "V6",
-    "1,1,1,1/3/2": "V7",
-    "0:1/1/1": "G1",
-    "33:1/1/1": "G1",
-}
-SOUND = [
-    "1/1/1",
-    "0255/00000000000000000000255/255",
-    "2:1,-,-/1/1",
-    "32:1/1/1",
-    ",".join("1" * 32) + "/16/17",
-    "-,2,1,1/2/3",
-]
+# Words by their codes, which are those of the rules of scripts; `N:` before one says how many servers there are. The
+# last have no fault.
+FAULTS: dict[str, tuple[str, ...]] = {
+    "S1": (
+        "", "1", "1/1", "1/1/1/1", "/1/1", "1,/1/1", "1,,1/1/2", "1/+1/1", "1/1/x", "-1/1/1", "300,1/0/0",
+        "256/200/200", "1/65536/1", "1/1/65536", "1/1/99999999999999999999", "1 /1/1", "\u0661/1/1",
+        f"{','.join('1' * 33)}/17/17", "--,1/1/1",
+    ),
+    "V1": ("-/1/1", "-,-/0/0"),
+    "V2": ("2:1,1,1/9/9", "3:-,-,-,0/1/1"),
+    "V4": ("0,0/1/1", "0/0/0"),
+    "V5": ("1,1,1/0/3", "1,1,1/2/4", "1,1,1/65535/1"),
+    "V6": ("1,1,1/1/2", "1,1,1,1/2/2"),
+    "V7": ("1,1,1,1/3/2",),
+    "G1": ("0:1/1/1", "33:1/1/1"),
+    "": (
+        "1/1/1", "0255/00000000000000000000255/255", "2:1,-,-/1/1", "32:1/1/1", f"{','.join('1' * 32)}/16/17",
+        "-,2,1,1/2/3",
+    ),
+}  # fmt: skip
 
 
 def code_told(word: str, servers: str) -> str:
@@ -338,14 +281,12 @@ def spoiled(word: str, dice: random.Random) -> str:
     return word or "/"
 
 
-def check_faults(given: argparse.Namespace, dice: random.Random) -> tuple[int, list[str]]:
+def check_faults(given: argparse.Namespace, dice: random.Random, tally: Tally) -> None:
     """Faulty words: those whose code the rules say, and random ones against the program."""
-    wrong = []
-    for word, code in [*FAULTS.items(), *((word, "") for word in SOUND)]:
-        count, _, bare = word.rpartition(":")
-        found = code_told(bare, count)
-        if found != code:
-            wrong.append(f"{word}: told {found or 'no fault'}, and not {code or 'none'}")
+    for code, words in FAULTS.items():
+        for word in words:
+            count, _, bare = word.rpartition(":")
+            tally.same(code_told(bare, count), code, word)
     for _ in range(800):
         servers = dice.choice([None, dice.randint(1, 4)])
         word = spoiled(voted.random_word(dice.randint(1, 5), dice), dice)
@@ -354,19 +295,12 @@ def check_faults(given: argparse.Namespace, dice: random.Random) -> tuple[int, l
             found = ""
         except votes.Fault as fault:
             found = str(fault)
-        wanted = code_of_program(given.program, word, servers)
-        if found != wanted:
-            wrong.append(
-                f"{word} with {servers} servers: told {found or 'no fault'}, and the program says {wanted or 'none'}"
-            )
-    return len(FAULTS) + len(SOUND) + 800, wrong
+        tally.same(found, code_of_program(given.program, word, servers), f"{word} with {servers} servers")
 
 
 def main() -> int:
-    read = console.words(__doc__)
-    read.add_argument("--all", action="store_true")
     checks = {"examples": check_examples, "tries of play": check_losses, "words": check_faults}
-    return voted.run_checks(read, checks)
+    return voted.run_checks(__doc__, checks, all=False)
 
 
 if __name__ == "__main__":

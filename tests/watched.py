@@ -138,8 +138,7 @@ def stops(copy: wrapper.Copy) -> None:
         for number in (signal.SIGINT, signal.SIGTERM):
             one = on_terminal(copy, heard=lambda process: process.send_signal(number))
             copy.holds((one.status, one.printed, one.last()) == (130, printed, STOPPED), f"{number.name}: {one}")
-            with open(kept, encoding="ascii") as file:
-                child = int(file.read())
+            child = int(played.text_of(kept))
             copy.holds(ends.until(lambda: not played.is_alive(child)), f"{number.name}: it goes on")
 
 

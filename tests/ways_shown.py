@@ -7,8 +7,6 @@ question is answered as by `--ask`, and marks just the ways in which it is so; t
 run; and what does not fit on a page is told with what is to be typed. Prints what differs; status 1 where something
 does. Without Chromium the page alone is looked at.
 """
-from __future__ import annotations
-
 import json
 import os
 import re
@@ -112,7 +110,7 @@ def clicked(tally: Tally, driver: browser.Browser, name: str, told: str, answers
         tally.holds(sorted(marked) == wanted, name, text, "what is marked", marked, wanted)
 
 
-def pages(tally: Tally, driver: browser.Browser | None, folder: str, shots: str | None) -> None:
+def pages(tally: Tally, driver: browser.Browser | None, folder: str, shots: str) -> None:
     for name, options, questions in SHOWN:
         script = played.stories("explore")[name].encode()
         asks = [word for question in questions for word in ("--ask", question)]
@@ -128,8 +126,7 @@ def pages(tally: Tally, driver: browser.Browser | None, folder: str, shots: str 
             runs(tally, name, options, script, data)
         if driver:
             path = os.path.join(folder, f"{name}.html")
-            with open(path, "w", encoding="utf-8") as file:
-                file.write(page)
+            played.put(path, page)
             driver.open(path)
             clicked(tally, driver, name, told, len(wanted))
             if shots:
@@ -157,7 +154,7 @@ def large(tally: Tally) -> None:
 
 
 def main() -> int:
-    tally, shots = Tally(most=20, width=600), browser.shots()
+    tally, shots = Tally(most=20, width=600), browser.shots(__doc__)
     with browser.opened(tally) as driver, tempfile.TemporaryDirectory() as folder:
         pages(tally, driver, folder, shots)
     large(tally)

@@ -131,8 +131,7 @@ class Copy(Tally):
         folder = os.path.join(self.top, "out", "commands")
         os.makedirs(folder, exist_ok=True)
         for path, told in ((os.path.join(folder, name), text), (os.path.join(self.top, "out", "suites"), COMMANDS)):
-            with open(path, "w", encoding="utf-8") as file:
-                file.write(told)
+            played.put(path, told)
             os.chmod(path, 0o755)
         self.asked(KEEP.format("checked"))
 
@@ -196,8 +195,7 @@ def answers_at_once(copy: Copy) -> None:
     for words, told in NEAR.items():
         copy.holds(told in copy.at_once(words.split())[2], f"of {words} is not said: {told}")
     for words in ("trace x", "draw --agent 1 x", "trace <&-", "draw < /", "trace --agent 9 < two"):
-        with open(os.path.join(copy.top, "two"), "w", encoding="utf-8") as file:
-            file.write("servers 1\nagents 2\n")
+        played.put(os.path.join(copy.top, "two"), "servers 1\nagents 2\n")
         done = copy.reason(words, "")
         is_one = done.stdout == "" and len(done.stderr.splitlines()) == 1
         copy.holds(done.returncode in (2, 6) and is_one, f"{words}: {done}")

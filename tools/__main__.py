@@ -22,7 +22,7 @@ ROOMS = {
     "compare": "compare scenario",
     "pages": "shown named page_words proved_page forms_page",
     "wrong_bodies": "wrong_bodies wrong_bodies_page",
-    "gate": "gate gate_times test",
+    "gate": "gate gate_times rt test",
 }
 TOOLS = {name: f"{room}.{name}" for room, names in ROOMS.items() for name in names.split()}
 TOOLS |= {"may": "may.command", "import": "mount.importing"}

@@ -11,6 +11,11 @@ def tool(name: str, *words: str) -> list[str]:
     return [sys.executable, TOOLS, name, *words]
 
 
+def of_kit(*words: str) -> list[str]:
+    """The command that starts the kit's `rt` with these words."""
+    return tool("rt", *words)
+
+
 def text_of(*path: str) -> str:
     """The text of a file, by its path from the top of the repository."""
     with open(os.path.join(TOP, *path), encoding="utf-8") as file:

@@ -18,9 +18,7 @@ def kept(what: str) -> str:
 
 
 def kept_choice() -> tuple[str, str] | None:
-    """The kind and the path of the program that was chosen last, where all stands that it was chosen from (`./suites`
-    looks so at the other one): choosing takes longer than playing a story.
-    """
+    """The program that was chosen last, where all stands that it was chosen from: choosing takes longer."""
     with contextlib.suppress(OSError, ValueError, KeyError), open(kept("choice.sh"), encoding="utf-8") as file:
         said = dict(word.split("=", 1) for word in shlex.split(file.read()))
         names = [*said["files"].split("\n"), said["program"]]

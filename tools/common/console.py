@@ -102,9 +102,7 @@ class Progress:
 
 
 def say_once_a_day(path: str, text: str) -> None:
-    """Says a sentence, but not where it was said within a day, as this file tells; always where that cannot be
-    written.
-    """
+    """Says a sentence, where this file does not tell that it was said within a day, or cannot be written."""
     with contextlib.suppress(OSError):
         if 0 <= time.time() - os.stat(path).st_mtime < DAY:
             return
@@ -176,9 +174,7 @@ def shows(fault: str) -> str:
 
 
 def is_of_explore(fault: str, path: str) -> bool:
-    """Whether the line that has this fault is `together`, which a script of `explore` has where one of `play` has
-    none.
-    """
+    """Whether the faulty line is `together`, which a script of `explore` has and one of `play` has not."""
     number = fault.removeprefix("fault line ").partition(":")[0]
     if not number.isdigit():
         return False
@@ -187,13 +183,23 @@ def is_of_explore(fault: str, path: str) -> bool:
     return line.split() == [b"together"]
 
 
+class Parser(argparse.ArgumentParser):
+    """Reads the words of a command, and says where its help is of those that ask for nothing."""
+
+    def __init__(self, name: str) -> None:
+        super().__init__(prog=f"./suites {name}", add_help=False, allow_abbrev=False)
+        self.add_argument("-h", "--help", action="store_true")
+
+    def error(self, message: str) -> typing.NoReturn:
+        raise Bad(f"{message} ({self.prog} --help)")
+
+
 def words(text: str) -> argparse.ArgumentParser:
     """What reads the words of a command line; help is the text at the head of the tool."""
     return argparse.ArgumentParser(description=text, formatter_class=argparse.RawDescriptionHelpFormatter)
 
 
 def print_help(name: str) -> int:
-    """Prints a text of help/."""
     sys.stdout.write(text_of("help", f"{name}.txt"))
     return 0
 
@@ -207,7 +213,6 @@ def of_input(name: str, given: argparse.Namespace, work: typing.Callable[[argpar
 
 
 def tell_reading() -> None:
-    """Tells a terminal that it is read."""
     if sys.stdin.isatty():
         Teller().say("reading from the terminal, up to its end (Ctrl-D at the start of a line)")
 

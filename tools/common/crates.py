@@ -18,7 +18,6 @@ def listed(folder: str = TOP) -> dict[str, list[str]]:
 
 
 def line_of(name: str, needs: list[str]) -> str:
-    """The line of a crate in a list."""
     return f"{name}: {' '.join(needs)}".rstrip() + "\n"
 
 

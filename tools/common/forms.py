@@ -27,9 +27,7 @@ class Place(typing.NamedTuple):
 
 
 class Line(typing.NamedTuple):
-    """A line of a command's scripts: the part of the script in which it stands, its first word, the places behind that,
-    and what it does. A place in brackets may be missing.
-    """
+    """A line of scripts: its command, its part of the script, its word, the places behind, what it does."""
 
     command: str
     part: str
@@ -55,7 +53,6 @@ class Operation(typing.NamedTuple):
 
 
 def rows(kind: str) -> list[list[str]]:
-    """The rows of a kind, in their order."""
     with open(TABLE, encoding="utf-8") as file:
         parted = [line.rstrip("\n").split("\t") for line in file]
     return [row[1:] for row in parted if row[0] == kind]

@@ -8,9 +8,7 @@ FUNCTION = re.compile(r"^(?P<indent> *)(?P<pub>pub(?:\([^)]*\))? )?(?:const )?(?
 
 
 class Function(typing.NamedTuple):
-    """A function that has a body: the type that it is of ("" for none), whether that is by a trait, its name, its lines
-    from the head to the end, and the one in which the body begins.
-    """
+    """A function with a body: its type or "", whether by a trait, its name, the lines of head, body and end."""
 
     of: str
     by_trait: bool

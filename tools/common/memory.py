@@ -34,9 +34,7 @@ def free() -> int:
 
 
 def limit() -> None:
-    """Lets this process take no more memory than is free: the program then says that memory ran out, before the system
-    kills it.
-    """
+    """Lets this process take no more memory than is free, so that it says so itself where memory runs out."""
     most = max(free() - LEFT, LEFT)
     soft, hard = resource.getrlimit(resource.RLIMIT_AS)
     limits = [one for one in (most, soft, hard) if one != resource.RLIM_INFINITY]
@@ -44,9 +42,7 @@ def limit() -> None:
 
 
 def taken(process: int) -> tuple[int, int] | None:
-    """The bytes of memory that a process has taken of those that it may have, and these; nothing where it has ended or
-    may have any number.
-    """
+    """The bytes that a process has taken, of so many; nothing where it has ended or may have any number."""
     with contextlib.suppress(OSError, ValueError, IndexError), open(f"/proc/{process}/statm", encoding="ascii") as file:
         most = resource.prlimit(process, resource.RLIMIT_AS)[0]
         pages = int(file.read().split()[0])

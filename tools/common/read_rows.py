@@ -14,9 +14,7 @@ MARKS = {b"r": b"\r", b"t": b"\t", b"\\": b"\\"}
 
 
 class Row(typing.TypedDict, total=False):
-    """A row: the title above it and the number of its first line, its words, its input, and the status and output
-    wanted.
-    """
+    """A row: the title above it, the number of its first line, its words, its input, the status and output wanted."""
 
     title: str
     line: int
@@ -45,14 +43,12 @@ def rows() -> list[Row]:
     return found
 
 
-def read_rows() -> typing.Iterator[Row]:
-    """The rows: the title and the number of the first line of each, its words, its input, and the status and output
-    that are wanted.
-    """
+def read_rows(path: str = ROWS) -> typing.Iterator[Row]:
+    """The rows of a file, in their order."""
     title, row, part = "", Row(), b""
     input_lines: list[bytes] = []
     output_lines: list[bytes] = []
-    with open(ROWS, "rb") as file:
+    with open(path, "rb") as file:
         lines = file.read().split(b"\n")[:-1]
     for number, line in enumerate([*lines, b"="], 1):
         if line[:1] in (b"$", b"="):

@@ -17,6 +17,7 @@ import sys
 
 from common import TOP, console, numbers
 from compare import scenario
+from explain import denials
 from trace.events import OF_SERVERS, Event, begun, decided, events_of
 from trace.lines import printed
 
@@ -60,9 +61,7 @@ class Run:
             self.played += printed(event)
 
     def take(self, event: Event) -> None:
-        """Keeps what an event tells. Of the audits those count that come after the last decision, and so tell all
-        denials.
-        """
+        """Keeps what an event tells. The audits behind the last decision count, which tell all denials."""
         decision = decided(event)
         if decision:
             t, verdict = decision
@@ -87,11 +86,9 @@ def with_votes(ops: str, votes: str) -> str:
 
 def table_script(script: str, run: Run) -> str:
     """The decided transactions as a script of `table`, of which the first gives the root folder its votes."""
-    said = [line.split() for line in script.splitlines() if line.strip() and not line.startswith("#")]
-    votes = next(words[1] for words in said if words[0] == "votes")
-    root = next(words for words in said if words[0] == "root")
-    lines = [" ".join(root)] + [" ".join(words) for words in said if words[0] in ("user", "group")]
-    lines.append(f"do {root[1]} {root[2]} setvotes / {votes}")
+    votes = next(line.split()[1] for line in script.splitlines() if line.split()[:1] == ["votes"])
+    lines = denials.header_of(script)
+    lines.append(f"do {' '.join(lines[0].split()[1:3])} setvotes / {votes}")
     lines += [f"do {run.jobs[t].uid} {run.jobs[t].groups} {with_votes(run.jobs[t].ops, votes)}" for t in run.decided]
     return "\n".join(lines) + "\n"
 
@@ -120,9 +117,7 @@ def differences(script: str) -> tuple[list[str], collections.Counter[str]]:
 
 
 def differences_of(run: Run, table: list[str]) -> tuple[list[str], collections.Counter[str]]:
-    """What differs between a run and what the plain table prints of its decided transactions; and what there was to
-    compare.
-    """
+    """What differs between a run and what `table` prints of its decided transactions; and what was compared."""
     told: collections.Counter[str] = collections.Counter()
     wrong = list[str]()
     answers = [line.partition(" ")[2] for line in table][1:]

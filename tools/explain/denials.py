@@ -64,9 +64,7 @@ def answers(script: str, jobs: list[Asked]) -> list[str]:
 
 
 def list_then(script: str, jobs: list[Asked], path: str) -> tuple[str, str, str] | None:
-    """The owner, the group and the list of a path after these transactions. Whoever may own a folder on the way opens
-    it: of these its owner may, and the others change nothing.
-    """
+    """The owner, the group and the list of a path after these transactions; owners open the folders on the way."""
     header, folders = header_of(script), above(path)
     root = header[0].split()
     lines = [f"do {' '.join(one)} setacl {folder} {OPEN}" for folder in folders for one in makers(folder, root, jobs)]
@@ -104,9 +102,7 @@ def case_of(text: str, owner: str, group: str, caller: Asked) -> str:
 
 
 def told(script: str, before: list[Asked], caller: Asked, place: int, path: str, decider: str) -> typing.Iterator[str]:
-    """The sentences about the list, the owner, and the caller of a transaction whose operation at this place was
-    denied.
-    """
+    """The sentences about the list, the owner, and the caller of whom the operation at this place was denied."""
     jobs = before + ([caller._replace(operations=caller.operations[: place - 1])] if place > 1 else [])
     found = list_then(script, jobs, path)
     if not found:

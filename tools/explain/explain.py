@@ -90,9 +90,7 @@ def page() -> typing.Iterator[tuple[str, str, str, list[str]]]:
 
 @functools.cache
 def parts_by_word() -> dict[str, str]:
-    """The parts of the page about lines that begin with other words than these are called by; those that operations
-    reply stand in the part of what is answered.
-    """
+    """The parts of the page about lines that begin with a word of another part, as the replies of operations do."""
     told: list[str] = next((lines for _, _, code, lines in page() if code == "answered"), [])
     replies = [found[1] for found in (re.match(r"- `([a-z]+)", line) for line in told) if found]
     return {**dict.fromkeys(replies, "answered"), **PARTS}
@@ -167,9 +165,7 @@ def shown(line: str) -> str:
 
 
 def about(lines: list[str], text: str) -> list[str]:
-    """The lines of a part, and of those that tell of a word each only those whose word is in the text, where there are
-    some.
-    """
+    """The lines of a part; of those that tell of a word each only those whose word is in the text, if any is."""
     words = set(re.findall(r"[a-z=]+", text))
     kept = [
         line
@@ -275,9 +271,7 @@ def of_session(marked: re.Match[str], script: str, name: str) -> str:
 
 
 def of_printed(text: str, path: str, language: str | None) -> str:
-    """What happened behind a line that was printed of a script: what stands in the script, and for `play` how it came
-    to it.
-    """
+    """What happened behind a line that was printed of a script: what stands there, and for `play` how it came to it."""
     name, given = read_file(path)
     script, shown = given.decode("latin1"), quoted.plain(name)
     if judge_lines.is_history(script):

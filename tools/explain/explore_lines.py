@@ -96,7 +96,6 @@ def of_waiting(script: str, number: int, name: str) -> list[str]:
 
 
 def of_line(text: str, script: str, name: str) -> typing.Iterator[str]:
-    """The sentences about a line."""
     way, ended = WAY.match(text), ENDED.match(text)
     jobs = jobs_of(script, name)
     if way:

@@ -41,9 +41,7 @@ def about(number: int, words: list[str], user: int, first: int) -> str:
 
 
 def command_of(script: str) -> str:
-    """The command whose script this is: the only one whose lines begin so, but for that of `explore`; else the one that
-    the program tells.
-    """
+    """The command whose script this is: the only one whose lines begin so, else the one that the program tells."""
     begins = {line.split()[0] for line in lines_of(script) if line.split() and not line.startswith("#")}
     for words in (begins, begins - {"together"}):
         may_be = [command for command in forms.COMMANDS if words <= forms.lines_of(command).keys()]
@@ -138,11 +136,6 @@ def shifted(words: list[str], misfit: Misfit) -> str:
     return f"; perhaps a word is too many: without {others} the line has its form"
 
 
-def form_of(misfit: Misfit) -> str:
-    """The form that has the place of a word, as it is written down."""
-    return " ".join(forms.SHOWN.get(place, place) for place in misfit.form.split())
-
-
 def window(line: str, start: int, end: int) -> list[str]:
     """The part of a line around a word, and marks below the word."""
     end = min(end, start + WIDTH)
@@ -191,7 +184,8 @@ def of_script(name: str, text: str, number: int, code: str, command: str | None 
     if not misfit:
         return shown + not_found(name, lines, number, code, of), False
     shown += ["", sentence(told_of(of.command, line, misfit))]
-    shown += [f"The form: {form_of(misfit)}"] if misfit.expected != "LINE" else []
+    form = " ".join(forms.SHOWN.get(place, place) for place in misfit.form.split())
+    shown += [f"The form: {form}"] if misfit.expected != "LINE" else []
     shown += [f"Most lines are those of a script of `{first.command}`."] if of is not first else []
     return shown, True
 
@@ -213,7 +207,6 @@ def of_list(name: str, text: str, code: str) -> tuple[list[str], bool]:
 
 
 def told_now(text: str, now: misfits.Item) -> str:
-    """What is wrong with a list."""
     return of_item(now.code, now.why.reason, text[slice(*now.ends)] if now.ends else "", Of(now.why, text).text())
 
 

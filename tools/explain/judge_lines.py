@@ -58,7 +58,6 @@ def of_fault(text: str, name: str, number: int, code: str) -> list[str]:
 
 
 def of_line(text: str, history: str, name: str) -> list[str]:
-    """What is told of a line with its history."""
     lines = faults.lines_of(history)
     refuted, found = NO_ORDER.match(text), ORDER.match(text)
     if refuted and 0 < int(refuted[1]) <= len(lines) and lines[int(refuted[1]) - 1].startswith(("do", "ret")):

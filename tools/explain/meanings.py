@@ -76,7 +76,7 @@ def rows_of(places: list[str], given: list[str]) -> list[tuple[str, str]]:
     return [(word, meant(place, word)) for place, word in zip(places, given)]
 
 
-def told_words(first: str, form: list[str], given: list[str]) -> list[tuple[str, str]]:
+def told_words(form: list[str], given: list[str]) -> list[tuple[str, str]]:
     """The words of a line behind its first one, with what each means."""
     plain = [place for place in form if place != "OPERATIONS"]
     rows = rows_of(plain, given[: len(plain)])
@@ -108,11 +108,11 @@ def own_line(text: str) -> str | None:
         if line and (len(given) > 1 or not line.places) and line.places not in wrong and has_room(line, given):
             if not has_fault(language, given):
                 head = f"A line of a script of `{language}`: {line.does}."
-                return shown(head, told_words(given[0], line.places.split(), given[1:]))
+                return shown(head, told_words(line.places.split(), given[1:]))
             wrong.add(line.places)
     if given[0] in forms.OPERATIONS and len(given) > 1 and given[1].startswith("/"):
         if not has_fault("table", ["do", "1", "1", *given]):
-            return shown("An operation of a transaction.", told_words("do", ["OPERATIONS"], given))
+            return shown("An operation of a transaction.", told_words(["OPERATIONS"], given))
     return None
 
 

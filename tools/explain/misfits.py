@@ -39,9 +39,7 @@ class Misfit(typing.NamedTuple):
 
 
 class Found(typing.NamedTuple):
-    """How a script is read as one of a command: how like it is to one, the first line above that has a fault, or 0, and
-    what does not fit in the line that was asked for.
-    """
+    """A script read as one of a command: its likeness, the first faulty line above or 0, and what does not fit."""
 
     command: str
     likeness: int
@@ -50,9 +48,7 @@ class Found(typing.NamedTuple):
 
 
 class Item(typing.NamedTuple):
-    """The ends of an item in a list, the code of the fault, and why it has it; of a whole list the same of its faulty
-    item, where one is.
-    """
+    """The ends of an item (of a whole list, of its faulty item), the code of the fault, and why it has it."""
 
     ends: tuple[int, int] | None
     code: str
@@ -105,9 +101,7 @@ def of_line(command: str, above: list[str], line: str) -> Misfit | None:
 
 
 def in_script(text: str, number: int, command: str | None = None) -> list[Found]:
-    """What the program tells of a line of a script, of each command or of one alone; the one first whose script it is
-    most likely.
-    """
+    """What the program tells of a line of a script, of each command or of this one; the likeliest command first."""
     rows = [row.split("\t", 15) for row in asked("script", number, text.encode("latin1")).split("\n")]
     found = [Found(row[0], int(row[1]), int(row[2]), misfit_of(row[3:])) for row in rows]
     return sorted((one for one in found if command in (None, one.command)), key=lambda one: -one.likeness)

@@ -69,14 +69,11 @@ class Job:
         return f"job {self.count} of agent {self.agent}"
 
     def about(self) -> str:
-        """Who began it and what it was to do."""
         return faults.about(self.number, self.words, 2, 5)
 
 
 class Played:
-    """A run by its events, which may be gone over again: its jobs, when servers crashed and came back, and what was
-    printed.
-    """
+    """A run by its events: its jobs, when servers crashed and came back, and what was printed."""
 
     def __init__(self, playing: typing.Iterable[events.Event], again: typing.Iterable[events.Event]):
         self.events, self.servers, self.paths = again, list[events.Event](), Paths()
@@ -129,13 +126,9 @@ class Played:
     def home(self, job: Job) -> int:
         return numbers.home(job.agent, job.count, len(self.servers))
 
-    def last_turn(self, server: int, at: int) -> tuple[int, bool, int] | None:
-        """When a server last crashed or came back before a moment."""
-        return next((turn for turn in reversed(self.turns.get(server, [])) if turn[0] < at), None)
-
     def down_since(self, server: int, at: int) -> int | None:
         """The line of the script with which a server crashed that is down at a moment."""
-        turn = self.last_turn(server, at)
+        turn = next((turn for turn in reversed(self.turns.get(server, [])) if turn[0] < at), None)
         return turn[2] if turn and not turn[1] else None
 
     def path(self, suite: int) -> str:
@@ -157,7 +150,7 @@ def played(script: bytes, name: str) -> Played:
 
 # ---- why a job ended so
 
-def made(run: Played, job: Job, replies: str) -> typing.Iterator[str]:
+def made(job: Job, replies: str) -> typing.Iterator[str]:
     """Each operation of an answered transaction with its reply."""
     told = replies.split("; ")
     for place, (operation, reply) in enumerate(zip(job.operations, told), 1):
@@ -201,8 +194,7 @@ def short_of_votes(run: Played, job: Job, rest: str) -> typing.Iterator[str]:
 
 
 def lost_votes(run: Played, job: Job, script: str, number: int) -> typing.Iterator[str]:
-    """Where the votes were up all the same, as of a script that ends with this line: nobody who was asked knew of
-    it."""
+    """Where the votes were up all the same, once this line is played: nobody who was asked knew of it."""
     from votes import votes
     found = re.search(r"U1 suite (\d+)", job.ending)
     part = "".join(f"{line}\n" for line in faults.lines_of(script)[:number])
@@ -354,7 +346,7 @@ def why(run: Played, job: Job, how: str, rest: str, script: str, number: int) ->
     """The sentences about how a job ended."""
     code = rest.split(" ", 1)[0]
     if how == "answered":
-        yield from made(run, job, rest)
+        yield from made(job, rest)
     elif how == "denied":
         yield from denied(run, job, rest, script)
     elif how == "refused":

@@ -92,16 +92,13 @@ SENTENCES = {
 
 
 class Of:
-    """What a sentence is about: a reason, the word, the place in which it stands, and the word that begins the form.
-    Each property is a part of sentences.
-    """
+    """What a sentence is about: a reason, the word, its place, and the first word of the form; with its parts."""
 
     def __init__(self, why: Why, word: str = "", place: str = "", first: str = "") -> None:
         self.why, self.word, self.place, self.first = why, word, place, first
         self.quoted, self.part, self.short = quoted(word), quoted(why.part), short(why.part)
 
     def text(self) -> str:
-        """The sentence."""
         if self.place == "OPERATION" and self.why.reason in OPERATION_ENDS:
             return f"an operation is due {OPERATION_ENDS[self.why.reason]}"
         return SENTENCES[self.why.reason].format(*self.why.data, of=self)

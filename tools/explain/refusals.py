@@ -65,9 +65,7 @@ def of_path(verb: str, path: str) -> str:
 
 
 def why(code: str, place: int, operations: list[str], before: typing.Iterable[list[str]]) -> str | None:
-    """A sentence about an operation that was refused, by the operations of the transactions that were answered
-    before.
-    """
+    """Why an operation was refused, by the operations of the transactions that were answered before."""
     if code == "F10" or place == 0:
         return f"It has {len(operations)} operations, and a transaction has at most eight"
     tree = Tree()

@@ -5,6 +5,7 @@ The sentences about `votes` are those of its help where that has them, and what 
 """
 import re
 
+from common import forms
 from common.quoted import filled
 
 PERMS = "[r-][w-][x-]"
@@ -93,7 +94,7 @@ ASKED: tuple[tuple[str, str], ...] = (
     ),
 )
 
-OPERATION = "(?:read|write|list|file|folder|drop|getacl|setacl|getvotes|setvotes)"
+OPERATION = f"(?:{'|'.join(forms.OPERATIONS)})"
 # A line of `judge`, or of a history that it reads; parts of it stand in what is said.
 JUDGED: tuple[tuple[str, str], ...] = (
     (

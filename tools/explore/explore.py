@@ -41,13 +41,7 @@ PAUSE = 0.1
 PROGRESS, LOOKED = "--progress", re.compile(rb"(\d+) worlds\n")
 
 
-class Parser(argparse.ArgumentParser):
-    def error(self, message: str) -> typing.NoReturn:
-        raise console.Bad(f"{message} (./suites explore --help)")
-
-
 def number_of(option: str) -> typing.Callable[[str], int]:
-    """Reads the number of an option."""
     least, most = NUMBERS[option]
 
     def read(word: str) -> int:
@@ -59,9 +53,7 @@ def number_of(option: str) -> typing.Callable[[str], int]:
 
 
 def read(words: list[str]) -> argparse.Namespace:
-    """The words of the command line."""
-    parser = Parser(prog="./suites explore", add_help=False, allow_abbrev=False)
-    parser.add_argument("-h", "--help", action="store_true")
+    parser = console.Parser("explore")
     parser.add_argument("--brief", action="store_true")
     parser.add_argument("--order", action="store_true")
     for option in NUMBERS:
@@ -72,23 +64,22 @@ def read(words: list[str]) -> argparse.Namespace:
     parser.add_argument("files", nargs="*")
     given = parser.parse_args(words)
     if given.ask and (given.brief or given.way is not None):
-        raise console.Bad("--ask is asked of all ways as they are, without --brief and --way (./suites explore --help)")
+        parser.error("--ask is asked of all ways as they are, without --brief and --way")
     if given.page and given.way is not None:
-        raise console.Bad("a page has all ways: it is asked for without --way (./suites explore --help)")
+        parser.error("a page has all ways: it is asked for without --way")
     if given.small and (given.way is not None) + len(given.ask or []) != 1:
-        raise console.Bad("a script is made --small that --way K or one question leads to (./suites explore --help)")
+        parser.error("a script is made --small that --way K or one question leads to")
     if given.seed is not None and given.sample is None:
-        raise console.Bad("a seed draws the orders of --sample N: it is told beside that (./suites explore --help)")
+        parser.error("a seed draws the orders of --sample N: it is told beside that")
     if given.sample is not None and (given.worlds is not None or given.page):
-        raise console.Bad("orders that are drawn are played without --worlds and --page (./suites explore --help)")
+        parser.error("orders that are drawn are played without --worlds and --page")
     if given.files and not given.help:
         name = shlex.quote(given.files[0])
         raise console.Bad(f"a script is read from standard input: ./suites explore < {name}")
     # what was decided first is told only where it is asked for
     given.order = given.order or any(question.ordered for question in given.ask or [])
     if given.order and (given.sample is not None or given.small):
-        told = "what is decided first is told of all ways, without --sample and --small (./suites explore --help)"
-        raise console.Bad(told)
+        parser.error("what is decided first is told of all ways, without --sample and --small")
     return given
 
 
@@ -148,7 +139,6 @@ class Looked(threading.Thread):
 
 
 def watched(process: subprocess.Popen[bytes]) -> None:
-    """Waits until the program has ended, and says meanwhile how far it is."""
     progress, looked = console.Progress(), Looked(process.stderr)
     try:
         while process.poll() is None:
@@ -161,9 +151,7 @@ def watched(process: subprocess.Popen[bytes]) -> None:
 
 
 def status_of(options: list[str], printed: typing.IO[bytes], script: typing.IO[bytes] | None = None) -> int:
-    """Runs the program with these options on a script, or on standard input. It prints into a file. On a terminal it is
-    watched.
-    """
+    """Runs the program on a script, or on standard input, and prints into a file. On a terminal it is watched."""
     is_watched = sys.stderr.isatty()
     words = [built.program(), "explore", *options, *([PROGRESS] if is_watched else [])]
     errors = subprocess.PIPE if is_watched else None
@@ -178,13 +166,20 @@ def status_of(options: list[str], printed: typing.IO[bytes], script: typing.IO[b
             process.wait()
 
 
-def told_of(options: list[str], script: typing.IO[bytes]) -> tuple[int, typing.IO[bytes]]:
-    """The exit status of the program for a script, and what it printed, as a file."""
-    printed = tempfile.TemporaryFile()
-    script.seek(0)
-    status = status_of(options, printed, script)
-    printed.seek(0)
-    return status, printed
+class Faulty(Exception):
+    """With this status the program ended, and printed this instead of ways."""
+
+
+@contextlib.contextmanager
+def told_of(options: list[str], script: typing.IO[bytes]) -> typing.Iterator[tuple[int, typing.IO[bytes]]]:
+    """The exit status of the program for a script, whether it told all ways or not, and what it printed, as a file."""
+    with tempfile.TemporaryFile() as printed:
+        script.seek(0)
+        status = status_of(options, printed, script)
+        printed.seek(0)
+        if status not in (DONE, NOT_ALL):
+            raise Faulty(status, printed.read())
+        yield status, printed
 
 
 @contextlib.contextmanager
@@ -196,34 +191,25 @@ def given_script() -> typing.Iterator[typing.IO[bytes]]:
 
 
 def lines_of(printed: typing.IO[bytes]) -> typing.Iterator[str]:
-    """The lines of a file."""
     for line in printed:
         yield line.decode("latin1")
 
 
-def jobs_told(given: argparse.Namespace, script: typing.IO[bytes]) -> tuple[int, queries.Way | None]:
-    """The jobs that ways tell, of which the questions have to be; none, and the status, where a fault was told."""
-    status, printed = told_of(AT_ONCE, script)
-    with printed:
-        if status not in (DONE, NOT_ALL):
-            return ended(given, status, printed.read()), None
+def jobs_told(given: argparse.Namespace, script: typing.IO[bytes]) -> queries.Way:
+    """The jobs that ways tell, of which the questions have to be."""
+    with told_of(AT_ONCE, script) as (_, printed):
         jobs = next(queries.ways_in(lines_of(printed)))
     wrong = queries.unknown(given.ask or [], jobs)
     if wrong:
         raise console.Bad(wrong)
-    return status, jobs
+    return jobs
 
 
 def answer(given: argparse.Namespace) -> int:
     """Answers questions of the ways that the program tells, and tells how many these are."""
     with given_script() as script:
-        status, jobs = jobs_told(given, script)
-        if jobs is None:
-            return status
-        status, printed = told_of(words_of(given), script)
-        with printed:
-            if status not in (DONE, NOT_ALL):
-                return ended(given, status, printed.read())
+        jobs_told(given, script)
+        with told_of(words_of(given), script) as (status, printed):
             answers, count = [queries.Answer(question) for question in given.ask], 0
             for count, way in enumerate(queries.ways_in(lines_of(printed)), 1):
                 for one in answers:
@@ -242,23 +228,18 @@ def answer(given: argparse.Namespace) -> int:
 def small(given: argparse.Namespace) -> int:
     """Prints a smaller script that leads to a way: in which the jobs end so, or those of the question that is asked."""
     with given_script() as script:
-        status, jobs = jobs_told(given, script)
-        if jobs is None:
-            return status
-        asked, way = given.ask or [], given.way
+        jobs, asked, way = jobs_told(given, script), given.ask or [], given.way
         if asked:
-            status, printed = told_of(words_of(given), script)
-            with printed:
+            with told_of(words_of(given), script) as (status, printed):
                 ways = enumerate(queries.ways_in(lines_of(printed)), 1)
                 way = next((number for number, one in ways if asked[0].holds(one)), None)
             if way is None:
                 raise console.Stop(f"it is so in no way{'' if status == DONE else ' that was found'}: {asked[0].text}")
         given.way = way
-        status, printed = told_of(words_of(given), script)
-        with printed:
+        with told_of(words_of(given), script) as (status, printed):
             text = printed.read()
         if status != DONE:
-            return ended(given, status, text)
+            raise Faulty(status, text)
         script.seek(0)
         above = next(place for place, line in enumerate(script) if line.partition(b"#")[0].split() == [b"together"])
         least = smaller.Smaller(text.decode("latin1"), above, asked[0].jobs if asked else list(jobs)).least()
@@ -271,20 +252,15 @@ def page(given: argparse.Namespace) -> int:
 
     with given_script() as script:
 
-        def told(options: list[str]) -> tuple[int, bytes]:
-            status, printed = told_of(options, script)
-            with printed:
-                return status, printed.read()
-
         def leads(way: int) -> bytes:
-            status, text = told([*words_of(given), "--way", str(way)])
-            if status not in (DONE, NOT_ALL):
-                raise console.Stop(f"the run of way {way} is not told: status {status}")
-            return text
+            try:
+                with told_of([*words_of(given), "--way", str(way)], script) as (_, printed):
+                    return printed.read()
+            except Faulty as end:
+                raise console.Stop(f"the run of way {way} is not told: status {end.args[0]}") from None
 
-        status, text = told(words_of(given))
-        if status not in (DONE, NOT_ALL):
-            return ended(given, status, text)
+        with told_of(words_of(given), script) as (status, printed):
+            text = printed.read()
         made = ways_page.page_of(text.decode("latin1"), given.ask or [], leads, lambda way: command_of(given, way))
     sys.stdout.buffer.write(made.encode())
     return status
@@ -322,4 +298,7 @@ def ended(given: argparse.Namespace, status: int, text: bytes) -> int:
 def main() -> int:
     given = read(sys.argv[1:])
     done = page if given.page else small if given.small else answer if given.ask else run
-    return console.of_input("explore", given, done)
+    try:
+        return console.of_input("explore", given, done)
+    except Faulty as end:
+        return ended(given, *end.args)

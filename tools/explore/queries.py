@@ -53,9 +53,7 @@ Holds = typing.Callable[[Way], bool]
 
 
 class Question(typing.NamedTuple):
-    """A question: its text, the jobs that it names, whether it asks for the order of decisions, and whether what it
-    asks for is so in a way.
-    """
+    """A question: its text, its jobs, whether it asks for the order of decisions, and whether it is so in a way."""
 
     text: str
     jobs: list[str]
@@ -165,7 +163,6 @@ class Reader:
         return lambda way: is_ended(way[job], ending)
 
     def job(self) -> str:
-        """A job."""
         job = self.next()
         if job is None or not JOB.fullmatch(job):
             self.fault(f"a job such as 0.1 stands here, and not {'nothing' if job is None else job}")
@@ -176,7 +173,6 @@ class Reader:
 
 
 def read(text: str) -> Question:
-    """The question that a text is."""
     reader = Reader(text)
     if len(reader.words) > MOST:
         reader.fault(f"a question has at most {MOST} words")
@@ -187,36 +183,36 @@ def read(text: str) -> Question:
 
 
 class Answer:
-    """In which of the ways that were looked at so far what a question asks for is so."""
+    """In which of the ways that were looked at so far what a question asks for is so, by their numbers."""
 
     def __init__(self, question: Question) -> None:
-        self.question, self.ways, self.first = question, 0, 0
+        self.question, self.found = question, list[int]()
 
     def look(self, number: int, way: Way) -> None:
-        """Looks at the way of this number."""
         if self.question.holds(way):
-            self.ways += 1
-            self.first = self.first or number
+            self.found.append(number)
+
+    def kind(self, ways: int) -> str:
+        """How often it is so, where so many ways were told."""
+        return "never" if not self.found else "always" if len(self.found) == ways else "sometimes"
+
+    def line(self, ways: int, is_all: bool) -> str:
+        kind = self.kind(ways)
+        some = f", in {len(self.found)} of {ways} ways" if kind == "sometimes" else "" if is_all else " so far"
+        return f"{kind}{some}: {self.question.text}"
 
     def told(self, ways: int, is_all: bool, command: typing.Callable[[int], str]) -> str:
         """The lines of the answer, where so many ways were told; the command that shows one of them."""
-        so_far, asked = "" if is_all else " so far", self.question.text
-        if not self.ways:
-            return f"never{so_far}: {asked}\n"
-        if self.ways == ways:
-            return f"always{so_far}: {asked}\n"
-        return f"sometimes, in {self.ways} of {ways} ways: {asked}\n  the shortest: {command(self.first)}\n"
+        shortest = f"  the shortest: {command(self.found[0])}\n" if self.kind(ways) == "sometimes" else ""
+        return f"{self.line(ways, is_all)}\n{shortest}"
 
     def drawn(self, command: typing.Callable[[int], str]) -> str:
         """The lines of the answer, where the ways are those of orders that were drawn."""
         asked = self.question.text
-        if not self.ways:
-            return f"not found: {asked}\n"
-        return f"sometimes: {asked}\n  as in: {command(self.first)}\n"
+        return f"sometimes: {asked}\n  as in: {command(self.found[0])}\n" if self.found else f"not found: {asked}\n"
 
 
 def ways_in(lines: typing.Iterable[str]) -> typing.Iterator[Way]:
-    """The ways that are told in these lines."""
     way: Way | None = None
     for line in lines:
         head, _, rest = line.rstrip("\n").partition(" ")

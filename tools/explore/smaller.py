@@ -3,6 +3,8 @@
 What stands above `together` stays as it is. Of an agent one of whose jobs has to end as it did no job before that is
 dropped, since jobs are told by their numbers.
 """
+import collections
+import itertools
 import re
 import typing
 
@@ -31,16 +33,22 @@ def apart(lines: typing.Iterable[str]) -> list[str]:
     return told
 
 
-def joined(events: typing.Sequence[str]) -> list[str]:
+def joined(events: typing.Iterable[str]) -> list[str]:
     """Events as lines: steps in a row are one."""
     lines: list[str] = []
-    count = 0
-    for event, later in zip(events, [*events[1:], ""]):
-        count += 1
-        if event != later or not event.startswith("step "):
-            lines.append(f"{event} {count}" if count > 1 else event)
-            count = 0
+    for event, alike in itertools.groupby(events):
+        count = len(list(alike))
+        is_many = count > 1 and event.startswith("step ")
+        lines += [f"{event} {count}"] if is_many else [event] * count
     return lines
+
+
+def agents_begun(lines: typing.Iterable[str]) -> typing.Iterator[str]:
+    """The agents that begin jobs in these lines, one for each."""
+    for line in lines:
+        words = queries.words_of(line.partition("#")[0])
+        if words[:1] and words[0] in BEGINS:
+            yield words[1]
 
 
 class Smaller:
@@ -50,51 +58,33 @@ class Smaller:
         lines = script.splitlines()
         self.above, self.events, self.jobs = lines[:above], apart(lines[above:]), jobs
         self.wanted = outcomes(lines, jobs)
-        last: dict[str, int] = {}
-        for job in jobs:
-            agent, number = job.split(".")
-            last[agent] = max(last.get(agent, 0), int(number))
-        counts: dict[str, int] = {}
-        for line in outcomes_begun(self.above):
-            counts[line] = counts.get(line, 0) + 1
-        self.stays: list[bool] = []
-        for event in self.events:
-            agent = event.split()[1]
-            is_begin = event.split()[0] in BEGINS
-            self.stays.append(is_begin and agent in last and counts.get(agent, 0) <= last[agent])
-            counts[agent] = counts.get(agent, 0) + is_begin
+        # of each agent the last of these jobs, which begins where so many have begun
+        last = dict(sorted((agent, int(number)) for agent, number in (job.split(".") for job in jobs)))
+        counts = collections.Counter(agents_begun(self.above))
+        self.stays = set[int]()
+        for place, (first, agent) in enumerate(event.split()[:2] for event in self.events):
+            if first in BEGINS:
+                self.stays |= {place} if counts[agent] <= last.get(agent, -1) else set()
+                counts[agent] += 1
 
-    def drops(self, kept: list[bool], places: typing.Iterable[int]) -> bool:
-        """Drops events at some places, where the jobs end as before."""
-        here = [place for place in places if kept[place] and not self.stays[place]]
-        if not here:
-            return False
-        for place in here:
-            kept[place] = False
-        events = [event for event, is_kept in zip(self.events, kept) if is_kept]
-        if outcomes([*self.above, *joined(events)], self.jobs) == self.wanted:
-            return True
-        for place in here:
-            kept[place] = True
-        return False
+    def lines(self, places: typing.Iterable[int]) -> list[str]:
+        """The script with the events at these places."""
+        return [*self.above, *joined(self.events[place] for place in places)]
+
+    def without(self, places: list[int], some: typing.Iterable[int]) -> list[int]:
+        """These places without some, where the jobs end as before; else all of them."""
+        fewer = [place for place in places if place in self.stays or place not in some]
+        is_same = len(fewer) < len(places) and outcomes(self.lines(fewer), self.jobs) == self.wanted
+        return fewer if is_same else places
 
     def least(self) -> str:
         """The script, once no part of it can be dropped any more."""
-        kept, size = [True] * len(self.events), len(self.events)
-        for agent in dict.fromkeys(event.split()[1] for event in self.events):
-            self.drops(kept, [place for place, event in enumerate(self.events) if event.split()[1] == agent])
+        agents = [event.split()[1] for event in self.events]
+        left, size = list(range(len(agents))), len(agents)
+        for own in dict.fromkeys(agents):
+            left = self.without(left, {place for place, agent in enumerate(agents) if agent == own})
         while size:
-            left = [place for place, is_kept in enumerate(kept) if is_kept]
-            for first in range(0, len(left), size):
-                self.drops(kept, left[first : first + size])
+            for some in [left[first : first + size] for first in range(0, len(left), size)]:
+                left = self.without(left, set(some))
             size //= 2
-        events = [event for event, is_kept in zip(self.events, kept) if is_kept]
-        return "\n".join([*self.above, *joined(events), ""])
-
-
-def outcomes_begun(lines: typing.Iterable[str]) -> typing.Iterator[str]:
-    """The agents that begin jobs in these lines, one for each."""
-    for line in lines:
-        words = queries.words_of(line.partition("#")[0])
-        if words[:1] and words[0] in BEGINS:
-            yield words[1]
+        return "\n".join([*self.lines(left), ""])

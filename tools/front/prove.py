@@ -8,7 +8,7 @@ import os
 import select
 import subprocess
 
-from common import console
+from common import console, of_kit
 from front import choose, sources
 
 PROGRAM = sources.PROGRAM
@@ -20,7 +20,6 @@ STOPPED = "stopped; what is proved is kept, and ./suites --prove goes on from th
 
 
 def seats() -> int:
-    """How many checks may run side by side."""
     cores = len(os.sched_getaffinity(0))
     try:
         memory = os.sysconf("SC_PHYS_PAGES") * os.sysconf("SC_PAGE_SIZE")
@@ -30,7 +29,6 @@ def seats() -> int:
 
 
 def step(teller: console.Teller, done: int, count: int, last: str, stays: bool) -> None:
-    """Says how many crates are proved."""
     name = f"; the last was {last}" if last else ""
     teller.say(f"{done} of {count} crates proved, {teller.seconds()} s{name}", stays and not teller.changes)
 
@@ -44,7 +42,7 @@ def prove(top: str, needs: dict[str, list[str]], teller: console.Teller) -> tupl
     """
     said, name, rest = {"": ""}, "", b""
     process = console.start(
-        ["rt", "all", "check", "--jobs", str(seats())], os.path.join(sources.CRATES, top), subprocess.PIPE
+        of_kit("all", "check", "--jobs", str(seats())), os.path.join(sources.CRATES, top), subprocess.PIPE
     )
     try:
         while True:
@@ -75,20 +73,16 @@ def prove(top: str, needs: dict[str, list[str]], teller: console.Teller) -> tupl
 
 
 def prove_laws(teller: console.Teller) -> tuple[str, str] | None:
-    """Proves what is promised to who plays: the laws of all runs, of which the program uses some and a caller may want
-    the others.
-    """
+    """Proves the laws of all runs: the program uses some, and a caller may want the others."""
     each = (prove(top, sources.crates_below(top), teller) for top in LAWS)
     return next((failed for failed in each if failed), None)
 
 
 def build(needs: dict[str, list[str]], teller: console.Teller) -> tuple[str, str] | None:
-    """Proves, compiles and links the program itself. Answers the program's name, and what it printed, where that
-    failed.
-    """
+    """Proves, compiles and links the program itself. Answers its name and what it printed, where that failed."""
     # rt run also runs what it built; here that prints the program's help into the log
     tick = lambda: step(teller, len(needs), len(needs), PROGRAM, False)
-    status, said = console.watched(["rt", "run", "--", "--help"], FOLDER, tick)
+    status, said = console.watched(of_kit("run", "--", "--help"), FOLDER, tick)
     is_built = status == 0 and os.path.exists(choose.path_of("proved"))
     return None if is_built else (PROGRAM, console.tail(said))
 

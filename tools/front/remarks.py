@@ -72,7 +72,6 @@ class Line(typing.NamedTuple):
 
 
 def lines_of(script: str) -> list[Line]:
-    """The lines that begin jobs or go on with them."""
     found = []
     for number, words in enumerate((line.split() for line in script.split("\n")), 1):
         if words and words[0] in ("begin", "sweep", "step", "run"):
@@ -82,9 +81,7 @@ def lines_of(script: str) -> list[Line]:
 
 
 def may_be_silent(lines: list[Line]) -> bool:
-    """Whether a line may do nothing, or a job be left: not where each that begins is run to its end before the next
-    one.
-    """
+    """Whether a line may do nothing, or a job be left: where not each job is run to its end before the next."""
     busy: set[int] = set()
     for line in lines:
         if (line.first in ("begin", "sweep")) == (line.agent in busy) or line.first == "step":

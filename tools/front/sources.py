@@ -97,9 +97,7 @@ def make_folder() -> None:
 
 
 def time_of_files() -> int | None:
-    """A time before which all that is read from now on was written, as files have it; none where nothing can be
-    written.
-    """
+    """A time of files before all that is read from now on was written; none where nothing can be written."""
     try:
         with tempfile.TemporaryFile(dir=KEPT) as file:
             begun = os.fstat(file.fileno()).st_mtime_ns
@@ -188,8 +186,6 @@ class Sources:
         return hashlib.sha256("\n".join(lines).encode()).hexdigest()
 
     def looked_at(self, is_proved: bool) -> list[str]:
-        """What is looked at before each run of the program: the code, and where a proved program is at stake its
-        claims too, with the folders in which a new file may matter.
-        """
+        """What is looked at before each run: the code, where a proof is at stake the claims, and their folders."""
         files = self.claim_files if is_proved else self.code_files
         return [*sorted({os.path.dirname(file) for file in files}), *files]

@@ -30,8 +30,7 @@ LEVEL = "-O1"
 
 
 class Hidden(console.Stop):
-    """The kit shows no module, or lacks what makes a program of it. This alone is kept: whatever else fails is tried
-    again next time."""
+    """The kit lacks what makes a program of a module: this is kept, and whatever else fails is tried again."""
 
     def __init__(self, what: str) -> None:
         super().__init__(f"this kit has no {what}")
@@ -113,7 +112,6 @@ def clang() -> str:
 
 
 def libraries() -> list[str]:
-    """The C libraries that a program is linked with."""
     return [os.path.join(kit(), "c", name) for name in ("libos_c.a", "liblibc_c.a")]
 
 

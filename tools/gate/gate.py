@@ -10,7 +10,7 @@ import resource
 import subprocess
 import time
 
-from common import console, memory, tool
+from common import console, memory, of_kit, tool
 from gate import gate_times
 
 # The most memory that nearly any check was seen to take, in bytes, and how much of what is free may be taken.
@@ -80,7 +80,7 @@ def main() -> int:
         return 1
     begun, number = time.monotonic(), lanes()
     given = {**os.environ, **({"RT_JOBS": str(number)} if number else {})}
-    gate = subprocess.Popen(["rt", "ci"], env=given, stdout=subprocess.PIPE, stderr=subprocess.STDOUT, errors="replace")
+    gate = subprocess.Popen(of_kit("ci"), env=given, stdout=subprocess.PIPE, stderr=subprocess.STDOUT, errors="replace")
     watch = gate_times.Watch(gate.pid)
     watch.start()
     last = ""

@@ -26,11 +26,6 @@ MOST_TRIED = 20_000
 READS = {"read", "list", "getacl", "getvotes", "test"}
 
 
-class Parser(argparse.ArgumentParser):
-    def error(self, message: str) -> typing.NoReturn:
-        raise console.Bad(f"{message} (./suites judge --help)")
-
-
 class Told(typing.NamedTuple):
     """A call: the lines, counted from 0, on which it was made and told; its own name; what it asks for."""
 
@@ -41,9 +36,7 @@ class Told(typing.NamedTuple):
 
 
 def read(words: list[str]) -> argparse.Namespace:
-    """The words of the command line."""
-    parser = Parser(prog="./suites judge", add_help=False, allow_abbrev=False)
-    parser.add_argument("-h", "--help", action="store_true")
+    parser = console.Parser("judge")
     either = parser.add_mutually_exclusive_group()
     either.add_argument("--order", action="store_true")
     either.add_argument("--small", action="store_true")
@@ -178,9 +171,7 @@ def played(watch: Watch, lines: list[str], order: list[int]) -> list[tuple[Told,
 
 
 def script(watch: Watch, lines: list[str], order: list[int]) -> list[str]:
-    """The script of `table` that answers as the clients were told, with each line's answer below it. A test is told as
-    comments: its lines in the history.
-    """
+    """The script of `table` that answers as the clients were told, with answers below it; a test is a comment."""
     told = [root_of(lines)]
     watch.begin("there is an order, which is played")
     for call, answer in played(watch, lines, order):
@@ -197,9 +188,7 @@ def order_of(said: str) -> list[int]:
 
 
 def told_so(watch: Watch, lines: list[str], call: Told, answer: str) -> str:
-    """What is told of a call in an order in which its answer is this; nothing where there is none. `answered` of
-    operations is told with the replies there.
-    """
+    """What is told of a call in an order in which its answer is this, with its replies; nothing where there is none."""
     name = call.name or str(1 + max([int(other.name) for other in calls_of(lines) if other.name], default=0))
     lines = [*lines[: call.made], f"call {name} {call.asks}", *lines[call.made + 1 :], f"ret {name} {answer}"]
     status, said = watch.judged(lines, "--order")

@@ -50,5 +50,8 @@ class Share:
         finally:
             self.library.nfs_close(self.context, file)
 
-    def set_mode(self, name: str, mode: int) -> None:
-        self.tried("nfs_chmod", f"/{name}".encode(), mode)
+    def set_list(self, name: str, _: int, others: int) -> None:
+        self.tried("nfs_chmod", f"/{name}".encode(), 0o600 | others)
+
+    def list_text(self, _: int, others: int) -> str:
+        return f"u::rw,g::-,o::{'r' if others else '-'}"

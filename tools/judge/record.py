@@ -14,7 +14,6 @@ import ctypes
 import errno
 import os
 import random
-import struct
 import sys
 import tempfile
 import time
@@ -22,11 +21,10 @@ import typing
 
 from common import console
 from judge import nfs
+from may.lists import ACCESS, GROUP_OBJ, MASK, OTHER, USER, USER_OBJ, Entry, packed
 
 OWNER, GROUP, READERS, THEIR_GROUP = 1000, 100, (1001, 2000), 300
 FILES, WIDTH = 2, 4
-# The tags of entries as Linux keeps them, and what stands where an entry is for nobody by name.
-USER_OBJ, USER, GROUP_OBJ, MASK, OTHER, NOBODY = 1, 2, 4, 16, 32, 0xFFFFFFFF
 CODES = {errno.EACCES: "denied", errno.EPERM: "denied", errno.ENOENT: "refused F4 op 1"}
 
 
@@ -40,25 +38,32 @@ class Noted(typing.NamedTuple):
     told: str
 
 
-def set_list(path: str, named: int, others: int) -> str:
-    """Sets the list u::rw,u:1001:NAMED,g::-,m::rwx,o::OTHERS."""
-    nobody = {USER_OBJ: 6, GROUP_OBJ: 0, MASK: 7, OTHER: others}
-    entries = [(USER, named, READERS[0]), *((tag, bits, NOBODY) for tag, bits in nobody.items())]
-    packed = [struct.pack("<HHI", *entry) for entry in sorted(entries)]
-    os.setxattr(path, "system.posix_acl_access", struct.pack("<I", 2) + b"".join(packed))
-    return " set"
+class Folder:
+    """Files of a folder, which are asked as those of a server (nfs.Share)."""
+
+    def __init__(self, path: str) -> None:
+        self.path = path
+
+    def opened(self, name: str, flags: int) -> typing.IO[bytes]:
+        return open(os.open(os.path.join(self.path, name), flags), "rb" if flags == os.O_RDONLY else "wb", buffering=0)
+
+    def read(self, name: str, width: int) -> bytes:
+        with self.opened(name, os.O_RDONLY) as file:
+            return os.pread(file.fileno(), width, 0) if width else b""
+
+    def write(self, name: str, what: bytes) -> None:
+        with self.opened(name, os.O_WRONLY) as file:
+            os.pwrite(file.fileno(), what, 0)
+
+    def set_list(self, name: str, named: int, others: int) -> None:
+        perms = ((USER_OBJ, 0, 6), (USER, READERS[0], named), (GROUP_OBJ, 0, 0), (MASK, 0, 7), (OTHER, 0, others))
+        os.setxattr(os.path.join(self.path, name), ACCESS, packed(tuple(Entry(*one) for one in perms)))
+
+    def list_text(self, named: int, others: int) -> str:
+        return f"u::rw,u:{READERS[0]}:{'r' if named else '-'},g::-,m::rwx,o::{'r' if others else '-'}"
 
 
-def list_text(named: int, others: int) -> str:
-    return f"u::rw,u:{READERS[0]}:{'r' if named else '-'},g::-,m::rwx,o::{'r' if others else '-'}"
-
-
-def read(path: str, only_opens: bool) -> str:
-    file = os.open(path, os.O_RDONLY)
-    try:
-        return "" if only_opens else f" read {os.pread(file, WIDTH, 0).hex() or '-'}"
-    finally:
-        os.close(file)
+Place = typing.Union[Folder, nfs.Share]
 
 
 def test(path: str) -> str:
@@ -66,15 +71,6 @@ def test(path: str) -> str:
     if ctypes.CDLL(None, use_errno=True).access(os.fsencode(path), os.R_OK):
         raise OSError(ctypes.get_errno(), "access")
     return " granted"
-
-
-def write(path: str, value: int) -> str:
-    file = os.open(path, os.O_WRONLY)
-    try:
-        os.pwrite(file, value.to_bytes(WIDTH, "big"), 0)
-    finally:
-        os.close(file)
-    return " wrote"
 
 
 def noted(caller: int, asks: str, act: typing.Callable[[], str]) -> Noted:
@@ -93,95 +89,73 @@ def becomes(uid: int, gid: int) -> None:
     os.setresuid(uid, uid, uid)
 
 
-def set_mode(share: nfs.Share, name: str, others: int) -> str:
-    share.set_mode(name, 0o600 | others)
+def set_list(place: Place, name: str, named: int, others: int) -> str:
+    place.set_list(name, named, others)
     return " set"
 
 
-def write_there(share: nfs.Share, name: str, value: int) -> str:
-    share.write(name, value.to_bytes(WIDTH, "big"))
+def write(place: Place, name: str, value: int) -> str:
+    place.write(name, value.to_bytes(WIDTH, "big"))
     return " wrote"
 
 
-def read_there(share: nfs.Share, name: str, only_opens: bool) -> str:
-    found = share.read(name, 0 if only_opens else WIDTH)
+def read(place: Place, name: str, only_opens: bool) -> str:
+    found = place.read(name, 0 if only_opens else WIDTH)
     return "" if only_opens else f" read {found.hex() or '-'}"
 
 
-def owner_there(url: str, calls: int, chosen: random.Random) -> typing.Iterator[Noted]:
-    """The owner's calls to a server."""
+def owner(given: argparse.Namespace, chosen: random.Random) -> typing.Iterator[Noted]:
     becomes(OWNER, GROUP)
-    share, who = nfs.Share(url), f"{OWNER} {GROUP}"
-    for value in range(1, calls + 1):
-        name, others = f"f{chosen.randrange(FILES)}", 4 * chosen.randrange(2)
-        if chosen.random() < 0.5:
-            asks = f"{who} setacl /{name} u::rw,g::-,o::{'r' if others else '-'}"
-            yield noted(0, asks, lambda: set_mode(share, name, others))
-        else:
-            asks = f"{who} write /{name} {value:0{2 * WIDTH}x}"
-            yield noted(0, asks, lambda: write_there(share, name, value))
-
-
-def reader_there(url: str, client: int, calls: int, only_opens: bool, chosen: random.Random) -> typing.Iterator[Noted]:
-    """The calls of a reader to a server."""
-    uid = READERS[client % len(READERS)]
-    becomes(uid, THEIR_GROUP)
-    share = nfs.Share(url)
-    for _ in range(calls):
+    place: Place = nfs.Share(given.nfs) if given.nfs else Folder(given.folder)
+    who = f"{OWNER} {GROUP}"
+    for value in range(1, given.calls + 1):
         name = f"f{chosen.randrange(FILES)}"
-        yield noted(client, f"{uid} {THEIR_GROUP} read /{name}", lambda: read_there(share, name, only_opens))
-
-
-def owner(folder: str, calls: int, chosen: random.Random) -> typing.Iterator[Noted]:
-    """The owner's calls, of the client 0."""
-    becomes(OWNER, GROUP)
-    for value in range(1, calls + 1):
-        name = f"f{chosen.randrange(FILES)}"
-        path, who = os.path.join(folder, name), f"{OWNER} {GROUP}"
         if chosen.random() < 0.5:
             named, others = 4 * chosen.randrange(2), 4 * chosen.randrange(2)
-            yield noted(0, f"{who} setacl /{name} {list_text(named, others)}", lambda: set_list(path, named, others))
+            asks = f"{who} setacl /{name} {place.list_text(named, others)}"
+            yield noted(0, asks, lambda: set_list(place, name, named, others))
         else:
-            yield noted(0, f"{who} write /{name} {value:0{2 * WIDTH}x}", lambda: write(path, value))
+            yield noted(0, f"{who} write /{name} {value:0{2 * WIDTH}x}", lambda: write(place, name, value))
 
 
 def reader(given: argparse.Namespace, client: int, chosen: random.Random) -> typing.Iterator[Noted]:
-    """The calls of a reader."""
     uid = READERS[client % len(READERS)]
     becomes(uid, THEIR_GROUP)
+    folder, who = given.through or given.folder, f"{uid} {THEIR_GROUP}"
+    place: Place = nfs.Share(given.nfs) if given.nfs else Folder(folder)
     for _ in range(given.calls):
         name = f"f{chosen.randrange(FILES)}"
-        path, who = os.path.join(given.through or given.folder, name), f"{uid} {THEIR_GROUP}"
         if given.access:
-            yield noted(client, f"{who} test /{name} r", lambda: test(path))
+            yield noted(client, f"{who} test /{name} r", lambda: test(os.path.join(folder, name)))
         else:
-            yield noted(client, f"{who} read /{name}", lambda: read(path, given.opens))
+            yield noted(client, f"{who} read /{name}", lambda: read(place, name, given.opens))
 
 
-def make_file(path: str, has_lists: bool) -> None:
+def make_file(place: Folder, name: str, has_lists: bool) -> None:
     """A file of the owner that only the owner may read; who makes it is the owner, or root."""
+    path = os.path.join(place.path, name)
     with open(path, "wb") as file:
         file.write(bytes(WIDTH))
     if os.geteuid() == 0:
         os.chown(path, OWNER, GROUP)
     os.chmod(path, 0o600)
     if has_lists:
-        set_list(path, 0, 0)
+        place.set_list(name, 0, 0)
 
 
 def opening(folder: str, has_lists: bool) -> list[str]:
     """Makes the files, as the owner where the folder is the owner's; the lines that tell what stood there before."""
-    names = [f"f{number}" for number in range(FILES)]
+    place, names = Folder(folder), [f"f{number}" for number in range(FILES)]
     child = os.fork()
     if not child:
         if os.stat(folder).st_uid == OWNER:
             becomes(OWNER, GROUP)
         for name in names:
-            make_file(os.path.join(folder, name), has_lists)
+            make_file(place, name, has_lists)
         os._exit(0)
     if os.waitpid(child, 0)[1]:
         raise console.Stop("the files could not be made")
-    first, who = list_text(0, 0) if has_lists else "600", f"{OWNER} {GROUP}"
+    first, who = place.list_text(0, 0) if has_lists else "600", f"{OWNER} {GROUP}"
     made = ((f"do {who} file /{name} {first}", f"do {who} write /{name} {'00' * WIDTH}") for name in names)
     return [f"root {OWNER} {GROUP} 755", *(line for lines in made for line in lines)]
 
@@ -202,24 +176,13 @@ def in_process(calls: typing.Iterator[Noted], path: str, begins: float) -> int:
         os._exit(status)
 
 
-def calls_of(given: argparse.Namespace, client: int, chosen: random.Random) -> typing.Iterator[Noted]:
-    """The calls of a client: the first one is the owner."""
-    if given.nfs and client == 0:
-        return owner_there(given.nfs, given.calls, chosen)
-    if given.nfs:
-        return reader_there(given.nfs, client, given.calls, given.opens, chosen)
-    if client == 0:
-        return owner(given.folder, given.calls, chosen)
-    return reader(given, client, chosen)
-
-
 def recorded(given: argparse.Namespace) -> list[Noted]:
-    """All calls of all processes."""
     begins, children = time.monotonic() + 0.3, list[int]()
     with tempfile.TemporaryDirectory() as kept:
         for client in range(given.readers + 1):
             chosen = random.Random(given.seed * 1000 + client)
-            calls = calls_of(given, client, chosen)
+            # the first client is the owner
+            calls = reader(given, client, chosen) if client else owner(given, chosen)
             children.append(in_process(calls, os.path.join(kept, str(client)), begins))
         if any(os.waitpid(child, 0)[1] for child in children):
             raise console.Stop("a process that made calls has failed")

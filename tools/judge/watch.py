@@ -59,9 +59,7 @@ class Watch:
         return b"".join(parts)
 
     def asked(self, command: str, given: str | bytes, *words: str) -> tuple[int, str]:
-        """With which status a command of the program ends for an input, and what it prints. It may take the memory that
-        is free.
-        """
+        """The status with which a command of the program ends, and what it prints. It may take all free memory."""
         text = given if isinstance(given, bytes) else given.encode("latin1")
         how: dict[str, typing.Any] = {"stdin": subprocess.PIPE, "stdout": subprocess.PIPE, "preexec_fn": memory.limit}
         with subprocess.Popen([built.program(), command, *words], **how) as process:

@@ -1,6 +1,4 @@
 """What a changed entry would do: who gains and who loses. Nothing is changed."""
-from __future__ import annotations
-
 import grp
 import os
 import pwd
@@ -10,18 +8,15 @@ from may import lists
 from may.crowd import Crowd, Seen
 from may.everybody import Reach, people
 from may.lists import (
-    BITS, GROUP, GROUP_OBJ, MASK, OTHER, USER, USER_OBJ, Bad, Entry, List, Unread, find, has_names, in_order,
-    letters, list_text, name_of, perms_of, quoted, union,
+    BITS, GROUP_OBJ, KINDS, MASK, OTHER, USER, USER_OBJ, Bad, Entry, List, Unread, find, has_names, kind_of, letters,
+    list_text, masked, name_of, perms_of, quoted, unnamed,
 )
 from may.people import Caller, number, shortened
 from may.saying import SAYER
 from may.scripts import interpreters, ways_of
-from may.trees import Row, Tree
+from may.trees import Tree
 from may.ways import EXECUTE, Place, Way, unread
 
-KINDS = {"u": USER, "user": USER, "g": GROUP, "group": GROUP, "m": MASK, "mask": MASK, "o": OTHER, "other": OTHER}
-# An entry that is about nobody by name.
-UNNAMED = {USER: USER_OBJ, GROUP: GROUP_OBJ, MASK: MASK, OTHER: OTHER}
 # The owner and the group of what is not made yet.
 NOBODY = 0xFFFFFFFF
 # With which modes programs make files and folders.
@@ -29,8 +24,7 @@ NEW_FILE, NEW_FOLDER = 0o666, 0o777
 
 
 class Change(NamedTuple):
-    """An entry that is put in or taken out, whether the mask is computed anew, and whether it is one of a folder's
-    default list."""
+    """An entry that is put in or taken out, whether the mask is computed anew, and whether it is of a default list."""
 
     entry: Entry
     is_put: bool
@@ -48,14 +42,7 @@ class Change(NamedTuple):
             raise Bad("the list has no such entry")
         if not self.is_put and tag == MASK and has_names(entries):
             raise Bad("a list that names users or groups needs its mask")
-        made = left + [one] * self.is_put
-        mask = find(made, MASK)
-        given = self.is_put and tag == MASK
-        if (has_names(made) or mask) and not given and (self.computes or not mask):
-            group = find(made, GROUP_OBJ)
-            perms = union(made) if self.computes or group is None else group.perms
-            made = [entry for entry in made if entry.tag != MASK] + [Entry(MASK, 0, perms)]
-        return in_order(made)
+        return masked(left + [one] * self.is_put, self.is_put and tag == MASK, self.computes)
 
 
 def id_of(tag: int, name: str) -> int:
@@ -72,17 +59,16 @@ def read_entry(text: str, has_perms: bool) -> Entry:
     """An entry as setfacl takes it: `user:lisa:rw`, `g:200:r`, `m::rx`; to be taken out, without permissions."""
     bad = Bad(f"{shortened(text)} is no entry: one is told as {'user:lisa:rw' if has_perms else 'user:lisa'}")
     words = text.split(":")
-    if len(words) == 2 and has_perms and words[0] in KINDS and KINDS[words[0]] in (MASK, OTHER):
+    kind = kind_of(words[0])
+    if len(words) == 2 and has_perms and kind in ("mask", "other"):
         words.insert(1, "")
     if not has_perms and len(words) == 1:
         words.append("")
-    if words[0] not in KINDS or len(words) != (3 if has_perms else 2) or (has_perms and set(words[2]) - set("rwx-")):
+    if kind is None or len(words) != (3 if has_perms else 2) or (has_perms and set(words[2]) - set("rwx-")):
         raise bad
-    tag = KINDS[words[0]]
-    if words[1] and tag in (MASK, OTHER):
+    if words[1] and kind in ("mask", "other"):
         raise bad
-    if not words[1]:
-        tag = UNNAMED[tag]
+    tag = KINDS[kind][bool(words[1])]
     if not has_perms and tag in (USER_OBJ, GROUP_OBJ, OTHER):
         raise Bad(f"each list has {quoted(text)}: it cannot be taken out")
     return Entry(tag, id_of(tag, words[1]) if words[1] else 0, perms_of(words[2]) if has_perms else 0)
@@ -239,8 +225,7 @@ def tell_default(crowd: Crowd, change: Change, found: Way) -> list[str]:
         now = lists.kept(folder.path, lists.DEFAULT)
     except OSError as error:
         raise unread(folder.path, error.errno) from None
-    base = tuple(entry for entry in folder.entries if entry.tag in (USER_OBJ, GROUP_OBJ, OTHER))
-    then = change.of(now if now is not None else base if change.is_put else ())
+    then = change.of(now if now is not None else unnamed(folder.entries) if change.is_put else ())
     told = "none" if now is None else list_text(now, name_of)
     lines = [f"{quoted(found.path)}  default list {told}  would be  {list_text(then, name_of)}"]
     reach = crowd.along([*found.places[:-1], folder._replace(wanted=EXECUTE)])
@@ -254,10 +239,6 @@ def tell_default(crowd: Crowd, change: Change, found: Way) -> list[str]:
 
 
 # ---- under a tree
-
-
-def programs_of(row: Row) -> list[Way]:
-    return interpreters(Way(row.path, [row.place])) if row.place.is_file else []
 
 
 def tell_change_under(callers: list[Caller], change: Change, top: str) -> Iterator[str]:
@@ -287,7 +268,7 @@ def tell_change_under(callers: list[Caller], change: Change, top: str) -> Iterat
         then = later.to_top if row.folder is None else above
         if row.target is not None:
             continue
-        programs = programs_of(row)
+        programs = interpreters(Way(row.path, [row.place])) if row.place.is_file else []
         old = powers(crowd, to, row.place, programs)
         new = powers(crowd, then, rows[at].place, changed.ways(programs))
         why += [text for _, text in unjudged_of(old, new)][:1]

@@ -45,8 +45,6 @@ made where it is there already (fs.protected_regular, fs.protected_fifos).
 A path that does not begin with / is taken from the current folder, whose own path is looked at too. Names with
 line ends, quotes, backslashes or bytes that are no text are shown as `ls -Q` does.
 """
-from __future__ import annotations
-
 import argparse
 import errno
 import io
@@ -101,7 +99,6 @@ def read(words: list[str]) -> argparse.Namespace:
 
 
 def check(given: argparse.Namespace) -> None:
-    """Raises `Bad` where words do not go together."""
     if given.form != "user" and (given.groups is not None or given.denied or given.zero):
         raise Bad("--groups, --denied and -0 go with a user")
     if given.form == "lint" and given.under is not None:
@@ -120,7 +117,6 @@ def tell(told: Judged) -> int:
 
 
 def judged(given: argparse.Namespace, caller: people.Caller, wanted: int, paths: list[str]) -> Iterator[Judged]:
-    """What is told of each path."""
     if not wanted:
         yield from (names.judge_name(caller, given.words[1], path, given.v) for path in paths)
         return
@@ -235,7 +231,6 @@ def of_lint(given: argparse.Namespace) -> int:
 
 
 def answered(words: list[str]) -> int:
-    """Answers a command line; says the status."""
     given = read(words)
     if given.help:
         print((__doc__ or "").strip())

@@ -42,7 +42,6 @@ class Crowd:
         self.seen: dict[object, Seen] = {}
 
     def chosen(self, bits: int) -> list[Caller]:
-        """The people of some bits."""
         found = []
         while bits:
             low = bits & -bits
@@ -53,17 +52,21 @@ class Crowd:
     def first(self, bits: int) -> Caller:
         return self.callers[(bits & -bits).bit_length() - 1]
 
-    def parts(self, place: Place) -> list[int]:
-        """The people, parted by what lists and Linux can tell of them at a place."""
-        users = {0, place.owner, *(entry.id for entry in place.entries if entry.tag == USER)}
-        users |= {place.folder.st_uid} if place.folder else set()
-        groups = {place.group, *(entry.id for entry in place.entries if entry.tag == GROUP)}
+    def parts(self, *places: Place) -> list[int]:
+        """The people, parted by what lists and Linux can tell of them at places, in the order of the first ones."""
+        users, groups = {0}, set[int]()
+        for place in places:
+            users |= {place.owner, *(entry.id for entry in place.entries if entry.tag == USER)}
+            groups |= {place.group, *(entry.id for entry in place.entries if entry.tag == GROUP)}
+            if place.folder:
+                users.add(place.folder.st_uid)
+                groups.add(place.folder.st_gid)
         parts = [self.every] if self.every else []
         for one in users & self.of_user.keys():
             parts = split(parts, self.of_user[one])
         for one in groups & self.of_group.keys():
             parts = split(parts, self.of_group[one])
-        return parts
+        return sorted(parts, key=lambda part: part & -part)
 
     def key(self, place: Place, wanted: int) -> object:
         """What all that is said of a place stands on."""

@@ -1,13 +1,11 @@
 """Who may? Everybody with an account here, by the entry that grants or denies."""
-from __future__ import annotations
-
 from typing import Iterable, Iterator, NamedTuple, Optional
 
 from may import linux, names
 from may.crowd import Crowd, Seen
-from may.lists import List, Unread, entry_text, letters, mask_of, name_of, quoted, who
+from may.lists import Unread, entry_text, letters, mask_of, name_of, quoted, who
 from may.names import Target
-from may.people import Caller, likenesses
+from may.people import Caller
 from may.program import answers, decider, granting, question
 from may.saying import SAYER
 from may.scripts import interpreters, is_refused, ways_of
@@ -17,22 +15,11 @@ from may.ways import EXECUTE, SEARCH, Place, Way
 
 
 class Found(NamedTuple):
-    """Where a caller's way ends: at the place that denies or the last one, with the answer, and what Linux does
-    there."""
+    """Where a caller's way ends: at the place that denies or the last one; the answer, and what Linux does there."""
 
     place: Place
     answer: str
     said: linux.Said
-
-
-def asked_of(places: Iterable[Place]) -> list[tuple[int, int, List]]:
-    """What tells callers apart at some places; a link by its owner and its folder's."""
-    found = []
-    for place in places:
-        found.append((place.owner, place.group, place.entries))
-        if place.folder is not None:
-            found.append((place.folder.st_uid, place.folder.st_gid, ()))
-    return found
 
 
 def end_of(caller: Caller, ways: list[Way], told: dict[object, str]) -> Found:
@@ -54,7 +41,6 @@ def end_of(caller: Caller, ways: list[Way], told: dict[object, str]) -> Found:
 
 
 def ends(callers: list[Caller], ways: list[Way]) -> list[Found]:
-    """Where the way of each caller ends."""
     places = [place for one in ways for place in one.places if not place.is_link]
     asked = [question(place, caller) for caller in callers for place in places]
     told: dict[object, str] = dict(zip(asked, answers(asked)))
@@ -102,15 +88,15 @@ def refused(target: Target, verb: str, caller: Caller, found: Found) -> Found:
 
 
 def tell_who(callers: list[Caller], wanted: int, path: str, verb: str = "") -> list[str]:
-    """Who may and who may not, a line each, by what grants or denies. What is wanted may be to make or take away a
-    name."""
+    """Who may and who may not, also make or take away a name (`verb`), a line each, by what grants or denies."""
     target: Optional[Target] = names.target_of(path) if verb else None
     ways = [target.way] if target else ways_of(path, wanted)
     if ways[0].end:
         raise ways[0].end
-    told_apart = asked_of(place for one in ways for place in one.places)
-    told_apart += asked_of([target.there]) if target and target.there else []
-    parts = likenesses(callers, told_apart)
+    places = [place for one in ways for place in one.places]
+    places += [target.there] if target and target.there else []
+    crowd = Crowd(callers)
+    parts = [crowd.chosen(part) for part in crowd.parts(*places)]
     firsts = [part[0] for part in parts]
     every, last = ends(firsts, ways), ways[0].places[-1]
     if target:

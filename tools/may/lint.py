@@ -1,8 +1,6 @@
 """What in a tree does not do what it says, or lets more than it seems to. Nothing is changed. A command that would mend
 something is told only where `--with` or `--without` shows that just those gain whom its entry names, and nobody loses.
 """
-from __future__ import annotations
-
 import contextlib
 import functools
 import grp
@@ -15,15 +13,13 @@ from may.changes import Change, Powers, after, effect, unjudged_of
 from may.crowd import Crowd
 from may.everybody import Reach
 from may.lists import (
-    BITS, GROUP, GROUP_OBJ, LIMITED, MASK, OTHER, USER, USER_OBJ, Bad, Entry, Unread, entry_text, fault, find,
+    BITS, GROUP, GROUP_OBJ, LIMITED, MASK, OTHER, USER, USER_OBJ, WORDS, Bad, Entry, Unread, entry_text, fault, find,
     letters, mask_of, name_of, shell_quoted, union, who,
 )
 from may.saying import SAYER
 from may.scripts import interpreters
 from may.trees import Row, Tree
 from may.ways import SEARCH, WRITE, Place, Way
-
-LETTERS = {USER: "u", USER_OBJ: "u", GROUP: "g", GROUP_OBJ: "g", MASK: "m", OTHER: "o"}
 
 
 class Mend(NamedTuple):
@@ -37,7 +33,7 @@ class Mend(NamedTuple):
     def command(self) -> str:
         """The setfacl that makes the change, as a shell takes it."""
         entry, flags = self.change.entry, "" if self.change.computes else "-n "
-        named = f"{LETTERS[entry.tag]}:{entry.id if entry.tag in (USER, GROUP) else ''}"
+        named = f"{WORDS[entry.tag][0]}:{entry.id if entry.tag in (USER, GROUP) else ''}"
         words = f"-m {named}:{letters(entry.perms)}" if self.change.is_put else f"-x {named}"
         return f"setfacl {flags}{words} -- {shell_quoted(self.path)}"
 

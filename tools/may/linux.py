@@ -1,6 +1,4 @@
 """What Linux lets do, where it is more or less than a list says."""
-from __future__ import annotations
-
 import functools
 import os
 import stat

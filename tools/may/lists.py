@@ -1,19 +1,25 @@
 """Access lists of files, as the kernel keeps them, and their texts."""
-from __future__ import annotations
-
 import errno
+import functools
 import grp
+import operator
 import os
 import pwd
 import shlex
 import struct
 from typing import Callable, Iterable, NamedTuple, Optional
 
+from common.quoted import letters
+
 ACCESS, DEFAULT = "system.posix_acl_access", "system.posix_acl_default"
 VERSION, HEAD, ENTRY = 2, struct.Struct("<I"), struct.Struct("<HHI")
+# The number of an entry that names nobody, as the kernel keeps it.
+NOBODY = 0xFFFFFFFF
 # The tags of acl(5) as the kernel numbers them.
 USER_OBJ, USER, GROUP_OBJ, GROUP, MASK, OTHER = 0x01, 0x02, 0x04, 0x08, 0x10, 0x20
 WORDS = {USER_OBJ: "user::", USER: "user:", GROUP_OBJ: "group::", GROUP: "group:", MASK: "mask::", OTHER: "other::"}
+# The tags by the words of entries: of one that names nobody, and of one that names somebody.
+KINDS = {"user": (USER_OBJ, USER), "group": (GROUP_OBJ, GROUP), "mask": (MASK, MASK), "other": (OTHER, OTHER)}
 # What a mask limits.
 LIMITED = (USER, GROUP_OBJ, GROUP)
 # The program takes lists of at most so many entries.
@@ -33,8 +39,7 @@ List = tuple[Entry, ...]
 
 
 class Unread(Exception):
-    """A path or a list that cannot be read: why, and the number of the error where Linux gave one. Some of it is a
-    denial: Linux refuses whoever comes so far."""
+    """What cannot be read: why, the number of the error, if any, and whether Linux refuses who comes so far."""
 
     def __init__(self, text: str, number: Optional[int] = None, denies: bool = False) -> None:
         super().__init__(text)
@@ -49,8 +54,7 @@ SHORT = {7: "\\a", 8: "\\b", 9: "\\t", 10: "\\n", 11: "\\v", 12: "\\f", 13: "\\r
 
 
 def quoted(name: str) -> str:
-    """A name as one line shows it: as it is, or as `ls -Q` quotes it where it has what is not printed, a quote or a
-    backslash."""
+    """A name as one line shows it: as it is, or quoted as by `ls -Q` where one could not see what it is."""
     if name and name.isprintable() and not set(name) & set("\"\\"):
         return name
     shown = (SHORT.get(byte, chr(byte) if 32 <= byte < 127 else f"\\{byte:03o}") for byte in os.fsencode(name))
@@ -70,7 +74,6 @@ def shell_quoted(name: str) -> str:
 
 
 def of_mode(mode: int) -> List:
-    """The list of a mode."""
     return (Entry(USER_OBJ, 0, mode >> 6 & 7), Entry(GROUP_OBJ, 0, mode >> 3 & 7), Entry(OTHER, 0, mode & 7))
 
 
@@ -82,10 +85,26 @@ def kept(path: str, which: str) -> Optional[List]:
         if error.errno in (errno.ENODATA, errno.EOPNOTSUPP):
             return None
         raise
-    if len(value) < HEAD.size or HEAD.unpack_from(value)[0] != VERSION or (len(value) - HEAD.size) % ENTRY.size:
-        raise Unread(f"{quoted(path)}: its list is of no known form")
-    parts = ENTRY.iter_unpack(value[HEAD.size :])
-    return tuple(Entry(tag, number if tag in (USER, GROUP) else 0, perms & 7) for tag, perms, number in parts)
+    try:
+        return unpacked(value)
+    except ValueError:
+        raise Unread(f"{quoted(path)}: its list is of no known form") from None
+
+
+def unpacked(value: bytes) -> List:
+    """The entries in the value of an extended attribute. One of another form is a `ValueError`."""
+    if value[: HEAD.size] != HEAD.pack(VERSION) or (len(value) - HEAD.size) % ENTRY.size:
+        raise ValueError
+    parts = list(ENTRY.iter_unpack(value[HEAD.size :]))
+    if any(tag not in WORDS or perms > 7 for tag, perms, _ in parts):
+        raise ValueError
+    return tuple(Entry(tag, number if tag in (USER, GROUP) else 0, perms) for tag, perms, number in parts)
+
+
+def packed(entries: List) -> bytes:
+    """The value of an extended attribute that has these entries."""
+    numbers = ((one, one.id if one.tag in (USER, GROUP) else NOBODY) for one in entries)
+    return HEAD.pack(VERSION) + b"".join(ENTRY.pack(one.tag, one.perms, number) for one, number in numbers)
 
 
 def of_file(path: str, mode: int) -> List:
@@ -109,10 +128,6 @@ def fault(entries: List) -> Optional[str]:
 # ---- texts
 
 
-def letters(perms: int) -> str:
-    return "".join(letter if perms & bit else "-" for letter, bit in BITS)
-
-
 def perms_of(text: str) -> int:
     return sum(bit for letter, bit in BITS if letter in text)
 
@@ -130,9 +145,9 @@ def name_of(entry: Entry) -> str:
         return str(entry.id)
 
 
-def who(entry: Entry, name: Callable[[Entry], str] = name_of) -> str:
+def who(entry: Entry) -> str:
     """Whom an entry is about, as `user:lisa` or `other::`."""
-    return WORDS[entry.tag] + (name(entry) if entry.tag in (USER, GROUP) else "")
+    return WORDS[entry.tag] + (name_of(entry) if entry.tag in (USER, GROUP) else "")
 
 
 def entry_text(entry: Entry, name: Callable[[Entry], str] = number_of) -> str:
@@ -143,6 +158,11 @@ def entry_text(entry: Entry, name: Callable[[Entry], str] = number_of) -> str:
 
 def list_text(entries: Iterable[Entry], name: Callable[[Entry], str] = number_of) -> str:
     return ",".join(entry_text(entry, name) for entry in entries)
+
+
+def kind_of(word: str) -> Optional[str]:
+    """The kind of entry that setfacl takes a word or a letter for."""
+    return next((kind for kind in KINDS if word in (kind, kind[0])), None)
 
 
 # ---- parts of a list
@@ -165,9 +185,21 @@ def has_names(entries: Iterable[Entry]) -> bool:
     return any(entry.tag in (USER, GROUP) for entry in entries)
 
 
+def unnamed(entries: List) -> List:
+    """The entries that a mode has too."""
+    return tuple(entry for entry in entries if entry.tag in (USER_OBJ, GROUP_OBJ, OTHER))
+
+
 def union(entries: Iterable[Entry]) -> int:
     """What the mask limits, together: the mask that setfacl computes."""
-    perms = 0
-    for entry in entries:
-        perms |= entry.perms if entry.tag in LIMITED else 0
-    return perms
+    return functools.reduce(operator.or_, (entry.perms for entry in entries if entry.tag in LIMITED), 0)
+
+
+def masked(entries: Iterable[Entry], is_given: bool, computes: bool = True) -> List:
+    """The entries in their order, with the mask that setfacl makes where none is given, and computes anew or not."""
+    made = list(entries)
+    mask, group = find(made, MASK), find(made, GROUP_OBJ)
+    if not is_given and (has_names(made) or mask) and (computes or not mask):
+        perms = union(made) if computes or group is None else group.perms
+        made = [entry for entry in made if entry.tag != MASK] + [Entry(MASK, 0, perms)]
+    return in_order(made)

@@ -1,6 +1,4 @@
 """Mounts of this machine, and what of files no list shows: attributes, and snapshots that are read alone."""
-from __future__ import annotations
-
 import ctypes
 import fcntl
 import functools
@@ -30,19 +28,8 @@ ELSEWHERE = {
     "vboxsf": "VirtualBox",
     "virtiofs": "virtiofs",
 }
-OF_KERNEL = {
-    "sysfs": "/sys",
-    "cgroup": "cgroups",
-    "cgroup2": "cgroups",
-    "debugfs": "debugfs",
-    "tracefs": "tracefs",
-    "securityfs": "securityfs",
-    "configfs": "configfs",
-    "selinuxfs": "selinuxfs",
-    "efivarfs": "efivarfs",
-    "bpf": "bpf",
-    "binfmt_misc": "binfmt_misc",
-}
+OF_KERNEL = {kind: kind for kind in "debugfs tracefs securityfs configfs selinuxfs efivarfs bpf binfmt_misc".split()}
+OF_KERNEL |= {"sysfs": "/sys", "cgroup": "cgroups", "cgroup2": "cgroups"}
 # Kinds in whose folders whoever may write one makes and takes away names; of others that is not judged.
 PLAIN_KINDS = frozenset(
     "ext2 ext3 ext4 xfs btrfs tmpfs ramfs devtmpfs overlay f2fs jfs reiserfs nilfs2 bcachefs zfs minix ufs vfat exfat"
@@ -144,8 +131,7 @@ def by_id() -> dict[int, Mount]:
 
 @functools.cache
 def points() -> frozenset[tuple[str, Optional[str]]]:
-    """Which folders and files something is mounted on: the file system of each, and its path there. So one is found
-    by whichever path leads to it."""
+    """What something is mounted on, whichever path leads there: of each its file system, and its path in that."""
     lying = ((by_id().get(mount.parent), mount.point) for mount in mounts())
     return frozenset((below.system, below.inside(point)) for below, point in lying if below)
 
@@ -181,11 +167,8 @@ def mount_of(path: str, number: Optional[int]) -> Mount:
     """The mount on which a path lies: by its number, or else the last one whose place begins it."""
     if number is not None and number in by_id():
         return by_id()[number]
-    best = PLAIN
-    for mount in mounts():
-        inside = path == mount.point or path.startswith(mount.point.rstrip("/") + "/")
-        best = mount if inside and len(mount.point) >= len(best.point) else best
-    return best
+    found = (mount for mount in reversed(mounts()) if mount.inside(path) is not None)
+    return max(found, key=lambda mount: len(mount.point), default=PLAIN)
 
 
 # ---- snapshots of btrfs
@@ -198,8 +181,7 @@ TOP_OF_SUBVOLUME = 256
 
 @functools.cache
 def is_snapshot(device: int, folder: str) -> Optional[bool]:
-    """Whether a subvolume of btrfs, by the number of its device and a folder in it, is read alone; nothing where that
-    cannot be looked at."""
+    """Whether the subvolume of btrfs that has this folder is read alone; nothing where that cannot be looked at."""
     try:
         seat = os.open(folder, os.O_RDONLY | os.O_DIRECTORY | os.O_NONBLOCK | os.O_CLOEXEC)
     except OSError:

@@ -1,7 +1,5 @@
 """May this user make a name, or take one away? The folder decides: its w and x, its sticky bit, and what is there
 already."""
-from __future__ import annotations
-
 import errno
 import os
 import stat
@@ -20,8 +18,7 @@ NO_NAME = ("", ".", "..")
 
 
 class Target(NamedTuple):
-    """A name that is to be made or taken away: the path as it was told, the way to its folder, and what has the name
-    there, if anything has."""
+    """A name to be made or taken away: the path as told, the way to its folder, and what has the name there."""
 
     path: str
     way: Way
@@ -68,15 +65,8 @@ def target_of(path: str) -> Target:
     return Target(path, found, name, there(folder, name))
 
 
-def no_create(target: Target) -> Optional[str]:
-    """Why a name may not be made although its folder lets."""
-    is_there = target.there or target.name in NO_NAME
-    return f"{quoted(target.path)} is there already" if is_there else None
-
-
 def no_delete(target: Target, caller: Caller) -> Optional[str]:
-    """Why a name may not be taken away although its folder lets. Raises `Unread` where there is none, and where that is
-    not judged."""
+    """Why a name may not be taken away although its folder lets. Raises `Unread` where that is not judged."""
     found, folder, path = target.there, target.folder, target.path
     if target.name in NO_NAME:
         return f"{quoted(path)} names no name in a folder"
@@ -110,12 +100,13 @@ def no_folder(found: Place) -> Optional[str]:
 
 
 def no_name(target: Target, caller: Caller, verb: str) -> Optional[str]:
-    """Why a caller may not make or take away a name although the way to it lets pass; raises `Unread` where that is
-    not judged."""
+    """Why a name may not be made or taken away although the way to it lets pass; `Unread` where it is not judged."""
     other = target.folder.mount.keeps_no_names()
     if other:
         raise Unread(f"not judged here: {other}")
-    return no_create(target) if verb == CREATE else no_delete(target, caller)
+    if verb == DELETE:
+        return no_delete(target, caller)
+    return f"{quoted(target.path)} is there already" if target.there or target.name in NO_NAME else None
 
 
 def judge_name(caller: Caller, verb: str, path: str, verbose: bool = False) -> Judged:

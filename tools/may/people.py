@@ -1,12 +1,10 @@
 """Who asks: users of this machine, with their groups."""
-from __future__ import annotations
-
 import grp
 import os
 import pwd
-from typing import Iterable, NamedTuple, Optional
+from typing import NamedTuple, Optional
 
-from may.lists import GROUP, USER, Bad, List, quoted
+from may.lists import Bad, quoted
 
 # The number above it stands for nobody.
 MAX_ID, MOST_DIGITS = 0xFFFFFFFE, 10
@@ -41,7 +39,6 @@ def number(text: str) -> int:
 
 
 def shortened(text: str) -> str:
-    """A word as a sentence shows it."""
     return quoted(text) if len(text) <= 80 else f"{quoted(text[:40])}.. of {len(text):,} letters"
 
 
@@ -84,20 +81,3 @@ def accounts() -> list[Caller]:
         groups = tuple(dict.fromkeys(group for group in beside.get(one.pw_name, ()) if group != one.pw_gid))
         found.append(Caller(one.pw_name, one.pw_uid, one.pw_gid, groups))
     return found
-
-
-def likenesses(callers: Iterable[Caller], named: Iterable[tuple[int, int, List]]) -> list[list[Caller]]:
-    """Callers by what lists can tell of them: those of a part have the same answers at each of some files, of which
-    the owner, the group and the list are given. The first of each part stands for it."""
-    users, groups = {0}, set()
-    for owner, group, entries in named:
-        users |= {owner, *(entry.id for entry in entries if entry.tag == USER)}
-        groups |= {group, *(entry.id for entry in entries if entry.tag == GROUP)}
-    parts: dict[tuple[int, frozenset[int]], list[Caller]] = {}
-    for caller in callers:
-        key = (
-            caller.uid if caller.uid in users else -1,
-            frozenset(one for one in (caller.gid, *caller.groups) if one in groups),
-        )
-        parts.setdefault(key, []).append(caller)
-    return list(parts.values())

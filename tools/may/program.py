@@ -1,6 +1,4 @@
 """The command `may`, which answers all questions about lists: many at once, and each question once."""
-from __future__ import annotations
-
 import functools
 import os
 import re
@@ -8,9 +6,7 @@ import subprocess
 from typing import Iterable, NamedTuple
 
 from common import built, console
-from may.lists import (
-    GROUP, GROUP_OBJ, MASK, OTHER, USER, USER_OBJ, Entry, List, Unread, fault, in_order, letters, list_text,
-)
+from may.lists import GROUP, GROUP_OBJ, KINDS, MASK, Entry, List, Unread, fault, in_order, letters, list_text
 from may.people import Caller
 from may.ways import Place
 
@@ -34,8 +30,7 @@ class Question(NamedTuple):
     wanted: int
 
     def line(self) -> str:
-        """Its line. Groups that neither the list nor the file names decide nothing, and are left out where they are
-        more than the program takes."""
+        """Its line. More groups than the program takes are told without those that decide nothing."""
         groups = list(self.caller.groups)
         if len(groups) > MOST_GROUPS:
             named = {entry.id for entry in self.entries if entry.tag == GROUP} | {self.group}
@@ -45,7 +40,6 @@ class Question(NamedTuple):
 
 
 def question(place: Place, caller: Caller, wanted: int = 0) -> Question:
-    """What is asked of a place on a way."""
     return Question(place.owner, place.group, place.entries, caller, wanted or place.wanted)
 
 
@@ -143,7 +137,4 @@ def granting(questions: list[Question]) -> list[Entry]:
 def decider(entries: List, answer: str) -> Entry:
     """The entry of a list that a denial names."""
     kind, number = answer.rpartition(" by ")[2].split(":")[:2]
-    tag = {"user": USER if number else USER_OBJ, "group": GROUP if number else GROUP_OBJ, "mask": MASK, "other": OTHER}[
-        kind
-    ]
-    return next(entry for entry in entries if entry.tag == tag and (not number or entry.id == int(number)))
+    return next(entry for entry in entries if (entry.tag, entry.id) == (KINDS[kind][bool(number)], int(number or 0)))

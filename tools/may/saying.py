@@ -1,6 +1,4 @@
 """Lines as they are found; and on a terminal, from the third second on, how far the work is."""
-from __future__ import annotations
-
 import sys
 import time
 

@@ -1,7 +1,5 @@
 """Scripts: the interpreter that a first line names, as Linux reads it, and the ways to a program and all its
 interpreters."""
-from __future__ import annotations
-
 import errno
 import functools
 import os
@@ -36,8 +34,7 @@ def named_in(head: bytes) -> Optional[bytes]:
 
 
 def interpreter_of(path: str) -> Optional[str]:
-    """The program that a script names in its first line, if the file is a script. What was put in its place in the
-    meantime is not waited for."""
+    """The program that a script names in its first line. What took the place of a file meanwhile is not waited for."""
     try:
         seat = os.open(path, FLAGS)
         try:

@@ -1,6 +1,4 @@
 """May this user? What is told of one path: a line a place, and a last sentence."""
-from __future__ import annotations
-
 from typing import Iterator, NamedTuple
 
 from may import linux
@@ -106,19 +104,13 @@ def granted(caller: Caller, wanted: int, found: Way, told: list[str]) -> Judged:
     return Judged(told, f"{caller.shown} may {short(wanted)}: {quoted(found.path)}{notes}", GRANTED)
 
 
-def questions_of(found: Way, caller: Caller) -> list[Question]:
-    return [question(place, caller) for place in found.places if not place.is_link]
-
-
 def answers_of(ways: list[Way], caller: Caller) -> Answers:
-    asked = [one for found in ways for one in questions_of(found, caller)]
+    asked = [question(place, caller) for found in ways for place in found.places if not place.is_link]
     return dict(zip(asked, answers(asked)))
 
 
 def judge_all(caller: Caller, wanted: int, paths: list[str], verbose: bool) -> Iterator[Judged]:
-    """What is told of paths; of a script also whether its interpreters may be executed. What is to be known of some is
-    asked at once.
-    """
+    """What is told of paths, of a script with its interpreters; what is to be known of some is asked at once."""
     for begun in range(0, len(paths), AT_ONCE):
         some = [(path, ways_of(path, wanted)) for path in paths[begun : begun + AT_ONCE]]
         answers_of([found for _, ways in some for found in ways], caller)

@@ -1,7 +1,5 @@
 """What lies under a path: each file and folder, with the folder that it lies in. Links below it are not followed; the
 path itself may be one."""
-from __future__ import annotations
-
 import os
 import stat
 from typing import Iterator, NamedTuple, Optional
@@ -11,8 +9,7 @@ from may.ways import SEARCH, Place, Way, place_of, way
 
 
 class Row(NamedTuple):
-    """A file, a folder or a link of a tree: its path as it is told, the number of the row of its folder, and of a link
-    where it leads. `place.path` has no links."""
+    """A file, folder or link of a tree: its path as told, its place, the row of its folder, where a link leads."""
 
     path: str
     place: Place
@@ -68,7 +65,6 @@ class Tree:
         yield range(begun, len(self.rows))
 
     def read(self, at: int, folder: Row) -> None:
-        """Adds what a folder has, by name."""
         try:
             names = sorted(os.listdir(folder.place.path))
         except OSError as error:

@@ -1,6 +1,4 @@
 """What under a tree may a user read, write or execute, and what not?"""
-from __future__ import annotations
-
 from typing import Iterable, Iterator, NamedTuple, Optional
 
 from may import linux
@@ -49,7 +47,6 @@ class Under:
         return linux.of_place(place, self.caller, self.answer[asked], wanted), asked
 
     def denied_by(self, place: Place, said: linux.Said, asked: Question) -> str:
-        """By what a place denies."""
         return said.why or f"by {entry_text(decider(place.entries, self.answer[asked]), name_of)}"
 
     def told(self, row: Row, stopped: Optional[Told]) -> Told:
@@ -82,7 +79,6 @@ class Under:
         return told
 
     def of_program(self, found: Way) -> Told:
-        """What is told of an interpreter."""
         of_it = judged(self.caller, EXECUTE, False, found, answers_of([found], self.caller))
         last = of_it.last.partition(" may not x: ")[2] or of_it.last
         is_missing = of_it.status == UNREAD and found.end and last == str(found.end) and is_refused(found.end)

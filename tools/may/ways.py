@@ -1,6 +1,4 @@
 """What Linux looks at on the way to a path."""
-from __future__ import annotations
-
 import errno
 import os
 import stat
@@ -114,8 +112,7 @@ def joined(at: str, part: str) -> str:
 
 
 def places_to(path: str, wanted: int) -> Iterator[Place]:
-    """What Linux looks at on the way to a path, in its order: each folder wants x, and links are followed. Raises
-    `Unread` where the way ends before."""
+    """What Linux looks at on the way to a path, in its order. Raises `Unread` where the way ends before."""
     rest, at, links = parts_of(path), "/", 0
     wants_folder = path.endswith("/")
     while rest:
@@ -142,8 +139,7 @@ def places_to(path: str, wanted: int) -> Iterator[Place]:
 
 
 class Way(NamedTuple):
-    """The path that is gone to, the places of its way, each once and its own last, and why it ends before, where it
-    does."""
+    """The path that is gone to, the places of its way, each once, its own last, and why it ends before, if it does."""
 
     path: str
     places: list[Place]

@@ -1,6 +1,4 @@
 """How a session begins: its header, what a script says at first, and what a journal says already."""
-from __future__ import annotations
-
 import argparse
 import contextlib
 import os

@@ -1,8 +1,6 @@
 """What the kernel's calls mean: each is read, asked of the tree, and its answer written. Nothing of it is kept by the
 kernel: all times for which an answer stands are 0.
 """
-from __future__ import annotations
-
 import contextlib
 import errno
 import stat

@@ -52,7 +52,6 @@ class Talk:
         return len(text)
 
     def line(self, line: str) -> list[str]:
-        """What is told of a line."""
         if line.strip() == "compact":
             return [self.compact() if self.compact else "fault compact: the mount has no journal"]
         words = line.split()

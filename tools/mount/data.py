@@ -1,6 +1,4 @@
 """Bytes of open files: read when they are opened, and written whole when they are closed or synced."""
-from __future__ import annotations
-
 import errno
 import os
 
@@ -94,7 +92,7 @@ class Data:
             raise OSError(errno.EFBIG, one.node.path)
         self.settle(one.node, one)
         one.change(Change(None if one.is_append else place, data))
-        if one.is_heavy():
+        if sum(len(change.data or b"") for change in one.changes) > nodes.PENDING:
             self.commit(one)
         return len(data)
 
@@ -185,6 +183,6 @@ class Data:
         """The open file of one that its user has just made."""
         one = Open(node, user, bool(flags & os.O_APPEND))
         one.view, one.seen = bytearray(), node.version
-        one.is_owners = not any(entry.tag == lists.OWNER and entry.bits & 2 for entry in node.row.lists.access)
+        one.is_owners = not any(entry.tag == lists.USER_OBJ and entry.perms & 2 for entry in node.row.lists.access)
         node.opens.add(one)
         return one

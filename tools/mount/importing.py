@@ -9,17 +9,14 @@ than 1,024 names in a folder, paths of more than eight names. Nothing is changed
     --servers N  so many servers, 3 where nothing is told
     --votes V    their votes; else each has one, and a majority reads and writes
 """
-from __future__ import annotations
-
 import argparse
-import errno
 import os
 import re
 import stat
 import sys
 
-
 from common import console
+from may.lists import DEFAULT, Unread, kept, of_file, of_mode
 from mount import lists, making, rows, words
 from mount.making import Thing
 
@@ -34,32 +31,16 @@ class Reader:
         self.left_out = 0
 
     def leave(self, path: str, why: str) -> None:
-        """Tells of a path that does not fit."""
         self.left_out += 1
         print(f"suites: {path!r} is left out: {why}", file=sys.stderr)
 
     def misfit(self, path: str, told: os.stat_result) -> str:
-        """Why something does not fit; nothing where it does."""
         if not stat.S_ISDIR(told.st_mode) and not stat.S_ISREG(told.st_mode):
             return "it is neither a file nor a folder"
         if path.count("/") > DEEPEST:
             return "its path has more than eight names"
         is_longer = stat.S_ISREG(told.st_mode) and told.st_size > rows.LONGEST
         return f"it has more than {rows.LONGEST} bytes" if is_longer else ""
-
-    def lists_of(self, path: str, told: os.stat_result) -> lists.Lists:
-        """The lists of a file or folder: without an extended attribute, those of its mode."""
-        found = []
-        for name in (lists.ACCESS, lists.DEFAULT):
-            try:
-                found.append(lists.unpacked(os.getxattr(path, name, follow_symlinks=False)))
-            except OSError as error:
-                if error.errno not in (errno.ENODATA, errno.ENOTSUP):
-                    raise
-                found.append(())
-        places = ((lists.OWNER, 6), (lists.GROUP, 3), (lists.OTHER, 0))
-        access = found[0] or tuple(lists.Entry(tag, lists.NOBODY, told.st_mode >> at & 7) for tag, at in places)
-        return lists.Lists(access, found[1])
 
     def thing(self, real: str, path: str) -> Thing | None:
         """What stands at a path; none where it does not fit."""
@@ -75,7 +56,8 @@ class Reader:
             with open(real, "rb") as file:
                 data = file.read(rows.LONGEST)
         is_folder = stat.S_ISDIR(told.st_mode)
-        return Thing(path, is_folder, told.st_uid, told.st_gid, self.lists_of(real, told), None, data)
+        own = lists.Lists(of_file(real, told.st_mode), kept(real, DEFAULT) or ())
+        return Thing(path, is_folder, told.st_uid, told.st_gid, own, None, data)
 
     def things(self, real: str, path: str) -> list[Thing]:
         """A tree, each folder before what is in it."""
@@ -85,8 +67,8 @@ class Reader:
             try:
                 thing = self.thing(real, path)
                 names = sorted(os.listdir(real)) if thing and thing.is_folder else []
-            except OSError as error:
-                self.leave(real, os.strerror(error.errno))
+            except (OSError, Unread) as error:
+                self.leave(real, os.strerror(error.errno) if isinstance(error, OSError) else str(error))
                 continue
             if thing is None:
                 continue
@@ -103,8 +85,7 @@ class Reader:
 
 def folders_above(path: str, owner: int, group: int) -> list[Thing]:
     """The folders that lead to a path, the root folder first: of its owner, and open to be searched."""
-    modes = ((lists.OWNER, 7), (lists.GROUP, 5), (lists.OTHER, 5))
-    given = lists.Lists(tuple(lists.Entry(tag, lists.NOBODY, bits) for tag, bits in modes))
+    given = lists.Lists(of_mode(0o755))
     names = path.split("/")[1:-1]
     paths = ["/", *("/" + "/".join(names[: depth + 1]) for depth in range(len(names)))]
     return [Thing(one, True, owner, group, given, None, b"") for one in paths]

@@ -3,8 +3,6 @@
 It is spoken here and not by a library, since the two for Python take the umask off a mode before they tell it, and a
 folder's default list has to take the umask's place.
 """
-from __future__ import annotations
-
 import array
 import errno
 import os
@@ -135,7 +133,6 @@ def serve(device: int, answer: Answer) -> None:
 
 
 def reply(device: int, text: bytes, answer: Answer) -> None:
-    """Answers one request."""
     _, call, unique, node, uid, gid, process, _ = REQUEST.unpack_from(text)
     body, number = text[REQUEST.size :], 0
     try:

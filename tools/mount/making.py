@@ -3,8 +3,6 @@
 So a long journal gets shorter: what its session has is looked at in a copy of it, and a script that makes just that
 takes its place. What was dropped takes no place of a server any more.
 """
-from __future__ import annotations
-
 import os
 import re
 import shutil
@@ -42,9 +40,7 @@ def job(thing: Thing, *operations: str) -> list[str]:
 
 
 def making(things: Sequence[Thing]) -> Iterator[str]:
-    """The lines below a header that make things, of which the root folder is the first, and each folder stands before
-    what is in it.
-    """
+    """The lines that make things: the root folder is the first, and each folder stands before what is in it."""
     root = things[0]
     yield from job(root, f"setacl / {OPEN_LIST}")
     for thing in things[1:]:
@@ -58,9 +54,7 @@ def making(things: Sequence[Thing]) -> Iterator[str]:
 
 
 def looked_at(session: Session) -> list[Thing]:
-    """All that a session has, each folder before what is in it. It opens every folder on the way, so the session is a
-    copy that nobody uses.
-    """
+    """All that a session has, parents first. Every folder is opened, so it is that of a copy that nobody uses."""
     things, left = [], ["/"]
     while left:
         path = left.pop()

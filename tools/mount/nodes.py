@@ -13,9 +13,7 @@ PENDING = 4 * rows.LONGEST
 
 
 class Change(NamedTuple):
-    """What was done to an open file and is not written yet: bytes at a place (at the end, where that is none), or a new
-    length where there are no bytes.
-    """
+    """A change of an open file that is pending: bytes at a place (none: the end), or a length without bytes."""
 
     place: int | None
     data: bytes | None
@@ -57,9 +55,6 @@ class Open:
         if not self.node.is_gone:
             self.changes.append(one)
 
-    def is_heavy(self) -> bool:
-        return sum(len(one.data or b"") for one in self.changes) > PENDING
-
 
 class Node:
     """A file or folder that the kernel holds."""
@@ -98,7 +93,6 @@ class Nodes:
         return node
 
     def inode_of(self, number: int) -> int:
-        """The inode number of a file or folder."""
         inode = self.inodes.get(number)
         if inode is None:
             inode = self.inodes[number] = self.next

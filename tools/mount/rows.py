@@ -1,6 +1,4 @@
 """What the session has of a path: its row, and its bytes. Neither says who may do what."""
-from __future__ import annotations
-
 from typing import NamedTuple
 
 from mount import lists

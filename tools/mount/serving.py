@@ -1,6 +1,4 @@
 """A mount from its beginning to its end: the session is begun, the kernel is given the folder, and its calls served."""
-from __future__ import annotations
-
 import argparse
 import errno
 import os

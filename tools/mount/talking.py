@@ -1,6 +1,4 @@
 """The conversation with a session: lines in, whole answers out, and transactions that are tried again."""
-from __future__ import annotations
-
 import errno
 import subprocess
 from collections.abc import Sequence
@@ -38,9 +36,7 @@ class User(NamedTuple):
 
 
 class Outcome(NamedTuple):
-    """How a transaction ended: `answered`, `denied`, `refused`, `undecided`, or `fault` where it was none; and what
-    stood behind that.
-    """
+    """How a transaction ended, `fault` where it was none; and what stood behind that."""
 
     kind: str
     rest: str
@@ -93,8 +89,8 @@ class Session:
 
     def __init__(self, command: Sequence[str]) -> None:
         self.child = subprocess.Popen(command, stdin=subprocess.PIPE, stdout=subprocess.PIPE, start_new_session=True)
-        # what was told of a journal, and whether the agent may have a job that has not ended
-        self.restored, self.is_left = "", False
+        # whether the agent may have a job that has not ended
+        self.is_left = False
         # what was told since the last mark
         self.heard: list[str] = []
 
@@ -105,12 +101,10 @@ class Session:
             line = self.child.stdout.readline()
             if not line.endswith(b"\n"):
                 raise Ended
-            if line.startswith(b"= restored "):
-                self.restored = line[2:-1].decode()
-            elif line.startswith(b"= "):
-                return told
-            else:
+            if not line.startswith(b"= "):
                 told.append(line[:-1].decode("utf-8", "replace"))
+            elif not line.startswith(b"= restored "):
+                return told
 
     def give(self, text: bytes) -> None:
         try:
@@ -144,9 +138,7 @@ class Session:
             self.is_left = False
 
     def job(self, user: User, operations: str, *questions: str) -> tuple[Outcome, list[list[str]]]:
-        """A transaction, tried again where its home was down or a lock was in its way; and what the session tells of
-        lines behind it.
-        """
+        """A transaction, tried again where that helps; and what the session tells of lines behind it."""
         self.finish()
         gids = ",".join(map(str, user.gids))
         lines = (f"begin {AGENT} {user.uid} {gids} 0 {operations}", f"run {AGENT}")

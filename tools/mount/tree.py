@@ -1,6 +1,4 @@
 """Names, lists and what else is asked of a mounted tree: each call is a transaction of its user."""
-from __future__ import annotations
-
 import errno
 import re
 import stat
@@ -67,9 +65,7 @@ class Tree(Data):
         return self.nodes.found(path, row)
 
     def searched(self, user: User, any_name: str, *questions: str) -> tuple[Outcome, bool, list[list[str]]]:
-        """How it ends that a user asks for a name; whether that was answered, or denied by what is there itself and by
-        no folder; and what is told of more lines.
-        """
+        """How it ends to ask for a name; whether no folder denied that; and what is told of more lines."""
         outcome, told = self.session.job(user, f"getacl {any_name}", f"row {any_name}", *questions)
         row = rows.row_of(told[0])
         is_denied_there = row is not None and outcome.suite() == row.number
@@ -204,7 +200,6 @@ class Tree(Data):
         self.nodes.touched(node.row.number, False)
 
     def now(self, inode: int) -> Node:
-        """A node, as it is now."""
         self.status(inode)
         return self.nodes.node(inode)
 
@@ -255,7 +250,10 @@ class Tree(Data):
         if name not in (lists.ACCESS, lists.DEFAULT):
             raise OSError(errno.ENOTSUP, name)
         node = self.now(inode)
-        entries = lists.unpacked(value) if value else ()
+        try:
+            entries = lists.unpacked(value) if value else ()
+        except ValueError:
+            raise OSError(errno.EINVAL, "no access list") from None
         before = node.row.lists
         if name == lists.DEFAULT and not node.row.is_folder:
             if entries:

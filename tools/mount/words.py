@@ -38,8 +38,6 @@ What this mount has not:
     ENODATA, ENOTSUP  extended attributes but the two lists
 docs/MOUNT.md tells what Linux does otherwise. It needs, on Debian: apt-get install -y fuse3
 """
-from __future__ import annotations
-
 import argparse
 import os
 import re
@@ -65,7 +63,6 @@ def options(parser: argparse.ArgumentParser, *more: str, session: str = NAMED) -
 
 
 def read(words: list[str]) -> argparse.Namespace:
-    """The command line."""
     parser = argparse.ArgumentParser(
         usage="./suites mount DIR [OPTIONS] | ./suites mount --control DIR LINE..", add_help=False, allow_abbrev=False
     )
@@ -96,7 +93,6 @@ def check(given: argparse.Namespace) -> None:
 
 
 def header(given: argparse.Namespace) -> list[str]:
-    """The first lines of the session."""
     servers = given.servers or SERVERS
     votes = given.votes or f"{','.join(['1'] * servers)}/{(servers + 1) // 2}/{servers // 2 + 1}"
     root = given.root or f"{os.getuid()}:{os.getgid()}:755"

@@ -9,9 +9,8 @@ import re
 import typing
 
 from common import TOP, console, forms, page, text_of
-from front import sources
 
-PAGE, HELP = os.path.join(TOP, "docs", "SCRIPTS.md"), os.path.join(TOP, "help")
+PAGE, HELP = os.path.join("docs", "SCRIPTS.md"), os.path.join(TOP, "help")
 # The heads of the tables of the page, and what stands in them.
 TABLES: dict[str, list[forms.Line] | list[forms.Operation]] = {
     "| Operation | Does |": list(forms.OPERATIONS.values()),
@@ -27,7 +26,6 @@ OPERATIONS_IN = "table"
 
 
 def written(text: str) -> str:
-    """The page with its tables as the table of forms has them."""
     for head, rows in TABLES.items():
         front, found, rest = text.partition(f"{head}\n|---|---|\n")
         if not found:
@@ -70,15 +68,9 @@ def differing(command: str) -> typing.Iterator[str]:
 
 
 def main() -> int:
-    only_looks, text = page.is_check(__doc__), text_of(PAGE)
-    new = written(text)
+    only_looks = page.is_check(__doc__)
     wrong = [line for command in forms.COMMANDS for line in differing(command)]
-    if only_looks and new != text:
-        wrong += [f"docs/SCRIPTS.md lacks: {line}" for line in new.split("\n") if line not in text.split("\n")]
-        wrong.append("docs/SCRIPTS.md has other tables than the table of forms: tools/pages/forms_page.py writes them")
-    elif new != text:
-        sources.write_whole(PAGE, new)
-    print(*wrong, sep="\n", end="\n" if wrong else "")
+    status = page.written(PAGE, written(text_of(PAGE)), wrong, "the table of forms", only_looks)
     rows = len(forms.LINES) + len(forms.OPERATIONS)
-    print(f"{rows} forms, {len(wrong)} differ")
-    return 1 if wrong or not rows else 0
+    print(f"{rows} forms, {max(len(wrong), status)} differ")
+    return status if rows else 1

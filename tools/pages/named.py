@@ -29,8 +29,8 @@ REFERENCE = re.compile(r'([\w/-]+\.md)`?, ("[^"]+"(?:(?: and|,) "[^"]+")*)')
 # A row of a table of definitions: how many lines they take, without imports, comments and blank lines, and their file.
 COUNTED = re.compile(r"\| (\d+) \| `([\w/]+\.antt)` \|")
 SUMMED, IN_ALL = re.compile(r"\| \*\*(\d+)\*\* \| \| \*\*(.*)\*\* \|"), "in all"
-# The sums are told once more here, behind each claim.
-TOLD_AGAIN, SUM_AGAIN = os.path.join("docs", "BELIEVE.md"), re.compile(r"\| ([\d,]+) lines")
+# The sums are told once more here, behind each claim: that of a whole table, and behind it those of parts.
+TOLD_AGAIN, SUMS_AGAIN = os.path.join("docs", "BELIEVE.md"), re.compile(r"\| ([\d,]+) lines([^|]*)")
 NO_LINE = re.compile(r" *(--|(pub )?use |$)")
 LINK = re.compile(r"\]\(([\w./-]*)#([\w-]+)\)")
 # The page of a crate, its modules, and files of definitions that it need not name.
@@ -166,11 +166,14 @@ def wrong_sums() -> typing.Iterator[tuple[str, int, str]]:
         for number, of, told, there in sums:
             if told != there:
                 yield os.path.relpath(path, TOP), number, f"{of}: {told} lines, and the rows have {there}"
-    known = {told for sums in every.values() for _, of, told, _ in sums if of == IN_ALL}
+    known = {told: of for sums in every.values() for _, of, told, _ in sums}
     for number, line in enumerate(content(os.path.join(TOP, TOLD_AGAIN)).split("\n"), 1):
-        again = SUM_AGAIN.search(line)
-        if again and int(again[1].replace(",", "")) not in known:
-            yield TOLD_AGAIN, number, f"no table has {again[1]} lines"
+        for whole, parts in SUMS_AGAIN.findall(line):
+            if known.get(int(whole.replace(",", ""))) != IN_ALL:
+                yield TOLD_AGAIN, number, f"no table has {whole} lines"
+            for part in re.findall(r"\d[\d,]*", parts):
+                if int(part.replace(",", "")) not in known:
+                    yield TOLD_AGAIN, number, f"no part of a table has {part} lines"
 
 
 def main() -> int:
@@ -183,24 +186,16 @@ def main() -> int:
         if "/src/" in path:
             members.append(set(re.findall(r"\w+", text)))
             bare.append(words)
-    lost = 0
+    lost = list(wrong_sums())
     for path in [*documents(), *pages()]:
-        for number, text in quoted(path):
-            if not is_there(text, known, bare if path.endswith(".rt") else members):
-                lost += 1
-                print(f"{os.path.relpath(path, TOP)}:{number}: there is no `{text}`")
-        for number, named, is_known in headings_named(path):
-            if not is_known:
-                lost += 1
-                print(f"{os.path.relpath(path, TOP)}:{number}: there is no heading {named}")
-        for number, what in counts_told(path):
-            lost += 1
-            print(f"{os.path.relpath(path, TOP)}:{number}: {what}")
-    for name, number, what in wrong_sums():
-        lost += 1
+        name, there = os.path.relpath(path, TOP), bare if path.endswith(".rt") else members
+        absent = ((number, text) for number, text in quoted(path) if not is_there(text, known, there))
+        lost += [(name, number, f"there is no `{text}`") for number, text in absent]
+        headed = ((number, named) for number, named, is_known in headings_named(path) if not is_known)
+        lost += [(name, number, f"there is no heading {named}") for number, named in headed]
+        lost += [(name, number, what) for number, what in counts_told(path)]
+    for name, number, what in lost:
         print(f"{name}:{number}: {what}")
-    for path in pages():
-        for what in page_faults(path):
-            lost += 1
-            print(f"{os.path.relpath(path, TOP)}: {what}")
-    return 1 if lost else 0
+    wrong = [f"{os.path.relpath(path, TOP)}: {what}" for path in pages() for what in page_faults(path)]
+    print(*wrong, sep="\n", end="\n" if wrong else "")
+    return 1 if lost or wrong else 0

@@ -25,7 +25,6 @@ def words_of(path: str) -> int:
 
 
 def counts() -> dict[str, int]:
-    """The words of each page by its name."""
     below = sorted(glob.glob(os.path.join(TOP, "docs", "*.md")))
     pages = [os.path.join(TOP, FRONT), os.path.join(TOP, "CONTRIBUTING.md"), *below]
     return {os.path.relpath(path, TOP): words_of(path) for path in pages if os.path.basename(path) not in WRITTEN}

@@ -56,9 +56,7 @@ def said_of(lines: list[str], one: functions.Function) -> str:
 
 
 def public(crate: str) -> typing.Iterator[tuple[str, str, list[str], bool, str]]:
-    """The public functions of a crate that have a contract: (type or "", name, clauses, whether it is a law, lines
-    ///).
-    """
+    """The public functions of a crate with a contract: (type or "", name, clauses, whether it is a law, lines ///)."""
     names, modules = shown(crate)
     for path in sorted(glob.glob(os.path.join(TOP, "crates", crate, "src", "**", "*.rt"), recursive=True)):
         module = os.path.relpath(path, os.path.join(TOP, "crates", crate, "src")).split(os.sep)[0].removesuffix(".rt")

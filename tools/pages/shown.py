@@ -91,7 +91,6 @@ def texts_of_help(known: list[tuple[str, bytes, bytes]], are_written: bool) -> t
 
 
 def told_of_votes(block: list[bytes]) -> bytes | None:
-    """What `./suites votes` tells, where a block shows that."""
     match = re.fullmatch(r"\$ \./suites votes (\S+)", block[0].decode())
     if match:
         return "".join(f"{line}\n" for line in votes.told_of_word(match[1])).encode()

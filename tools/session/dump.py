@@ -9,8 +9,6 @@ The script is played in its turn and its rows are compared. What is not the same
 path, and the status is 1. Numbers of files and of jobs begin anew, and so do versions; nothing is kept of what was
 dropped, of jobs that have not ended, of denials, of caches, and of which servers are down.
 """
-from __future__ import annotations
-
 import contextlib
 import fcntl
 import os

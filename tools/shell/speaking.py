@@ -12,6 +12,7 @@ import shlex
 import subprocess
 import sys
 import tempfile
+from collections.abc import Callable
 
 from common import TOP
 from mount import beginning, rows, talking
@@ -24,6 +25,11 @@ RED, PLAIN = "\033[31m", "\033[0m"
 
 class Bad(Exception):
     """What was typed cannot be done, in a sentence."""
+
+
+def line_of(word: str) -> Callable[[Shell, str], None]:
+    """A word that begins a line of the session."""
+    return lambda shell, text: shell.of_session(f"{word} {text}")
 
 
 class Shell(cmd.Cmd):
@@ -184,12 +190,6 @@ class Shell(cmd.Cmd):
                 gids = [uid]
         self.me, self.user = name, User(uid, tuple(dict.fromkeys(gids)))
 
-    def do_user(self, text: str) -> None:
-        self.shown(self.tell(f"user {text}"))
-
-    def do_group(self, text: str) -> None:
-        self.shown(self.tell(f"group {text}"))
-
     def shown(self, told: list[str]) -> None:
         for line in told:
             self.say(line, line.startswith("fault "))
@@ -271,22 +271,14 @@ class Shell(cmd.Cmd):
         told = self.ask(f"setvotes {path} {votes[0]}" if votes else f"getvotes {path}").rest
         self.say(told.removeprefix("votes "))
 
-    # servers
+    # servers, and other lines of the session
+
+    do_user, do_group, do_crash, do_return, do_audit, do_row = map(
+        line_of, ("user", "group", "crash", "return", "audit", "row")
+    )
 
     def of_session(self, line: str) -> None:
         self.shown(self.tell(line))
-
-    def do_crash(self, text: str) -> None:
-        self.of_session(f"crash {text}")
-
-    def do_return(self, text: str) -> None:
-        self.of_session(f"return {text}")
-
-    def do_audit(self, text: str) -> None:
-        self.of_session(f"audit {text}")
-
-    def do_row(self, text: str) -> None:
-        self.of_session(f"row {text}")
 
     def do_sweep(self, text: str) -> None:
         self.shown([*self.tell(f"sweep 0 {text}"), *self.tell("run 0")])

@@ -6,8 +6,6 @@ request without it, or for another host than that, is answered nothing. So anoth
 it, nor another page of the same browser. What is sent is bounded. The session decides all; the events of the run are
 those that `trace` tells of the script so far, names first.
 """
-from __future__ import annotations
-
 import argparse
 import contextlib
 import dataclasses
@@ -194,7 +192,6 @@ class Handler(http.server.BaseHTTPRequestHandler):
             raise Refused(400) from None
 
     def line(self) -> bytes:
-        """What comes of a line."""
         given = self.body()
         names = given if isinstance(given, dict) else {}
         line, epoch, have = (names.get(name) for name in ("line", "epoch", "have"))

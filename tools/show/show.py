@@ -90,9 +90,7 @@ class Shown:
 
 
 class Besides(typing.NamedTuple):
-    """What a page has besides its run: a script of its own, the name of its data, and these; and whether it asks for
-    more.
-    """
+    """What a page has besides its run: a script, the name of its data, and these; and whether it asks for more."""
 
     file: str
     name: str
@@ -169,22 +167,6 @@ def opened(page: str) -> None:
         raise console.Stop("no browser is found here: open the file with one")
 
 
-def served(read: argparse.ArgumentParser) -> int:
-    """The page of a session."""
-    from mount import words
-    from show import live
-
-    read.add_argument("--live", action="store_true")
-    words.options(read, "--agents")
-    given = read.parse_args()
-    if given.help:
-        print(__doc__.strip())
-        return 0
-    if given.file is not None or given.first or given.last != sys.maxsize:
-        raise console.Bad("a page of a session has neither --from nor --to; a script is told by --script FILE")
-    return live.main(given)
-
-
 def main() -> int:
     read = argparse.ArgumentParser(prog="./suites show", add_help=False, allow_abbrev=False)
     read.add_argument("--open", action="store_true")
@@ -192,12 +174,21 @@ def main() -> int:
     read.add_argument("--to", dest="last", type=int, default=sys.maxsize)
     read.add_argument("-h", "--help", action="store_true")
     read.add_argument("file", nargs="?")
-    if "--live" in sys.argv[1:]:
-        return served(read)
+    is_live = "--live" in sys.argv[1:]
+    if is_live:
+        from mount import words
+        from show import live
+
+        read.add_argument("--live", action="store_true")
+        words.options(read, "--agents")
     given = read.parse_args()
     if given.help:
         print(__doc__.strip())
         return 0
+    if is_live:
+        if given.file is not None or given.first or given.last != sys.maxsize:
+            raise console.Bad("a page of a session has neither --from nor --to; a script is told by --script FILE")
+        return live.main(given)
     if given.file is not None:
         raise console.Bad(f"a script is read from standard input: {read.prog} < {quoted.plain(given.file)}")
     script = trace.script()

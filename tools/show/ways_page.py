@@ -4,8 +4,6 @@ leads to each, which is stepped as on the page of `show`.
 The program tells the ways, and the script that leads to each (`--way K`); `trace` tells the events of that. In which
 order transactions were decided there is told by these. The events that all runs have at first stand in the page once.
 """
-from __future__ import annotations
-
 import json
 import os
 import re
@@ -24,9 +22,7 @@ HEAD = re.compile(r"way (\d+) ?(.*)")
 
 
 class Way(typing.NamedTuple):
-    """A way as it is told: its number, what stands behind that, a line for each job, and the jobs that were decided, in
-    the order in which they were, where that is told.
-    """
+    """A way: its number, what stands behind that, a line for each job, and the order of decisions, if told."""
 
     number: int
     about: str
@@ -44,7 +40,6 @@ class Run(typing.NamedTuple):
 
 
 def ways_of(lines: Sequence[str]) -> list[Way]:
-    """The ways that these lines tell."""
     ways = list[Way]()
     for line in lines:
         head = HEAD.fullmatch(line)
@@ -75,7 +70,6 @@ def asked_in(told: Iterable[Event]) -> dict[str, str]:
 
 
 def run_of(script: bytes) -> Run:
-    """The run of a script, to its end."""
     events = show.shown_of(script, 0, sys.maxsize).events
     told = [*map(json.loads, events)]
     return Run(script.decode("utf-8", "replace").splitlines(), events, decided_in(told), asked_in(told))
@@ -112,15 +106,12 @@ def data_of(ways: Sequence[Way], runs: dict[int, Run], command: Callable[[int], 
 
 def answers_to(questions: Sequence[queries.Question], lines: Sequence[str], is_all: bool) -> list[dict[str, object]]:
     """What was asked, how often it is so, and in which ways."""
-    ways = list(enumerate(queries.ways_in(lines), 1))
-    told = list[dict[str, object]]()
-    for question in questions:
-        found = [number for number, way in ways if question.holds(way)]
-        kind = "never" if not found else "always" if len(found) == len(ways) else "sometimes"
-        so_far = "" if is_all or kind == "sometimes" else " so far"
-        count = f", in {len(found)} of {len(ways)} ways" if kind == "sometimes" else ""
-        told.append({"text": f"{kind}{so_far}{count}: {question.text}", "kind": kind, "ways": found})
-    return told
+    ways, answers = list(queries.ways_in(lines)), list(map(queries.Answer, questions))
+    for number, way in enumerate(ways, 1):
+        for answer in answers:
+            answer.look(number, way)
+    count = len(ways)
+    return [{"text": one.line(count, is_all), "kind": one.kind(count), "ways": one.found} for one in answers]
 
 
 def page_of(

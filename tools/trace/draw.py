@@ -143,9 +143,7 @@ class Picture:
             self.y += BAND
 
     def said(self, name: str, words: str, below: int = 0) -> None:
-        """A line of the script, at what it is about, on one screen with so many lines and the arrow below it. What
-        comes next is not about a job that was before.
-        """
+        """A line of the script, on one screen with so many lines and the arrow below it. A job before it is over."""
         self.names_again((1 + below) * BAND + ROW)
         self.last.pop(name, None)
         self.parts.append(f'<circle cx="{self.x[name]}" cy="{self.y}" r="3" fill="#222"/>')
@@ -160,7 +158,6 @@ class Picture:
             self.greys.append((server, self.down.pop(server), self.y))
 
     def asked(self, agent: int, server: int, words: list[str], decides: bool) -> None:
-        """A request and its reply."""
         self.names_again(ROW)
         a, b, y = self.x[f"agent {agent}"], self.x[f"server {server}"], self.y
         there, back = f"M{a} {y}H{b}", f"M{b} {y + 14}H{a}"
@@ -188,7 +185,6 @@ class Picture:
         self.y += ROW
 
     def legend(self) -> None:
-        """What all signs mean."""
         self.names_again(LEGEND)
         self.foot = self.y - 6
         x, y = LEFT // 2, self.y + 8
@@ -214,7 +210,6 @@ class Picture:
         self.beside(x + 12, y, words, f"event {style}")
 
     def told(self) -> str:
-        """The whole picture."""
         width, height = self.width, self.y + 10
         foot = self.foot or height
         self.greys += [(server, top, foot) for server, top in self.down.items()]
@@ -345,7 +340,6 @@ def phases(items: list[Happening], folds: bool) -> Iterator[list[Happening]]:
 
 
 def fold(picture: Picture, requests: list[Event], known: dict[int, str]) -> None:
-    """Draws requests of one phase in one line."""
     agent, request = requests[0]["agent"], requests[0]["request"]
     servers = [(one["server"], one["reply"]["says"] in GOOD) for one in requests]
     good, count = sum(is_good for _, is_good in servers), len(requests)
@@ -358,7 +352,6 @@ def fold(picture: Picture, requests: list[Event], known: dict[int, str]) -> None
 
 
 def ask(picture: Picture, event: Event, known: dict[int, str]) -> None:
-    """Draws a request and its reply."""
     brief, request, reply = Brief(known, event["agent"]), event.get("request"), event["reply"]
     decides = reply["says"] == "verdict" and request["asks"] in ("decide", "resolve")
     picture.asked(event["agent"], event["server"], [brief.request(request), brief.reply(reply)], decides)
@@ -416,7 +409,6 @@ def positive(word: str) -> int:
 
 
 def asked(words: typing.Sequence[str]) -> argparse.Namespace:
-    """The words of the command line."""
     more: dict[str, dict[str, typing.Any]] = {
         "--from": {"type": positive, "dest": "first", "default": 1},
         "--to": {"type": positive, "dest": "last", "default": sys.maxsize},

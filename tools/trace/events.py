@@ -1,6 +1,4 @@
 """The events of a run (docs/EVENTS.md), as the command `trace` tells them of a script, one after another."""
-from __future__ import annotations
-
 import json
 import subprocess
 import sys
@@ -20,7 +18,6 @@ EXPLAINED = {6: "the input is above 16 MiB, or a read or a write failed (./suite
 
 
 def event_of(line: bytes) -> Event:
-    """The event that stands in a line."""
     return READ(line.decode())[0]
 
 

@@ -51,7 +51,6 @@ class Lines:
         return f" bytes {len(told['bytes']) // 2}" if "bytes" in told else ""
 
     def part(self, part: Event) -> str:
-        """A suite, and what is left of it, once the transaction is decided."""
         left = "keep" if part["takes"] == "nothing" else f"takes {self.versions(part)}{self.content(part)}"
         return f"{self.suite(part['suite'])} {part['mode']} {left}"
 
@@ -60,7 +59,6 @@ class Lines:
         return f"t {request['t']}" if "t" in request else ""
 
     def request(self, request: Event | None) -> str:
-        """What an agent asks of a server."""
         if request is None:
             return "asks for more than there is room for"
         words = [self.whose(request), request["asks"], self.suite(request["suite"]) if "suite" in request else ""]
@@ -71,7 +69,6 @@ class Lines:
         return f"t {lock['t']} {self.suite(lock['suite'])} {lock['mode']}{' prepared' if lock['prepared'] else ''}"
 
     def reply(self, reply: Event) -> str:
-        """What the server answers."""
         says = reply["says"]
         if says in ("held", "given"):
             return f"{says}, {self.versions(reply)}{self.content(reply)}"
@@ -97,7 +94,6 @@ class Lines:
             yield from (f"    {self.lock(lock)}" for lock in server["locks"])
 
     def of(self, event: Event) -> Iterator[str]:
-        """The lines of an event."""
         if event["kind"] == "line":
             yield f"> {event['text']}"
             if "nothing" in event:

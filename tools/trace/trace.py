@@ -31,7 +31,6 @@ AGENTS = re.compile(rb"^[ \t]*agents[ \t]+(\d+)", re.M)
 
 
 def suites_of(event: Event) -> set[int]:
-    """The suites that are named in a request."""
     request = event.get("request", {})
     return {one["suite"] for one in (request, *request.get("parts", ())) if "suite" in one}
 
@@ -45,9 +44,7 @@ def is_of_agent(event: Event, agent: int | None) -> bool:
 
 
 class AboutSuite:
-    """What of events is about a suite: a request for it, or of a transaction that asked for it, and how its job
-    ended.
-    """
+    """What of events is about a suite: a request of a transaction that asked for it, and how its job ended."""
 
     def __init__(self, suite: int, events: Iterable[Event]) -> None:
         self.suite = suite
@@ -168,9 +165,7 @@ def text_of(telling: Lines, event: Event) -> bytes:
 
 
 def write_all(run: Run, out: IO[bytes] | quoted.Terminal, agent: int | None) -> None:
-    """Writes a trace, or what is about an agent, while the program plays, up to where a path is not known that may be
-    told later; and then the rest.
-    """
+    """Writes a trace, or what is about an agent, while the program plays, until a path is not known; then the rest."""
     found, held = Paths(), tempfile.TemporaryFile()
     # where in what is held an event stands that met such a path, and where among the events
     lacking: list[tuple[int, int]] = []

@@ -37,9 +37,7 @@ def word_of(text: str) -> Word:
 
 
 class Suite(typing.NamedTuple):
-    """A file or folder: the votes with which a search begins, and what servers have of it, each a version and its
-    votes.
-    """
+    """A file or folder: the votes with which a search begins, and of each server a version and its votes."""
 
     opening: Word
     copies: dict[int, tuple[int, Word]]
@@ -78,9 +76,7 @@ class Suite(typing.NamedTuple):
         return self.is_up(down, is_read) and not self.search(down, is_read).is_found
 
     def missed(self, is_read: bool = True) -> typing.Iterator[frozenset[int]]:
-        """The least sets of servers with which down the votes are up and are not found: of none of them a part is one
-        too.
-        """
+        """The least sets of servers with which down the votes are up and are not found."""
         servers, least = self.matters(), list[frozenset[int]]()
         for size in range(len(servers) + 1 if len(servers) <= ALL_OF else FEW + 1):
             for some in itertools.combinations(servers, size):

@@ -4,6 +4,7 @@ Each way to share votes is judged by what it costs and what it bears: how many r
 take that has them, in a root folder that has them too, how many servers each may lose, and the chances that each is
 blocked, and that it is not done at the first try, since votes or its home are down.
 """
+import collections
 import fractions
 import functools
 import itertools
@@ -41,17 +42,25 @@ def may_be_lost(shares: tuple[int, ...], needed: int) -> int:
     return next(count for count in range(len(shares)) if left - sum(falling[: count + 1]) < needed)
 
 
+def cases_up(shares: typing.Sequence[int], needed: int, up: Chance) -> tuple[int, int]:
+    """In how many cases the votes are up, each weighed as it is likely, and how many servers are down in them."""
+    weights = up.numerator, up.denominator - up.numerator
+    cases = {0: (1, 0)}
+    for share in shares:
+        after: dict[int, tuple[int, int]] = collections.defaultdict(lambda: (0, 0))
+        for votes, (count, down) in cases.items():
+            for is_down, weight in enumerate(weights):
+                to = votes if is_down else min(needed, votes + share)
+                before = after[to]
+                after[to] = before[0] + weight * count, before[1] + weight * (down + is_down * count)
+        cases = after
+    return cases.get(needed, (0, 0))
+
+
 @functools.cache
 def blocked(shares: tuple[int, ...], needed: int, up: Chance) -> Chance:
     """The chance that fewer votes are up than are needed."""
-    chance = {0: Chance(1)}
-    for share in shares:
-        after: dict[int, Chance] = {}
-        for votes, before in chance.items():
-            for total, weight in ((votes + share, up), (votes, 1 - up)):
-                after[total] = after.get(total, Chance(0)) + before * weight
-        chance = after
-    return sum((one for votes, one in chance.items() if votes < needed), Chance(0))
+    return 1 - Chance(cases_up(shares, max(0, needed), up)[0], up.denominator ** len(shares))
 
 
 def not_at_first(shares: tuple[int, ...], needed: int, up: Chance) -> Chance:
@@ -64,9 +73,7 @@ def not_at_first(shares: tuple[int, ...], needed: int, up: Chance) -> Chance:
 
 
 def requests(shares: tuple[int, ...], r: int, w: int) -> tuple[int, int]:
-    """How many requests a read and a write take: of the folder locks and a fetch, of the file locks, and for a read a
-    fetch;
-    and then to prepare, to decide and to finish."""
+    """The requests of a read and a write: locks and a fetch of folder and file, prepare, decide, finish."""
     readers, writers = members(shares, r), members(shares, w)
     both = max(readers, writers)
     return readers + 1 + readers + 1 + readers + 1 + readers, readers + 1 + writers + both + 1 + both

@@ -102,9 +102,7 @@ def number(word: str, most: int, reason: str) -> int:
 
 
 def votes_of(word: str, servers: int | None) -> Votes:
-    """The votes that a word writes down, where there are so many servers; as many as it has fields, if that is not
-    said.
-    """
+    """The votes that a word writes down for so many servers, or for as many as it has fields."""
     parts = word.split("/")
     fields = parts[0].split(",")
     if len(parts) != 3 or not parts[0]:
@@ -134,22 +132,10 @@ def votes_of(word: str, servers: int | None) -> Votes:
 def chances(
     shares: typing.Sequence[int], needed: int, up: fractions.Fraction
 ) -> tuple[fractions.Fraction, fractions.Fraction]:
-    """The chance that fewer votes are up than are needed; and the mean share of servers that are down in all other
-    cases.
-    """
-    weights = up.numerator, up.denominator - up.numerator
-    # by the votes that are up: how many cases there are, and how many servers are down in them together
-    cases = {0: (1, 0)}
-    for share in shares:
-        after: dict[int, tuple[int, int]] = collections.defaultdict(lambda: (0, 0))
-        for votes, (count, down) in cases.items():
-            for is_down, weight in enumerate(weights):
-                to = votes if is_down else min(needed, votes + share)
-                before = after[to]
-                after[to] = before[0] + weight * count, before[1] + weight * (down + is_down * count)
-        cases = after
-    count, down = cases[needed]
-    return 1 - fractions.Fraction(count, up.denominator ** len(shares)), fractions.Fraction(down, count * len(shares))
+    """The chance that fewer votes are up than are needed; and the mean share of servers that are down else."""
+    count, down = shapes.cases_up(shares, needed, up)
+    whole = up.denominator ** len(shares)
+    return 1 - fractions.Fraction(count, whole), fractions.Fraction(down, count * len(shares))
 
 
 class LeastSets:
@@ -176,9 +162,7 @@ class LeastSets:
             yield from self.of_size(0, size, 0, self.values[-1])
 
     def of_size(self, place: int, size: int, has: int, least: int) -> typing.Iterator[tuple[int, ...]]:
-        """What completes a set that has these votes, the fewest of one server among them, by so many of the servers
-        from a place on.
-        """
+        """What completes a set with these votes, the fewest of one server among them, by servers from a place on."""
         if size == 0:
             yield ()
             return
@@ -190,9 +174,7 @@ class LeastSets:
                     yield (server, *others)
 
     def is_completed(self, place: int, size: int, has: int, least: int) -> bool:
-        """Whether anything does so: with a server of some votes as the least one, the set has less than these to
-        spare.
-        """
+        """Whether anything does so: with a server of some votes as the least one, the set has less to spare."""
         wanting = max(self.votes - has, 0)
         for value in self.values:
             spare = self.votes + value - has - wanting
@@ -236,7 +218,7 @@ def told_of(kind: str, shares: typing.Sequence[int], needed: int, up: fractions.
     return [
         f"{kind}: {needed} of {total} votes",
         f"    may be lost   {f'any {may_be_lost}' if may_be_lost else 'none'}",
-        listed("    stopped by    ", [f"{{{','.join(map(str, servers))}}}" for servers in least], blocking.count()),
+        listed("    stopped by    ", [*map(set_text, least)], blocking.count()),
         f"    blocked       {chance_text(blocked)}",
         f"    U5 at first   {chance_text(home_down)}",
     ]
@@ -259,14 +241,11 @@ def told(votes: Votes, up: str) -> list[str]:
 
 
 def told_of_word(word: str, servers: int | None = None, up: str = "0.99") -> list[str]:
-    """All that is told of votes as a word writes them down."""
     return [*told(votes_of(word, servers), up), *map(filled, ABOUT)]
 
 
 def swept(script: bytes, servers: int) -> tuple[bytes, int]:
-    """A script at whose end all servers are up and one more agent sweeps each, so that what is in effect is stored
-    there.
-    """
+    """A script behind which all servers are up and swept, so that what is in effect is stored there."""
     agents = int(AGENTS.search(script)[2])
     agent = min(agents, MOST_AGENTS - 1)
     events = [f"return {server}" for server in range(servers)]
@@ -275,9 +254,7 @@ def swept(script: bytes, servers: int) -> tuple[bytes, int]:
 
 
 class Left(typing.NamedTuple):
-    """What a script leaves: how many servers there are, the opening votes, and of each file and folder its path and
-    copies.
-    """
+    """What a script leaves: how many servers, the opening votes, and of each file and folder its path and copies."""
 
     servers: int
     opening: str
@@ -327,7 +304,6 @@ def missed_of(suite: search.Suite) -> tuple[str, ...]:
 
 
 def told_of_script(script: bytes, up: str) -> list[str]:
-    """All that is told of what a script leaves."""
     left, alike, lines = left_by(script), collections.defaultdict(list), []
     for number, suite in left.suites.items():
         name = f"{left.paths[number]}=suite {number}" if number in left.paths else f"suite {number}"

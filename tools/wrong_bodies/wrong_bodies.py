@@ -21,7 +21,7 @@ import subprocess
 import tempfile
 import typing
 
-from common import TOP, text_of
+from common import TOP, of_kit, text_of
 from wrong_bodies import changes
 
 CRATES = os.path.join(TOP, "crates")
@@ -126,7 +126,7 @@ def started(words: list[str], folder: str, room: str) -> typing.Iterator[subproc
 
 def is_proved(name: str, room: str) -> bool:
     """Whether the copy of a crate is proved. What its check says is told where it is not."""
-    with started(["rt", "check"], os.path.join(room, "crates", name), room) as ran:
+    with started(of_kit("check"), os.path.join(room, "crates", name), room) as ran:
         lines = ran.stdout.read().rstrip("\n").split("\n")
         if ran.wait() == 0:
             return True
@@ -136,7 +136,7 @@ def is_proved(name: str, room: str) -> bool:
 
 def try_edits(names: list[str], anew: bool, room: str) -> dict[tuple[str, str], str]:
     """What was said of each edit of these crates, by crate and name."""
-    said, words = {}, ["rt", "must-fail", *(["--anew"] if anew else []), *names]
+    said, words = {}, of_kit("must-fail", *(["--anew"] if anew else []), *names)
     with started(words, room, room) as ran:
         for line in ran.stdout:
             found, unproved = SAID.match(line), UNPROVED.match(line)

@@ -72,14 +72,7 @@ module _ (fixed : Fixed) (V : Configuration → Type 0) (S : ℕ → Type 0) (go
     where
       of : (said : Reply) → RoundSo (sweep.after_answer service sweep_run Listing said)
       of (reply.Locked locks) = on_so sweep_run (sweep.rising locks) so
-      of (reply.Held prefix dver) = tt
-      of (reply.Busy holder prepared) = tt
-      of (reply.Given dver content) = tt
-      of reply.Prepared = tt
-      of (reply.Verdict v) = tt
-      of reply.Done = tt
-      of reply.Down = tt
-      of reply.Lost = tt
+      of other = tt
   answer_so service sweep_run (Resolving t left) said so = of said
     where
       other : RoundSo (cond (home_of service t == sweep_run.server) (sweep.lost sweep_run) (sweep.sweep_on (record sweep_run { left = sweep_run.left + 1 }) left))
@@ -90,48 +83,25 @@ module _ (fixed : Fixed) (V : Configuration → Type 0) (S : ℕ → Type 0) (go
 
       of : (said : Reply) → RoundSo (sweep.after_answer service sweep_run (Resolving t left) said)
       of (reply.Verdict v) = so
-      of (reply.Locked locks) = other
-      of (reply.Held prefix dver) = other
-      of (reply.Busy holder prepared) = other
-      of (reply.Given dver content) = other
-      of reply.Prepared = other
-      of reply.Done = other
-      of reply.Down = other
-      of reply.Lost = other
+      of another = other
   answer_so service sweep_run (Telling t v left) said so = of said
     where
       of : (said : Reply) → RoundSo (sweep.after_answer service sweep_run (Telling t v left) said)
       of reply.Done = on_so (record sweep_run { finished = sweep_run.finished + 1 }) left so
-      of (reply.Locked locks) = tt
-      of (reply.Held prefix dver) = tt
-      of (reply.Busy holder prepared) = tt
-      of (reply.Given dver content) = tt
-      of reply.Prepared = tt
-      of (reply.Verdict v) = tt
-      of reply.Down = tt
-      of reply.Lost = tt
+      of other = tt
   answer_so service sweep_run (Breaking lock left) said so = of said
     where
       of : (said : Reply) → RoundSo (sweep.after_answer service sweep_run (Breaking lock left) said)
       of reply.Done = on_so (record sweep_run { broken = sweep_run.broken + 1 }) left so
-      of (reply.Locked locks) = tt
-      of (reply.Held prefix dver) = tt
-      of (reply.Busy holder prepared) = tt
-      of (reply.Given dver content) = tt
-      of reply.Prepared = tt
-      of (reply.Verdict v) = tt
-      of reply.Down = tt
-      of reply.Lost = tt
+      of other = tt
 
   round_so : (service : Service) (sweep_run : SweepRun) (server : ℕ) (response : Response) → S sweep_run.server → RoundSo (sweep.after_response service sweep_run server response)
   round_so service sweep_run server (Replied said) so = answer_so service sweep_run sweep_run.now said so
   round_so service sweep_run server (Lacked lacked) so = tt
 
   round_asks : (sweep_run : SweepRun) (now : Sweeping) → S sweep_run.server → AsksSo fixed V S goes (Some (sweep.asked_now fixed.service sweep_run now))
-  round_asks sweep_run Listing so = so
   round_asks sweep_run (Resolving t left) so = goes.home t
-  round_asks sweep_run (Telling t v left) so = so
-  round_asks sweep_run (Breaking lock left) so = so
+  round_asks sweep_run other so = so
 
   -- ---- one response
 
@@ -147,12 +117,11 @@ module _ (fixed : Fixed) (V : Configuration → Type 0) (S : ℕ → Type 0) (go
   take_kept agent response (Some (Running running)) (Some asked) was is kept so =
       let leaves = l_response fixed V S goes running.task agent.cache running.suites running.phase asked.0 asked.1 response kept.cached (subst InDoing was kept.doing) is so.0 in
       record { cached = leaves.0; doing = left_so _ leaves.1 }
-  take_kept agent response (Some (Running running)) None was is kept so = kept
   take_kept agent response (Some (RunningSweep sweep_run)) (Some asked) was is kept so =
       record { cached = kept.cached; doing = round_so fixed.service sweep_run asked.0 response (subst InDoing was kept.doing) }
   take_kept agent response (Some (RunningSweep sweep_run)) None was is kept so = kept
   take_kept agent response None (Some asked) was is kept so = kept
-  take_kept agent response None None was is kept so = kept
+  take_kept agent response other None was is kept so = kept
 
   -- whoever is not idle asks
   asks_in : (doing : Option Doing) → InDoing doing → is_idle doing ≡ false → AsksSo fixed V S goes (next_in fixed doing)

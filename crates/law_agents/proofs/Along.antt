@@ -1,5 +1,5 @@
 -- What holds of a job's exchanges and of what its agent does: so at the begin and after each event, so always.
-use Rattle.law_agents.proofs.Vocabulary.{◌≡◌, ℕ, List, [], ◌∷◌, ◌++◌, Option, Some, None, refl, sym, subst, append-nil, Request, Response, Job, Fixed, Doing, Running, RunningSweep, Agent, Event, Take, Forget, next_in, next_of, take_in}
+use Rattle.law_agents.proofs.Vocabulary.{◌≡◌, ℕ, List, [], ◌∷◌, ◌++◌, Option, Some, None, refl, sym, subst, append-nil, Request, Response, Job, Fixed, Doing, RunningSweep, Agent, Event, Take, Forget, next_in, next_of, take_in}
 use Rattle.law_agents.proofs.Vocabulary.{begin, after_all, Exchange, exchange_of, of_job, after-append, exchanges-take, exchanges-forget}
 use Rattle.std.proofs.lemmas.List.{append_assoc}
 
@@ -19,11 +19,9 @@ module _ (fixed : Fixed) (agent : Agent) (job : Job) (Holds : List Exchange → 
     told : (events : List Event) (heard : Response) (doing : Option Doing) (asked : Option (ℕ × Request)) → (at events).doing ≡ doing → next_in fixed doing ≡ asked → Holds (past events) doing
         → Holds (past events ++ exchange_of asked heard) (take_in fixed (at events) heard doing asked).agent.doing
     told events heard (Some doing) (Some asked) was is holds = stays events heard doing asked.0 asked.1 was is holds
-    told events heard (Some (Running running)) None was is holds =
-        subst (λ past. Holds past (at events).doing) (sym (append-nil (past events))) (subst (Holds (past events)) (sym was) holds)
     told events heard (Some (RunningSweep sweeping)) None was is holds = cc
     told events heard None (Some asked) was is holds = cc
-    told events heard None None was is holds =
+    told events heard other None was is holds =
         subst (λ past. Holds past (at events).doing) (sym (append-nil (past events))) (subst (Holds (past events)) (sym was) holds)
 
     more : (events : List Event) (event : Event) → Holds (past events) (at events).doing → Holds (past (events ++ event ∷ [])) (at (events ++ event ∷ [])).doing

@@ -1,6 +1,6 @@
 -- What a collector asks, and when it has a quorum of nothing.
 use Rattle.law_agents.proofs.Vocabulary.{◌≡◌, ℕ, ◌≤◌, ◌<◌, Bool, true, false, cond, List, [], ◌∷◌, ◌++◌, Option, Some, None, refl, sym, ap, subst, ◌∙◌, arith, ◌==◌, ◌&&◌, ◌||◌, not, nat_lt, nat_le, find, filter, map, list_any}
-use Rattle.law_agents.proofs.Vocabulary.{nat_tests, Representative, Configuration, votes_in, Prefix, LockMode, Shared, Exclusive, serves, Said, Held, Busy, Down, Told, is_held, holds, newer, newest, shown, Collector, all_told, counted}
+use Rattle.law_agents.proofs.Vocabulary.{nat_tests, Representative, Configuration, votes_in, Prefix, LockMode, Shared, Exclusive, serves, Said, Held, Told, is_held, holds, newer, newest, shown, Collector, all_told, counted}
 use Rattle.law_agents.proofs.Vocabulary.{wanted, mode_or, needed, got, is_member, is_left, members_of, version, ask_or_short, asked_of, mode_asked, Ask, Current, Asked, Poll, Upgrade, next, find_some, source_of}
 
 -- ---- its answers
@@ -113,8 +113,7 @@ module _ (V : Configuration → Type 0) (S : ℕ → Type 0) where
 
   abbrev pub SaysSo : Said → Type 0
   SaysSo (Held prefix dver) = V prefix.votes
-  SaysSo (Busy holder) = Unit {0}
-  SaysSo Down = Unit {0}
+  SaysSo other = Unit {0}
 
   abbrev pub AllTold : List Told → Type 0
   AllTold [] = Unit {0}
@@ -122,8 +121,7 @@ module _ (V : Configuration → Type 0) (S : ℕ → Type 0) where
 
   newer_so : (prefix : Prefix) (said : Said) → V prefix.votes → SaysSo said → V (newer prefix said).votes
   newer_so prefix (Held other dver) is says = elim (nat_lt prefix.pver other.pver) as (λ b. V (cond b other prefix).votes) [ true ↦ says | false ↦ is ]
-  newer_so prefix (Busy holder) is says = is
-  newer_so prefix Down is says = is
+  newer_so prefix other is says = is
 
   pub newest_so : (start : Prefix) (told : List Told) → V start.votes → AllTold told → V (newest start told).votes
   newest_so start [] is all = is

@@ -1,15 +1,14 @@
 -- The votes that a transaction sets are those that it may.
 use Rattle.law_agents.proofs.Vocabulary.{◌≡◌, ℕ, Bool, true, false, cond, List, [], ◌∷◌, Option, Some, None, Ok, Err, refl, subst, Configuration, Identity, Answer, Action, Op, Service, lists_unknown, known_votes, votes_of_new, Row}
-use Rattle.law_agents.proofs.Vocabulary.{Edit, SetAcl, SetVotes, SetContent, Make, Edits, Ended, Known, known_rows, Done, exec_of, votes_given, Licensed, writes_bytes, changes_lists, changes_votes, adds_name, makes_row, drops_name}
+use Rattle.law_agents.proofs.Vocabulary.{Edit, SetVotes, Make, Edits, Ended, Known, known_rows, Done, exec_of, votes_given, Licensed, writes_bytes, changes_lists, changes_votes, adds_name, makes_row, drops_name}
 use Rattle.law_agents.proofs.Vocabulary.{AllLicensed, known_licensed}
 use Rattle.file_ops.specs.declared.refusal.Why.TheVariants as why
 
 -- an edit sets no votes but such
 abbrev pub Sets : (Configuration → Type 0) → Edit → Type 0
-Sets W (SetAcl acl) = Unit {0}
 Sets W (SetVotes votes) = W votes
-Sets W (SetContent content) = Unit {0}
 Sets W (Make made) = W made.votes
+Sets W other = Unit {0}
 
 -- each of these edits, the newest first
 abbrev pub AllSet : (Configuration → Type 0) → Edits → Type 0

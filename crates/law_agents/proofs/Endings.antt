@@ -2,7 +2,7 @@
 use Rattle.law_agents.proofs.Vocabulary.{◌≡◌, ℕ, ◌+◌, true, false, cond, List, [], ◌∷◌, ◌++◌, Option, Some, None, refl, sym, ap, subst, nat_lt, ◌&&◌, same_Some, Identity, Op, is_prepared, Request, Verdict, Reply, Cache, Suites}
 use Rattle.law_agents.proofs.Vocabulary.{suite_of, parts_at, Response, Replied, Lacked, Cause, Lost, Ending, Undecided, Job, Transaction, Fixed, Task, home_of, Proposal, Phase, Gathering, Fetching, Widening, Preparing, Deciding}
 use Rattle.law_agents.proofs.Vocabulary.{Finishing, TransactionRun, Doing, Running, RunningSweep, After, GoesOn, Ends, lack_cause, tell_end, give_up, prepare, locked_at, prepared, after_response, request_in, changes_of, decision_of}
-use Rattle.law_agents.proofs.Vocabulary.{verdict_in, ending_by, cause_of_abort, Agent, Event, Take, next_in, next_of, end_of, take_in, begin, started, is_idle, has_sense, max_jobs, after_all, Exchange, exchange_of, of_job, is_decide}
+use Rattle.law_agents.proofs.Vocabulary.{verdict_in, ending_by, cause_of_abort, Agent, Event, next_in, next_of, end_of, take_in, begin, started, is_idle, has_sense, max_jobs, after_all, Exchange, exchange_of, of_job, is_decide}
 use Rattle.law_agents.proofs.Vocabulary.{said_by, told_verdict, task_of, asks_same, asked_as, fetched_as, exchanges-take, IsEarly, goes_response, goes_execute, EndsBy, EndsAsTold}
 use Rattle.rep_core.specs.declared.request.Request.TheVariants as request
 use Rattle.rep_core.specs.declared.reply.Verdict.TheVariants as verdict
@@ -31,12 +31,10 @@ prepare_is task cache suites outcome [] = refl
 prepare_is task cache suites outcome (server ∷ servers) = refl
 
 early : (task : Task) (suites : Suites) (phase : Phase) → IsEarly phase → LeftIs verdict.Aborted (GoesOn (record { task = task; suites = suites; phase = phase }))
-early task suites (Gathering number) is = refl
-early task suites (Fetching number) is = refl
-early task suites (Widening left granted) is = refl
 early task suites (Preparing left outcome) is = absurd is
 early task suites (Deciding outcome) is = absurd is
 early task suites (Finishing servers told ending) is = absurd is
+early task suites other is = refl
 
 prepares : (task : Task) (cache : Cache) (suites : Suites) (outcome : Proposal) → LeftIs verdict.Aborted (prepare task cache suites outcome (locked_at suites)).after
 prepares task cache suites outcome = prepare_is task cache suites outcome (locked_at suites)
@@ -49,9 +47,8 @@ prepared_is task cache suites outcome server left said =
     ]
 
 by_verdict : (v : Verdict) (cause : Cause) → EndsBy v (ending_by v cause)
-by_verdict (verdict.Answered answers) cause = refl
-by_verdict (verdict.Refused refusal) cause = refl
 by_verdict verdict.Aborted cause = (cause, refl)
+by_verdict other cause = refl
 
 -- ---- what is told
 
@@ -88,11 +85,9 @@ module _ (fixed : Fixed) (task : Task) (cache : Cache) (suites : Suites) where
       calm asked heard v (then' (Gathering number) server asked heard) (asked_as is_decide false task number (suite_of suites number) server asked (λ mode. refl) refl is) so (early_is (Gathering number) server asked heard tt)
   heard_is (Fetching number) server asked heard v is so =
       calm asked heard v (then' (Fetching number) server asked heard) (fetched_as is_decide false task number (suite_of suites number) server asked refl is) so (early_is (Fetching number) server asked heard tt)
-  heard_is (Widening [] granted) server asked heard v is so = cc
   heard_is (Widening (number ∷ left) granted) server asked heard v is so =
       calm asked heard v (then' (Widening (number ∷ left) granted) server asked heard)
       (asked_as is_decide false task number (suite_of suites number) server asked (λ mode. refl) refl is) so (early_is (Widening (number ∷ left) granted) server asked heard tt)
-  heard_is (Preparing [] outcome) server asked heard v is so = cc
   heard_is (Preparing (now ∷ left) outcome) server asked heard v is so =
       let same = asks_same now server (request.Prepare task.t (parts_at suites (changes_of outcome) now)) asked is in
       calm asked heard v (then' (Preparing (now ∷ left) outcome) server asked heard) (ap is_decide (sym same)) so (prepare_heard now left outcome server asked heard)
@@ -100,11 +95,11 @@ module _ (fixed : Fixed) (task : Task) (cache : Cache) (suites : Suites) where
       let same = asks_same (home_of fixed.service task.t) server (request.Decide task.t (decision_of task outcome)) asked is in
       subst (λ b. LeftIs (cond b (said_by heard v) v) (then' (Deciding outcome) server asked heard)) (ap is_decide same)
       (subst (λ v. LeftIs (said_by heard v) (then' (Deciding outcome) server asked heard)) (sym so) (decide_is outcome server asked heard))
-  heard_is (Finishing [] told ending) server asked heard v is so = cc
   heard_is (Finishing (now ∷ left) told ending) server asked heard v is so =
       let same = asks_same now server (request.Finish task.t told) asked is in
       subst (λ b. LeftIs (cond b (said_by heard v) v) (then' (Finishing (now ∷ left) told ending) server asked heard)) (ap is_decide same)
       (subst (λ w. LeftIs v (then' (Finishing (now ∷ left) w ending) server asked heard)) (sym so.0) (finish_heard now left v ending server asked heard so.1))
+  heard_is other server asked heard v is so = cc
 
 -- ---- after all events
 
@@ -171,11 +166,10 @@ module _ (fixed : Fixed) (agent : Agent) (caller : Identity) (site : ℕ) (ops :
       → EndsSo (past_of events) doing → (take_in fixed (at events) heard doing asked).ending ≡ Some ending
       → EndsBy (told_by (past_of events ++ exchange_of asked heard)) ending
   ends events heard ending None (Some asked) is so by = cc
-  ends events heard ending None None is so by = cc
   ends events heard ending (Some (RunningSweep sweeping)) asked is so by = absurd so
-  ends events heard ending (Some (Running running)) None is so by = cc
   ends events heard ending (Some (Running running)) (Some asked) is so by =
       end_by (told_by (push (past_of events) asked.0 asked.1 heard)) (after_response fixed running (at events).cache asked.0 asked.1 heard).after ending (told_so events heard running asked.0 asked.1 is so) by
+  ends events heard ending other None is so by = cc
 
 pub ends_as_told : EndsAsTold
 ends_as_told fixed agent caller site ops events told ending idle by =

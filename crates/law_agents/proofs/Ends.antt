@@ -10,7 +10,6 @@ use Rattle.rep_core.specs.declared.reply.Reply.TheVariants as reply
 use Rattle.rep_core.specs.declared.stamped.Lack.TheVariants as lack
 use Rattle.weak_cache.proofs.Origins as origins
 use Rattle.txn_core.specs.Sweeps as sweep
-use Rattle.txn_core.specs.Agents as agents
 use Rattle.law_agents.proofs.Collectors.{AllReps}
 use Rattle.law_agents.proofs.Walk.{Goes, CacheFine}
 use Rattle.law_agents.proofs.Words.{ResponseSo, AsksSo}
@@ -110,14 +109,7 @@ module _ (fixed : Fixed) (agent : Agent) (past : List Exchange) (valid : VotesAr
     where
       said : (r : Reply) → one.response ≡ Replied r → ResponseSo fixed V S goes (Replied r)
       said (reply.Held prefix dver) is = (valid.replied one (reply.Held prefix dver) at is, λ server is'. named server (ap (λ response. names_in response server) is ∙ is'))
-      said (reply.Busy holder prepared) is = tt
-      said (reply.Given dver content) is = tt
-      said reply.Prepared is = tt
-      said (reply.Verdict v) is = tt
-      said reply.Done is = tt
-      said (reply.Locked locks) is = tt
-      said reply.Down is = tt
-      said reply.Lost is = tt
+      said other is = tt
 
       of : (response : Response) → one.response ≡ response → ResponseSo fixed V S goes response
       of (Replied r) is = said r is
@@ -240,10 +232,9 @@ asked_are_known fixed agent job events servers idle valid all = asked_all (of_jo
 
 take_no_course : (fixed : Fixed) (agent : Agent) (response : Response) (doing : Option Doing) (asked : Option (ℕ × Request)) → agent.doing ≡ doing → IsNoCourse doing → IsNoCourse (take_in fixed agent response doing asked).agent.doing
 take_no_course fixed agent response (Some (RunningSweep sweep_run)) (Some asked) was none = no_course (sweep.after_response fixed.service sweep_run asked.0 response)
-take_no_course fixed agent response (Some (RunningSweep sweep_run)) None was none = subst IsNoCourse (sym was) tt
 take_no_course fixed agent response (Some (Running txn_run)) asked was none = absurd none
 take_no_course fixed agent response None (Some asked) was none = subst IsNoCourse (sym was) tt
-take_no_course fixed agent response None None was none = subst IsNoCourse (sym was) tt
+take_no_course fixed agent response other None was none = subst IsNoCourse (sym was) tt
 
 -- a sweep asks while it is not at an end
 sweep_asks : (fixed : Fixed) (doing : Option Doing) → IsNoCourse doing → is_idle doing ≡ false → (asked : ℕ × Request) × (next_in fixed doing ≡ Some asked)
@@ -283,16 +274,7 @@ begin_no_course fixed agent server idle =
 
 quiet : (asked : Request) → listed_in asked (Lacked lack.Full) ≡ 0
 quiet (request.Poll t suite mode) = refl
-quiet (request.Upgrade t suite) = refl
-quiet (request.Fetch t suite) = refl
-quiet (request.Prepare t parts) = refl
-quiet (request.Decide t decision) = refl
-quiet (request.Resolve t) = refl
-quiet (request.Finish t v) = refl
-quiet (request.Break t suite) = refl
-quiet request.Locks = refl
-quiet request.Crash = refl
-quiet request.Return = refl
+quiet other = refl
 
 listed_more : (past : List Exchange) (one : Exchange) → listed_in one.request one.response ≡ 0 → listed (past ++ one ∷ []) ≡ listed past
 listed_more [] one none = omega (arith, none)

@@ -1,5 +1,5 @@
 -- A content is fetched at the source that the suite's first quorum gave.
-use Rattle.law_agents.proofs.Vocabulary.{◌≡◌, ℕ, true, false, List, [], ◌∷◌, Option, Some, None, refl, sym, ap, subst, ◌∙◌, eqb-true, false≢true, same_Some, Request, ReadPoint, GatheredSuite, Suites, suite_of, parts_at, Job}
+use Rattle.law_agents.proofs.Vocabulary.{◌≡◌, ℕ, true, false, List, ◌∷◌, Option, Some, None, refl, sym, ap, subst, ◌∙◌, eqb-true, false≢true, same_Some, Request, ReadPoint, GatheredSuite, Suites, suite_of, parts_at, Job}
 use Rattle.law_agents.proofs.Vocabulary.{home_of, Fixed, Task, Phase, Gathering, Fetching, Widening, Preparing, Deciding, Finishing, Sweeping, Listing, Resolving, Telling, Breaking, SweepRun, Doing, Running, RunningSweep, fetched_at}
 use Rattle.law_agents.proofs.Vocabulary.{fetched_for, request_in, changes_of, decision_of, Agent, Event, next_in, begin, after_all, Exchange, of_job, asks_same, asked_as, StandsOn, self, Kept, Base_of, Started, Begins, DoingStands}
 use Rattle.law_agents.proofs.Vocabulary.{stands_after, started_is, IsFetching, FetchesInOrder}
@@ -40,14 +40,12 @@ module _ (fixed : Fixed) (agent : Agent) (job : Job) (events : List Event) where
   by_phase task suites (Gathering number) server suite asked stands is kind =
       absurd (false≢true (sym (asked_as (fetches suite) false task number (suite_of suites number) server asked (λ mode. refl) refl is) ∙ kind))
   by_phase task suites (Fetching number) server suite asked stands is kind = by_suite task number suite server asked (suite_of suites number) (λ it there. stands.1 number it there) is kind
-  by_phase task suites (Widening [] granted) server suite asked stands is kind = cc
   by_phase task suites (Widening (number ∷ left) granted) server suite asked stands is kind =
       absurd (false≢true (sym (asked_as (fetches suite) false task number (suite_of suites number) server asked (λ mode. refl) refl is) ∙ kind))
-  by_phase task suites (Preparing [] outcome) server suite asked stands is kind = cc
   by_phase task suites (Preparing (now ∷ left) outcome) server suite asked stands is kind = other_asked now server suite (request.Prepare task.t (parts_at suites (changes_of outcome) now)) asked refl is kind
   by_phase task suites (Deciding outcome) server suite asked stands is kind = other_asked (home_of fixed.service task.t) server suite (request.Decide task.t (decision_of task outcome)) asked refl is kind
-  by_phase task suites (Finishing [] v ending) server suite asked stands is kind = cc
   by_phase task suites (Finishing (now ∷ left) v ending) server suite asked stands is kind = other_asked now server suite (request.Finish task.t v) asked refl is kind
+  by_phase task suites other server suite asked stands is kind = cc
 
   by_sweep : (sweeping : SweepRun) (now : Sweeping) (server suite : ℕ) (asked : Request) → ◌≡◌ {A = Option (ℕ × Request)} (Some (sweep.asked_now fixed.service sweeping now))
       (Some (server, asked)) → fetches suite asked ≡ true → IsFetching fixed agent job events server suite

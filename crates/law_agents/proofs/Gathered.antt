@@ -1,7 +1,7 @@
 -- A lock is asked for of the first server that is left.
 use Rattle.law_agents.proofs.Vocabulary.{◌≡◌, ℕ, ◌<◌, Bool, true, false, cond, inl, inr, List, [], ◌∷◌, ◌++◌, Option, Some, None, refl, sym, ap, subst, ◌∙◌, arith, ◌&&◌, not, nat_lt, nat_le, find, eqb-true, false≢true, nat_tests}
 use Rattle.law_agents.proofs.Vocabulary.{same_Some, Representative, LockMode, Shared, Request, Said, newest, has_told, Collector, told_since, votes_or, mode_or, all_told, counted, wanted, needed, got, is_member, is_left, asked_of}
-use Rattle.law_agents.proofs.Vocabulary.{ask_or_short, version, members_of, request_for, Asked, Poll, Upgrade, Next, Ask, Current, Short, next, GatheredSuite, Suites, suite_of, told_in, parts_at, Job, home_of, Fixed, Task, Phase}
+use Rattle.law_agents.proofs.Vocabulary.{ask_or_short, version, members_of, request_for, Asked, Poll, Upgrade, Next, Ask, Current, next, GatheredSuite, Suites, suite_of, told_in, parts_at, Job, home_of, Fixed, Task, Phase}
 use Rattle.law_agents.proofs.Vocabulary.{Gathering, Fetching, Widening, Preparing, Deciding, Finishing, Sweeping, Listing, Resolving, Telling, Breaking, SweepRun, Doing, Running, RunningSweep, asked_by, asked_for, request_in}
 use Rattle.law_agents.proofs.Vocabulary.{changes_of, decision_of, Agent, Event, next_in, begin, after_all, Exchange, of_job, locks, told_of, has_said, holding, refusing, SetsVotes, asks_same, fetched_as, StandsOn, Wants, Sets, Are}
 use Rattle.law_agents.proofs.Vocabulary.{asks_lock, kind_of, told_said, votes_same, IsOf, is_wanted, sets, Base_of, Started, Begins, DoingStands, stands_after, started_is, number_of, CountsBy, IsGathering, GathersInOrder}
@@ -98,12 +98,11 @@ module _ (fixed : Fixed) (agent : Agent) (job : Job) (events : List Event) where
       same = eqb-true number suite (sym (asks_lock task number (Some it) server asked is suite) ∙ lock)
 
       of : (after : Next) → next it.collector ≡ after → asked_by task number after ≡ Some (server, asked) → IsGathering fixed agent job events server suite asked
-      of (Current prefix dver members) was is = cc
-      of (Short had wanting busy) was is = cc
       of (Ask who question) was is =
           subst (λ suite. IsGathering fixed agent job events server suite asked) same
           (subst (λ (pair : ℕ × Request). IsGathering fixed agent job events pair.0 number pair.1) (same_Some (who, request_for task.t number question) (server, asked) is)
           (gathering task own number who it.collector (collects it refl) task.t question was))
+      of other was is = cc
 
   told_there : (suites : Suites) (number : ℕ) (it : GatheredSuite) → suite_of suites number ≡ Some it → Are (λ number. told_of number [] past) suites → all_told it.collector ≡ told_of number [] past
   told_there suites number it there are = ap told_in (sym there) ∙ are.1 number
@@ -119,15 +118,13 @@ module _ (fixed : Fixed) (agent : Agent) (job : Job) (events : List Event) where
       (λ it there. let asking = stands.2 it there in record { told = told_there suites number it there stands.0; start = asking.start; wide = asking.wide; wants = asking.wanted }) is lock
   by_phase task own suites (Fetching number) server suite asked stands is lock =
       absurd (false≢true (sym (fetched_as (locks suite) false task number (suite_of suites number) server asked refl is) ∙ lock))
-  by_phase task own suites (Widening [] granted) server suite asked stands is lock = cc
   by_phase task own suites (Widening (number ∷ left) granted) server suite asked stands is lock =
       by_suite task own number suite server asked (suite_of suites number)
       (λ it there. let kept = stands.1 number it there in record { told = told_there suites number it there stands.0; start = kept.start; wide = kept.wide; wants = kept.wanted }) is lock
-  by_phase task own suites (Preparing [] outcome) server suite asked stands is lock = cc
   by_phase task own suites (Preparing (now ∷ left) outcome) server suite asked stands is lock = no_lock now server suite (request.Prepare task.t (parts_at suites (changes_of outcome) now)) asked refl is lock
   by_phase task own suites (Deciding outcome) server suite asked stands is lock = no_lock (home_of fixed.service task.t) server suite (request.Decide task.t (decision_of task outcome)) asked refl is lock
-  by_phase task own suites (Finishing [] v ending) server suite asked stands is lock = cc
   by_phase task own suites (Finishing (now ∷ left) v ending) server suite asked stands is lock = no_lock now server suite (request.Finish task.t v) asked refl is lock
+  by_phase task own suites other server suite asked stands is lock = cc
 
   by_sweep : (sweeping : SweepRun) (now : Sweeping) (server suite : ℕ) (asked : Request) → ◌≡◌ {A = Option (ℕ × Request)} (Some (sweep.asked_now fixed.service sweeping now))
       (Some (server, asked)) → locks suite asked ≡ true → IsGathering fixed agent job events server suite asked

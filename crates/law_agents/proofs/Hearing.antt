@@ -72,8 +72,7 @@ module _ (task : Task) (past : List Exchange) (Left : After TransactionRun → T
     (prepares : (cache : Cache) (suites : Suites) (outcome : Proposal) → Are (tells past) suites → Left (prepare task cache suites outcome (locked_at suites)).after) where
   goes_gather : (cache : Cache) (suites : Suites) (number : ℕ) (next : Next) → Are (tells past) suites → Left (gather_by task cache suites number next).after
   goes_gather cache suites number (Short got needed busy) are = given_up cache suites (short_cause number got needed busy) are
-  goes_gather cache suites number (Ask server asked) are = early suites (Gathering number) tt are
-  goes_gather cache suites number (Current prefix dver members) are = early suites (Gathering number) tt are
+  goes_gather cache suites number other are = early suites (Gathering number) tt are
 
   goes_widen_by : (cache : Cache) (suites : Suites) (left : List ℕ) (granted : Granted) (number : ℕ) (next : Next) (go_on : Suites → Step) → Are (tells past) suites → ((suites : Suites) → Are (tells past) suites → Left (go_on suites).after)
       → Left (widen_by task cache suites (Widening left granted) number next go_on).after
@@ -151,10 +150,6 @@ module _ (task : Task) (past : List Exchange) (server : ℕ) (asked : Request) (
       → (told : Response) → heard ≡ told → Left (after_response fixed (record { task = task; suites = suites; phase = phase }) cache server asked told).after
   goes_on fixed cache suites (Gathering number) is are asks (Lacked lacked) so = given_up cache suites (lack_cause server lacked)
       (subst (λ heard. Are (tells (push past server asked heard)) suites) (sym so) (are_lacked past suites server asked lacked are))
-  goes_on fixed cache suites (Fetching number) is are asks (Lacked lacked) so = given_up cache suites (lack_cause server lacked)
-      (subst (λ heard. Are (tells (push past server asked heard)) suites) (sym so) (are_lacked past suites server asked lacked are))
-  goes_on fixed cache suites (Widening left granted) is are asks (Lacked lacked) so = given_up cache suites (lack_cause server lacked)
-      (subst (λ heard. Are (tells (push past server asked heard)) suites) (sym so) (are_lacked past suites server asked lacked are))
   goes_on fixed cache suites (Preparing left outcome) is are asks told so = absurd is
   goes_on fixed cache suites (Deciding outcome) is are asks told so = absurd is
   goes_on fixed cache suites (Finishing servers v ending) is are asks told so = absurd is
@@ -168,3 +163,5 @@ module _ (task : Task) (past : List Exchange) (server : ℕ) (asked : Request) (
   goes_on fixed cache suites (Widening (number ∷ left) granted) is are asks (Replied said) so =
       goes_heard cache suites (Widening (number ∷ left) granted) number (suite_of suites number) said _ so tt are refl asks
       (λ suites are. goes_widen task (push past server asked heard) Left early given_up prepares cache suites granted left are)
+  goes_on fixed cache suites other is are asks (Lacked lacked) so = given_up cache suites (lack_cause server lacked)
+      (subst (λ heard. Are (tells (push past server asked heard)) suites) (sym so) (are_lacked past suites server asked lacked are))

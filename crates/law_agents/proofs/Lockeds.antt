@@ -1,6 +1,6 @@
 -- The servers that hold locks for a transaction are those that were heard to hold one.
 use Rattle.law_agents.proofs.Vocabulary.{◌≡◌, ℕ, Bool, true, false, cond, List, [], ◌∷◌, ◌++◌, Some, None, refl, sym, ap, ◌∙◌, ◌==◌, ◌&&◌, ◌||◌, filter, nat_cmp, is_at, unsigned_tied, keys_of, false≢true, nat_cmp_total, eq_by_cmp_equiv}
-use Rattle.law_agents.proofs.Vocabulary.{list_any-append, lookup-none, none_past_head, IsDistinct-from_sorted, sorted_tail, IsOrdered, Shared, max_servers, Request, Reply, Told, Said, holds, mode_of, Response, Replied, Lacked, Suites}
+use Rattle.law_agents.proofs.Vocabulary.{list_any-append, lookup-none, none_past_head, IsDistinct-from_sorted, sorted_tail, IsOrdered, Shared, max_servers, Request, Reply, Told, holds, mode_of, Response, Replied, Lacked, Suites}
 use Rattle.law_agents.proofs.Vocabulary.{suite_of, told_in, holds_lock, has_locks, numbers_from, is_poll, said_to, locked_at, Exchange, locks, says_held, was_held, told_of, told_by, more_told, self, serves_shared, Are, or_true, has_one}
 use Rattle.law_agents.proofs.Vocabulary.{wants_lock, was_locked, locked}
 use Rattle.rep_core.specs.declared.request.Request.TheVariants as request
@@ -26,12 +26,7 @@ said_is_held asked said before server who = of said
           | true ↦ refl
           | false ↦ out (server == who) (holds Shared before who)
         ]
-    of reply.Lost = out (server == who) (holds Shared before who)
-    of (reply.Given dver content) = out (server == who) (holds Shared before who)
-    of reply.Prepared = out (server == who) (holds Shared before who)
-    of (reply.Verdict v) = out (server == who) (holds Shared before who)
-    of reply.Done = out (server == who) (holds Shared before who)
-    of (reply.Locked list) = out (server == who) (holds Shared before who)
+    of other = out (server == who) (holds Shared before who)
 
 one_held : (number who : ℕ) (before : List Told) (one : Exchange) (lock : Bool) (heard : Response)
     → holds Shared (cond lock (told_by before one heard) before) who ≡ (((one.server == who) && lock && says_held heard) || holds Shared before who)
@@ -73,29 +68,13 @@ held_from number who before (one ∷ past) =
 locks_wants : (number : ℕ) (asked : Request) → locks number asked ≡ true → wants_lock asked ≡ true
 locks_wants number (request.Poll t suite mode) is = refl
 locks_wants number (request.Upgrade t suite) is = refl
-locks_wants number (request.Fetch t suite) is = cc
-locks_wants number (request.Prepare t parts) is = cc
-locks_wants number (request.Decide t decision) is = cc
-locks_wants number (request.Resolve t) is = cc
-locks_wants number (request.Finish t v) is = cc
-locks_wants number (request.Break t suite) is = cc
-locks_wants number request.Locks is = cc
-locks_wants number request.Crash is = cc
-locks_wants number request.Return is = cc
+locks_wants number other is = cc
 
 -- and each lock is one on a suite
 wants_locks : (asked : Request) → wants_lock asked ≡ true → (number : ℕ) × (locks number asked ≡ true)
 wants_locks (request.Poll t suite mode) is = (suite, self suite)
 wants_locks (request.Upgrade t suite) is = (suite, self suite)
-wants_locks (request.Fetch t suite) is = cc
-wants_locks (request.Prepare t parts) is = cc
-wants_locks (request.Decide t decision) is = cc
-wants_locks (request.Resolve t) is = cc
-wants_locks (request.Finish t v) is = cc
-wants_locks (request.Break t suite) is = cc
-wants_locks request.Locks is = cc
-wants_locks request.Crash is = cc
-wants_locks request.Return is = cc
+wants_locks other is = cc
 
 held_locked : (number who : ℕ) (past : List Exchange) → was_held past number who ≡ true → was_locked past who ≡ true
 held_locked number who [] is = cc

@@ -35,42 +35,15 @@ up_none n one has = absurd (has_from [] one has)
 
 no_prepare : (asked : Request) → stage asked ≤ 0 → is_prepare asked ≡ false
 no_prepare (request.Prepare t parts) low = let never : 1 ≤ 0 = low in absurd (omega (arith, never))
-no_prepare (request.Poll t suite mode) low = refl
-no_prepare (request.Upgrade t suite) low = refl
-no_prepare (request.Fetch t suite) low = refl
-no_prepare (request.Decide t decision) low = refl
-no_prepare (request.Resolve t) low = refl
-no_prepare (request.Finish t v) low = refl
-no_prepare (request.Break t suite) low = refl
-no_prepare request.Locks low = refl
-no_prepare request.Crash low = refl
-no_prepare request.Return low = refl
+no_prepare other low = refl
 
 no_decide : (asked : Request) → stage asked ≤ 1 → is_decide asked ≡ false
 no_decide (request.Decide t decision) low = let never : 2 ≤ 1 = low in absurd (omega (arith, never))
-no_decide (request.Prepare t parts) low = refl
-no_decide (request.Poll t suite mode) low = refl
-no_decide (request.Upgrade t suite) low = refl
-no_decide (request.Fetch t suite) low = refl
-no_decide (request.Resolve t) low = refl
-no_decide (request.Finish t v) low = refl
-no_decide (request.Break t suite) low = refl
-no_decide request.Locks low = refl
-no_decide request.Crash low = refl
-no_decide request.Return low = refl
+no_decide other low = refl
 
 no_finish : (asked : Request) → stage asked ≤ 2 → is_finish asked ≡ false
 no_finish (request.Finish t v) low = let never : 3 ≤ 2 = low in absurd (omega (arith, never))
-no_finish (request.Prepare t parts) low = refl
-no_finish (request.Poll t suite mode) low = refl
-no_finish (request.Upgrade t suite) low = refl
-no_finish (request.Fetch t suite) low = refl
-no_finish (request.Decide t decision) low = refl
-no_finish (request.Resolve t) low = refl
-no_finish (request.Break t suite) low = refl
-no_finish request.Locks low = refl
-no_finish request.Crash low = refl
-no_finish request.Return low = refl
+no_finish other low = refl
 
 -- ---- who got a request of a kind
 
@@ -120,12 +93,10 @@ module _ (fixed : Fixed) (agent : Agent) (caller : Identity) (site : ℕ) (ops :
   job = Transaction caller site ops
 
   abbrev InPhase : List Exchange → Suites → Phase → Type 0
-  InPhase past suites (Gathering number) = UpTo 0 past
-  InPhase past suites (Fetching number) = UpTo 0 past
-  InPhase past suites (Widening left granted) = UpTo 0 past
   InPhase past suites (Preparing left outcome) = UpTo 1 past × (locked_at suites ≡ sent_to is_prepare past ++ left) × AllPrepared past
   InPhase past suites (Deciding outcome) = UpTo 1 past × (locked_at suites ≡ sent_to is_prepare past) × AllPrepared past
   InPhase past suites (Finishing left v ending) = UpTo 3 past × (locked_at suites ≡ sent_to is_finish past ++ left)
+  InPhase past suites other = UpTo 0 past
 
   abbrev Orders : List Exchange → Option Doing → Type 0
   Orders past (Some (Running running)) = (running.task ≡ task_of agent caller site ops) × InPhase past running.suites running.phase
@@ -156,12 +127,10 @@ module _ (fixed : Fixed) (agent : Agent) (caller : Identity) (site : ℕ) (ops :
 
     module _ (past : List Exchange) (up : UpTo 0 past) where
       early : (suites : Suites) (phase : Phase) → IsEarly phase → Are (tells past) suites → LeftIs past (GoesOn (record { task = task; suites = suites; phase = phase }))
-      early suites (Gathering number) is are = (same, up)
-      early suites (Fetching number) is are = (same, up)
-      early suites (Widening left granted) is are = (same, up)
       early suites (Preparing left outcome) is are = absurd is
       early suites (Deciding outcome) is are = absurd is
       early suites (Finishing servers v ending) is are = absurd is
+      early suites other is are = (same, up)
 
       given_up : (cache : Cache) (suites : Suites) (cause : Cause) → Are (tells past) suites → LeftIs past (give_up task cache suites cause).after
       given_up cache suites cause are = ends past cache suites verdict.Aborted (Undecided cause) (locked_is past suites (heard_of_are past suites are)) (up_more 0 2 past (omega arith) up)
@@ -175,9 +144,7 @@ module _ (fixed : Fixed) (agent : Agent) (caller : Identity) (site : ℕ) (ops :
     early_stage suites (Fetching number) server asked early is = eqb-true (stage asked) 0 (fetched_as (λ asked. stage asked == 0) true task number (suite_of suites number) server asked refl is)
     early_stage suites (Widening [] granted) server asked early is = cc
     early_stage suites (Widening (number ∷ left) granted) server asked early is = eqb-true (stage asked) 0 (asked_as (λ asked. stage asked == 0) true task number (suite_of suites number) server asked (λ mode. refl) refl is)
-    early_stage suites (Preparing left outcome) server asked early is = absurd early
-    early_stage suites (Deciding outcome) server asked early is = absurd early
-    early_stage suites (Finishing servers v ending) server asked early is = absurd early
+    early_stage suites other server asked early is = absurd early
 
     early_heard : (past : List Exchange) (cache : Cache) (suites : Suites) (phase : Phase) (server : ℕ) (asked : Request) (heard : Response) → IsEarly phase → Are (tells past) suites → UpTo 0 past
         → request_in fixed task suites phase ≡ Some (server, asked)
@@ -265,15 +232,14 @@ module _ (fixed : Fixed) (agent : Agent) (caller : Identity) (site : ℕ) (ops :
     heard_on past cache suites (Gathering number) server asked heard are locks in' is = early_heard past cache suites (Gathering number) server asked heard tt (are tt) in' is
     heard_on past cache suites (Fetching number) server asked heard are locks in' is = early_heard past cache suites (Fetching number) server asked heard tt (are tt) in' is
     heard_on past cache suites (Widening left granted) server asked heard are locks in' is = early_heard past cache suites (Widening left granted) server asked heard tt (are tt) in' is
-    heard_on past cache suites (Preparing [] outcome) server asked heard are locks in' is = cc
     heard_on past cache suites (Preparing (now ∷ left) outcome) server asked heard are locks in' is =
         subst (Then past cache suites (Preparing (now ∷ left) outcome) heard) (same_Some (now, request.Prepare task.t (parts_at suites (changes_of outcome) now)) (server, asked) is)
         (prepare_heard past cache suites now left outcome heard locks in')
     heard_on past cache suites (Deciding outcome) server asked heard are locks in' is =
         subst (Then past cache suites (Deciding outcome) heard) (same_Some (home_of fixed.service task.t, request.Decide task.t (decision_of task outcome)) (server, asked) is) (decide_heard past cache suites outcome heard locks in')
-    heard_on past cache suites (Finishing [] v ending) server asked heard are locks in' is = cc
     heard_on past cache suites (Finishing (now ∷ left) v ending) server asked heard are locks in' is =
         subst (Then past cache suites (Finishing (now ∷ left) v ending) heard) (same_Some (now, request.Finish task.t v) (server, asked) is) (finish_heard past cache suites now left v ending heard locks in')
+    heard_on past cache suites other server asked heard are locks in' is = cc
 
   -- ---- after all events
 
@@ -289,12 +255,10 @@ module _ (fixed : Fixed) (agent : Agent) (caller : Identity) (site : ℕ) (ops :
 
     are_of : (task : Task) (Old : Base) (Now Loose : ℕ → Rattle.suite_prefix.specs.declared.copies.Prefix.Prefix → Type 0) (past : List Exchange) (suites : Suites) (phase : Phase) → StandsOn fixed task Old Now Loose past suites phase
         → IsEarly phase → Are (tells past) suites
-    are_of task Old Now Loose past suites (Gathering number) stands is = stands.0
-    are_of task Old Now Loose past suites (Fetching number) stands is = stands.0
-    are_of task Old Now Loose past suites (Widening left granted) stands is = stands.0
     are_of task Old Now Loose past suites (Preparing left outcome) stands is = absurd is
     are_of task Old Now Loose past suites (Deciding outcome) stands is = absurd is
     are_of task Old Now Loose past suites (Finishing servers v ending) stands is = absurd is
+    are_of task Old Now Loose past suites other stands is = stands.0
 
     suites_are : (events : List Event) (running : TransactionRun) (asked : ℕ × Request) → (at events).doing ≡ Some (Running running) → request_of fixed running ≡ Some asked → IsEarly running.phase
         → Are (tells (past_of events)) running.suites
@@ -350,9 +314,7 @@ module _ (fixed : Fixed) (agent : Agent) (caller : Identity) (site : ℕ) (ops :
   number_early task suites (Widening [] granted) server asked early is = cc
   number_early task suites (Widening (number ∷ left) granted) server asked early is =
       eqb-true (number_of asked) task.t (asked_as (λ asked. number_of asked == task.t) true task number (suite_of suites number) server asked (λ mode. self task.t) (self task.t) is)
-  number_early task suites (Preparing left outcome) server asked early is = absurd early
-  number_early task suites (Deciding outcome) server asked early is = absurd early
-  number_early task suites (Finishing servers v ending) server asked early is = absurd early
+  number_early task suites other server asked early is = absurd early
 
   in_order : (past : List Exchange) (task : Task) (suites : Suites) (phase : Phase) (server : ℕ) (asked : Request) → task ≡ task_of agent caller site ops → InPhase past suites phase
       → request_in fixed task suites phase ≡ Some (server, asked) → IsInOrder agent past asked
@@ -362,17 +324,16 @@ module _ (fixed : Fixed) (agent : Agent) (caller : Identity) (site : ℕ) (ops :
       rises past asked 0 0 task same (early_stage task same suites (Fetching number) server asked tt is) (omega arith) (omega arith) (number_early task suites (Fetching number) server asked tt is) in'
   in_order past task suites (Widening left granted) server asked same in' is =
       rises past asked 0 0 task same (early_stage task same suites (Widening left granted) server asked tt is) (omega arith) (omega arith) (number_early task suites (Widening left granted) server asked tt is) in'
-  in_order past task suites (Preparing [] outcome) server asked same in' is = cc
   in_order past task suites (Preparing (now ∷ left) outcome) server asked same in' is =
       subst (IsInOrder agent past) (asks_same now server (request.Prepare task.t (parts_at suites (changes_of outcome) now)) asked is)
       (rises past (request.Prepare task.t (parts_at suites (changes_of outcome) now)) 1 1 task same refl (omega arith) (omega arith) refl in'.0)
   in_order past task suites (Deciding outcome) server asked same in' is =
       subst (IsInOrder agent past) (asks_same (home_of fixed.service task.t) server (request.Decide task.t (decision_of task outcome)) asked is)
       (rises past (request.Decide task.t (decision_of task outcome)) 2 1 task same refl (omega arith) (omega arith) refl in'.0)
-  in_order past task suites (Finishing [] v ending) server asked same in' is = cc
   in_order past task suites (Finishing (now ∷ left) v ending) server asked same in' is =
       subst (IsInOrder agent past) (asks_same now server (request.Finish task.t v) asked is)
       (rises past (request.Finish task.t v) 3 3 task same refl (omega arith) (omega arith) refl in'.0)
+  in_order past task suites other server asked same in' is = cc
 
   -- ---- a request of a kind
 
@@ -391,20 +352,18 @@ module _ (fixed : Fixed) (agent : Agent) (caller : Identity) (site : ℕ) (ops :
   preparing past task suites (Gathering number) server asked same locks in' is kind = not_early 0 is_prepare no_prepare task suites (Gathering number) server asked same tt is kind
   preparing past task suites (Fetching number) server asked same locks in' is kind = not_early 0 is_prepare no_prepare task suites (Fetching number) server asked same tt is kind
   preparing past task suites (Widening left granted) server asked same locks in' is kind = not_early 0 is_prepare no_prepare task suites (Widening left granted) server asked same tt is kind
-  preparing past task suites (Preparing [] outcome) server asked same locks in' is kind = cc
   preparing past task suites (Preparing (now ∷ left) outcome) server asked same locks in' is kind =
       let here : now ≡ server = ap (λ (pair : ℕ × Request). pair.0) (same_Some (now, request.Prepare task.t (parts_at suites (changes_of outcome) now)) (server, asked) is) in
       record { left = left; servers = locked_is past suites locks ∙ in'.1 ∙ ap (λ now. sent_to is_prepare past ++ now ∷ left) here; prepared = in'.2 }
   preparing past task suites (Deciding outcome) server asked same locks in' is kind = not_this is_prepare (home_of fixed.service task.t) server (request.Decide task.t (decision_of task outcome)) asked refl is kind
-  preparing past task suites (Finishing [] v ending) server asked same locks in' is kind = cc
   preparing past task suites (Finishing (now ∷ left) v ending) server asked same locks in' is kind = not_this is_prepare now server (request.Finish task.t v) asked refl is kind
+  preparing past task suites other server asked same locks in' is kind = cc
 
   deciding : (past : List Exchange) (task : Task) (suites : Suites) (phase : Phase) (server : ℕ) (asked : Request) → task ≡ task_of agent caller site ops → HeardOf past suites → InPhase past suites phase
       → request_in fixed task suites phase ≡ Some (server, asked) → is_decide asked ≡ true → IsDeciding fixed past server (number_of asked)
   deciding past task suites (Gathering number) server asked same locks in' is kind = not_early 1 is_decide no_decide task suites (Gathering number) server asked same tt is kind
   deciding past task suites (Fetching number) server asked same locks in' is kind = not_early 1 is_decide no_decide task suites (Fetching number) server asked same tt is kind
   deciding past task suites (Widening left granted) server asked same locks in' is kind = not_early 1 is_decide no_decide task suites (Widening left granted) server asked same tt is kind
-  deciding past task suites (Preparing [] outcome) server asked same locks in' is kind = cc
   deciding past task suites (Preparing (now ∷ left) outcome) server asked same locks in' is kind = not_this is_decide now server (request.Prepare task.t (parts_at suites (changes_of outcome) now)) asked refl is kind
   deciding past task suites (Deciding outcome) server asked same locks in' is kind =
       subst (λ (pair : ℕ × Request). IsDeciding fixed past pair.0 (number_of pair.1)) (same_Some (home_of fixed.service task.t, request.Decide task.t (decision_of task outcome)) (server, asked) is) (record {
@@ -413,8 +372,8 @@ module _ (fixed : Fixed) (agent : Agent) (caller : Identity) (site : ℕ) (ops :
         prepared = in'.2;
         once = sent_none is_decide past (λ one has. no_decide one.request (in'.0 one has));
       })
-  deciding past task suites (Finishing [] v ending) server asked same locks in' is kind = cc
   deciding past task suites (Finishing (now ∷ left) v ending) server asked same locks in' is kind = not_this is_decide now server (request.Finish task.t v) asked refl is kind
+  deciding past task suites other server asked same locks in' is kind = cc
 
   abbrev verdict_of : Request → Verdict
   verdict_of (request.Finish t v) = v
@@ -426,16 +385,15 @@ module _ (fixed : Fixed) (agent : Agent) (caller : Identity) (site : ℕ) (ops :
   finishing past task suites (Gathering number) server asked same locks in' told is kind = not_early 2 is_finish no_finish task suites (Gathering number) server asked same tt is kind
   finishing past task suites (Fetching number) server asked same locks in' told is kind = not_early 2 is_finish no_finish task suites (Fetching number) server asked same tt is kind
   finishing past task suites (Widening left granted) server asked same locks in' told is kind = not_early 2 is_finish no_finish task suites (Widening left granted) server asked same tt is kind
-  finishing past task suites (Preparing [] outcome) server asked same locks in' told is kind = cc
   finishing past task suites (Preparing (now ∷ left) outcome) server asked same locks in' told is kind = not_this is_finish now server (request.Prepare task.t (parts_at suites (changes_of outcome) now)) asked refl is kind
   finishing past task suites (Deciding outcome) server asked same locks in' told is kind = not_this is_finish (home_of fixed.service task.t) server (request.Decide task.t (decision_of task outcome)) asked refl is kind
-  finishing past task suites (Finishing [] v ending) server asked same locks in' told is kind = cc
   finishing past task suites (Finishing (now ∷ left) v ending) server asked same locks in' told is kind =
       subst (λ (pair : ℕ × Request). IsFinishing past pair.0 (verdict_of pair.1)) (same_Some (now, request.Finish task.t v) (server, asked) is) (record {
         left = left;
         servers = locked_is past suites locks ∙ in'.1;
         told = told (now ∷ left) v ending refl;
       })
+  finishing past task suites other server asked same locks in' told is kind = cc
 
 -- ---- the laws
 

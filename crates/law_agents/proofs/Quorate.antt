@@ -2,7 +2,7 @@
 use Rattle.law_agents.proofs.Vocabulary.{◌≡◌, ℕ, ◌+◌, true, false, cond, List, [], ◌∷◌, ◌++◌, Option, Some, None, refl, sym, ap, subst, ◌∙◌, nat_lt, ◌&&◌, false≢true, same_Some, is_prepared, Part, Request, Verdict, Cache, GatheredSuite}
 use Rattle.law_agents.proofs.Vocabulary.{Suites, suite_of, told_in, parts_at, Response, Replied, Lacked, Cause, Lost, Ending, Undecided, Job, Transaction, Sweep, home_of, Fixed, Task, Proposal, Phase, Gathering, Fetching, Widening}
 use Rattle.law_agents.proofs.Vocabulary.{Preparing, Deciding, Finishing, TransactionRun, Sweeping, Listing, Resolving, Telling, Breaking, SweepRun, Doing, Running, RunningSweep, After, GoesOn, Ends, tell_end, give_up, prepare}
-use Rattle.law_agents.proofs.Vocabulary.{locked_at, after_response, request_in, request_of, changes_of, decision_of, verdict_in, ending_by, cause_of_abort, lack_cause, Agent, Event, Take, Forget, next_in, next_of, take_in, take, begin}
+use Rattle.law_agents.proofs.Vocabulary.{locked_at, after_response, request_in, request_of, changes_of, decision_of, verdict_in, ending_by, cause_of_abort, lack_cause, Agent, Event, Take, Forget, next_in, take_in, take, begin}
 use Rattle.law_agents.proofs.Vocabulary.{started, forget, is_idle, has_sense, max_jobs, after_all, Exchange, of_job, locks, is_prepare, task_of, IsReady, asks_same, asked_as, fetched_as, StandsOn, Base, Are, are_nil, decides_on_quorums}
 use Rattle.law_agents.proofs.Vocabulary.{Base_of, Started, Begins, DoingStands, stands_after, IsEarly, IsWritten, PreparesOnQuorums}
 use Rattle.rep_core.specs.declared.request.Request.TheVariants as request
@@ -21,8 +21,7 @@ PhaseAre past suites _ = Unit {0}
 
 abbrev DoingAre : List Exchange → Option Doing → Type 0
 DoingAre past (Some (Running running)) = PhaseAre past running.suites running.phase
-DoingAre past (Some (RunningSweep sweeping)) = Unit {0}
-DoingAre past None = Unit {0}
+DoingAre past other = Unit {0}
 
 abbrev LeftAre : List Exchange → After TransactionRun → Type 0
 LeftAre past after = DoingAre past (agents.left Running after)
@@ -36,12 +35,10 @@ prepare_are past task cache suites outcome [] are = tt
 prepare_are past task cache suites outcome (server ∷ servers) are = are
 
 early_are : (past : List Exchange) (task : Task) (suites : Suites) (phase : Phase) → IsEarly phase → Are (tells past) suites → LeftAre past (GoesOn (record { task = task; suites = suites; phase = phase }))
-early_are past task suites (Gathering number) is are = tt
-early_are past task suites (Fetching number) is are = tt
-early_are past task suites (Widening left granted) is are = tt
 early_are past task suites (Preparing left outcome) is are = absurd is
 early_are past task suites (Deciding outcome) is are = absurd is
 early_are past task suites (Finishing servers v ending) is are = absurd is
+early_are past task suites other is are = tt
 
 given_up : (past : List Exchange) (task : Task) (cache : Cache) (suites : Suites) (cause : Cause) → Are (tells past) suites → LeftAre past (give_up task cache suites cause).after
 given_up past task cache suites cause are = end_are past task cache suites verdict.Aborted (Undecided cause) (locked_at suites)
@@ -78,12 +75,11 @@ module _ (fixed : Fixed) (task : Task) (past : List Exchange) (cache : Cache) (s
   heard_are (Gathering number) heard are so is = early_heard (Gathering number) heard tt (are tt) is
   heard_are (Fetching number) heard are so is = early_heard (Fetching number) heard tt (are tt) is
   heard_are (Widening left granted) heard are so is = early_heard (Widening left granted) heard tt (are tt) is
-  heard_are (Preparing [] outcome) heard are so is = cc
   heard_are (Preparing (now ∷ left) outcome) heard are so is =
       prepared_are now left outcome heard heard (are_quiet past suites server asked heard (λ other. ap (locks other) (sym (asks_same now server (request.Prepare task.t (parts_at suites (changes_of outcome) now)) asked is))) so)
   heard_are (Deciding outcome) heard are so is = decided_are outcome heard heard
-  heard_are (Finishing [] v ending) heard are so is = cc
   heard_are (Finishing (now ∷ left) v ending) heard are so is = finished_are now left v ending heard heard
+  heard_are other heard are so is = cc
 
 -- ---- after all events
 
@@ -96,12 +92,10 @@ module _ (fixed : Fixed) (agent : Agent) (job : Job) (idle : is_idle agent.doing
 
   are_of : (task : Task) (Old : Base) (Now Loose : ℕ → Rattle.suite_prefix.specs.declared.copies.Prefix.Prefix → Type 0) (past : List Exchange) (suites : Suites) (phase : Phase)
       → StandsOn fixed task Old Now Loose past suites phase → IsEarly phase → Are (tells past) suites
-  are_of task Old Now Loose past suites (Gathering number) stands is = stands.0
-  are_of task Old Now Loose past suites (Fetching number) stands is = stands.0
-  are_of task Old Now Loose past suites (Widening left granted) stands is = stands.0
   are_of task Old Now Loose past suites (Preparing left outcome) stands is = absurd is
   are_of task Old Now Loose past suites (Deciding outcome) stands is = absurd is
   are_of task Old Now Loose past suites (Finishing servers v ending) stands is = absurd is
+  are_of task Old Now Loose past suites other stands is = stands.0
 
   suites_are : (events : List Event) (running : TransactionRun) (asked : ℕ × Request) → (at events).doing ≡ Some (Running running) → request_of fixed running ≡ Some asked → IsEarly running.phase → Are (tells (past_of events)) running.suites
   suites_are events running asked was is =
@@ -183,9 +177,7 @@ module _ (fixed : Fixed) (agent : Agent) (job : Job) (events : List Event) (idle
       → request_in fixed task suites phase ≡ Some (server, request.Prepare t parts) → IsWritten past server parts
   by_phase task suites (Gathering number) server t parts was are is = absurd (false≢true (sym (asked_as is_prepare false task number (suite_of suites number) server (request.Prepare t parts) (λ mode. refl) refl is)))
   by_phase task suites (Fetching number) server t parts was are is = absurd (false≢true (sym (fetched_as is_prepare false task number (suite_of suites number) server (request.Prepare t parts) refl is)))
-  by_phase task suites (Widening [] granted) server t parts was are is = cc
   by_phase task suites (Widening (number ∷ left) granted) server t parts was are is = absurd (false≢true (sym (asked_as is_prepare false task number (suite_of suites number) server (request.Prepare t parts) (λ mode. refl) refl is)))
-  by_phase task suites (Preparing [] outcome) server t parts was are is = cc
   by_phase task suites (Preparing (who ∷ left) outcome) server t parts was are is =
       let here : who ≡ server = ap (λ (pair : ℕ × Request). pair.0) (same_Some (who, request.Prepare task.t (parts_at suites (changes_of outcome) who)) (server, request.Prepare t parts) is) in
       record {
@@ -203,8 +195,8 @@ module _ (fixed : Fixed) (agent : Agent) (job : Job) (events : List Event) (idle
       of_parts : who ≡ server → request.Prepare task.t (parts_at suites (changes_of outcome) who) ≡ request.Prepare t parts → parts ≡ parts_at suites (changes_of outcome) server
       of_parts here same = ap parts_of (sym same) ∙ ap (parts_at suites (changes_of outcome)) here
   by_phase task suites (Deciding outcome) server t parts was are is = not_this (home_of fixed.service task.t) server (request.Decide task.t (decision_of task outcome)) (request.Prepare t parts) refl is refl
-  by_phase task suites (Finishing [] v ending) server t parts was are is = cc
   by_phase task suites (Finishing (who ∷ left) v ending) server t parts was are is = not_this who server (request.Finish task.t v) (request.Prepare t parts) refl is refl
+  by_phase task suites other server t parts was are is = cc
 
   by_sweep : (sweeping : SweepRun) (at : Sweeping) (server t : ℕ) (parts : List Part) → ◌≡◌ {A = Option (ℕ × Request)} (Some (sweep.asked_now fixed.service sweeping at)) (Some (server, request.Prepare t parts)) → IsWritten past server parts
   by_sweep sweeping Listing server t parts is = not_this _ server request.Locks (request.Prepare t parts) refl is refl

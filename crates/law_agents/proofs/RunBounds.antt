@@ -1,7 +1,7 @@
 -- Each job that ends in a run took few steps.
 use Rattle.law_agents.proofs.Vocabulary.{◌≡◌, inl, inr, ℕ, zero, suc, ◌+◌, Bool, true, false, cond, List, [], ◌∷◌, ◌++◌, append_assoc, Option, Some, None, refl, sym, ap, subst, ◌∙◌, arith, ◌≢◌, ◌&&◌, ◌==◌, is_some, slice_get, slice_set}
-use Rattle.law_agents.proofs.Vocabulary.{cons_option, eqb-true, nat_tests, none-some, same_Some, Opening, Has, has_from, Request, State, Response, Replied, Lacked, Ending, Agent, Take, next_of, left, take, begin, forget, fixed_of}
-use Rattle.law_agents.proofs.Vocabulary.{after-append, Begin, Crash, Return, Lack, EndedJob, Served, World, Actor, Stepped, server_at, actor_at, actors_from, outcome_of, serve, asks_at, asks, steps_once, lacks_for, lacks, operated}
+use Rattle.law_agents.proofs.Vocabulary.{cons_option, eqb-true, nat_tests, none-some, same_Some, Opening, Has, has_from, Request, State, Response, Replied, Lacked, Ending, Agent, Take, next_of, take, begin, forget, fixed_of}
+use Rattle.law_agents.proofs.Vocabulary.{Begin, Crash, Return, Lack, EndedJob, Served, World, Actor, Stepped, server_at, actor_at, actors_from, outcome_of, serve, asks_at, asks, steps_once, lacks_for, lacks, operated}
 use Rattle.law_agents.proofs.Vocabulary.{operates, becomes, opening, step, dones, outcomes, run, asks_now, told_at, EndsInItsTime, RunsEndInTime}
 use Rattle.rep_core.specs.declared.request.Request.TheVariants as request
 use Rattle.rep_core.specs.declared.stamped.Lack as lacking

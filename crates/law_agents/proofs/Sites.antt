@@ -6,7 +6,6 @@ use Rattle.law_agents.proofs.Vocabulary.{AgentsStaySo, RunsKeepTo}
 use Rattle.weak_cache.proofs.Origins.{has_from}
 use Rattle.txn_core.specs.Agents as agents
 use Rattle.run_core.specs.declared.event.Event.{Event}
-use Rattle.run_core.specs.declared.event.Event.TheVariants.{Forget}
 use Rattle.run_core.proofs.EachAgent.{after_event as each_after}
 use Rattle.law_agents.proofs.AllResponses.{busy_before}
 

@@ -1,7 +1,7 @@
 -- A sweep asks in order.
 use Rattle.law_agents.proofs.Vocabulary.{◌≡◌, ℕ, ◌+◌, Bool, true, false, cond, List, [], ◌∷◌, ◌++◌, Option, Some, None, refl, sym, ap, subst, ◌∙◌, arith, ◌==◌, ◌&&◌, not, nat_lt, same_Some, Service, Lock, Request, Reply, Verdict}
 use Rattle.law_agents.proofs.Vocabulary.{is_own, has_prepared, Response, Replied, Lacked, Ending, Swept, Job, Sweep, home_of, Fixed, Sweeping, Listing, Resolving, Telling, Breaking, SweepRun, Doing, Running, RunningSweep, After, GoesOn}
-use Rattle.law_agents.proofs.Vocabulary.{Ends, rising, others, asked_now, sweep_on, Agent, Event, Take, next_in, next_of, end_of, take_in, take, begin, started, is_idle, has_sense, max_jobs, after_all, Exchange, exchange_of, of_job}
+use Rattle.law_agents.proofs.Vocabulary.{Ends, rising, others, asked_now, sweep_on, Agent, Event, next_in, next_of, end_of, take_in, begin, started, is_idle, has_sense, max_jobs, after_all, Exchange, exchange_of, of_job}
 use Rattle.law_agents.proofs.Vocabulary.{count_of, is_finish, self, exchanges-take, without, left_then, left_from, left_by, for_first, after_told, after_last, last_or, to_sweep, SweepsAskSo, says_done, says_verdict, is_break}
 use Rattle.law_agents.proofs.Vocabulary.{is_resolve, IsSwept, SweepsCount}
 use Rattle.rep_core.specs.declared.request.Request.TheVariants as request
@@ -122,14 +122,7 @@ module _ (service : Service) (swept : ℕ) where
         finished_is = count_same finishes past one sweeping.finished refl so.1.finished_is;
         left_is = count_same leaves past one sweeping.left refl so.1.left_is;
       }) (sym (left_push [] past one)) (goes_first past sweeping.server request.Locks (Replied (reply.Locked locks)) (λ left. refl))
-  told_locks past sweeping (reply.Held prefix dver) so = tt
-  told_locks past sweeping (reply.Busy holder prepared) so = tt
-  told_locks past sweeping (reply.Given dver content) so = tt
-  told_locks past sweeping reply.Prepared so = tt
-  told_locks past sweeping (reply.Verdict v) so = tt
-  told_locks past sweeping reply.Done so = tt
-  told_locks past sweeping reply.Down so = tt
-  told_locks past sweeping reply.Lost so = tt
+  told_locks past sweeping other so = tt
 
   told_finish : (past : List Exchange) (sweeping : SweepRun) (t : ℕ) (v : Verdict) (left : List Lock) (said : Reply) → Sweeps past (Some (RunningSweep (record sweeping { now = Telling t v left })))
       → LeftSo (told_now past sweeping (Telling t v left) (Replied said)) (sweep.after_answer service sweeping (Telling t v left) said)
@@ -140,14 +133,7 @@ module _ (service : Service) (swept : ℕ) where
         finished_is = count_more finishes past one sweeping.finished refl so.1.finished_is;
         left_is = count_same leaves past one sweeping.left refl so.1.left_is;
       }) (so.3 ∙ sym (left_push [] past one)) (goes_first past sweeping.server (request.Finish t v) (Replied reply.Done) (λ left. refl))
-  told_finish past sweeping t v left (reply.Locked locks) so = tt
-  told_finish past sweeping t v left (reply.Held prefix dver) so = tt
-  told_finish past sweeping t v left (reply.Busy holder prepared) so = tt
-  told_finish past sweeping t v left (reply.Given dver content) so = tt
-  told_finish past sweeping t v left reply.Prepared so = tt
-  told_finish past sweeping t v left (reply.Verdict w) so = tt
-  told_finish past sweeping t v left reply.Down so = tt
-  told_finish past sweeping t v left reply.Lost so = tt
+  told_finish past sweeping t v left other so = tt
 
   told_break : (past : List Exchange) (sweeping : SweepRun) (lock : Lock) (left : List Lock) (said : Reply) → Sweeps past (Some (RunningSweep (record sweeping { now = Breaking lock left })))
       → LeftSo (told_now past sweeping (Breaking lock left) (Replied said)) (sweep.after_answer service sweeping (Breaking lock left) said)
@@ -160,14 +146,7 @@ module _ (service : Service) (swept : ℕ) where
         left_is = count_same leaves past one sweeping.left refl so.1.left_is;
       }) (sym (left_push [] past one ∙ ap (without lock.t lock.suite) (sym so.3) ∙ ap (λ b. cond b left (lock ∷ without lock.t lock.suite left)) own))
       (goes_first past sweeping.server (request.Break lock.t lock.suite) (Replied reply.Done) (λ left. refl))
-  told_break past sweeping lock left (reply.Locked locks) so = tt
-  told_break past sweeping lock left (reply.Held prefix dver) so = tt
-  told_break past sweeping lock left (reply.Busy holder prepared) so = tt
-  told_break past sweeping lock left (reply.Given dver content) so = tt
-  told_break past sweeping lock left reply.Prepared so = tt
-  told_break past sweeping lock left (reply.Verdict w) so = tt
-  told_break past sweeping lock left reply.Down so = tt
-  told_break past sweeping lock left reply.Lost so = tt
+  told_break past sweeping lock left other so = tt
 
   -- a home that told no verdict
   not_told : (past : List Exchange) (sweeping : SweepRun) (t : ℕ) (left : List Lock) (said : Reply) → Sweeps past (Some (RunningSweep (record sweeping { now = Resolving t left }))) → says_verdict (Replied said) ≡ false
@@ -265,12 +244,11 @@ module _ (fixed : Fixed) (agent : Agent) (server : ℕ) (idle : is_idle agent.do
   counts_so : (events : List Event) (heard : Response) (broken finished left : ℕ) (doing : Option Doing) (asked : Option (ℕ × Request)) → next_in fixed doing ≡ asked → Sweeps fixed.service server (of_job fixed agent job events) doing
       → (take_in fixed (at events) heard doing asked).ending ≡ Some (Swept broken finished left) → IsSwept fixed.service server (of_job fixed agent job events ++ exchange_of asked heard) broken finished left
   counts_so events heard broken finished left None (Some asked) is so ends = cc
-  counts_so events heard broken finished left None None is so ends = cc
   counts_so events heard broken finished left (Some (Running running)) asked is so ends = absurd so
-  counts_so events heard broken finished left (Some (RunningSweep sweeping)) None is so ends = cc
   counts_so events heard broken finished left (Some (RunningSweep sweeping)) (Some asked) is so ends =
       let past = of_job fixed agent job events in
       end_so (push past asked.0 asked.1 heard) broken finished left (sweep.after_response fixed.service sweeping asked.0 heard) (told_so fixed.service server past sweeping heard asked so is) ends
+  counts_so events heard broken finished left other None is so ends = cc
 
 pub sweeps_ask_so : SweepsAskSo
 sweeps_ask_so fixed agent server events asked idle is =

@@ -2,9 +2,9 @@
 use Rattle.law_agents.proofs.Vocabulary.{◌≡◌, ℕ, zero, suc, ◌<◌, Bool, true, false, cond, List, [], ◌∷◌, ◌++◌, Option, Some, None, Ok, Err, refl, sym, ap, subst, ◌∙◌, Less, Equal, Greater, ◌==◌, ◌&&◌, ◌||◌, length, filter, option_map}
 use Rattle.law_agents.proofs.Vocabulary.{unwrap_or, is_some, nat_cmp, match_ordering, is_at, Ordering, none-some, same_Some, insert_step, insert, Configuration, max_servers, Content, absent_prefix, Prefix, PrefixKind, LockMode, Shared}
 use Rattle.law_agents.proofs.Vocabulary.{Exclusive, serves, Row, lists_unknown, Answer, Refusal, Change, Edit, SetAcl, SetVotes, SetContent, Make, Need, Hold, Know, touches, some, makes, sets_acl, sets_votes, answered, Edits, changed}
-use Rattle.law_agents.proofs.Vocabulary.{seen, is_set, Known, Heard, Needs, Done, known_rows, exec_of, changes_by_suite, needs_what_is_unmet, Verdict, is_held, holds, newest, Collector, told_since, all_told, counted, needed, needed_of}
-use Rattle.law_agents.proofs.Vocabulary.{votes_or, mode_or, wanted, is_member, mode_of, mode_asked, request_for, tell, tell_at, collect, raise, widen, Asked, Poll, Upgrade, Next, Ask, Current, Short, next, Entry, Cache, hint, put}
-use Rattle.law_agents.proofs.Vocabulary.{put_has, searched_has, hint_has, ReadPoint, GatheredSuite, Suites, suite_of, with_suite, row_with, known_row, known_if, known_of, holds_lock, has_locks, change_of, Cause, Ending, Undecided}
+use Rattle.law_agents.proofs.Vocabulary.{seen, is_set, Known, Heard, Needs, Done, known_rows, exec_of, changes_by_suite, needs_what_is_unmet, Verdict, is_held, holds, newest, Collector, told_since, all_told, needed, needed_of}
+use Rattle.law_agents.proofs.Vocabulary.{votes_or, mode_or, collect, raise, Asked, Next, Ask, Current, Short, next, Entry, Cache, hint}
+use Rattle.law_agents.proofs.Vocabulary.{searched_has, hint_has, ReadPoint, GatheredSuite, Suites, suite_of, with_suite, row_with, known_row, known_if, known_of, holds_lock, has_locks, change_of, Cause, Ending, Undecided}
 use Rattle.law_agents.proofs.Vocabulary.{Changes, Granted, home_of, Fixed, Task, Proposal, Phase, Gathering, Fetching, Preparing, Deciding, Finishing, TransactionRun, After, GoesOn, Ends, Step, Gathered, tell_end, give_up, prepare}
 use Rattle.law_agents.proofs.Vocabulary.{locked_at, numbers_from, short_cause, gather_by, start_from, widen_by, widen_one, widened, widen_all, to_widen, votes_then, votes_after, opened, or_all, open_needed, open_suite, open_first}
 use Rattle.law_agents.proofs.Vocabulary.{opened_with, after_search, free_content, heard_on, raised_or_new, proceed, execute, Each, EachBut, each_but, each_with, with_at, self, known_at, reads_known}
@@ -90,13 +90,11 @@ module _ (fixed : Fixed) (V : Configuration → Type 0) (S : ℕ → Type 0) (go
   abbrev pub InPhase : Suites → Phase → Type 0
   InPhase suites (Gathering number) = AllFine suites × EachBut IsFull number suites × Gathers suites number
   InPhase suites (Fetching number) = AllFine suites × Each IsFull suites × ((suite : GatheredSuite) × (suite_of suites number ≡ Some suite))
-  InPhase suites (Widens [] granted) = ⊥
   InPhase suites (Widens (number ∷ left) granted) = AllFine suites × Asking suites number × ChangesName granted.changes
-  InPhase suites (Preparing [] outcome) = ⊥
   InPhase suites (Preparing (server ∷ left) outcome) = AllFine suites × AllIn V S (server ∷ left)
   InPhase suites (Deciding outcome) = AllFine suites
-  InPhase suites (Finishing [] v ending) = ⊥
   InPhase suites (Finishing (server ∷ left) v ending) = AllIn V S (server ∷ left)
+  InPhase suites other = ⊥
 
   abbrev pub CacheFine : Cache → Type 0
   CacheFine cache = (entry : Entry) → origins.Has cache entry → V entry.prefix.votes
@@ -216,8 +214,7 @@ module _ (fixed : Fixed) (V : Configuration → Type 0) (S : ℕ → Type 0) (go
 
   known_votes : (k : PrefixKind) (prefix : Prefix) (content : Option Content) (row : Row) → row_with k prefix content ≡ Some row → row.votes ≡ prefix.votes
   known_votes kind.Absent prefix content row is = absurd (none-some row is)
-  known_votes kind.File prefix content row is = sym (ap (λ (row : Row). row.votes) (same_Some _ row is))
-  known_votes kind.Folder prefix content row is = sym (ap (λ (row : Row). row.votes) (same_Some _ row is))
+  known_votes other prefix content row is = sym (ap (λ (row : Row). row.votes) (same_Some _ row is))
 
   abbrev NamesIn : Option Row → Type 0
   NamesIn row = (r : Row) → row ≡ Some r → Names r.votes
@@ -235,12 +232,10 @@ module _ (fixed : Fixed) (V : Configuration → Type 0) (S : ℕ → Type 0) (go
 
   changed_names : (edit : Edit) (row : Option Row) → Sets Names edit → NamesIn row → NamesIn (changed edit row)
   changed_names (Make made) row sets names r is = subst (λ (r : Row). Names r.votes) (same_Some made r is) sets
-  changed_names (SetAcl acl) None sets names r is = absurd (none-some r is)
-  changed_names (SetVotes votes) None sets names r is = absurd (none-some r is)
-  changed_names (SetContent content) None sets names r is = absurd (none-some r is)
   changed_names (SetAcl acl) (Some row) sets names r is = subst (λ (r : Row). Names r.votes) (same_Some (record row { acl = acl }) r is) (names row refl)
   changed_names (SetVotes votes) (Some row) sets names r is = subst (λ (r : Row). Names r.votes) (same_Some (record row { votes = votes }) r is) sets
   changed_names (SetContent content) (Some row) sets names r is = subst (λ (r : Row). Names r.votes) (same_Some (record row { content = content }) r is) (names row refl)
+  changed_names other None sets names r is = absurd (none-some r is)
 
   seen_names : (edits : Edits) (suite : ℕ) (row : Option Row) → AllSet Names edits → NamesIn row → NamesIn (seen edits suite row)
   seen_names [] suite row sets names = names
@@ -272,13 +267,12 @@ module _ (fixed : Fixed) (V : Configuration → Type 0) (S : ℕ → Type 0) (go
   done_names task suites answers changes' is fine = of (exec_of fixed.service (known_of suites) task.t task.caller task.ops) refl is
     where
       of : (heard : Heard (List Answer) Refusal) → exec_of fixed.service (known_of suites) task.t task.caller task.ops ≡ heard → answered (known_of suites) heard ≡ exec.Done answers changes' → ChangesName changes'
-      of (Needs need) was is = cc
-      of (Done (Err refusal)) was is = cc
       of (Done (Ok ended)) was is =
           let same : changes.changes_of (known_of suites) ended.edits ≡ changes' = cc in
           subst ChangesName same
           (edits_name suites ended.edits fine
           (edits_set Names fixed.service goes.known (goes.names fixed.service.c0 goes.opening) (known_of suites) task.t task.caller task.ops ended was))
+      of other was is = cc
 
   -- ---- what is needed
 
@@ -435,9 +429,7 @@ module _ (fixed : Fixed) (V : Configuration → Type 0) (S : ℕ → Type 0) (go
 
       needed' : (heard : Executed) (more : Gathered) → open_needed task all heard ≡ Some more → Whole more
       needed' (exec.Need (Know number)) more is = at_suite number (suite_of all.suites number) more refl is
-      needed' (exec.Need (Hold number mode)) more is = cc
-      needed' (exec.Done answers changes) more is = cc
-      needed' (exec.Refused refusal) more is = cc
+      needed' other more is = cc
 
       of : (heard : Executed) → ((more : Gathered) → Whole more → Whole (opened n fixed task more)) → Whole (or_all all (open_needed task all heard) (λ all. opened n fixed task all))
       of heard later = or' (open_needed task all heard) (needed' heard) later

@@ -2,8 +2,8 @@
 use Rattle.law_agents.proofs.Vocabulary.{◌≡◌, ⊎_elim, ℕ, Bool, true, false, cond, List, [], ◌∷◌, Option, Some, None, refl, sym, ap, subst, ◌∙◌, none-some, same_Some, Configuration, Content, Prefix, Request, Reply, is_prepared, Told}
 use Rattle.law_agents.proofs.Vocabulary.{Said, newest, Collector, told_since, counted, votes_or, mode_of, mode_asked, request_for, tell, tell_at, Asked, Poll, Upgrade, Next, Ask, Current, Short, next, Entry, Cache, put, put_has}
 use Rattle.law_agents.proofs.Vocabulary.{ReadPoint, GatheredSuite, Suites, suite_of, with_suite, source_of, first_or, settled, Response, Replied, Lacked, Lost, Granted, Fixed, Task, Proposal, Phase, Gathering, Fetching, Preparing}
-use Rattle.law_agents.proofs.Vocabulary.{Deciding, Finishing, Step, tell_end, give_up, prepare, locked_at, short_cause, widen_all, keep_content, heard_of, said_to, execute, collected, hear, fetched, prepared, after_lack, after_response}
-use Rattle.law_agents.proofs.Vocabulary.{asked_by, asked_for, given_in, verdict_in, ending_by, cause_of_abort, lack_cause, request_in, changes_of, decision_of, Each, each_with, but_with, asks_same}
+use Rattle.law_agents.proofs.Vocabulary.{Deciding, Finishing, Step, give_up, prepare, locked_at, short_cause, widen_all, keep_content, heard_of, said_to, execute, collected, hear, fetched, prepared, after_response}
+use Rattle.law_agents.proofs.Vocabulary.{asked_by, asked_for, given_in, verdict_in, ending_by, cause_of_abort, lack_cause, request_in, Each, each_with, but_with, asks_same}
 use Rattle.rep_core.specs.declared.reply.Reply.TheVariants as reply
 use Rattle.suite_collect.specs.declared.told.Said.TheVariants as said
 use Rattle.suite_collect.specs.Collecting.{Widening}
@@ -45,12 +45,7 @@ module _ (fixed : Fixed) (V : Configuration → Type 0) (S : ℕ → Type 0) (go
       of : (b : Bool) → cond b (Some said.Down) None ≡ Some heard → SaysSo V S heard
       of true is = subst (SaysSo V S) (same_Some said.Down heard is) tt
       of false is = absurd (none-some heard is)
-  said_so asked (reply.Given dver content) heard so is = absurd (none-some heard is)
-  said_so asked reply.Prepared heard so is = absurd (none-some heard is)
-  said_so asked (reply.Verdict v) heard so is = absurd (none-some heard is)
-  said_so asked reply.Done heard so is = absurd (none-some heard is)
-  said_so asked (reply.Locked locks) heard so is = absurd (none-some heard is)
-  said_so asked reply.Lost heard so is = absurd (none-some heard is)
+  said_so asked other heard so is = absurd (none-some heard is)
 
   -- ---- a suite that was told more
 
@@ -132,8 +127,7 @@ module _ (fixed : Fixed) (V : Configuration → Type 0) (S : ℕ → Type 0) (go
         asks = was ∙ ap (λ at. Ask at question) (ap (λ (pair : ℕ × Request). pair.0) (same_Some (at, request_for task.t number question) (server, asked) is));
         mode = ap mode_of (sym (asks_same at server (request_for task.t number question) asked is)) ∙ mode_for question;
       }
-      of (Current prefix dver members) was is = absurd (none-some (server, asked) is)
-      of (Short had wanting busy) was is = absurd (none-some (server, asked) is)
+      of other was is = absurd (none-some (server, asked) is)
 
   plain_tell : (c : Collector) (server : ℕ) (asked : Request) (heard : Said) → c.widening ≡ None → IsPlain c → Question c server asked → IsPlain (tell (record { server = server; mode = mode_of asked; said = heard }) c)
   plain_tell c server asked heard narrow plain question =
@@ -278,15 +272,11 @@ module _ (fixed : Fixed) (V : Configuration → Type 0) (S : ℕ → Type 0) (go
       → request_in fixed task suites phase ≡ Some (server, asked) → ResponseSo response
       → Left (after_response fixed (record { task = task; suites = suites; phase = phase }) cache server asked response)
   l_response task cache suites (Gathering number) server asked (Replied said') cached in' is so = l_gathered task cache suites number (suite_of suites number) server asked said' refl cached in' is so
-  l_response task cache suites (Gathering number) server asked (Lacked lacked) cached in' is so = walk.l_give_up fixed V S goes task cache suites (lack_cause server lacked) cached in'.0
   l_response task cache suites (Fetching number) server asked (Replied said') cached in' is so = l_fetched task cache suites number (suite_of suites number) server (given_in said') refl cached in'.0 in'.1
-  l_response task cache suites (Fetching number) server asked (Lacked lacked) cached in' is so = walk.l_give_up fixed V S goes task cache suites (lack_cause server lacked) cached in'.0
   l_response task cache suites (Widens [] granted) server asked response cached in' is so = absurd in'
   l_response task cache suites (Widens (number ∷ left) granted) server asked (Replied said') cached in' is so = l_widened task cache suites number left granted (suite_of suites number) server asked said' refl cached in' is so
-  l_response task cache suites (Widens (number ∷ left) granted) server asked (Lacked lacked) cached in' is so = walk.l_give_up fixed V S goes task cache suites (lack_cause server lacked) cached in'.0
   l_response task cache suites (Preparing [] outcome) server asked response cached in' is so = absurd in'
   l_response task cache suites (Preparing (now ∷ left) outcome) server asked (Replied said') cached in' is so = l_prepared task cache suites outcome server left said' cached in'.0 in'.1.1
-  l_response task cache suites (Preparing (now ∷ left) outcome) server asked (Lacked lacked) cached in' is so = walk.l_give_up fixed V S goes task cache suites (lack_cause server lacked) cached in'.0
   l_response task cache suites (Deciding outcome) server asked (Replied said') cached in' is so =
       let v = verdict_in said' Rattle.rep_core.specs.declared.reply.Verdict.TheVariants.Aborted in
       walk.l_end fixed V S goes task cache suites v (ending_by v (cause_of_abort said')) (locked_at suites) cached (walk.all_locking fixed V S goes suites in')
@@ -294,6 +284,7 @@ module _ (fixed : Fixed) (V : Configuration → Type 0) (S : ℕ → Type 0) (go
   l_response task cache suites (Finishing [] v ending) server asked response cached in' is so = absurd in'
   l_response task cache suites (Finishing (now ∷ left) v ending) server asked (Replied said') cached in' is so = walk.l_end fixed V S goes task cache suites v ending left cached in'.1
   l_response task cache suites (Finishing (now ∷ left) v ending) server asked (Lacked lacked) cached in' is so = walk.l_end fixed V S goes task cache suites v ending left cached in'.1
+  l_response task cache suites other server asked (Lacked lacked) cached in' is so = walk.l_give_up fixed V S goes task cache suites (lack_cause server lacked) cached in'.0
 
   -- ---- whom it asks
 
@@ -318,10 +309,8 @@ module _ (fixed : Fixed) (V : Configuration → Type 0) (S : ℕ → Type 0) (go
   pub phase_asks : (task : Task) (suites : Suites) (phase : Phase) → Phase' suites phase → AsksSo (request_in fixed task suites phase)
   phase_asks task suites (Gathering number) in' = collector_asks task suites number in'.0 in'.2.asking
   phase_asks task suites (Fetching number) in' = fetch_asks task suites number in'.0 in'.1 in'.2.0 in'.2.1
-  phase_asks task suites (Widens [] granted) in' = in'
   phase_asks task suites (Widens (number ∷ left) granted) in' = collector_asks task suites number in'.0 in'.1
-  phase_asks task suites (Preparing [] outcome) in' = in'
   phase_asks task suites (Preparing (now ∷ left) outcome) in' = in'.1.0
   phase_asks task suites (Deciding outcome) in' = goes.home task.t
-  phase_asks task suites (Finishing [] v ending) in' = in'
   phase_asks task suites (Finishing (now ∷ left) v ending) in' = in'.0
+  phase_asks task suites other in' = in'

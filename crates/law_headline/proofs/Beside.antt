@@ -1,10 +1,9 @@
 -- What holds beside the rest, event by event: jobs set valid votes, the register's row holds a content of its kind, and what is prepared is what was sent. It gives what is owed at a decision.
 use Rattle.law_headline.proofs.Vocabulary.{◌≡◌, ℕ, ◌≤◌, zero, suc, Bool, true, false, cond, List, [], Option, Some, None, is_some, Ok, Err, refl, sym, ap, subst, ◌∙◌, arith, ◌==◌, nat_le, ◌&&◌, ◌||◌, unwrap_or, false≢true, nat_tests}
-use Rattle.law_headline.proofs.Vocabulary.{IsValid, Content, kind_of, Opening, absent_copy, Prefix, Replica, root_copy, ReadPoint, GatheredSuite, suite_of, change_of, new_prefix, Proposal, Deciding, Phase, Gathering, Fetching, Widening}
-use Rattle.law_headline.proofs.Vocabulary.{Preparing, Finishing, TransactionRun, Doing, Running, RunningSweep, changes_of, Agent, fixed_of, Begin, Step, Crash, Return, Forget, Lack, Actor, actor_at, Decided, Beginning, Known, Entry}
+use Rattle.law_headline.proofs.Vocabulary.{IsValid, Content, kind_of, Opening, absent_copy, Prefix, Replica, root_copy, ReadPoint, GatheredSuite, suite_of, change_of, new_prefix, Proposal, Deciding, Phase}
+use Rattle.law_headline.proofs.Vocabulary.{TransactionRun, Doing, Running, RunningSweep, changes_of, Agent, fixed_of, Step, Actor, actor_at, Decided, Beginning, Known, Entry}
 use Rattle.law_headline.proofs.Vocabulary.{IsKnown, IsPlain, row, Told, World, happens, IsReady, Inv, all_known, beginning, showed, showed_to, known_by, change_to, written_from, first_of, decides_with, decides_without, decides_first}
 use Rattle.law_headline.proofs.Vocabulary.{decides_on, decision_in, decision_by, OwesKnown, Stage, ReadyIn, IsReadying, InCourse, IsDoing, LogIs, decision_of_actor, decision_at, FitsAs, fits_kind}
-use Rattle.suite_content.specs.declared.content.Kind.TheVariants as holds
 use Rattle.file_exec.specs.declared.changes.Change as executor
 use Rattle.run_core.specs.declared.event.Event as happening
 use Rattle.run_core.specs.Worlds as worlds
@@ -91,11 +90,7 @@ module _ (given : Opening) (z : ℕ) (w : World) (inv : Inv (beginning z given) 
 
   by_phase : (agent : Agent) (txn_run : TransactionRun) (phase : Phase) → ValidOr (fixed_of given) agent → agent.doing ≡ Some (Running txn_run) → txn_run.phase ≡ phase → Decides (decision_in z w txn_run.task txn_run.suites phase)
   by_phase agent txn_run (Deciding outcome) valid running is = on_suite txn_run outcome (came_well (fixed_of given) agent valid txn_run outcome running is) (suite_of txn_run.suites z) refl
-  by_phase agent txn_run (Gathering number) valid running is = λ plain. kind
-  by_phase agent txn_run (Fetching number) valid running is = λ plain. kind
-  by_phase agent txn_run (Widening left granted) valid running is = λ plain. kind
-  by_phase agent txn_run (Preparing left outcome) valid running is = λ plain. kind
-  by_phase agent txn_run (Finishing servers v ending) valid running is = λ plain. kind
+  by_phase agent txn_run other valid running is = λ plain. kind
 
   by_doing : (agent : Agent) (doing : Option Doing) → ValidOr (fixed_of given) agent → agent.doing ≡ doing → Decides (decision_by z w doing)
   by_doing agent (Some (Running txn_run)) valid running = by_phase agent txn_run txn_run.phase valid running refl
@@ -109,11 +104,7 @@ module _ (given : Opening) (z : ℕ) (w : World) (inv : Inv (beginning z given) 
 
     by_event : (event : happening.Event) → Decides (decision_at z w world event)
     by_event (Step number) = by_actor number (actor_at world number) refl
-    by_event (Begin number job) = λ plain. kind
-    by_event (Crash server) = λ plain. kind
-    by_event (Return server) = λ plain. kind
-    by_event (Forget number site) = λ plain. kind
-    by_event (Lack number why) = λ plain. kind
+    by_event other = λ plain. kind
 
     pub kind_after : (event : happening.Event) (one : Option Decided) (log : List Entry) → LogIs start (decision_at z w world event) w one log → IsPlain start log → HoldsItsKind (row start log)
     kind_after event None log is plain = subst (λ log. HoldsItsKind (row start log)) (sym is) kind

@@ -153,9 +153,7 @@ module _ (fixed : Fixed) (task : Task) where
 
     needed_first : (heard : Executed) (more : Gathered) → open_needed task all heard ≡ Some more → AllFirst more.suites
     needed_first (exec.Need (Know number)) more is = at_suite number (suite_of all.suites number) more refl is
-    needed_first (exec.Need (Hold number mode)) more is = cc
-    needed_first (exec.Done answers changes) more is = cc
-    needed_first (exec.Refused refusal) more is = cc
+    needed_first other more is = cc
 
   opened_first : (n : ℕ) (all : Gathered) → AllFirst all.suites → AllFirst (opened n fixed task all).suites
   opened_first zero all firsts = firsts
@@ -204,13 +202,9 @@ module _ (fixed : Fixed) (task : Task) where
   first_fetched cache suites number server None None there all = first_give_up cache suites (Lost server) all
 
   first_lack : (cache : Cache) (suites : Suites) (phase : Phase) (server : ℕ) (lacked : Lack) → AllFirst suites → Firsts (after_lack task cache suites phase server lacked)
-  first_lack cache suites (Gathering number) server lacked all = first_give_up cache suites (lack_cause server lacked) all
-  first_lack cache suites (Fetching number) server lacked all = first_give_up cache suites (lack_cause server lacked) all
-  first_lack cache suites (Widening left granted) server lacked all = first_give_up cache suites (lack_cause server lacked) all
-  first_lack cache suites (Preparing left outcome) server lacked all = first_give_up cache suites (lack_cause server lacked) all
-  first_lack cache suites (Deciding outcome) server lacked all = first_give_up cache suites (lack_cause server lacked) all
   first_lack cache suites (Finishing [] v ending) server lacked all = tt
   first_lack cache suites (Finishing (now ∷ left) v ending) server lacked all = first_end cache suites v ending left all
+  first_lack cache suites other server lacked all = first_give_up cache suites (lack_cause server lacked) all
 
   first_word : (cache : Cache) (suites : Suites) (phase : Phase) (server : ℕ) (asked : Request) (response : Response)
       → ((number : ℕ) → Hears phase number → (suite : GatheredSuite) → suite_of suites number ≡ Some suite → IsNarrow suite) → AllFirst suites

@@ -17,10 +17,7 @@ IsPrepared z w t suites outcome i = (suite : GatheredSuite) → suite_of suites 
 abbrev pub PartsIn : ℕ → World → ℕ → Suites → Phase → Type 0
 PartsIn z w t suites (Preparing left outcome) = (i : ℕ) → i < max_servers → holds Shared (told_at suites z) i ≡ true → Has left i ⊎ IsPrepared z w t suites outcome i
 PartsIn z w t suites (Deciding outcome) = (i : ℕ) → i < max_servers → holds Shared (told_at suites z) i ≡ true → IsPrepared z w t suites outcome i
-PartsIn z w t suites (Gathering number) = Unit {0}
-PartsIn z w t suites (Fetching number) = Unit {0}
-PartsIn z w t suites (Widening left granted) = Unit {0}
-PartsIn z w t suites (Finishing servers v ending) = Unit {0}
+PartsIn z w t suites other = Unit {0}
 
 abbrev pub DoingPrepared : ℕ → World → Option Doing → Type 0
 DoingPrepared z w (Some (Running txn_run)) = PartsIn z w txn_run.task.t txn_run.suites txn_run.phase
@@ -38,10 +35,7 @@ parts_same z w later t suites (Preparing left outcome) same is = λ i small held
   | inr there ↦ inr (λ suite found. prepared_same w later t i _ (same i) (there suite found))
 ]
 parts_same z w later t suites (Deciding outcome) same is = λ i small held suite found. prepared_same w later t i _ (same i) (is i small held suite found)
-parts_same z w later t suites (Gathering number) same is = tt
-parts_same z w later t suites (Fetching number) same is = tt
-parts_same z w later t suites (Widening left granted) same is = tt
-parts_same z w later t suites (Finishing servers v ending) same is = tt
+parts_same z w later t suites other same is = tt
 
 pub doing_same : (z : ℕ) (w later : World) (doing : Option Doing) → ((txn_run : TransactionRun) → doing ≡ Some (Running txn_run) → (i : ℕ)
     → later.ready i txn_run.task.t ≡ w.ready i txn_run.task.t) → DoingPrepared z w doing → DoingPrepared z later doing
@@ -102,10 +96,7 @@ from_unprepared z w (Some (Running txn_run)) is = of txn_run.phase is
     of : (phase : Phase) → ReadyIn z (unprepared w) txn_run.task.t txn_run.suites phase → PartsIn z w txn_run.task.t txn_run.suites phase
     of (Preparing left outcome) is = λ i small held. elim (is i small held) [ inl waits ↦ inl waits | inr none ↦ absurd (false≢true none) ]
     of (Deciding outcome) is = λ i small held. absurd (false≢true (is i small held))
-    of (Gathering number) is = tt
-    of (Fetching number) is = tt
-    of (Widening left granted) is = tt
-    of (Finishing servers v ending) is = tt
+    of other is = tt
 from_unprepared z w (Some (RunningSweep sweep_run)) is = tt
 from_unprepared z w None is = tt
 
@@ -123,14 +114,7 @@ PreparesPart z w later doing response =
 
 said_prepared : (said : Reply) → is_prepared said ≡ true → said ≡ reply.Prepared
 said_prepared reply.Prepared is = refl
-said_prepared (reply.Held prefix dver) is = absurd (false≢true is)
-said_prepared (reply.Busy holder p) is = absurd (false≢true is)
-said_prepared reply.Lost is = absurd (false≢true is)
-said_prepared (reply.Given dver content) is = absurd (false≢true is)
-said_prepared (reply.Verdict v) is = absurd (false≢true is)
-said_prepared reply.Done is = absurd (false≢true is)
-said_prepared (reply.Locked listed) is = absurd (false≢true is)
-said_prepared reply.Down is = absurd (false≢true is)
+said_prepared other is = absurd (false≢true is)
 
 -- in a phase before the servers prepare
 abbrev phase_or : Option Doing → Phase

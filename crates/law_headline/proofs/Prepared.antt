@@ -1,7 +1,7 @@
 -- In every run what is prepared at a decision is the part that the transaction sent: event by event.
 use Rattle.law_headline.proofs.Vocabulary.{◌≡◌, ℕ, ◌+◌, ◌<◌, Bool, IsTrue, true, false, cond, List, [], ◌∷◌, Option, Some, None, is_some, Ok, Err, refl, sym, ap, subst, ◌∙◌, ◌*◌, ◌==◌, ◌&&◌, nat_lt, slice_get, slice_set, false≢true}
 use Rattle.law_headline.proofs.Vocabulary.{same_Some, max_servers, Opening, is_exclusive, Part, Request, Reply, State, reply_of, answer_of, is_full, holds, Shared, ReadPoint, GatheredSuite, suite_of, told_at, part_of, parts_at}
-use Rattle.law_headline.proofs.Vocabulary.{Response, Replied, Lacked, Job, Transaction, Sweep, Proposal, Phase, Gathering, Fetching, Widening, Preparing, Deciding, Finishing, TransactionRun, Doing, Running, RunningSweep, request_in}
+use Rattle.law_headline.proofs.Vocabulary.{Response, Replied, Lacked, Job, Transaction, Sweep, Proposal, Phase, Preparing, Deciding, TransactionRun, Doing, Running, RunningSweep, request_in}
 use Rattle.law_headline.proofs.Vocabulary.{changes_of, Agent, fixed_of, next_in, next_of, take_in, begin, started, forget, is_idle, has_sense, max_jobs, asks_same, Begin, Step, Crash, Return, Forget, Lack, Actor, server_at, actor_at}
 use Rattle.law_headline.proofs.Vocabulary.{answered, asks_at, asks, steps_once, lacks_for, lacks, operated, operates, becomes, step, Beginning, Known, Change, Told, World, begun, Held, Upgrade, GiveUp, Overrule, happens, run}
 use Rattle.law_headline.proofs.Vocabulary.{holds_exclusively, at2, one_is, prepare_of, first_verdict, moves, beginning, names, may_sweep, asks_in_its_name, asks_to_sweep, to_write, decides_with, decides_without, decides_first}
@@ -49,11 +49,7 @@ by_decision start z w (Some (Running txn_run)) = of txn_run.phase
   where
     of : (phase : Phase) → (happens start w (decision_by z w (Some (Running (record { task = txn_run.task; suites = txn_run.suites; phase = phase }))))).ready ≡ w.ready
     of (Deciding outcome) = by_on start w w txn_run.task.t outcome (to_write z txn_run.suites outcome) (suite_of txn_run.suites z)
-    of (Gathering number) = refl
-    of (Fetching number) = refl
-    of (Widening left granted) = refl
-    of (Preparing left outcome) = refl
-    of (Finishing servers v ending) = refl
+    of other = refl
 
 module _ (start : Beginning) (z : ℕ) (home : ℕ → ℕ) (decision : Event) (i : ℕ) (w : World) (keeps : (happens start w decision).ready ≡ w.ready) where
   ready_if : (u : ℕ) (b : Bool) (event : Event) → (happens start w event).ready ≡ w.ready → (j : ℕ) → (run start w (cond b (event ∷ []) [])).ready j u ≡ w.ready j u

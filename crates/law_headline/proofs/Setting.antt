@@ -18,22 +18,16 @@ keeps_content (SetContent content) row is = cc
 keeps_content (Make made) row is = cc
 
 keeps_owner : (edit : Edit) (row : Option Row) → makes edit ≡ false → option_map (λ (row : Row). row.owner) row ≡ option_map (λ (row : Row). row.owner) (changed edit row)
-keeps_owner (SetAcl acl) None is = refl
 keeps_owner (SetAcl acl) (Some row) is = refl
-keeps_owner (SetVotes votes) None is = refl
-keeps_owner (SetVotes votes) (Some row) is = refl
-keeps_owner (SetContent content) None is = refl
-keeps_owner (SetContent content) (Some row) is = refl
 keeps_owner (Make made) row is = cc
+keeps_owner other None is = refl
+keeps_owner other (Some row) is = refl
 
 keeps_group : (edit : Edit) (row : Option Row) → makes edit ≡ false → option_map (λ (row : Row). row.group) row ≡ option_map (λ (row : Row). row.group) (changed edit row)
-keeps_group (SetAcl acl) None is = refl
 keeps_group (SetAcl acl) (Some row) is = refl
-keeps_group (SetVotes votes) None is = refl
-keeps_group (SetVotes votes) (Some row) is = refl
-keeps_group (SetContent content) None is = refl
-keeps_group (SetContent content) (Some row) is = refl
 keeps_group (Make made) row is = cc
+keeps_group other None is = refl
+keeps_group other (Some row) is = refl
 
 -- what makes a row sets all of it
 makes_all : (kind : Edit → Bool) → ((edit : Edit) → makes edit ≡ true → kind edit ≡ true) → (edits : Edits) (suite : ℕ) → some kind edits suite ≡ false → some makes edits suite ≡ false
@@ -73,13 +67,11 @@ abbrev kind_in : Option Row → Option Kind
 kind_in row = option_map (λ (row : Row). kind_of row.content) row
 
 fit_kind : (edit : Edit) (row : Option Row) → FitsRow edit row → makes edit ≡ false → kind_in row ≡ kind_in (changed edit row)
-fit_kind (SetAcl acl) None fits is = refl
 fit_kind (SetAcl acl) (Some row) fits is = refl
-fit_kind (SetVotes votes) None fits is = refl
 fit_kind (SetVotes votes) (Some row) fits is = refl
-fit_kind (SetContent content) None fits is = refl
 fit_kind (SetContent content) (Some row) fits is = ap Some (fits row refl)
 fit_kind (Make made) row fits is = cc
+fit_kind other None fits is = refl
 
 -- unless the row is made its kind stays
 kind_stays : (rows : ℕ → Option Row) (edits : Edits) (suite : ℕ) → AllFit rows edits → some makes edits suite ≡ false → kind_in (rows suite) ≡ kind_in (seen edits suite (rows suite))
@@ -97,12 +89,10 @@ ValidIn row = (r : Row) → row ≡ Some r → IsValid r.votes
 
 fit_valid : (edit : Edit) (row : Option Row) → FitsRow edit row → ValidIn row → ValidIn (changed edit row)
 fit_valid (Make made) row fits valid r is = subst (λ (r : Row). IsValid r.votes) (same_Some made r is) fits
-fit_valid (SetAcl acl) None fits valid r is = absurd (none-some r is)
-fit_valid (SetVotes votes) None fits valid r is = absurd (none-some r is)
-fit_valid (SetContent content) None fits valid r is = absurd (none-some r is)
 fit_valid (SetAcl acl) (Some row) fits valid r is = subst (λ (r : Row). IsValid r.votes) (same_Some (record row { acl = acl }) r is) (valid row refl)
 fit_valid (SetVotes votes) (Some row) fits valid r is = subst (λ (r : Row). IsValid r.votes) (same_Some (record row { votes = votes }) r is) fits
 fit_valid (SetContent content) (Some row) fits valid r is = subst (λ (r : Row). IsValid r.votes) (same_Some (record row { content = content }) r is) (valid row refl)
+fit_valid other None fits valid r is = absurd (none-some r is)
 
 stays_valid : (rows : ℕ → Option Row) (edits : Edits) (suite : ℕ) → AllFit rows edits → ValidIn (rows suite) → ValidIn (seen edits suite (rows suite))
 stays_valid rows [] suite fit valid = valid

@@ -1,6 +1,6 @@
 -- A lock that a transaction was told of and that is gone never comes back; so one that stands at last stood all the while. It is exclusive where the transaction was told so.
-use Rattle.law_headline.proofs.Vocabulary.{◌≡◌, ℕ, Bool, true, false, List, [], ◌∷◌, Option, Some, None, is_some, refl, sym, ap, subst, ◌∙◌, false≢true, Beginning, Hold, Told, World, Held, Upgrade, Aim, Prepare, DecideRead}
-use Rattle.law_headline.proofs.Vocabulary.{DecideRefused, DecideWrite, DecideElsewhere, Overrule, GiveUp, Finish, Lose, upgraded_hold, upgraded_told, prepared_hold, kept, happens, run, May, Obeys, at2, at2_both}
+use Rattle.law_headline.proofs.Vocabulary.{◌≡◌, ℕ, Bool, true, false, List, [], ◌∷◌, Option, Some, None, is_some, refl, sym, ap, subst, ◌∙◌, false≢true, Beginning, Hold, Told, World, Held, Upgrade, Prepare}
+use Rattle.law_headline.proofs.Vocabulary.{Finish, Lose, upgraded_hold, upgraded_told, prepared_hold, kept, happens, run, May, Obeys, at2, at2_both}
 use Rattle.law_suite_machine.specs.Events.{Event}
 use Rattle.law_suite_machine.specs.Conditions.{is_exclusive}
 
@@ -14,16 +14,7 @@ told_event start w (Held j u exclusive) i t is = at2 (λ o. is_some o ≡ true) 
 told_event start w (Upgrade j u) i t is =
     at2 (λ o. is_some o ≡ true) w.told j u (upgraded_told (w.told j u)) i t
     (λ at. upgraded_some (w.told j u) (subst (λ j. is_some (w.told j u) ≡ true) at.0 (subst (λ u. is_some (w.told i u) ≡ true) at.1 is))) (λ _. is)
-told_event start w (Aim u new) i t is = is
-told_event start w (Prepare j u left) i t is = is
-told_event start w (DecideRead u set known) i t is = is
-told_event start w (DecideRefused u set known) i t is = is
-told_event start w (DecideWrite u set known new) i t is = is
-told_event start w (DecideElsewhere u v) i t is = is
-told_event start w (Overrule u) i t is = is
-told_event start w (GiveUp u) i t is = is
-told_event start w (Finish j u v) i t is = is
-told_event start w (Lose keep) i t is = is
+told_event start w other i t is = is
 
 pub told_stays : (start : Beginning) (w : World) (events : List Event) (i t : ℕ) → is_some (w.told i t) ≡ true → is_some ((run start w events).told i t) ≡ true
 told_stays start w [] i t is = is
@@ -55,13 +46,7 @@ stood_event start w (Prepare j u left) may i t told =
 stood_event start w (Finish j u v) may i t told =
     at2 (λ o. is_some o ≡ true → is_some (w.lock i t) ≡ true) w.lock j u None i t (λ _ is. absurd (false≢true is)) (λ _ is. is)
 stood_event start w (Lose keep) may i t told = kept_was (keep i t) (w.lock i t)
-stood_event start w (Aim u new) may i t told = λ is. is
-stood_event start w (DecideRead u set known) may i t told = λ is. is
-stood_event start w (DecideRefused u set known) may i t told = λ is. is
-stood_event start w (DecideWrite u set known new) may i t told = λ is. is
-stood_event start w (DecideElsewhere u v) may i t told = λ is. is
-stood_event start w (Overrule u) may i t told = λ is. is
-stood_event start w (GiveUp u) may i t told = λ is. is
+stood_event start w other may i t told = λ is. is
 
 pub stood : (start : Beginning) (w : World) (events : List Event) → Obeys start w events → (i t : ℕ) → is_some (w.told i t) ≡ true → is_some ((run start w events).lock i t) ≡ true → is_some (w.lock i t) ≡ true
 stood start w [] obeys i t told is = is
@@ -96,16 +81,7 @@ mode_event start w (Held j u exclusive) may wanted i t is =
 mode_event start w (Upgrade j u) may wanted i t is =
     at2 (ToldMode wanted) w.told j u (upgraded_told (w.told j u)) i t
     (λ at. upgraded_mode wanted (w.told j u) (subst (λ j. ToldMode wanted (w.told j u)) at.0 (subst (λ u. ToldMode wanted (w.told i u)) at.1 is))) (λ _. is)
-mode_event start w (Aim u new) may wanted i t is = is
-mode_event start w (Prepare j u left) may wanted i t is = is
-mode_event start w (DecideRead u set known) may wanted i t is = is
-mode_event start w (DecideRefused u set known) may wanted i t is = is
-mode_event start w (DecideWrite u set known new) may wanted i t is = is
-mode_event start w (DecideElsewhere u v) may wanted i t is = is
-mode_event start w (Overrule u) may wanted i t is = is
-mode_event start w (GiveUp u) may wanted i t is = is
-mode_event start w (Finish j u v) may wanted i t is = is
-mode_event start w (Lose keep) may wanted i t is = is
+mode_event start w other may wanted i t is = is
 
 pub mode_stays : (start : Beginning) (w : World) (events : List Event) → Obeys start w events → (wanted : Bool) (i t : ℕ) → ToldMode wanted (w.told i t) → ToldMode wanted ((run start w events).told i t)
 mode_stays start w [] obeys wanted i t is = is
@@ -141,13 +117,7 @@ as_told_event start w (Prepare j u left) all i t =
     (λ at. prepared_as (w.told i t) (w.lock j u) (subst (λ j. AsTold (w.told i t) (w.lock j u)) at.0 (subst (λ u. AsTold (w.told i t) (w.lock i u)) at.1 (all i t)))) (λ _. all i t)
 as_told_event start w (Finish j u v) all i t = at2 (AsTold (w.told i t)) w.lock j u None i t (λ _. tt) (λ _. all i t)
 as_told_event start w (Lose keep) all i t = kept_as (keep i t) (w.told i t) (w.lock i t) (all i t)
-as_told_event start w (Aim u new) all i t = all i t
-as_told_event start w (DecideRead u set known) all i t = all i t
-as_told_event start w (DecideRefused u set known) all i t = all i t
-as_told_event start w (DecideWrite u set known new) all i t = all i t
-as_told_event start w (DecideElsewhere u v) all i t = all i t
-as_told_event start w (Overrule u) all i t = all i t
-as_told_event start w (GiveUp u) all i t = all i t
+as_told_event start w other all i t = all i t
 
 pub as_told : (start : Beginning) (w : World) (events : List Event) → AllAsTold w → AllAsTold (run start w events)
 as_told start w [] all = all

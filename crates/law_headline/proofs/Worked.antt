@@ -1,7 +1,7 @@
 -- They can be, and the rest holds by computation.
 use Rattle.law_headline.proofs.Vocabulary.{◌≡◌, inl, inr, ℕ, ◌<◌, Bool, true, List, [], ◌∷◌, Option, Some, None, is_some, refl, sym, ap, ◌∙◌, subst, arith, lit<, nat_lt, ◌&&◌, not, AllByRecursion, list_all, nat_cmp, contains-empty}
 use Rattle.law_headline.proofs.Vocabulary.{and_parts, false≢true, nat_tests, All-from_recursion, VotesFault, Configuration, Representative, IsValid, first_fault, max_servers, accepted_without_fault, IsAccepted, Shared, Prefix, File}
-use Rattle.law_headline.proofs.Vocabulary.{Action, Op, row_of, Transaction, Sweep, mode_lists, Event, Begin, Step, Crash, Return, Forget, Lack, decisions, table_after_all, GivesValidVotes, EventGivesValidVotes, VotesAreValid}
+use Rattle.law_headline.proofs.Vocabulary.{Action, Op, row_of, Transaction, mode_lists, Event, Begin, decisions, table_after_all, GivesValidVotes, EventGivesValidVotes, VotesAreValid}
 use Rattle.law_headline.proofs.Vocabulary.{with_caches, revoked, revoked_decisions, SomeRunRevokes, six_servers, moved_decisions, SomeRunMovesVotes, upgraded, SomeRunHoldsLocks}
 use Rattle.rep_core.specs.declared.request.Request.TheVariants as request
 use Rattle.rep_core.specs.declared.reply.Reply.TheVariants as reply
@@ -51,12 +51,7 @@ event_fits _ = true
 
 pub valid_event : (event : Event) → event_fits event ≡ true → EventGivesValidVotes event
 valid_event (Begin number (Transaction caller site ops)) is = all_by (λ (op : Op). GivesValidVotes op.action) (λ op. action_fits op.action) (λ op. valid_action op.action) ops is
-valid_event (Begin number (Sweep server)) is = tt
-valid_event (Step number) is = tt
-valid_event (Crash server) is = tt
-valid_event (Return server) is = tt
-valid_event (Forget number site) is = tt
-valid_event (Lack number why) is = tt
+valid_event other is = tt
 
 valid_events : (events : List Event) → list_all event_fits events ≡ true → VotesAreValid events
 valid_events events is = all_by EventGivesValidVotes event_fits valid_event events is

@@ -19,9 +19,8 @@ use Rattle.law_one_table.proofs.Running.{earlier}
 
 answered_is : (found : Option Verdict) → is_answered (verdict_of found) ≡ was_answered found
 answered_is (Some (verdict.Answered answers)) = refl
-answered_is (Some (verdict.Refused refusal)) = refl
-answered_is (Some verdict.Aborted) = refl
 answered_is None = refl
+answered_is (Some other) = refl
 
 module _ (given : Opening) (events : List happening.Event) (z : ℕ) (w : World) (shows : Shows z (home_in given) (servers_of given (runs.run given events)) w) where
   plans : (found : Option Intention) (copy : Replica) → machine.in_effect w.verdict (plan_of found copy) copy ≡ store.in_effect found (answered_in given events) copy

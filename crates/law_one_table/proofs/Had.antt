@@ -1,7 +1,7 @@
 -- Each prefix and each content that a register had is the register's own after some beginning of the run.
 use Rattle.law_one_table.proofs.Vocabulary.{◌≡◌, inl, inr, ℕ, ◌<◌, ◌≤◌, true, false, List, [], ◌∷◌, ◌++◌, append_assoc, Option, Some, None, refl, sym, ap, subst, ◌∙◌, arith, ◌==◌, nat_tests, Content, Opening, Prefix, Replica, fixed_of}
-use Rattle.law_one_table.proofs.Vocabulary.{Decided, decided, one_more, Beginning, IsBeginning, Known, Entry, Wrote, IsNext, IsPlain, changed, row, prefix_at, content_at, World, Event, Held, Upgrade, Aim, Prepare, DecideRead}
-use Rattle.law_one_table.proofs.Vocabulary.{DecideRefused, DecideWrite, DecideElsewhere, Overrule, GiveUp, Finish, Lose, happens, at1, one_is, beginning, machine_of, register, AllKeepSides}
+use Rattle.law_one_table.proofs.Vocabulary.{Decided, decided, one_more, Beginning, IsBeginning, Known, Entry, Wrote, IsNext, IsPlain, changed, row, prefix_at, content_at, World, Event, DecideRead}
+use Rattle.law_one_table.proofs.Vocabulary.{DecideRefused, DecideWrite, happens, at1, one_is, beginning, machine_of, register, AllKeepSides}
 use Rattle.run_core.specs.declared.event.Event as happening
 use Rattle.run_core.specs.Runs as runs
 use Rattle.law_one_table.proofs.Logs.{LogIs, decision_at, event_log}
@@ -67,18 +67,10 @@ module _ (given : Opening) (z : ℕ) where
   -- an event of the machine, after which the register is as after these events
   happened : (events : List happening.Event) (w : World) (event : Event) → register given z events ≡ row start (happens start w event).log
       → IsPlain start (happens start w event).log → Had given z events w.log → Had given z events (happens start w event).log
-  happened events w (Held i t e) is plain had = had
-  happened events w (Upgrade i t) is plain had = had
-  happened events w (Aim t new) is plain had = had
-  happened events w (Prepare i t left) is plain had = had
   happened events w (DecideRead t set known) is plain had = record { prefix = had.prefix; content = had.content }
   happened events w (DecideRefused t set known) is plain had = record { prefix = had.prefix; content = had.content }
   happened events w (DecideWrite t set known new) is plain had = wrote events w.log t known (changed new (row start w.log)) is plain.1 had
-  happened events w (DecideElsewhere t v) is plain had = had
-  happened events w (Overrule t) is plain had = had
-  happened events w (GiveUp t) is plain had = had
-  happened events w (Finish i t v) is plain had = had
-  happened events w (Lose keep) is plain had = had
+  happened events w other is plain had = had
 
   -- ---- of a run
 

@@ -83,14 +83,9 @@ module _ (fixed : Fixed) (task : Task) where
   eager_before (goes move rest) eager = λ number is. absurd (subst IsGoing is (is_going move))
 
   ends_at : (cache : Cache) (suites : Suites) (stage : Stage) (step : Step) → EndsIn task cache suites stage step → step ≡ step_at fixed task cache suites stage
-  ends_at cache suites (Asks phase) step is = sym is
-  ends_at cache suites (Prepares outcome) step is = sym is
-  ends_at cache suites (PreparesAt servers outcome) step is = sym is
-  ends_at cache suites (GivesUp cause) step is = sym is
-  ends_at cache suites (Tells verdict ending) step is = sym is
-  ends_at cache suites (TellsAt servers verdict ending) step is = sym is
   ends_at cache suites Executes step is = absurd is
   ends_at cache suites (Widens left granted) step is = absurd is
+  ends_at cache suites other step is = sym is
 
   pub comes_to : {at end : Point} (step : Step) → Moves fixed task at end → EndsIn task end.cache end.suites end.stage step → Rises at.suites → IsEager task end → step ≡ step_from fixed task at
   comes_to step (stays {at = at}) ends rises eager = ends_at at.cache at.suites at.stage step ends

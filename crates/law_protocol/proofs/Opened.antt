@@ -1,7 +1,7 @@
 -- Contents that are to be had without asking are opened until none is left that is needed: each takes one suite from those that have none, so
 -- that as many rounds as there are suites are enough.
 use Rattle.law_protocol.proofs.Vocabulary.{◌≡◌, ℕ, zero, suc, ◌+◌, ◌≤◌, Bool, true, false, cond, List, [], ◌∷◌, Option, Some, None, refl, sym, ap, subst, ◌∙◌, arith, length, is_some, Ok, Err, nat_cmp, is_at, nat_cmp_total}
-use Rattle.law_protocol.proofs.Vocabulary.{length-set_value, same_Some, replace, IsOrdered-insert, insert_present, Content, Answer, Refusal, Need, Hold, Know, answered, Known, Heard, Needs, Done, needs_what_is_unmet, ReadPoint}
+use Rattle.law_protocol.proofs.Vocabulary.{length-set_value, same_Some, replace, IsOrdered-insert, insert_present, Content, Answer, Refusal, Need, Know, answered, Known, Heard, Needs, Done, needs_what_is_unmet, ReadPoint}
 use Rattle.law_protocol.proofs.Vocabulary.{GatheredSuite, Suites, suite_of, with_suite, known_of, Fixed, Task, Gathered, free_content, after_search, opened_with, open_first, open_suite, open_needed, or_all, opened, heard_on, known_at}
 use Rattle.law_protocol.proofs.Vocabulary.{Rises}
 use Rattle.file_exec.specs.declared.executor.Outcome.{Outcome as Executed}
@@ -109,9 +109,7 @@ module _ (fixed : Fixed) (task : Task) where
 
       of : (heard : Executed) → heard_on fixed task all.suites ≡ heard → open_needed task all heard ≡ Some more → Opens all more
       of (exec.Need (Know number)) needs is = by_suite number (suite_of all.suites number) needs refl is
-      of (exec.Need (Hold number mode)) needs is = cc
-      of (exec.Done answers changes) needs is = cc
-      of (exec.Refused refusal) needs is = cc
+      of other needs is = cc
 
   pub round_opens : (all : Gathered) (number : ℕ) (suite : GatheredSuite) (first : ReadPoint) (content : Content) → heard_on fixed task all.suites ≡ exec.Need (Know number)
       → suite_of all.suites number ≡ Some suite → suite.first ≡ Some first

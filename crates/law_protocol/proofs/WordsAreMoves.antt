@@ -1,6 +1,6 @@
 -- A word, and then moves, come to what the function makes of the word, and to nothing else.
 use Rattle.law_protocol.proofs.Vocabulary.{◌≡◌, ℕ, cond, List, [], ◌∷◌, Option, Some, None, refl, sym, ap, subst, ◌∙◌, nat_cmp_total, IsOrdered-insert, Content, Request, Reply, Verdict, Lack, Said, Next, next, Cache, GatheredSuite}
-use Rattle.law_protocol.proofs.Vocabulary.{Suites, suite_of, with_suite, Response, Replied, Lacked, Lost, Ending, Fixed, Task, Phase, Gathering, Fetching, Widening, Preparing, Deciding, Finishing, Step, tell_end, give_up, prepare}
+use Rattle.law_protocol.proofs.Vocabulary.{Suites, suite_of, with_suite, Response, Replied, Lacked, Lost, Ending, Fixed, Task, Phase, Gathering, Fetching, Widening, Preparing, Finishing, Step, tell_end, give_up, prepare}
 use Rattle.law_protocol.proofs.Vocabulary.{said_to, collected, hear, keep_content, given_in, fetched, heard_of, after_reply, after_lack, after_response, lack_cause, Stage, Executes, Widens, Asks, Point, point, IsOpen, Collects}
 use Rattle.law_protocol.proofs.Vocabulary.{gathering, widening, now_told, AsksNothing, Hears, asks_on, falls_short, settles, loses, gets, misses, prepared_by, unprepared, decides, tells_next, told_all, is_lacked, strays, response_moves}
 use Rattle.law_protocol.proofs.Vocabulary.{step_at, step_from, IsEager, Rises, GoesTo, MovesAreTheProtocol}
@@ -44,12 +44,8 @@ module _ (fixed : Fixed) (task : Task) (cache : Cache) (suites : Suites) (server
   all_told v ending (Lacked lack) = refl
 
   lacks : (phase : Phase) (lack : Lack) → IsOpen phase → give_up task cache suites (lack_cause server lack) ≡ after_lack task cache suites phase server lack
-  lacks (Gathering number) lack before = refl
-  lacks (Fetching number) lack before = refl
-  lacks (Widening left granted) lack before = refl
-  lacks (Preparing left outcome) lack before = refl
-  lacks (Deciding outcome) lack before = refl
   lacks (Finishing servers v ending) lack before = absurd before
+  lacks other lack before = refl
 
   fetched_none : (number : ℕ) (found : Option GatheredSuite) (given : Option Content) → ((suite : GatheredSuite) → found ≡ Some suite → suite.first ≡ None)
       → fetched fixed task cache suites number found server given ≡ give_up task cache suites (Lost server)
@@ -65,9 +61,7 @@ module _ (fixed : Fixed) (task : Task) (cache : Cache) (suites : Suites) (server
   nothing_asked (Widening (number ∷ left) granted) reply none =
       ap (λ found. heard_of task cache suites (Widening (number ∷ left) granted) number found server asked reply (λ suites. step_at fixed task cache suites (Widens left granted))) none
   nothing_asked (Preparing [] outcome) reply nothing = refl
-  nothing_asked (Preparing (now ∷ left) outcome) reply nothing = absurd nothing
-  nothing_asked (Deciding outcome) reply nothing = absurd nothing
-  nothing_asked (Finishing servers v ending) reply nothing = absurd nothing
+  nothing_asked other reply nothing = absurd nothing
 
   hears_step : {phase : Phase} {response : Response} {heard : Point} → Hears fixed task cache suites server asked phase response heard → step_from fixed task heard ≡ After phase response
   hears_step (asks_on {suite = suite} {reply = reply} {said = said} collects there heard is) = sym (told_by reply suite said _ collects there heard is)

@@ -1,7 +1,7 @@
 -- In a run in which nothing disturbs any transaction all of them are decided, but for one that still runs.
 use Rattle.law_run_alone.proofs.Vocabulary.{◌≡◌, ◌⊎◌, inl, inr, ⊎_elim, ℕ, Bool, true, false, List, [], ◌∷◌, ◌++◌, append_assoc, Option, Some, None, refl, sym, ap, subst, ◌∙◌, ◌&&◌, ◌||◌, not, is_some, cons_option, false≢true}
-use Rattle.law_run_alone.proofs.Vocabulary.{and_parts, none-some, same_Some, Identity, Opening, IsAccepted, Op, Has, has_from, contains_from, has_any, Ending, Refused, Swept, Undecided, Job, Transaction, Doing, Running, RunningSweep}
-use Rattle.law_run_alone.proofs.Vocabulary.{fixed_of, is_idle, Event, Begin, Step, Crash, Return, Forget, Lack, EndedJob, Actor, World, opening, actor_at, step, dones, outcomes, run, done_in, decisions, task_of, task_at, dones-append}
+use Rattle.law_run_alone.proofs.Vocabulary.{and_parts, none-some, same_Some, Identity, Opening, IsAccepted, Op, Has, has_from, contains_from, has_any, Ending, Refused, Job, Transaction, Doing, Running, RunningSweep}
+use Rattle.law_run_alone.proofs.Vocabulary.{fixed_of, is_idle, Event, Begin, EndedJob, Actor, World, opening, actor_at, step, dones, outcomes, run, done_in, decisions, task_of, task_at, dones-append}
 use Rattle.law_run_alone.proofs.Vocabulary.{outcomes-append, number_of, begins_now, ended, append_has_left, append_has_right, EndStands, ends_as, later_decisions, decisions_go_on, CanBe, all_idle, begins_job, begins_alone, jobs_from}
 use Rattle.law_run_alone.proofs.Vocabulary.{jobs_of, one_at_a_time_from, one_at_a_time, IsDecided, IsRunning, AllAreDecided, UndisturbedEndingsAreOne, all_up, no_locks, disturbs, is_decided, begins_clear, some_runs}
 use Rattle.law_run_alone.proofs.Vocabulary.{all_undisturbed_from, all_undisturbed, not-true, append-nil}
@@ -43,8 +43,7 @@ decided_last given accepted all job has well = of job.ending refl well
     of : (ending : Ending) → job.ending ≡ ending → is_decided ending ≡ true → IsDecided (decisions given all) (number_of job)
     of (Answered answers) same well = let is = stands (Answered answers) same in record { decision = is.decision; there = contains_from (decisions given all) is.decision is.there; of_it = is.of_it }
     of (Refused refusal) same well = let is = stands (Refused refusal) same in record { decision = is.decision; there = contains_from (decisions given all) is.decision is.there; of_it = is.of_it }
-    of (Swept broken finished left) same well = absurd (false≢true well)
-    of (Undecided cause) same well = absurd (false≢true well)
+    of other same well = absurd (false≢true well)
 
 -- ---- who runs
 
@@ -153,11 +152,7 @@ begun_by given world (Begin i other) t job is = of (begins_now (fixed_of given) 
     of : (begun : Option ℕ) → with_job other begun ≡ Some (t, job) → BegunBy (Begin i other) job
     of None is = absurd (none-some (t, job) is)
     of (Some n) is = record { agent = i; is = ap (λ (pair : ℕ × Job). Begin i pair.1) (same_Some (n, other) (t, job) is) }
-begun_by given world (Step i) t job is = absurd (none-some (t, job) is)
-begun_by given world (Crash server) t job is = absurd (none-some (t, job) is)
-begun_by given world (Return server) t job is = absurd (none-some (t, job) is)
-begun_by given world (Forget i site) t job is = absurd (none-some (t, job) is)
-begun_by given world (Lack i why) t job is = absurd (none-some (t, job) is)
+begun_by given world other t job is = absurd (none-some (t, job) is)
 
 module _ (given : Opening) where
   begins_here : (front rest : List Event) (agent t : ℕ) (caller : Identity) (site : ℕ) (ops : List Op) →

@@ -1,7 +1,7 @@
 -- As long as one transaction alone has a job and all servers are up, nothing is in its way.
 use Rattle.law_run_alone.proofs.Vocabulary.{◌≡◌, ◌≢◌, inl, inr, ⊎_elim, ℕ, zero, suc, true, false, cond, List, [], ◌∷◌, Option, Some, None, refl, sym, ap, subst, ◌∙◌, arith, ◌==◌, not, length, slice_get, cons_option, and_parts}
 use Rattle.law_run_alone.proofs.Vocabulary.{eqb-true, none-some, same_Some, Identity, Opening, Op, Lock, Request, Stamped, is_busy, is_down, State, is_full, answer_of, Has, all_at, Job, Transaction, Fixed, fixed_of, next_in, next_of}
-use Rattle.law_run_alone.proofs.Vocabulary.{begin, Event, Begin, Step, Crash, Return, Forget, Lack, Served, EndedJob, Actor, World, server_at, actor_at, serve, answered, becomes, asks_at, asks, steps_once, step, after, run, Decided}
+use Rattle.law_run_alone.proofs.Vocabulary.{begin, Event, Begin, Step, Crash, Return, Served, EndedJob, Actor, World, server_at, actor_at, serve, answered, becomes, asks_at, asks, steps_once, step, after, run, Decided}
 use Rattle.law_run_alone.proofs.Vocabulary.{decisions, begins_now, ended, same_or, Holds, event_holds, puts_in, holds_of, all_idle, begins_job, jobs_from, all_up, no_locks, is_crash, none_crashes, NothingIsInTheWay}
 use Rattle.law_run_alone.proofs.Own.{AreOwn, not_busy, not_down}
 use Rattle.law_run_alone.proofs.Turns.{doing_of, doing_at, with_job, all_none}
@@ -35,8 +35,7 @@ module _ (given : Opening) (t turn : ℕ) (world : World) (ds : List Decided) (p
   is_calm (Step i) other none = λ actor asked is next. is_turn i actor asked is next
   is_calm (Crash server) other none = cc
   is_calm (Return server) other none = refl
-  is_calm (Forget i site) other none = tt
-  is_calm (Lack i why) other none = tt
+  is_calm another other none = tt
 
   pub event_clear : (event : Event) → is_crash event ≡ false → begins_job given world event ≡ None → Clear (step fixed world event).world t turn
   event_clear event other none = record {
@@ -85,11 +84,7 @@ none_now (Some job) later is = absurd (some_job is)
 
 pub crash_not : (event : Event) → not (is_crash event) ≡ true → is_crash event ≡ false
 crash_not (Crash server) is = cc
-crash_not (Begin i job) is = refl
-crash_not (Step i) is = refl
-crash_not (Return server) is = refl
-crash_not (Forget i site) is = refl
-crash_not (Lack i why) is = refl
+crash_not other is = refl
 
 run_clear : (given : Opening) (t turn : ℕ) (later : List Event) (world : World) (ds : List Decided) (past : List EndedJob) → Holds (fixed_of given) world ds past
     → Clear world t turn → none_crashes later ≡ true → jobs_from given world later ≡ []

@@ -19,10 +19,9 @@ AllNumbered t (e ∷ edits) = (makes e.1 ≡ true → IsNumber t e.0) × AllNumb
 
 -- a content that an edit sets is within limits
 abbrev pub IsSmall : Edit → Type 0
-IsSmall (SetAcl acl) = Unit {0}
-IsSmall (SetVotes votes) = Unit {0}
 IsSmall (SetContent content) = is_within_limits content ≡ true
 IsSmall (Make made) = is_within_limits made.content ≡ true
+IsSmall other = Unit {0}
 
 abbrev pub AllSmall : Edits → Type 0
 AllSmall [] = Unit {0}
@@ -39,12 +38,10 @@ AreSmall rows = (suite : ℕ) → IsSmallIn (rows suite)
 
 changed_small : (edit : Edit) (row : Option Row) → IsSmall edit → IsSmallIn row → IsSmallIn (changed edit row)
 changed_small (Make made) row edit small r is = subst (λ (r : Row). is_within_limits r.content ≡ true) (same_Some made r is) edit
-changed_small (SetAcl acl) None edit small r is = absurd (none-some r is)
-changed_small (SetVotes votes) None edit small r is = absurd (none-some r is)
-changed_small (SetContent content) None edit small r is = absurd (none-some r is)
 changed_small (SetAcl acl) (Some row) edit small r is = subst (λ (r : Row). is_within_limits r.content ≡ true) (same_Some (record row { acl = acl }) r is) (small row refl)
 changed_small (SetVotes votes) (Some row) edit small r is = subst (λ (r : Row). is_within_limits r.content ≡ true) (same_Some (record row { votes = votes }) r is) (small row refl)
 changed_small (SetContent content) (Some row) edit small r is = subst (λ (r : Row). is_within_limits r.content ≡ true) (same_Some (record row { content = content }) r is) edit
+changed_small other None edit small r is = absurd (none-some r is)
 
 seen_small : (edits : Edits) (suite : ℕ) (row : Option Row) → AllSmall edits → IsSmallIn row → IsSmallIn (seen edits suite row)
 seen_small [] suite row edits small = small
@@ -61,12 +58,10 @@ content_small None small = refl
 -- a content that was set is small
 set_changed : (edit : Edit) (row : Option Row) (r : Row) → IsSmall edit → changed edit row ≡ Some r → (sets_content edit ≡ false → (old : Row) → row ≡ Some old → is_within_limits old.content ≡ true) → is_within_limits r.content ≡ true
 set_changed (Make made) row r small is old = subst (λ (r : Row). is_within_limits r.content ≡ true) (same_Some made r is) small
-set_changed (SetAcl acl) None r small is old = absurd (none-some r is)
-set_changed (SetVotes votes) None r small is old = absurd (none-some r is)
-set_changed (SetContent content) None r small is old = absurd (none-some r is)
 set_changed (SetAcl acl) (Some row) r small is old = subst (λ (r : Row). is_within_limits r.content ≡ true) (same_Some (record row { acl = acl }) r is) (old refl row refl)
 set_changed (SetVotes votes) (Some row) r small is old = subst (λ (r : Row). is_within_limits r.content ≡ true) (same_Some (record row { votes = votes }) r is) (old refl row refl)
 set_changed (SetContent content) (Some row) r small is old = subst (λ (r : Row). is_within_limits r.content ≡ true) (same_Some (record row { content = content }) r is) small
+set_changed other None r small is old = absurd (none-some r is)
 
 pub set_small : (edits : Edits) (suite : ℕ) (row : Option Row) (r : Row) → AllSmall edits → is_set edits suite ≡ true → seen edits suite row ≡ Some r → is_within_limits r.content ≡ true
 set_small [] suite row r all set is = absurd (false≢true set)

@@ -1,5 +1,5 @@
 -- The endings are the table's.
-use Rattle.law_run_alone.proofs.Vocabulary.{◌≡◌, ◌≤◌, List, [], ◌∷◌, Option, Some, None, refl, sym, ap, ◌∙◌, arith, map, length, PlainTable, Verdict, Doing, Running, RunningSweep, run, Decided, decisions, table_with}
+use Rattle.law_run_alone.proofs.Vocabulary.{◌≡◌, ◌≤◌, List, [], ◌∷◌, Option, Some, refl, sym, ap, ◌∙◌, arith, map, length, PlainTable, Verdict, Doing, Running, run, Decided, decisions, table_with}
 use Rattle.law_run_alone.proofs.Vocabulary.{AnswersAreTheTables, tables_endings, EndingsAreTheTables, answers_are_the_tables}
 use Rattle.file_ops.specs.Rows as rows
 use Rattle.rep_core.specs.declared.reply.Verdict.TheVariants as verdict
@@ -13,14 +13,12 @@ as_answered table (one ∷ ds) answers =
     ap (λ answer. (one.t, answer) ∷ tables_endings (table_with table one) ds) (sym answers.0) ∙ ap (λ later. (one.t, one.answer) ∷ later) (as_answered (table_with table one) ds answers.1)
 
 one_answer : (doing : Option Doing) → length (answered doing) ≤ 1
-one_answer None = omega arith
-one_answer (Some (RunningSweep sweep_run)) = omega arith
 one_answer (Some (Running txn_run)) = of (said_in txn_run.phase)
   where
     of : (v : Verdict) → length (answers_of txn_run.task.t v) ≤ 1
     of (verdict.Answered answers) = omega arith
-    of (verdict.Refused refusal) = omega arith
-    of verdict.Aborted = omega arith
+    of other = omega arith
+one_answer other = omega arith
 
 pub endings_are_the_tables : EndingsAreTheTables
 endings_are_the_tables given events can alone =

@@ -143,12 +143,7 @@ held_or_none asked (Lacked why) said free is mode = absurd free
 held_or_none asked (Replied (reply.Held prefix dver)) said free is mode = ap (refusing mode) (sym (same_Some (told.Held prefix dver) said is))
 held_or_none asked (Replied (reply.Busy holder prepared)) said free is mode = absurd (false≢true (sym free.busy))
 held_or_none asked (Replied reply.Down) said free is mode = absurd (false≢true (sym free.down))
-held_or_none asked (Replied reply.Lost) said free is mode = absurd (none-some said is)
-held_or_none asked (Replied (reply.Given dver content)) said free is mode = absurd (none-some said is)
-held_or_none asked (Replied reply.Prepared) said free is mode = absurd (none-some said is)
-held_or_none asked (Replied (reply.Verdict v)) said free is mode = absurd (none-some said is)
-held_or_none asked (Replied reply.Done) said free is mode = absurd (none-some said is)
-held_or_none asked (Replied (reply.Locked locks)) said free is mode = absurd (none-some said is)
+held_or_none asked (Replied other) said free is mode = absurd (none-some said is)
 
 none_refuses : (asked : Request) (response : Response) → IsFreeResponse true asked response → is_said refusing asked (heard_in asked response) ≡ false
 none_refuses asked response free = of (heard_in asked response) refl
@@ -177,12 +172,7 @@ said_valid before server asked reply.Down valid all = of (is_poll asked)
     of : (b : Bool) → AllSayValid (more_told before server asked (cond b (Some told.Down) None))
     of true = (tt, all)
     of false = all
-said_valid before server asked reply.Lost valid all = all
-said_valid before server asked (reply.Given dver content) valid all = all
-said_valid before server asked reply.Prepared valid all = all
-said_valid before server asked (reply.Verdict v) valid all = all
-said_valid before server asked reply.Done valid all = all
-said_valid before server asked (reply.Locked locks) valid all = all
+said_valid before server asked other valid all = all
 
 told_valid : (suite : ℕ) (before : List Told) (past : List Exchange) → AllSayValid before → AllFree all_up past → AllSayValid (told_of suite before past)
 told_valid suite before [] all free = all
@@ -272,14 +262,8 @@ never_busy up one free = of one.response free
     of : (response : Response) → IsFreeResponse up one.request response → busy_at one.server (heard_in one.request response) ≡ None
     of (Lacked why) free = absurd free
     of (Replied (reply.Busy holder prepared)) free = absurd (false≢true (sym free.busy))
-    of (Replied (reply.Held prefix dver)) free = refl
     of (Replied reply.Down) free = downs' (is_poll one.request)
-    of (Replied reply.Lost) free = refl
-    of (Replied (reply.Given dver content)) free = refl
-    of (Replied reply.Prepared) free = refl
-    of (Replied (reply.Verdict v)) free = refl
-    of (Replied reply.Done) free = refl
-    of (Replied (reply.Locked locks)) free = refl
+    of (Replied other) free = refl
 
 none_busy : (up : ℕ → Bool) (suite : ℕ) (past : List Exchange) → AllFree up past → first_busy_in suite past ≡ None
 none_busy up suite [] free = refl
@@ -303,11 +287,7 @@ pub record SaysDown (up : ℕ → Bool) (past : List Exchange) : Type 0 where
 abbrev pub MayCause : Fixed → (ℕ → Bool) → Agent → Job → List agents.Event → Cause → Type 0
 MayCause fixed up before job' told (cause.Unavailable suite got needed) = IsShort fixed before job' told suite got needed None
 MayCause fixed up before job' told cause.HomeDown = SaysDown up (of_job fixed before job' told)
-MayCause fixed up before job' told (cause.Busy server holder) = ⊥
-MayCause fixed up before job' told (cause.Lost server) = ⊥
-MayCause fixed up before job' told cause.Overruled = ⊥
-MayCause fixed up before job' told (cause.Full server) = ⊥
-MayCause fixed up before job' told cause.Memory = ⊥
+MayCause fixed up before job' told other = ⊥
 
 module _ (fixed : Fixed) (up : ℕ → Bool) (before : Agent) (caller : Identity) (site : ℕ) (ops : List Op) (told' : List agents.Event) (free : AllFree up (of_job fixed before (Transaction caller site ops) told')) where
   abbrev past : List Exchange
@@ -377,11 +357,7 @@ module _ (fixed : Fixed) (c0 : IsValid fixed.service.c0) (before : Agent) (calle
   none_caused : (cause' : Cause) → MayCause fixed all_up before transaction told' cause' → ⊥
   none_caused (cause.Unavailable suite got needed) may = none_short suite got needed None may
   none_caused cause.HomeDown may = false≢true (sym may.down)
-  none_caused (cause.Busy server holder) may = may
-  none_caused (cause.Lost server) may = may
-  none_caused cause.Overruled may = may
-  none_caused (cause.Full server) may = may
-  none_caused cause.Memory may = may
+  none_caused other may = may
 
 pub never_undecided : (fixed : Fixed) → IsValid fixed.service.c0 → (agent : Agent) (asked : ℕ × Request) (said : Reply) (cause : Cause) → next_of fixed agent ≡ Some asked → IsFree true asked.1 said → Since fixed agent
     → HasValidVotes (take fixed agent (Replied said)).agent.cache → (take fixed agent (Replied said)).ending ≡ Some (Undecided cause) → ⊥

@@ -37,8 +37,7 @@ held_content (Names names) = refl
 
 empty_is : (k : PrefixKind) → is_empty (empty_content (held_by k)) ≡ true
 empty_is kind.Absent = refl
-empty_is kind.File = refl
-empty_is kind.Folder = refl
+empty_is other = refl
 
 agrees_if : (b x y : Bool) → x ≡ true → (b ≡ false → y ≡ true) → cond b x y ≡ true
 agrees_if true x y there none = there

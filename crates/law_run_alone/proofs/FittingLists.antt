@@ -16,9 +16,8 @@ ListsFitIn row = (r : Row) → row ≡ Some r → ListsFit r
 -- the lists that an edit sets fit the row that it meets
 abbrev pub SetsFitting : Edit → Option Row → Type 0
 SetsFitting (SetAcl acl) row = (r : Row) → row ≡ Some r → is_misplaced (kind_of r.content) (is_some acl.default) ≡ false
-SetsFitting (SetVotes votes) row = Unit {0}
-SetsFitting (SetContent content) row = Unit {0}
 SetsFitting (Make made) row = ListsFit made
+SetsFitting other row = Unit {0}
 
 -- each of these edits, the newest first
 abbrev pub AllSetFitting : (ℕ → Option Row) → Edits → Type 0
@@ -45,13 +44,11 @@ made_fit holds.Folder default init votes caller fit = refl
 
 changed_fit : (edit : Edit) (row : Option Row) → FitsRow edit row → SetsFitting edit row → ListsFitIn row → ListsFitIn (changed edit row)
 changed_fit (Make made) row kinds sets fit r is = subst ListsFit (same_Some made r is) sets
-changed_fit (SetAcl acl) None kinds sets fit r is = absurd (none-some r is)
-changed_fit (SetVotes votes) None kinds sets fit r is = absurd (none-some r is)
-changed_fit (SetContent content) None kinds sets fit r is = absurd (none-some r is)
 changed_fit (SetAcl acl) (Some row) kinds sets fit r is = subst ListsFit (same_Some (record row { acl = acl }) r is) (sets row refl)
 changed_fit (SetVotes votes) (Some row) kinds sets fit r is = subst ListsFit (same_Some (record row { votes = votes }) r is) (fit row refl)
 changed_fit (SetContent content) (Some row) kinds sets fit r is =
     subst ListsFit (same_Some (record row { content = content }) r is) (ap (λ kind. is_misplaced kind (is_some row.acl.default)) (sym (kinds row refl)) ∙ fit row refl)
+changed_fit other None kinds sets fit r is = absurd (none-some r is)
 
 pub seen_fit : (rows : ℕ → Option Row) (edits : Edits) (suite : ℕ) → AllFit rows edits → AllSetFitting rows edits → ListsFitIn (rows suite) → ListsFitIn (seen edits suite (rows suite))
 seen_fit rows [] suite kinds sets fit = fit

@@ -1,6 +1,6 @@
 -- A transaction whose agent alone asks servers, with the machine of each suite, at any moment: what it asks finds the locks that it stands on, and what it is replied is free.
 use Rattle.law_run_alone.proofs.Vocabulary.{◌≡◌, ℕ, Bool, true, false, List, [], ◌∷◌, ◌++◌, append_assoc, Option, Some, None, refl, sym, ap, subst, ◌∙◌, none-some, Identity, IsValid, Opening, Op, Request, is_lost, copy_of, State}
-use Rattle.law_run_alone.proofs.Vocabulary.{reply_of, Transaction, Fixed, TransactionRun, Doing, Running, RunningSweep, stands_on_locks, fixed_of, next_in, next_of, Event, Begin, Step, Crash, Return, Forget, Lack}
+use Rattle.law_run_alone.proofs.Vocabulary.{reply_of, Transaction, Fixed, TransactionRun, Doing, Running, RunningSweep, stands_on_locks, fixed_of, next_in, next_of, Event, Begin, Step, Crash, Return}
 use Rattle.law_run_alone.proofs.Vocabulary.{Actor, server_at, actor_at, step, run, decisions, names, ended, Holds, holds_of, machine_of, machine_one, CanBe, begins_job}
 use Rattle.rep_core.specs.declared.reply.Verdict.TheVariants as verdict
 use Rattle.run_core.specs.Worlds as worlds
@@ -98,11 +98,9 @@ module _ (given : Opening) (up : ℕ → Bool) (t turn : ℕ) where
         of None asked next own = absurd (none-some asked next)
         of (Some (RunningSweep sweep_run)) asked next own = absurd own
         of (Some (Running txn_run)) asked next own = never_resolves fixed txn_run.task txn_run.suites txn_run.phase asked.0 asked.1 next
-    no_resolve (Begin i _) calm = tt
     no_resolve (Crash server) calm = refl
     no_resolve (Return server) calm = refl
-    no_resolve (Forget i site) calm = tt
-    no_resolve (Lack i why) calm = tt
+    no_resolve other calm = tt
 
     abbrev pub goes_next : Goes (step fixed w event).world later
     goes_next = record {

@@ -1,8 +1,8 @@
 -- What the register of a suite has been: all its prefixes are of one kind, but for what was never made; and only the transaction whose number it has made it.
 use Rattle.law_run_alone.proofs.Vocabulary.{◌≡◌, ◌⊎◌, inl, inr, ℕ, zero, suc, ◌≤◌, ◌<◌, Bool, true, false, cond, List, [], ◌∷◌, map, Option, Some, None, Ok, Err, refl, sym, ap, subst, ◌∙◌, arith, ◌==◌, nat_eq, AllByRecursion}
 use Rattle.law_run_alone.proofs.Vocabulary.{false≢true, nat_tests, kind_of, Opening, absent_copy, Prefix, Absent, Replica, IsValid, root_copy, Has, max_operations, made_number, ReadPoint, GatheredSuite, suite_of, change_of, prefix_kind}
-use Rattle.law_run_alone.proofs.Vocabulary.{Proposal, Deciding, Phase, Gathering, Fetching, Widening, Preparing, Finishing, TransactionRun, Doing, Running, RunningSweep, changes_of, Agent, fixed_of, Begin, Step, Crash, Return, Forget}
-use Rattle.law_run_alone.proofs.Vocabulary.{Lack, Actor, actor_at, Decided, Beginning, Entry, Read, Wrote, transaction, IsKnown, IsNext, IsPlain, row, prefix_at, happens, at1, Inv, beginning, known_by, change_to, written_from, first_of}
+use Rattle.law_run_alone.proofs.Vocabulary.{Proposal, Deciding, Phase, TransactionRun, Doing, Running, changes_of, Agent, fixed_of, Step}
+use Rattle.law_run_alone.proofs.Vocabulary.{Actor, actor_at, Decided, Beginning, Entry, Read, Wrote, transaction, IsKnown, IsNext, IsPlain, row, prefix_at, happens, at1, Inv, beginning, known_by, change_to, written_from, first_of}
 use Rattle.law_run_alone.proofs.Vocabulary.{decides_with, decides_without, decides_first, decides_on, decision_in, decision_by, LogIs, decision_of_actor, decision_at, AllValid, ValidOr, CameWell, came_well, HoldsItsKind, known_fits}
 use Rattle.std.specs.List.{IsDistinct}
 use Rattle.file_exec.specs.declared.changes.Change as executor
@@ -181,16 +181,11 @@ module _ (given : Opening) (z : ℕ) (w : World) (inv : Inv (beginning z given) 
 
   by_phase : (agent : Agent) (txn_run : TransactionRun) (phase : Phase) → ValidOr (fixed_of given) agent → agent.doing ≡ Some (Running txn_run) → txn_run.phase ≡ phase → Decides' (decision_in z w txn_run.task txn_run.suites phase)
   by_phase agent txn_run (Deciding outcome) valid running is = on_suite txn_run outcome (came_well (fixed_of given) agent valid txn_run outcome running is) (suite_of txn_run.suites z) refl
-  by_phase agent txn_run (Gathering number) valid running is = λ plain distinct. grown
-  by_phase agent txn_run (Fetching number) valid running is = λ plain distinct. grown
-  by_phase agent txn_run (Widening left granted) valid running is = λ plain distinct. grown
-  by_phase agent txn_run (Preparing left outcome) valid running is = λ plain distinct. grown
-  by_phase agent txn_run (Finishing servers v ending) valid running is = λ plain distinct. grown
+  by_phase agent txn_run other valid running is = λ plain distinct. grown
 
   by_doing : (agent : Agent) (doing : Option Doing) → ValidOr (fixed_of given) agent → agent.doing ≡ doing → Decides' (decision_by z w doing)
   by_doing agent (Some (Running txn_run)) valid running = by_phase agent txn_run txn_run.phase valid running refl
-  by_doing agent (Some (RunningSweep sweep_run)) valid running = λ plain distinct. grown
-  by_doing agent None valid running = λ plain distinct. grown
+  by_doing agent other valid running = λ plain distinct. grown
 
   module _ (world : worlds.World) (all : AllValid (fixed_of given) world) where
     by_actor : (number : ℕ) (found : Option Actor) → actor_at world number ≡ found → Decides' (decision_of_actor z w found)
@@ -199,11 +194,7 @@ module _ (given : Opening) (z : ℕ) (w : World) (inv : Inv (beginning z given) 
 
     by_event : (event : happening.Event) → Decides' (decision_at z w world event)
     by_event (Step number) = by_actor number (actor_at world number) refl
-    by_event (Begin number job) = λ plain distinct. grown
-    by_event (Crash server) = λ plain distinct. grown
-    by_event (Return server) = λ plain distinct. grown
-    by_event (Forget number site) = λ plain distinct. grown
-    by_event (Lack number why) = λ plain distinct. grown
+    by_event other = λ plain distinct. grown
 
     pub grown_after : (event : happening.Event) (one : Option Decided) (log : List Entry) → LogIs start (decision_at z w world event) w one log → IsPlain start log → IsDistinct nat_eq (map transaction log) → Grown z start log
     grown_after event None log is plain distinct = subst (Grown z start) (sym is) grown

@@ -24,44 +24,29 @@ use Rattle.law_run_alone.proofs.Standing.{Stands, AllSpare, all_spare-append, st
 
 -- until it tells how it ended
 abbrev pub PhaseStands : World → ℕ → Phase → Type 0
-PhaseStands w t (Gathering number) = Stands w t
-PhaseStands w t (Fetching number) = Stands w t
-PhaseStands w t (Widening left granted) = Stands w t
-PhaseStands w t (Preparing left outcome) = Stands w t
-PhaseStands w t (Deciding outcome) = Stands w t
 PhaseStands w t (Finishing servers v ending) = Unit {0}
+PhaseStands w t other = Stands w t
 
 abbrev pub DoingStands : World → ℕ → Option Doing → Type 0
 DoingStands w t (Some (Running txn_run)) = PhaseStands w t txn_run.phase
-DoingStands w t (Some (RunningSweep sweep_run)) = Unit {0}
-DoingStands w t None = Unit {0}
+DoingStands w t other = Unit {0}
 
 phase_any : (w : World) (t : ℕ) (phase : Phase) → Stands w t → PhaseStands w t phase
-phase_any w t (Gathering number) stands = stands
-phase_any w t (Fetching number) stands = stands
-phase_any w t (Widening left granted) stands = stands
-phase_any w t (Preparing left outcome) stands = stands
-phase_any w t (Deciding outcome) stands = stands
 phase_any w t (Finishing servers v ending) stands = tt
+phase_any w t other stands = stands
 
 pub doing_any : (w : World) (t : ℕ) (doing : Option Doing) → Stands w t → DoingStands w t doing
 doing_any w t (Some (Running txn_run)) stands = phase_any w t txn_run.phase stands
-doing_any w t (Some (RunningSweep sweep_run)) stands = tt
-doing_any w t None stands = tt
+doing_any w t other stands = tt
 
 module _ (w later : World) (t : ℕ) (keeps : Stands w t → Stands later t) where
   phase_later : (phase : Phase) → PhaseStands w t phase → PhaseStands later t phase
-  phase_later (Gathering number) stands = keeps stands
-  phase_later (Fetching number) stands = keeps stands
-  phase_later (Widening left granted) stands = keeps stands
-  phase_later (Preparing left outcome) stands = keeps stands
-  phase_later (Deciding outcome) stands = keeps stands
   phase_later (Finishing servers v ending) stands = tt
+  phase_later other stands = keeps stands
 
   doing_later : (doing : Option Doing) → DoingStands w t doing → DoingStands later t doing
   doing_later (Some (Running txn_run)) stands = phase_later txn_run.phase stands
-  doing_later (Some (RunningSweep sweep_run)) stands = tt
-  doing_later None stands = tt
+  doing_later other stands = tt
 
 -- ---- a response
 
@@ -80,19 +65,17 @@ module _ (fixed : Fixed) (agent : Agent) (response : Response) (asked : ℕ × R
     took_phase : (phase : Phase) → request_in fixed task suites phase ≡ Some asked → PhaseStands w t phase → Took phase
     took_phase (Gathering number) is stands = took_early (Gathering number) (asked_as releases false task number (suite_of suites number) asked.0 asked.1 (λ mode. refl) refl is) stands
     took_phase (Fetching number) is stands = took_early (Fetching number) (fetched_as releases false task number (suite_of suites number) asked.0 asked.1 refl is) stands
-    took_phase (Widening [] granted) is stands = cc
     took_phase (Widening (number ∷ left) granted) is stands = took_early (Widening (number ∷ left) granted) (asked_as releases false task number (suite_of suites number) asked.0 asked.1 (λ mode. refl) refl is) stands
-    took_phase (Preparing [] outcome) is stands = cc
     took_phase (Preparing (now ∷ left) outcome) is stands =
         took_early (Preparing (now ∷ left) outcome) (ap releases (sym (asks_same now asked.0 (request.Prepare task.t (parts_at suites (changes_of outcome) now)) asked.1 is))) stands
     took_phase (Deciding outcome) is stands =
         took_early (Deciding outcome) (ap releases (sym (asks_same (home_of fixed.service task.t) asked.0 (request.Decide task.t (decision_of task outcome)) asked.1 is))) stands
-    took_phase (Finishing [] v ending) is stands = cc
     took_phase (Finishing (now ∷ rest) v ending) is stands = of response
       where
         of : (response : Response) → DoingStands later t (left Running (after_response fixed (record { task = task; suites = suites; phase = Finishing (now ∷ rest) v ending }) agent.cache asked.0 asked.1 response).after)
         of (Replied said) = told_end task agent.cache suites v ending rest
         of (Lacked lacked) = told_end task agent.cache suites v ending rest
+    took_phase other is stands = cc
 
   pub took_stands : (doing : Option Doing) → agent.doing ≡ doing → next_in fixed doing ≡ Some asked → DoingStands w t doing → DoingStands later t (take_in fixed agent response doing (Some asked)).agent.doing
   took_stands (Some (Running txn_run)) was is stands = took_phase txn_run.task txn_run.suites txn_run.phase is stands

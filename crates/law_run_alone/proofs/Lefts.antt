@@ -10,11 +10,7 @@ use Rattle.txn_core.specs.Agents.{Event, Forget}
 -- where it is to prepare it holds a lock
 abbrev pub LeftHold : Suites → Phase → Type 0
 LeftHold suites (Preparing servers outcome) = (server : ℕ) → Has servers server → has_locks suites server ≡ true
-LeftHold suites (Gathering number) = Unit {0}
-LeftHold suites (Fetching number) = Unit {0}
-LeftHold suites (Widening numbers granted) = Unit {0}
-LeftHold suites (Deciding outcome) = Unit {0}
-LeftHold suites (Finishing servers v ending) = Unit {0}
+LeftHold suites other = Unit {0}
 
 abbrev HoldsAfter : After TransactionRun → Type 0
 HoldsAfter (GoesOn txn_run) = LeftHold txn_run.suites txn_run.phase
@@ -22,8 +18,7 @@ HoldsAfter (Ends ending) = Unit {0}
 
 abbrev pub HoldsIn : Option Doing → Type 0
 HoldsIn (Some (Running txn_run)) = LeftHold txn_run.suites txn_run.phase
-HoldsIn (Some (RunningSweep sweep_run)) = Unit {0}
-HoldsIn None = Unit {0}
+HoldsIn other = Unit {0}
 
 module _ (task : Task) where
   holds_end : (cache : Cache) (suites : Suites) (v : Verdict) (ending : Ending) (servers : List ℕ) → HoldsAfter (tell_end task cache suites v ending servers).after
@@ -41,12 +36,10 @@ module _ (task : Task) where
   holds_prepares cache suites outcome = holds_prepare cache suites outcome (locked_at suites) (λ server has. (has_filter (has_locks suites) (numbers_from 0 max_servers) server has).1)
 
   holds_early : (suites : Suites) (phase : Phase) → IsEarly phase → HoldsAfter (GoesOn (record { task = task; suites = suites; phase = phase }))
-  holds_early suites (Gathering number) is = tt
-  holds_early suites (Fetching number) is = tt
-  holds_early suites (Widening numbers granted) is = tt
   holds_early suites (Preparing servers outcome) is = absurd is
   holds_early suites (Deciding outcome) is = absurd is
   holds_early suites (Finishing servers v ending) is = absurd is
+  holds_early suites other is = tt
 
   module _ (fixed : Fixed) (cache : Cache) (suites : Suites) (server : ℕ) (asked : Request) (response : Response) where
     abbrev After' : Phase → Type 0
@@ -102,11 +95,10 @@ holds_round (Ends ending) = tt
 take_holds : (fixed : Fixed) (agent : Agent) (response : Response) (doing : Option Doing) (asked : Option (ℕ × Request)) → agent.doing ≡ doing → HoldsIn doing → HoldsIn (take_in fixed agent response doing asked).agent.doing
 take_holds fixed agent response (Some (Running txn_run)) (Some asked) was holds =
     holds_left (after_response fixed txn_run agent.cache asked.0 asked.1 response).after (holds_response txn_run.task fixed agent.cache txn_run.suites asked.0 asked.1 response txn_run.phase holds)
-take_holds fixed agent response (Some (Running txn_run)) None was holds = subst HoldsIn (sym was) holds
 take_holds fixed agent response (Some (RunningSweep sweep_run)) (Some asked) was holds = holds_round (sweep.after_response fixed.service sweep_run asked.0 response)
 take_holds fixed agent response (Some (RunningSweep sweep_run)) None was holds = subst HoldsIn (sym was) holds
 take_holds fixed agent response None (Some asked) was holds = subst HoldsIn (sym was) holds
-take_holds fixed agent response None None was holds = subst HoldsIn (sym was) holds
+take_holds fixed agent response other None was holds = subst HoldsIn (sym was) holds
 
 all_hold : (fixed : Fixed) (agent : Agent) (events : List Event) → HoldsIn agent.doing → HoldsIn (after_all fixed agent events).doing
 all_hold fixed agent [] holds = holds

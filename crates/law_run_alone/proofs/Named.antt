@@ -109,26 +109,12 @@ module _ (B : ℕ → Type 0) where
       ]
   up_tells st all (request.Fetch t suite) = elim (has_lock t suite st.locks) as (λ b. TellsOf (Replied (cond b (reply.Given (copy_of st.store suite).dver (copy_of st.store suite).content) reply.Lost))) [ true ↦ tt | false ↦ tt ]
   up_tells st all (request.Prepare t parts) = elim (stands_prepared st t parts || can_prepare st t parts) as (λ b. TellsOf (Replied (cond b reply.Prepared reply.Lost))) [ true ↦ tt | false ↦ tt ]
-  up_tells st all (request.Decide t decision) = tt
-  up_tells st all (request.Resolve t) = tt
-  up_tells st all (request.Finish t v) = tt
-  up_tells st all (request.Break t suite) = tt
   up_tells st all request.Locks = all
-  up_tells st all request.Crash = tt
-  up_tells st all request.Return = tt
+  up_tells st all other = tt
 
   down_tells : (asked : Request) → TellsOf (Replied (reply_down asked))
   down_tells (request.Poll t suite mode) = tt
-  down_tells (request.Upgrade t suite) = tt
-  down_tells (request.Fetch t suite) = tt
-  down_tells (request.Prepare t parts) = tt
-  down_tells (request.Decide t decision) = tt
-  down_tells (request.Resolve t) = tt
-  down_tells (request.Finish t v) = tt
-  down_tells (request.Break t suite) = tt
-  down_tells request.Locks = tt
-  down_tells request.Crash = tt
-  down_tells request.Return = tt
+  down_tells other = tt
 
   tells_of : (st : State) (asked : Request) → LocksOf B st.locks → TellsOf (Replied (reply_of st asked))
   tells_of st asked all = elim (st.up) as (λ b. TellsOf (Replied (cond b (reply_up st asked) (reply_down asked)))) [
@@ -146,9 +132,8 @@ module _ (B : ℕ → Type 0) where
   SweepsOf (Breaking lock locks) = LocksOf B locks
 
   abbrev pub InSweep : Option Doing → Type 0
-  InSweep (Some (Running txn_run)) = Unit {0}
   InSweep (Some (RunningSweep sweep_run)) = SweepsOf sweep_run.now
-  InSweep None = Unit {0}
+  InSweep other = Unit {0}
 
   abbrev LeavesOf : After SweepRun → Type 0
   LeavesOf after = InSweep (left RunningSweep after)
@@ -217,22 +202,13 @@ module _ (B : ℕ → Type 0) where
       named (request.Poll t suite mode) is = mine t is
       named (request.Decide t decision) is = mine t is
       named (request.Resolve t) is = mine t is
-      named (request.Upgrade t suite) is = tt
-      named (request.Fetch t suite) is = tt
-      named (request.Prepare t parts) is = tt
-      named (request.Finish t v) is = tt
-      named (request.Break t suite) is = tt
-      named request.Locks is = tt
-      named request.Crash is = tt
-      named request.Return is = tt
+      named other is = tt
   asks_of fixed (Some (RunningSweep sweep_run)) asked next all own = subst (BringsIn B)
       (asks_same (sweep.asked_now fixed.service sweep_run sweep_run.now).0 asked.0 (sweep.asked_now fixed.service sweep_run sweep_run.now).1 asked.1 next) (of sweep_run.now all)
     where
       of : (now : Sweeping) → SweepsOf now → BringsIn B (sweep.asked_now fixed.service sweep_run now).1
-      of Listing all = tt
       of (Resolving t locks) all = all.0
-      of (Telling t v locks) all = tt
-      of (Breaking lock locks) all = tt
+      of other all = tt
 
   -- ---- events
 

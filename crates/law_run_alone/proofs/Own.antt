@@ -102,17 +102,8 @@ up_stays st asked other up = by_step st StaysUp (up_ways st up) (λ asked new st
 
 -- a server that is down changes nothing, as long as it does not return
 down_same : (st : State) (asked : Request) → is_return asked ≡ false → after_down st asked ≡ st
-down_same st (request.Poll t suite mode) other = refl
-down_same st (request.Upgrade t suite) other = refl
-down_same st (request.Fetch t suite) other = refl
-down_same st (request.Prepare t parts) other = refl
-down_same st (request.Decide t decision) other = refl
-down_same st (request.Resolve t) other = refl
-down_same st (request.Finish t verdict) other = refl
-down_same st (request.Break t suite) other = refl
-down_same st request.Locks other = refl
-down_same st request.Crash other = refl
 down_same st request.Return other = absurd (false≢true (sym other))
+down_same st another other = refl
 
 down_after : (st : State) (asked : Request) → is_return asked ≡ false → st.up ≡ false → after st asked ≡ st
 down_after st asked other down = ap (λ b. cond b (after_up st asked) (after_down st asked)) down ∙ down_same st asked other
@@ -171,13 +162,7 @@ not_busy t st asked up polls own = ap (λ b. is_busy (cond b (reply_up st asked)
         ] refl
     of (request.Fetch named suite) polls = elim (has_lock named suite st.locks) as (λ b. is_busy (cond b (reply.Given (copy_of st.store suite).dver (copy_of st.store suite).content) reply.Lost) ≡ false) [ true ↦ refl | false ↦ refl ]
     of (request.Prepare named parts) polls = elim (stands_prepared st named parts || can_prepare st named parts) as (λ b. is_busy (cond b reply.Prepared reply.Lost) ≡ false) [ true ↦ refl | false ↦ refl ]
-    of (request.Decide named decision) polls = refl
-    of (request.Resolve named) polls = refl
-    of (request.Finish named verdict) polls = refl
-    of (request.Break named suite) polls = refl
-    of request.Locks polls = refl
-    of request.Crash polls = refl
-    of request.Return polls = refl
+    of other polls = refl
 
 pub not_down : (st : State) (asked : Request) → st.up ≡ true → is_down (reply_of st asked) ≡ false
 not_down st asked up = ap (λ b. is_down (cond b (reply_up st asked) (reply_down asked))) up ∙ of asked
@@ -195,27 +180,12 @@ not_down st asked up = ap (λ b. is_down (cond b (reply_up st asked) (reply_down
         ]
     of (request.Fetch named suite) = elim (has_lock named suite st.locks) as (λ b. is_down (cond b (reply.Given (copy_of st.store suite).dver (copy_of st.store suite).content) reply.Lost) ≡ false) [ true ↦ refl | false ↦ refl ]
     of (request.Prepare named parts) = elim (stands_prepared st named parts || can_prepare st named parts) as (λ b. is_down (cond b reply.Prepared reply.Lost) ≡ false) [ true ↦ refl | false ↦ refl ]
-    of (request.Decide named decision) = refl
-    of (request.Resolve named) = refl
-    of (request.Finish named verdict) = refl
-    of (request.Break named suite) = refl
-    of request.Locks = refl
-    of request.Crash = refl
-    of request.Return = refl
+    of other = refl
 
 -- one that is down is down to all that an agent asks
 down_replies : (asked : Request) → is_return asked ≡ false → reply_down asked ≡ reply.Down
-down_replies (request.Poll t suite mode) other = refl
-down_replies (request.Upgrade t suite) other = refl
-down_replies (request.Fetch t suite) other = refl
-down_replies (request.Prepare t parts) other = refl
-down_replies (request.Decide t decision) other = refl
-down_replies (request.Resolve t) other = refl
-down_replies (request.Finish t verdict) other = refl
-down_replies (request.Break t suite) other = refl
-down_replies request.Locks other = refl
-down_replies request.Crash other = refl
 down_replies request.Return other = absurd (false≢true (sym other))
+down_replies another other = refl
 
 pub replies_down : (st : State) (asked : Request) → is_return asked ≡ false → st.up ≡ false → reply_of st asked ≡ reply.Down
 replies_down st asked other down = ap (λ b. cond b (reply_up st asked) (reply_down asked)) down ∙ down_replies asked other

@@ -1,7 +1,7 @@
 -- A transaction that has all locks at the servers that are up: what others do beside it, and its own steps, leave it so.
 use Rattle.law_run_alone.proofs.Vocabulary.{◌≡◌, ℕ, ◌+◌, Bool, true, false, cond, List, [], Option, Some, None, refl, sym, ap, subst, ◌∙◌, arith, ◌*◌, ◌==◌, ◌&&◌, nat_lt, false≢true, nat_tests, none-some, same_Some, Identity, Opening}
 use Rattle.law_run_alone.proofs.Vocabulary.{Op, Request, Verdict, State, Job, Transaction, Response, Fixed, Task, TransactionRun, Doing, Running, RunningSweep, After, GoesOn, Ends, after_response, execute, is_decide, said_by, Agent}
-use Rattle.law_run_alone.proofs.Vocabulary.{fixed_of, is_idle, has_sense, max_jobs, next_in, next_of, left, take_in, begin, started, Event, Begin, Step, Crash, Return, Forget, Lack, EndedJob, Actor, World, server_at, actor_at}
+use Rattle.law_run_alone.proofs.Vocabulary.{fixed_of, is_idle, has_sense, max_jobs, next_in, next_of, left, take_in, begin, started, Event, Begin, Step, Crash, Return, EndedJob, Actor, World, server_at, actor_at}
 use Rattle.law_run_alone.proofs.Vocabulary.{with_actor, becomes, step, Decided, names, begins_now, Leaves, leaves_begin, leaves_response, asks_in_its_name, IsAt, agent_of, Holds, puts_in, begins_job}
 use Rattle.rep_core.specs.declared.request.Request.TheVariants as request
 use Rattle.rep_core.specs.declared.reply.Verdict.TheVariants as verdict
@@ -27,8 +27,7 @@ IsCalm given up turn world (Begin i job) = i ≡ turn → begins_job given world
 IsCalm given up turn world (Step i) = (actor : Actor) (asked : ℕ × Request) → actor_at world i ≡ Some actor → next_of (fixed_of given) actor.agent ≡ Some asked → i ≡ turn
 IsCalm given up turn world (Crash server) = ⊥
 IsCalm given up turn world (Return server) = up server ≡ true
-IsCalm given up turn world (Forget i site) = Unit {0}
-IsCalm given up turn world (Lack i why) = Unit {0}
+IsCalm given up turn world other = Unit {0}
 
 -- ---- what it asks
 
@@ -37,42 +36,15 @@ polls_named t (request.Poll named suite mode) is = equal is
   where
     equal : (named == t) ≡ true → named ≡ t
     equal is = grind (arith, nat_tests)
-polls_named t (request.Upgrade named suite) is = tt
-polls_named t (request.Fetch named suite) is = tt
-polls_named t (request.Prepare named parts) is = tt
-polls_named t (request.Decide named decision) is = tt
-polls_named t (request.Resolve named) is = tt
-polls_named t (request.Finish named v) is = tt
-polls_named t (request.Break named suite) is = tt
-polls_named t request.Locks is = tt
-polls_named t request.Crash is = tt
-polls_named t request.Return is = tt
+polls_named t other is = tt
 
 never_crashes : (t : ℕ) (asked : Request) → names t asked ≡ true → own.is_crash asked ≡ false
 never_crashes t request.Crash is = cc
-never_crashes t (request.Poll named suite mode) is = refl
-never_crashes t (request.Upgrade named suite) is = refl
-never_crashes t (request.Fetch named suite) is = refl
-never_crashes t (request.Prepare named parts) is = refl
-never_crashes t (request.Decide named decision) is = refl
-never_crashes t (request.Resolve named) is = refl
-never_crashes t (request.Finish named v) is = refl
-never_crashes t (request.Break named suite) is = refl
-never_crashes t request.Locks is = refl
-never_crashes t request.Return is = refl
+never_crashes t other is = refl
 
 pub never_returns : (t : ℕ) (asked : Request) → names t asked ≡ true → is_return asked ≡ false
 never_returns t request.Return is = cc
-never_returns t (request.Poll named suite mode) is = refl
-never_returns t (request.Upgrade named suite) is = refl
-never_returns t (request.Fetch named suite) is = refl
-never_returns t (request.Prepare named parts) is = refl
-never_returns t (request.Decide named decision) is = refl
-never_returns t (request.Resolve named) is = refl
-never_returns t (request.Finish named v) is = refl
-never_returns t (request.Break named suite) is = refl
-never_returns t request.Locks is = refl
-never_returns t request.Crash is = refl
+never_returns t other is = refl
 
 pub names_mine : (fixed : Fixed) (t : ℕ) (doing : Option Doing) (asked : ℕ × Request) → IsMine t doing → next_in fixed doing ≡ Some asked → names t asked.1 ≡ true
 names_mine fixed t None asked mine next = cc
@@ -112,22 +84,16 @@ module _ (given : Opening) (up : ℕ → Bool) (t turn : ℕ) (world : World) (d
   May s asked = PollsFor t asked × (own.is_crash asked ≡ false) × (up s ≡ false → is_return asked ≡ false)
 
   may_ask : (event : Event) → IsCalm given up turn world event → MayAsk fixed May world event
-  may_ask (Begin i job) calm = tt
   may_ask (Step i) calm = λ actor asked is next.
       let named = names_mine fixed t actor.agent.doing asked (mine_at i actor is (calm actor asked is next)) next in
       (polls_named t asked.1 named, never_crashes t asked.1 named, λ _. never_returns t asked.1 named)
   may_ask (Crash server) calm = absurd calm
   may_ask (Return server) calm = (tt, refl, λ down. absurd (false≢true (sym down ∙ calm)))
-  may_ask (Forget i site) calm = tt
-  may_ask (Lack i why) calm = tt
+  may_ask other calm = tt
 
   begins_none : (event : Event) → IsCalm given up turn world event → BeginsNone given turn world event
   begins_none (Begin i job) calm = calm
-  begins_none (Step i) calm = tt
-  begins_none (Crash server) calm = tt
-  begins_none (Return server) calm = tt
-  begins_none (Forget i site) calm = tt
-  begins_none (Lack i why) calm = tt
+  begins_none other calm = tt
 
   -- every calm event
   pub event_owns : (event : Event) → IsCalm given up turn world event → Owns up (step fixed world event).world t turn

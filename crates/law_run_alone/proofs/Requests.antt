@@ -1,8 +1,8 @@
 -- What a transaction asks finds the lock that it stands on, where the locks that it was told of stand: so it is not answered Lost.
-use Rattle.law_run_alone.proofs.Vocabulary.{◌≡◌, inl, inr, ℕ, true, false, cond, List, [], ◌∷◌, map, Option, Some, None, is_some, refl, sym, ap, subst, ◌∙◌, arith, ◌==◌, ◌&&◌, not, filter, list_all, nat_cmp, and_from, false≢true}
+use Rattle.law_run_alone.proofs.Vocabulary.{◌≡◌, inl, inr, ℕ, true, false, cond, List, ◌∷◌, map, Option, Some, None, is_some, refl, sym, ap, subst, ◌∙◌, arith, ◌==◌, ◌&&◌, not, filter, list_all, nat_cmp, and_from, false≢true}
 use Rattle.law_run_alone.proofs.Vocabulary.{nat_tests, same_Some, IsValid, Opening, is_exclusive, serves, is_within_limits, Shared, Exclusive, Replica, known_rows, Part, Request, is_lost, Lock, is_own, lock_at, has_lock, has_lock_for}
 use Rattle.law_run_alone.proofs.Vocabulary.{copy_of, goes_with, is_sound_part, lists_twice, State, can_prepare, reply_up, reply_down, reply_of, Has, has_filter, has_map, has_any, any_has, find_some, get_has, holds, Poll, Next, Ask}
-use Rattle.law_run_alone.proofs.Vocabulary.{Current, Short, next, ReadPoint, GatheredSuite, suite_of, has_locks, holds_lock, holds_exclusively, lock_mode, known_of, told_in, told_at, change_of, take_of_changed, parts_at, Fixed, home_of}
+use Rattle.law_run_alone.proofs.Vocabulary.{next, ReadPoint, GatheredSuite, suite_of, has_locks, holds_lock, holds_exclusively, lock_mode, known_of, told_in, told_at, change_of, take_of_changed, parts_at, Fixed, home_of}
 use Rattle.law_run_alone.proofs.Vocabulary.{Proposal, Phase, Gathering, Fetching, Widening, Preparing, Deciding, Finishing, TransactionRun, Running, asked_by, asked_for, fetched_at, fetched_for, request_in, changes_of, decision_of}
 use Rattle.law_run_alone.proofs.Vocabulary.{Agent, fixed_of, next_in, next_of, is_idle, is_prepare, stands_on_locks, asks_same, asked_as, fetched_as, a_prepare_rises, Event, Actor, server_at, actor_at, names, asks_in_its_name, IsKnown}
 use Rattle.law_run_alone.proofs.Vocabulary.{row, WasPrefix, Told, hold_of, beginning, known_by, OwesKnown, server_there, upgrade_told, InCourse, IsDoing, Going, Stage, IdleOr, InPhase, DoingFits, suite_was, told_to, Agrees, DoingAgrees}
@@ -31,14 +31,7 @@ abbrev pub Finds : State → Request → Type 0
 Finds st (request.Upgrade t suite) = has_lock t suite st.locks ≡ true
 Finds st (request.Fetch t suite) = has_lock t suite st.locks ≡ true
 Finds st (request.Prepare t parts) = can_prepare st t parts ≡ true
-Finds st (request.Poll t suite mode) = Unit {0}
-Finds st (request.Decide t decision) = Unit {0}
-Finds st (request.Resolve t) = Unit {0}
-Finds st (request.Finish t verdict) = Unit {0}
-Finds st (request.Break t suite) = Unit {0}
-Finds st request.Locks = Unit {0}
-Finds st request.Crash = Unit {0}
-Finds st request.Return = Unit {0}
+Finds st other = Unit {0}
 
 -- so it is not answered Lost
 never_lost : (st : State) (asked : Request) → Finds st asked → is_lost (reply_of st asked) ≡ false
@@ -72,20 +65,14 @@ module _ (given : Opening) (c0 : IsValid given.c0) (world : worlds.World) (event
 
   -- in a phase
   abbrev PhasesStand : Phase → Type 0
-  PhasesStand (Gathering suite) = (z : ℕ) → Stands (machines z) t
-  PhasesStand (Fetching suite) = (z : ℕ) → Stands (machines z) t
-  PhasesStand (Widening left granted) = (z : ℕ) → Stands (machines z) t
-  PhasesStand (Preparing left outcome) = (z : ℕ) → Stands (machines z) t
   PhasesStand (Deciding outcome) = Unit {0}
   PhasesStand (Finishing servers v ending) = Unit {0}
+  PhasesStand other = (z : ℕ) → Stands (machines z) t
 
   all_stand : (phase : Phase) → ((z : ℕ) → PhaseStands (machines z) t phase) → PhasesStand phase
-  all_stand (Gathering suite) stands = stands
-  all_stand (Fetching suite) stands = stands
-  all_stand (Widening left granted) stands = stands
-  all_stand (Preparing left outcome) stands = stands
   all_stand (Deciding outcome) stands = tt
   all_stand (Finishing servers v ending) stands = tt
+  all_stand other stands = stands
 
   abbrev pub Goal : ℕ × Request → Type 0
   Goal asked = (st : State) → server_at world asked.0 ≡ Some st → Finds st asked.1
@@ -121,8 +108,7 @@ module _ (given : Opening) (c0 : IsValid given.c0) (world : worlds.World) (event
           let pair = same_Some (who, request.Upgrade t suite) asked same in
           subst Goal pair (λ st at. has_found st.locks t suite _ (lock_there suite who st (stands suite) at
           (upgrade_told suite (machines suite) fixed txn_run.task txn_run.suites who (in_course suite).told phase t suite (in' ∙ is ∙ ap Some (sym pair)) refl)))
-      by (Current prefix dver members) same = cc
-      by (Short had wanting busy) same = cc
+      by other same = cc
 
       of : (found : Option GatheredSuite) → asked_for txn_run.task suite found ≡ Some asked → Goal asked
       of (Some found) same = by (next found.collector) same
@@ -226,17 +212,15 @@ module _ (given : Opening) (c0 : IsValid given.c0) (world : worlds.World) (event
   by_phase : (phase : Phase) → txn_run.phase ≡ phase → PhasesStand phase → (asked : ℕ × Request) → request_in fixed txn_run.task txn_run.suites phase ≡ Some asked → Goal asked
   by_phase (Gathering suite) phase stood asked is = collects (Gathering suite) suite asked refl stood is
   by_phase (Fetching suite) phase stood asked is = fetches suite asked phase stood (suite_of txn_run.suites suite) refl is
-  by_phase (Widening [] granted) phase stood asked is = cc
   by_phase (Widening (suite ∷ left) granted) phase stood asked is = collects (Widening (suite ∷ left) granted) suite asked refl stood is
-  by_phase (Preparing [] outcome) phase stood asked is = cc
   by_phase (Preparing (server ∷ left) outcome) phase stood asked is =
       let sent = parts_at txn_run.suites (changes_of outcome) server in
       subst Goal (same_Some (server, request.Prepare t sent) asked is)
       (λ st at. can server left outcome phase stood st at (ap (next_in fixed) running ∙ ap (request_in fixed txn_run.task txn_run.suites) phase))
   by_phase (Deciding outcome) phase stood asked is =
       subst Goal (same_Some (home_of fixed.service t, request.Decide t (decision_of txn_run.task outcome)) asked is) (λ st at. tt)
-  by_phase (Finishing [] v ending) phase stood asked is = cc
   by_phase (Finishing (server ∷ left) v ending) phase stood asked is = subst Goal (same_Some (server, request.Finish t v) asked is) (λ st at. tt)
+  by_phase other phase stood asked is = cc
 
   pub finds : (asked : ℕ × Request) → next_of fixed actor.agent ≡ Some asked → Goal asked
   finds asked next = by_phase txn_run.phase refl (all_stand txn_run.phase stands) asked (ap (next_in fixed) (sym running) ∙ next)
@@ -275,17 +259,15 @@ module _ (given : Opening) (c0 : IsValid given.c0) (world : worlds.World) (event
       → is_prepare asked.1 ≡ true → (st : State) → server_at world asked.0 ≡ Some st → HasSome t st
   prepare_some (Gathering number) holds stood asked is prepare = absurd (false≢true (sym (asked_as is_prepare false txn_run.task number (suite_of txn_run.suites number) asked.0 asked.1 (λ mode. refl) refl is) ∙ prepare))
   prepare_some (Fetching number) holds stood asked is prepare = absurd (false≢true (sym (fetched_as is_prepare false txn_run.task number (suite_of txn_run.suites number) asked.0 asked.1 refl is) ∙ prepare))
-  prepare_some (Widening [] granted) holds stood asked is prepare = cc
   prepare_some (Widening (number ∷ left) granted) holds stood asked is prepare =
       absurd (false≢true (sym (asked_as is_prepare false txn_run.task number (suite_of txn_run.suites number) asked.0 asked.1 (λ mode. refl) refl is) ∙ prepare))
-  prepare_some (Preparing [] outcome) holds stood asked is prepare = cc
   prepare_some (Preparing (server ∷ left) outcome) holds stood asked is prepare =
       subst (λ (asked : ℕ × Request). (st : State) → server_at world asked.0 ≡ Some st → HasSome t st) (same_Some (server, request.Prepare t (parts_at txn_run.suites (changes_of outcome) server)) asked is)
       (λ st at. held_at server st stood at (holds server (inl refl)))
   prepare_some (Deciding outcome) holds stood asked is prepare =
       absurd (false≢true (ap is_prepare (asks_same (home_of fixed.service t) asked.0 (request.Decide t (decision_of txn_run.task outcome)) asked.1 is) ∙ prepare))
-  prepare_some (Finishing [] v ending) holds stood asked is prepare = cc
   prepare_some (Finishing (server ∷ left) v ending) holds stood asked is prepare = absurd (false≢true (ap is_prepare (asks_same server asked.0 (request.Finish t v) asked.1 is) ∙ prepare))
+  prepare_some other holds stood asked is prepare = cc
 
   -- whatever stands on a lock
   by_request : (server : ℕ) (asked : Request) → next_of fixed actor.agent ≡ Some (server, asked) → names t asked ≡ true → stands_on_locks asked ≡ true → (st : State) → server_at world server ≡ Some st → Finds st asked → HasSome t st
@@ -299,14 +281,7 @@ module _ (given : Opening) (c0 : IsValid given.c0) (world : worlds.World) (event
       named_so named is = grind (arith, nat_tests)
   by_request server (request.Prepare named parts) next is on st at finds =
       prepare_some txn_run.phase (left_holds ((now.whole 0).together.jobs number actor there)) (all_stand txn_run.phase stands) (server, request.Prepare named parts) (ap (next_in fixed) (sym running) ∙ next) refl st at
-  by_request server (request.Poll named suite mode) next is on st at finds = absurd (false≢true on)
-  by_request server (request.Decide named decision) next is on st at finds = absurd (false≢true on)
-  by_request server (request.Resolve named) next is on st at finds = absurd (false≢true on)
-  by_request server (request.Finish named verdict) next is on st at finds = absurd (false≢true on)
-  by_request server (request.Break named suite) next is on st at finds = absurd (false≢true on)
-  by_request server request.Locks next is on st at finds = absurd (false≢true on)
-  by_request server request.Crash next is on st at finds = absurd (false≢true on)
-  by_request server request.Return next is on st at finds = absurd (false≢true on)
+  by_request server other next is on st at finds = absurd (false≢true on)
 
   pub stands_where : (asked : ℕ × Request) → next_of fixed actor.agent ≡ Some asked → stands_on_locks asked.1 ≡ true → (st : State) → server_at world asked.0 ≡ Some st → HasSome t st
   stands_where asked next on st at =

@@ -1,8 +1,8 @@
 -- Of two runs of the same jobs the endings are the same.
 use Rattle.law_run_alone.proofs.Vocabulary.{◌≡◌, inl, inr, ⊎_elim, ℕ, ◌+◌, true, false, List, [], ◌∷◌, ◌++◌, Option, Some, None, refl, sym, ap, subst, ◌∙◌, eq-eqb, ◌*◌, map, nat_eq, Result, Ok, Err, AllByRecursion, cons_option}
 use Rattle.law_run_alone.proofs.Vocabulary.{false≢true, none-some, same_Some, IsDistinct-head, IsDistinct-tail, Opening, IsAccepted, Lists, Configuration, Folder, empty_content, PlainTable, root, Refusal, Played, replies, table_after}
-use Rattle.law_run_alone.proofs.Vocabulary.{Has, has_from, contains_from, Verdict, Ending, Refused, Swept, Undecided, Job, Transaction, Sweep, Doing, TransactionRun, Running, RunningSweep, Task, Agent, fixed_of, Event, Begin, Step}
-use Rattle.law_run_alone.proofs.Vocabulary.{Crash, Return, Forget, Lack, EndedJob, Actor, World, opening, actor_at, step, run, Decided, decisions, task_of, task_at, table_with, AnswersAreTheTables, number_of, begins_now, begins_at}
+use Rattle.law_run_alone.proofs.Vocabulary.{Has, has_from, contains_from, Verdict, Ending, Refused, Swept, Undecided, Job, Transaction, Sweep, Doing, TransactionRun, Running, Task, Agent, fixed_of, Event, Begin}
+use Rattle.law_run_alone.proofs.Vocabulary.{EndedJob, Actor, World, opening, actor_at, step, run, Decided, decisions, task_of, task_at, table_with, AnswersAreTheTables, number_of, begins_now, begins_at}
 use Rattle.law_run_alone.proofs.Vocabulary.{begun_from, ended, Answer', NotIn, In, Stands, append_has_left, append_has_right, IsAt, EndStands, same_place, same_or, Holds, agent_of, agent_at, each_is_begun_once, holds_of}
 use Rattle.law_run_alone.proofs.Vocabulary.{answers_are_the_tables, begins_job, jobs_from, jobs_of, one_at_a_time, AreAlike, IsTransaction, IsRunning, AllAreDecided, EndingsAreOne}
 use Rattle.std.specs.List.{IsDistinct}
@@ -28,11 +28,7 @@ one_begun (Some t) job later jobs same = ap (λ later. t ∷ later) same
 one_number : (given : Opening) (world : World) (event : Event) (later : List ℕ) (jobs : List (ℕ × Job)) → later ≡ map number_in jobs
     → cons_option (begins_at given world event) later ≡ map number_in (cons_option (begins_job given world event) jobs)
 one_number given world (Begin i job) later jobs same = one_begun (begins_now (fixed_of given) i job (actor_at world i)) job later jobs same
-one_number given world (Step i) later jobs same = same
-one_number given world (Crash server) later jobs same = same
-one_number given world (Return server) later jobs same = same
-one_number given world (Forget i site) later jobs same = same
-one_number given world (Lack i why) later jobs same = same
+one_number given world other later jobs same = same
 
 numbers : (given : Opening) (world : World) (events : List Event) → begun_from given world events ≡ map number_in (jobs_from given world events)
 numbers given world [] = refl
@@ -120,14 +116,13 @@ module _ (given : Opening) (accepted : IsAccepted given) (events : List Event) (
       here = ap (doing_at (run given events)) (sym turn) ∙ ap doing_of there ∙ doing
 
       of : (v : Verdict) → said_in running.phase ≡ v → Stands (decisions given events) running.task.t v → Has some one
-      of (verdict.Answered answers) said is = decided_has one has is.decision is.there (is.of_it ∙ same)
-      of (verdict.Refused refusal) said is = decided_has one has is.decision is.there (is.of_it ∙ same)
       of verdict.Aborted said is =
           let mine : undecided (doing_at (run given events) now.turn) ≡ asked_by running.task ∷ [] = ap undecided here ∙ ap (left_by (asked_by running.task)) said in
           let right : Has some (asked_by running.task) = append_has_right (map asked_of (decisions given events)) (undecided (doing_at (run given events) now.turn))
           (asked_by running.task) (subst (λ all. Has all (asked_by running.task)) (sym mine) (inl refl)) in
           subst (Has some) (same_asked (transactions_of (jobs_of given events)) (begun_apart given accepted events) (asked_by running.task) one
           (along_has some (transactions_of (jobs_of given events)) now.along (asked_by running.task) right) has same) right
+      of other said is = decided_has one has is.decision is.there (is.of_it ∙ same)
 
   -- the course of a task
   record HasCourse (doing : Option Doing) (task : Task) : Type 0 where
@@ -136,9 +131,8 @@ module _ (given : Opening) (accepted : IsAccepted given) (events : List Event) (
     of_it : txn_run.task ≡ task
 
   course_of : (doing : Option Doing) (task : Task) → task_of doing ≡ Some task → HasCourse doing task
-  course_of None task is = absurd (none-some task is)
-  course_of (Some (RunningSweep sweep_run)) task is = absurd (none-some task is)
   course_of (Some (Running txn_run)) task is = record { txn_run = txn_run; is = refl; of_it = same_Some txn_run.task task is }
+  course_of other task is = absurd (none-some task is)
 
   record HasActor (number : ℕ) (task : Task) : Type 0 where
     actor : Actor

@@ -1,7 +1,7 @@
 -- The locks that a transaction was told of stand in the machine of a suite, as long as nothing takes one away.
 use Rattle.law_run_alone.proofs.Vocabulary.{◌≡◌, ℕ, Bool, true, false, cond, List, [], ◌∷◌, ◌++◌, Option, Some, None, refl, ap, subst, ◌∙◌, ◌==◌, Ok, Err, none-some, is_exclusive, Part, Request, Reply, ReadPoint, GatheredSuite, Suites}
-use Rattle.law_run_alone.proofs.Vocabulary.{suite_of, Task, Proposal, Phase, Gathering, Fetching, Widening, Preparing, Deciding, Finishing, Doing, Running, RunningSweep, Taken, Beginning, Hold, Told, Held, Upgrade, Aim, Prepare}
-use Rattle.law_run_alone.proofs.Vocabulary.{DecideRead, DecideRefused, DecideWrite, DecideElsewhere, Overrule, GiveUp, Finish, Lose, upgraded_hold, upgraded_told, prepared_hold, happens, at2, at2_both, some_told, part_of, moves}
+use Rattle.law_run_alone.proofs.Vocabulary.{suite_of, Task, Proposal, Phase, Deciding, Doing, Running, RunningSweep, Taken, Beginning, Hold, Told, Held, Upgrade, Prepare}
+use Rattle.law_run_alone.proofs.Vocabulary.{Overrule, GiveUp, Finish, Lose, upgraded_hold, upgraded_told, prepared_hold, happens, at2, at2_both, some_told, part_of, moves}
 use Rattle.law_run_alone.proofs.Vocabulary.{first_verdict, prepare_of, to_write, decides_without, decides_first, decides_on, decision_in, decision_by, fixed_in, aim_of, aims_once, aims, is_finishing, is_at_an_end, gives_up}
 use Rattle.law_run_alone.proofs.Vocabulary.{tells_aborted, begun_events, own_events}
 use Rattle.rep_core.specs.declared.request.Request.TheVariants as request
@@ -23,16 +23,7 @@ Stands w t = (i : ℕ) (told : Told) → w.told i t ≡ Some told → StandsAs (
 abbrev pub Spares : Event → Type 0
 Spares (Finish i u v) = ⊥
 Spares (Lose keep) = ⊥
-Spares (Held i u exclusive) = Unit {0}
-Spares (Upgrade i u) = Unit {0}
-Spares (Aim u new) = Unit {0}
-Spares (Prepare i u left) = Unit {0}
-Spares (DecideRead u set known) = Unit {0}
-Spares (DecideRefused u set known) = Unit {0}
-Spares (DecideWrite u set known new) = Unit {0}
-Spares (DecideElsewhere u v) = Unit {0}
-Spares (Overrule u) = Unit {0}
-Spares (GiveUp u) = Unit {0}
+Spares other = Unit {0}
 
 abbrev pub AllSpare : List Event → Type 0
 AllSpare [] = Unit {0}
@@ -69,13 +60,7 @@ stands_event start w (Prepare j u left) t spares stands = λ i told is.
     (λ _. stands i told is)
 stands_event start w (Finish j u v) t spares stands = absurd spares
 stands_event start w (Lose keep) t spares stands = absurd spares
-stands_event start w (Aim u new) t spares stands = stands
-stands_event start w (DecideRead u set known) t spares stands = stands
-stands_event start w (DecideRefused u set known) t spares stands = stands
-stands_event start w (DecideWrite u set known new) t spares stands = stands
-stands_event start w (DecideElsewhere u v) t spares stands = stands
-stands_event start w (Overrule u) t spares stands = stands
-stands_event start w (GiveUp u) t spares stands = stands
+stands_event start w other t spares stands = stands
 
 pub stands_all : (start : Beginning) (w : World) (events : List Event) (t : ℕ) → AllSpare events → Stands w t → Stands (run start w events) t
 stands_all start w [] t spares stands = stands
@@ -95,8 +80,7 @@ spare_once z t suites (Some old) (Some outcome) later spares = spares
 
 spare_aims : (z t : ℕ) (before : Option Proposal) (after : Option Doing) (later : List Event) → AllSpare later → AllSpare (aims z t before after ++ later)
 spare_aims z t before (Some (Running txn_run)) later spares = spare_once z t txn_run.suites before (fixed_in txn_run.phase) later spares
-spare_aims z t before (Some (RunningSweep sweep_run)) later spares = spares
-spare_aims z t before None later spares = spares
+spare_aims z t before other later spares = spares
 
 spare_if : (t : ℕ) (b : Bool) → AllSpare (cond b (GiveUp t ∷ []) [])
 spare_if t true = (tt, tt)
@@ -108,17 +92,14 @@ spare_end t false ends = spare_if t ends
 
 pub spare_begun : (z : ℕ) (before after : Option Doing) → AllSpare (begun_events z before after)
 spare_begun z None (Some (Running txn_run)) = spare_once z txn_run.task.t txn_run.suites None (fixed_in txn_run.phase) _ (spare_if txn_run.task.t (tells_aborted txn_run.phase))
-spare_begun z None (Some (RunningSweep sweep_run)) = tt
-spare_begun z None None = tt
-spare_begun z (Some doing) (Some (Running txn_run)) = tt
 spare_begun z (Some doing) (Some (RunningSweep sweep_run)) = tt
-spare_begun z (Some doing) None = tt
+spare_begun z None other = tt
+spare_begun z (Some doing) other = tt
 
 pub spare_own : (z : ℕ) (before : Option Doing) (taken : Taken) → AllSpare (own_events z before taken)
 spare_own z (Some (Running before)) taken =
     spare_aims z before.task.t (fixed_in before.phase) taken.agent.doing (gives_up before.task.t (is_finishing before.phase) taken) (spare_end before.task.t (is_finishing before.phase) (is_at_an_end taken.agent.doing taken.ending))
-spare_own z (Some (RunningSweep sweep_run)) taken = tt
-spare_own z None taken = tt
+spare_own z other taken = tt
 
 -- ---- what a decision is
 
@@ -138,16 +119,11 @@ spare_on w t outcome new None = spare_without t outcome
 
 spare_in : (z : ℕ) (w : World) (task : Task) (suites : Suites) (phase : Phase) → Spares (decision_in z w task suites phase)
 spare_in z w task suites (Deciding outcome) = spare_on w task.t outcome (to_write z suites outcome) (suite_of suites z)
-spare_in z w task suites (Gathering number) = tt
-spare_in z w task suites (Fetching number) = tt
-spare_in z w task suites (Widening left granted) = tt
-spare_in z w task suites (Preparing left outcome) = tt
-spare_in z w task suites (Finishing servers v ending) = tt
+spare_in z w task suites other = tt
 
 pub spare_decision : (z : ℕ) (w : World) (doing : Option Doing) → Spares (decision_by z w doing)
 spare_decision z w (Some (Running txn_run)) = spare_in z w txn_run.task txn_run.suites txn_run.phase
-spare_decision z w (Some (RunningSweep sweep_run)) = tt
-spare_decision z w None = tt
+spare_decision z w other = tt
 
 -- ---- what a server does
 
@@ -156,14 +132,7 @@ abbrev pub releases : Request → Bool
 releases (request.Finish t v) = true
 releases (request.Break t suite) = true
 releases request.Crash = true
-releases (request.Poll t suite mode) = false
-releases (request.Upgrade t suite) = false
-releases (request.Fetch t suite) = false
-releases (request.Prepare t parts) = false
-releases (request.Decide t decision) = false
-releases (request.Resolve t) = false
-releases request.Locks = false
-releases request.Return = false
+releases other = false
 
 module _ (z : ℕ) (home : ℕ → ℕ) (decision : Event) (spares : Spares decision) (i : ℕ) (w : World) where
   spare_prepare : (t : ℕ) (part : Option Part) → AllSpare (prepare_of i t w part)

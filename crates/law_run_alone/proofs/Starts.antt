@@ -1,6 +1,6 @@
 -- A transaction that begins asks somebody something: none ends at once.
-use Rattle.law_run_alone.proofs.Vocabulary.{◌≡◌, inl, inr, ⊎_elim, ℕ, ◌+◌, ◌<◌, zero, suc, false, List, [], ◌∷◌, Option, None, refl, arith, false≢true, Representative, total_votes, IsValid, Prefix, LockMode, Has, contains_from, Know}
-use Rattle.law_run_alone.proofs.Vocabulary.{Next, Ask, Current, Short, collect, next, short_has_none_left, Cache, Suites, Fixed, Task, Granted, Running, start_from, gather_by, widen_all, to_widen, proceed, execute, heard_on}
+use Rattle.law_run_alone.proofs.Vocabulary.{◌≡◌, inl, inr, ⊎_elim, ℕ, ◌+◌, ◌<◌, zero, suc, false, List, [], ◌∷◌, Option, None, refl, arith, false≢true, Representative, total_votes, IsValid, Prefix, LockMode, Has, contains_from}
+use Rattle.law_run_alone.proofs.Vocabulary.{Next, Short, collect, next, short_has_none_left, Cache, Suites, Fixed, Task, Granted, Running, start_from, gather_by, widen_all, to_widen, proceed, execute, heard_on}
 use Rattle.law_run_alone.proofs.Vocabulary.{raised_or_new, with_suite, is_idle, left}
 use Rattle.file_exec.specs.declared.executor.Outcome.{Outcome as Executed}
 use Rattle.file_exec.specs.declared.executor.Outcome.TheVariants as exec
@@ -36,9 +36,8 @@ gathers : (task : Task) (cache : Cache) (suites : Suites) (number : ℕ) (mode :
 gathers task cache suites number mode start valid = of (next (collect mode start)) refl
   where
     of : (now : Next) → next (collect mode start) ≡ now → GoesOn' (gather_by task cache suites number now)
-    of (Current prefix dver members) is = refl
-    of (Ask server asked) is = refl
     of (Short got needed busy) is = absurd (asks_first mode start got needed busy valid is)
+    of other is = refl
 
 widens : (task : Task) (cache : Cache) (granted : Granted) (numbers : List ℕ) → GoesOn' (widen_all task cache [] granted numbers)
 widens task cache granted [] = refl
@@ -49,6 +48,5 @@ starts fixed task cache c0 valid = of (heard_on fixed task [])
   where
     of : (heard : Executed) → GoesOn' (proceed fixed task cache [] heard)
     of (exec.Need (Hold number mode)) = gathers task cache (with_suite number (raised_or_new fixed task cache number mode None) []) number mode (start_from fixed task cache number) (start_valid fixed task cache number c0 valid)
-    of (exec.Need (Know number)) = refl
     of (exec.Done answers changes) = widens task cache (record { answers = answers; changes = changes }) (to_widen changes)
-    of (exec.Refused refusal) = refl
+    of other = refl

@@ -320,8 +320,7 @@ module _ (given : Opening) (world : World) (ds : List Decided) (past : List Ende
     where
       course_in : TransactionRun → Option Doing → TransactionRun
       course_in before (Some (Running txn_run)) = txn_run
-      course_in before (Some (RunningSweep sweep_run)) = before
-      course_in before None = before
+      course_in before other = before
 
       running_round : (a : TransactionRun) (b : SweepRun) → ◌≡◌ {A = Option Doing} (Some (Running a)) (Some (RunningSweep b)) → ⊥
       running_round a b is = cc

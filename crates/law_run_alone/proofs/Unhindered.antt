@@ -2,7 +2,7 @@
 use Rattle.law_run_alone.proofs.Vocabulary.{◌≡◌, ℕ, zero, suc, ◌+◌, Bool, true, false, cond, List, [], ◌∷◌, Option, Some, None, refl, sym, ap, subst, ◌∙◌, ◌||◌, slice_get, false≢true, none-some, same_Some, IsValid, Opening, Replica}
 use Rattle.law_run_alone.proofs.Vocabulary.{Exclusive, Lock, Request, Reply, Verdict, IsConsistent, is_lost, in_the_way, has_lock, copy_of, State, reply_of, reply_up, reply_down, locking_reply, stands_prepared, can_prepare}
 use Rattle.law_run_alone.proofs.Vocabulary.{consistent_step, consistent_opening, reply_fits, Cause, Ending, Undecided, Replied, Fixed, TransactionRun, Doing, Running, RunningSweep, After, GoesOn, Ends, after_response, ending_by}
-use Rattle.law_run_alone.proofs.Vocabulary.{stands_on_locks, Agent, fixed_of, is_idle, next_in, left, end_of, take_in, Event, Begin, Step, Crash, Return, Forget, Lack, EndedJob, Actor, World, opening, servers_from, server_at, actor_at}
+use Rattle.law_run_alone.proofs.Vocabulary.{stands_on_locks, Agent, fixed_of, is_idle, next_in, left, end_of, take_in, Event, Crash, EndedJob, Actor, World, opening, servers_from, server_at, actor_at}
 use Rattle.law_run_alone.proofs.Vocabulary.{step, after, run, Decided, names, Leaves, Holds, is_crash, disturbs, is_decided}
 use Rattle.rep_core.specs.declared.request.Request.TheVariants as request
 use Rattle.rep_core.specs.declared.reply.Reply.TheVariants as reply
@@ -50,13 +50,7 @@ up_valid st valid (request.Upgrade t suite) =
     ]
 up_valid st valid (request.Fetch t suite) = elim (has_lock t suite st.locks) as (λ b. TellsValid (cond b (reply.Given (copy_of st.store suite).dver (copy_of st.store suite).content) reply.Lost)) [ true ↦ tt | false ↦ tt ]
 up_valid st valid (request.Prepare t parts) = elim (stands_prepared st t parts || can_prepare st t parts) as (λ b. TellsValid (cond b reply.Prepared reply.Lost)) [ true ↦ tt | false ↦ tt ]
-up_valid st valid (request.Decide t decision) = tt
-up_valid st valid (request.Resolve t) = tt
-up_valid st valid (request.Finish t v) = tt
-up_valid st valid (request.Break t suite) = tt
-up_valid st valid request.Locks = tt
-up_valid st valid request.Crash = tt
-up_valid st valid request.Return = tt
+up_valid st valid other = tt
 
 tells_valid : (st : State) (asked : Request) → st.up ≡ true → ((suite : ℕ) → IsValid (copy_of st.store suite).prefix.votes) → TellsValid (reply_of st asked)
 tells_valid st asked up valid = subst (λ b. TellsValid (cond b (reply_up st asked) (reply_down asked))) (sym up) (up_valid st valid asked)
@@ -82,9 +76,8 @@ free_reply b t st asked named own sound valid unswept kept stood = record {
 -- ---- endings
 
 decided_by : (v : Verdict) (cause : Cause) → ((cause' : Cause) → ending_by v cause ≡ Undecided cause' → ⊥) → is_decided (ending_by v cause) ≡ true
-decided_by (verdict.Answered answers) cause none = refl
-decided_by (verdict.Refused refusal) cause none = refl
 decided_by verdict.Aborted cause none = absurd (none cause refl)
+decided_by other cause none = refl
 
 -- a transaction that does not end undecided is decided
 pub after_decided : (txn_run : TransactionRun) (v : Verdict) (after : After TransactionRun) (ending : Ending) → Leaves txn_run.task v after → end_of after ≡ Some ending
@@ -117,8 +110,4 @@ pub record Facts (given : Opening) (world : World) : Type 0 where
 
 pub no_crash : (given : Opening) (world : World) (event : Event) → disturbs given world event ≡ false → is_crash event ≡ false
 no_crash given world (Crash server) calm = absurd (false≢true (sym calm))
-no_crash given world (Begin i job) calm = refl
-no_crash given world (Step i) calm = refl
-no_crash given world (Return server) calm = refl
-no_crash given world (Forget i site) calm = refl
-no_crash given world (Lack i why) calm = refl
+no_crash given world other calm = refl

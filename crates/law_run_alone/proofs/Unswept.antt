@@ -1,5 +1,5 @@
 -- Nobody resolves a transaction as long as no sweep goes: so its home does not answer Aborted where it is to be decided.
-use Rattle.law_run_alone.proofs.Vocabulary.{◌≡◌, ⊎_elim, ℕ, Bool, true, false, cond, [], ◌∷◌, Option, Some, None, refl, sym, ap, ◌∙◌, false≢true, eqb-true, same_Some, Decision, Request, Reply, Verdict, Stamped, State, record_of}
+use Rattle.law_run_alone.proofs.Vocabulary.{◌≡◌, ⊎_elim, ℕ, Bool, true, false, cond, ◌∷◌, Option, Some, None, refl, sym, ap, ◌∙◌, false≢true, eqb-true, same_Some, Decision, Request, Reply, Verdict, Stamped, State, record_of}
 use Rattle.law_run_alone.proofs.Vocabulary.{reply_of, recorded, verdict_of, audit_of, record_here, record_apart, Ways, recording, by_step, home_of, Fixed, Task, Phase, Gathering, Fetching, Widening, Preparing, Deciding, Finishing}
 use Rattle.law_run_alone.proofs.Vocabulary.{Suites, suite_of, parts_at, request_in, changes_of, decision_of, verdict_in, is_decide, asks_same, asked_as, fetched_as, names, same_or}
 use Rattle.rep_core.specs.declared.request.Decision.TheVariants as decision
@@ -16,15 +16,13 @@ is_resolve other = false
 pub never_resolves : (fixed : Fixed) (task : Task) (suites : Suites) (phase : Phase) (server : ℕ) (asked : Request) → request_in fixed task suites phase ≡ Some (server, asked) → is_resolve asked ≡ false
 never_resolves fixed task suites (Gathering number) server asked is = asked_as is_resolve false task number (suite_of suites number) server asked (λ mode. refl) refl is
 never_resolves fixed task suites (Fetching number) server asked is = fetched_as is_resolve false task number (suite_of suites number) server asked refl is
-never_resolves fixed task suites (Widening [] granted) server asked is = cc
 never_resolves fixed task suites (Widening (number ∷ left) granted) server asked is = asked_as is_resolve false task number (suite_of suites number) server asked (λ mode. refl) refl is
-never_resolves fixed task suites (Preparing [] outcome) server asked is = cc
 never_resolves fixed task suites (Preparing (now ∷ left) outcome) server asked is =
     ap is_resolve (sym (asks_same now server (request.Prepare task.t (parts_at suites (changes_of outcome) now)) asked is))
 never_resolves fixed task suites (Deciding outcome) server asked is =
     ap is_resolve (sym (asks_same (home_of fixed.service task.t) server (request.Decide task.t (decision_of task outcome)) asked is))
-never_resolves fixed task suites (Finishing [] told ending) server asked is = cc
 never_resolves fixed task suites (Finishing (now ∷ left) told ending) server asked is = ap is_resolve (sym (asks_same now server (request.Finish task.t told) asked is))
+never_resolves fixed task suites other server asked is = cc
 
 -- a server has not recorded it Aborted
 abbrev pub Unswept : ℕ → State → Type 0
@@ -81,13 +79,4 @@ not_aborted t st (request.Decide named decision) unswept named_so decide is =
     of : (old : Option Verdict) → record_of st named ≡ old → recorded old (verdict_of decision) ≡ verdict.Aborted → ⊥
     of None has is = decides decision is
     of (Some old) has is = unswept (ap (record_of st) (sym (eqb-true named t named_so)) ∙ has ∙ ap Some is)
-not_aborted t st (request.Poll named suite mode) unswept named_so decide is = false≢true decide
-not_aborted t st (request.Upgrade named suite) unswept named_so decide is = false≢true decide
-not_aborted t st (request.Fetch named suite) unswept named_so decide is = false≢true decide
-not_aborted t st (request.Prepare named parts) unswept named_so decide is = false≢true decide
-not_aborted t st (request.Resolve named) unswept named_so decide is = false≢true decide
-not_aborted t st (request.Finish named v) unswept named_so decide is = false≢true decide
-not_aborted t st (request.Break named suite) unswept named_so decide is = false≢true decide
-not_aborted t st request.Locks unswept named_so decide is = false≢true decide
-not_aborted t st request.Crash unswept named_so decide is = false≢true decide
-not_aborted t st request.Return unswept named_so decide is = false≢true decide
+not_aborted t st other unswept named_so decide is = false≢true decide

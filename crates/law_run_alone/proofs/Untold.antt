@@ -1,6 +1,6 @@
 -- A transaction that begins was told of no lock yet, so all that it was told of stand.
 use Rattle.law_run_alone.proofs.Vocabulary.{◌≡◌, ℕ, ◌+◌, true, false, cond, List, [], Option, Some, None, is_some, refl, sym, ap, subst, ◌∙◌, ◌*◌, ◌&&◌, nat_lt, slice_get, slice_set, false≢true, none-some, same_Some, Identity, Opening}
-use Rattle.law_run_alone.proofs.Vocabulary.{Shared, Op, holds, Job, Transaction, Fixed, Task, TransactionRun, Doing, Running, RunningSweep, After, GoesOn, Ends, execute, Agent, fixed_of, is_idle, has_sense, max_jobs, left, begin}
+use Rattle.law_run_alone.proofs.Vocabulary.{Shared, Op, holds, Job, Transaction, Fixed, Task, TransactionRun, Doing, Running, After, GoesOn, Ends, execute, Agent, fixed_of, is_idle, has_sense, max_jobs, left, begin}
 use Rattle.law_run_alone.proofs.Vocabulary.{started, told_at, are_nil, leaves_execute, Event, Actor, actor_at, becomes, begins_now, only, set_here, DoingAgrees}
 use Rattle.txn_core.proofs.ToldLists.{Leaves}
 use Rattle.run_core.specs.Worlds as worlds
@@ -24,12 +24,11 @@ pub begun_stands : (given : Opening) (machines : ℕ → World) (world : worlds.
 begun_stands given machines world later t turn mine now none z actor there = of actor.agent.doing refl (subst (IsMine t) (ap doing_of there) mine)
   where
     of : (doing : Option Doing) → actor.agent.doing ≡ doing → IsMine t doing → DoingStands (machines z) t doing
-    of None running mine = tt
-    of (Some (RunningSweep sweep_run)) running mine = tt
     of (Some (Running txn_run)) running mine = doing_any (machines z) t (Some (Running txn_run)) (λ i told is.
         let agrees : DoingAgrees z (machines z) (Some (Running txn_run)) = subst (DoingAgrees z (machines z)) running ((now.whole z).together.agrees turn actor there) in
         let untold : is_some ((machines z).told i txn_run.task.t) ≡ false = agrees.held i ∙ ap (λ list. holds Shared list i) (none actor txn_run there running z) in
         absurd (false≢true (sym untold ∙ ap is_some (ap ((machines z).told i) mine ∙ is))))
+    of other running mine = tt
 
 pub started_untold : (given : Opening) (world : worlds.World) (i t : ℕ) (caller : Identity) (site : ℕ) (ops : List Op) (found : Option Actor) → actor_at world i ≡ found
     → with_job (Transaction caller site ops) (begins_now (fixed_of given) i (Transaction caller site ops) found) ≡ Some (t, Transaction caller site ops)

@@ -1,7 +1,7 @@
 -- What was said of a transaction, and what a response adds to it.
 use Rattle.law_run_alone.proofs.Vocabulary.{◌≡◌, ◌⊎◌, inl, inr, ℕ, Bool, true, false, cond, List, [], ◌∷◌, ◌++◌, Option, Some, None, refl, sym, ap, subst, ◌∙◌, is_some, map, option_map, option_to_list, Ok, Err, Identity, Op, Request}
-use Rattle.law_run_alone.proofs.Vocabulary.{Verdict, State, record_of, reply_of, recorded, verdict_of, Cause, Ending, Replied, Fixed, Task, Proposal, Phase, Gathering, Fetching, Widening, Preparing, Deciding, Finishing, TransactionRun}
-use Rattle.law_run_alone.proofs.Vocabulary.{Doing, Running, RunningSweep, After, GoesOn, Ends, decision_of, ending_by, request_in, is_decide, said_by, left, end_of, Decided, to_decide, decided_as, decided_at, answer_in, Answer', NotIn}
+use Rattle.law_run_alone.proofs.Vocabulary.{Verdict, State, record_of, reply_of, recorded, verdict_of, Cause, Ending, Replied, Fixed, Task, Proposal, Phase, Finishing, TransactionRun}
+use Rattle.law_run_alone.proofs.Vocabulary.{Doing, Running, After, GoesOn, Ends, decision_of, ending_by, request_in, is_decide, said_by, left, end_of, Decided, to_decide, decided_as, decided_at, answer_in, Answer', NotIn}
 use Rattle.law_run_alone.proofs.Vocabulary.{Stands, Recorded, verdict_as, decides, no_decide, Tells, Leaves, answer_by, append-nil}
 use Rattle.rep_core.specs.declared.request.Request.TheVariants as request
 use Rattle.rep_core.specs.declared.reply.Reply.TheVariants as reply
@@ -31,9 +31,8 @@ answers_of t verdict.Aborted = []
 
 -- whether it is still undecided
 abbrev pub left_by : Asked → Verdict → List Asked
-left_by asked (verdict.Answered answers) = []
-left_by asked (verdict.Refused refusal) = []
 left_by asked verdict.Aborted = asked ∷ []
+left_by asked other = []
 
 -- what was said so far, as a phase has it
 abbrev pub said_in : Phase → Verdict
@@ -41,23 +40,17 @@ said_in (Finishing servers told ending) = told
 said_in other = verdict.Aborted
 
 pub said_is : (v : Verdict) (phase : Phase) → Tells v phase → said_in phase ≡ v
-said_is v (Gathering number) tells = sym tells
-said_is v (Fetching number) tells = sym tells
-said_is v (Widening left granted) tells = sym tells
-said_is v (Preparing left outcome) tells = sym tells
-said_is v (Deciding outcome) tells = sym tells
 said_is v (Finishing servers told ending) tells = tells.0
+said_is v other tells = sym tells
 
 -- what was answered to the transaction that an agent runs, and whether it is undecided
 abbrev pub answered : Option Doing → List (ℕ × Answer')
 answered (Some (Running txn_run)) = answers_of txn_run.task.t (said_in txn_run.phase)
-answered (Some (RunningSweep sweep_run)) = []
-answered None = []
+answered other = []
 
 abbrev pub undecided : Option Doing → List Asked
 undecided (Some (Running txn_run)) = left_by (asked_by txn_run.task) (said_in txn_run.phase)
-undecided (Some (RunningSweep sweep_run)) = []
-undecided None = []
+undecided other = []
 
 -- ---- what a response adds
 
@@ -111,9 +104,8 @@ takes_asked task v new d turns = elim turns [
 -- the home has a record, or none, or is down
 module _ (task : Task) (ds : List Decided) (st : State) (new' : NotIn ds task.t) (recorded_so : (v : Verdict) → record_of st task.t ≡ Some v → Recorded ds task.t v) where
   aborted : (old : Verdict) → Recorded ds task.t old → old ≡ verdict.Aborted
-  aborted (verdict.Answered answers) is = absurd (new' is.decision is.there is.of_it)
-  aborted (verdict.Refused refusal) is = absurd (new' is.decision is.there is.of_it)
   aborted verdict.Aborted is = refl
+  aborted other is = absurd (new' is.decision is.there is.of_it)
 
   by_record : (outcome : Proposal) (old : Option Verdict) → record_of st task.t ≡ old
       → Turns task verdict.Aborted (recorded old (verdict_of (decision_of task outcome))) (cond (is_some (record_of st task.t)) None (decided_as (Some task) (answer_of (recorded old (verdict_of (decision_of task outcome))))))
@@ -176,8 +168,7 @@ ended_as t (Some ending) = option_to_list (option_map (λ answer. (t, answer)) (
 
 ends_answered : (t : ℕ) (v : Verdict) (cause : Cause) → answers_of t v ≡ option_to_list (option_map (λ answer. (t, answer)) (answer_by (ending_by v cause)))
 ends_answered t (verdict.Answered answers) cause = refl
-ends_answered t (verdict.Refused refusal) cause = refl
-ends_answered t verdict.Aborted cause = refl
+ends_answered t other cause = refl
 
 pub leaves_answer : (task : Task) (v : Verdict) (after : After TransactionRun) → Leaves task v after → answers_of task.t v ≡ ended_as task.t (end_of after) ++ answered (left Running after)
 leaves_answer task v (GoesOn txn_run) leaves = sym (ap (λ v. answers_of txn_run.task.t v) (said_is v txn_run.phase leaves.1) ∙ ap (λ (task : Task). answers_of task.t v) leaves.0)

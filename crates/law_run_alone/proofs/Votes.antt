@@ -1,7 +1,7 @@
 -- All votes that a transaction goes by are valid: those of what it was told, of the hints of its agent's cache, and those that it sets.
-use Rattle.law_run_alone.proofs.Vocabulary.{◌≡◌, inl, inr, ⊎_elim, ℕ, Bool, true, false, cond, List, [], ◌∷◌, Option, Some, None, Ok, Err, refl, sym, ap, subst, ◌∙◌, Equal, Greater, ◌==◌, ◌&&◌, ◌||◌, Contains, nat_lt, option_map}
+use Rattle.law_run_alone.proofs.Vocabulary.{◌≡◌, inl, inr, ⊎_elim, ℕ, Bool, true, false, cond, List, [], ◌∷◌, Option, Some, None, Ok, refl, sym, ap, subst, ◌∙◌, Equal, Greater, ◌==◌, ◌&&◌, ◌||◌, Contains, nat_lt, option_map}
 use Rattle.law_run_alone.proofs.Vocabulary.{unwrap_or, filter, nat_cmp, Ordering, match_ordering, is_eq, unsigned_tied, eqb-true, none-some, same_Some, insert_step, insert, Configuration, IsValid, Opening, Prefix, absent_prefix, Answer}
-use Rattle.law_run_alone.proofs.Vocabulary.{Refusal, Row, Change, Edit, SetAcl, SetVotes, SetContent, Make, touches, some, makes, sets_acl, sets_votes, changes_at, with_change, Edits, Ended, changed, seen, is_set, Known, Heard, Needs}
+use Rattle.law_run_alone.proofs.Vocabulary.{Refusal, Row, Change, Edit, SetAcl, SetVotes, SetContent, Make, touches, some, makes, sets_acl, sets_votes, changes_at, with_change, Edits, Ended, changed, seen, is_set, Known, Heard}
 use Rattle.law_run_alone.proofs.Vocabulary.{Done, known_rows, exec_of, changes_by_suite, State, copy_of, Has, has_from, has_map, has_filter, Said, newest, newer, Cache, hint, entries_come_from_puts, known_of, change_of, Fixed, Task}
 use Rattle.law_run_alone.proofs.Vocabulary.{start_from, to_widen, SetsVotes, Job, Agent, Event, Actor, server_at, actor_at, run, beginning, machine_of, server_there, valid_was, CanBe, JobGivesValidVotes, AllGiveValidVotes}
 use Rattle.law_run_alone.proofs.Vocabulary.{knowledge_was, FitsRow, AllFit, edits_fit, holds_after}
@@ -50,8 +50,7 @@ start_valid fixed task cache suite c0 valid = of (hint cache task.site suite) re
 
 abbrev pub SaysValid : Said → Type 0
 SaysValid (told.Held prefix dver) = IsValid prefix.votes
-SaysValid (told.Busy holder) = Unit {0}
-SaysValid told.Down = Unit {0}
+SaysValid other = Unit {0}
 
 abbrev pub AllSayValid : List Told → Type 0
 AllSayValid [] = Unit {0}
@@ -63,8 +62,7 @@ newer_valid prefix (told.Held other dver) valid says = of (nat_lt prefix.pver ot
     of : (b : Bool) → IsValid (cond b other prefix).votes
     of true = says
     of false = valid
-newer_valid prefix (told.Busy holder) valid says = valid
-newer_valid prefix told.Down valid says = valid
+newer_valid prefix other valid says = valid
 
 pub newest_valid : (start : Prefix) (all : List Told) → IsValid start.votes → AllSayValid all → IsValid (newest start all).votes
 newest_valid start [] valid says = valid
@@ -78,12 +76,10 @@ ValidIn row = (r : Row) → row ≡ Some r → IsValid r.votes
 
 changed_valid : (edit : Edit) (row : Option Row) → FitsRow edit row → (sets_votes edit ≡ false → ValidIn row) → ValidIn (changed edit row)
 changed_valid (Make made) row fits valid r is = subst (λ (r : Row). IsValid r.votes) (same_Some made r is) fits
-changed_valid (SetAcl acl) None fits valid r is = absurd (none-some r is)
-changed_valid (SetVotes votes) None fits valid r is = absurd (none-some r is)
-changed_valid (SetContent content) None fits valid r is = absurd (none-some r is)
 changed_valid (SetAcl acl) (Some row) fits valid r is = subst (λ (r : Row). IsValid r.votes) (same_Some (record row { acl = acl }) r is) (valid refl row refl)
 changed_valid (SetVotes votes) (Some row) fits valid r is = subst (λ (r : Row). IsValid r.votes) (same_Some (record row { votes = votes }) r is) fits
 changed_valid (SetContent content) (Some row) fits valid r is = subst (λ (r : Row). IsValid r.votes) (same_Some (record row { content = content }) r is) (valid refl row refl)
+changed_valid other None fits valid r is = absurd (none-some r is)
 
 the_other : (a b : Bool) → (a || b) ≡ true → a ≡ false → b ≡ true
 the_other true b is none = cc
@@ -184,6 +180,5 @@ module _ (fixed : Fixed) (c0 : IsValid fixed.service.c0) (before : Agent) (job :
   set_votes_valid = of (exec_of fixed.service known task.t task.caller task.ops) refl sets.done
     where
       of : (heard : Heard (List Answer) Refusal) → exec_of fixed.service known task.t task.caller task.ops ≡ heard → answered known heard ≡ exec.Done sets.answers sets.changes → IsValid votes
-      of (Needs need) is done = cc
-      of (Done (Err refusal)) is done = cc
       of (Done (Ok ended)) is done = let same : changes.changes_of known ended.edits ≡ sets.changes = cc in by_edits ended is same
+      of other is done = cc

@@ -21,9 +21,7 @@ abbrev pub MayAsk : Fixed → (ℕ → Request → Type 0) → World → Event �
 MayAsk fixed C world (Step i) = (actor : Actor) (asked : ℕ × Request) → actor_at world i ≡ Some actor → next_of fixed actor.agent ≡ Some asked → C asked.0 asked.1
 MayAsk fixed C world (Crash server) = C server request.Crash
 MayAsk fixed C world (Return server) = C server request.Return
-MayAsk fixed C world (Begin i job) = Unit {0}
-MayAsk fixed C world (Forget i site) = Unit {0}
-MayAsk fixed C world (Lack i why) = Unit {0}
+MayAsk fixed C world other = Unit {0}
 
 -- what every request of a kind keeps of a server
 module _ (fixed : Fixed) (Q : ℕ → State → Type 0) (C : ℕ → Request → Type 0) (keeps : (s : ℕ) (st : State) (asked : Stamped Request) → C s asked.value → Q s st → Q s (serving.step st asked)) (world : World) (all : AllAt Q world) where
@@ -95,11 +93,9 @@ event_servers fixed Q C keeps crashes returns world may all event = asks_servers
   where
     of : (event : Event) → MayAsk fixed (λ s. C) world event
     of (Step i) = may i
-    of (Begin i job) = tt
     of (Crash server) = crashes
     of (Return server) = returns
-    of (Forget i site) = tt
-    of (Lack i why) = tt
+    of other = tt
 
 -- ---- an agent
 
@@ -115,20 +111,12 @@ begun_same given i job actor none =
 -- it begins nothing in an event
 abbrev pub BeginsNone : Opening → ℕ → World → Event → Type 0
 BeginsNone given j world (Begin i job) = i ≡ j → begins_job given world (Begin i job) ≡ None
-BeginsNone given j world (Step i) = Unit {0}
-BeginsNone given j world (Crash server) = Unit {0}
-BeginsNone given j world (Return server) = Unit {0}
-BeginsNone given j world (Forget i site) = Unit {0}
-BeginsNone given j world (Lack i why) = Unit {0}
+BeginsNone given j world other = Unit {0}
 
 -- where no job begins, no agent begins any
 pub none_begins : (given : Opening) (j : ℕ) (world : World) (event : Event) → begins_job given world event ≡ None → BeginsNone given j world event
 none_begins given j world (Begin i job) none = λ _. none
-none_begins given j world (Step i) none = tt
-none_begins given j world (Crash server) none = tt
-none_begins given j world (Return server) none = tt
-none_begins given j world (Forget i site) none = tt
-none_begins given j world (Lack i why) none = tt
+none_begins given j world other none = tt
 
 -- What holds of what an agent does after each response that it takes, as long as it begins nothing.
 module _ (given : Opening) (P : Option Doing → Type 0) (j : ℕ) (world : World)

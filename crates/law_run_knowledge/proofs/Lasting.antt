@@ -1,6 +1,6 @@
 -- What was so stays so: whatever happens to a suite, what an agent keeps and holds of it was still its register's.
 use Rattle.law_run_knowledge.proofs.Vocabulary.{◌≡◌, inl, inr, ℕ, true, List, [], ◌∷◌, Option, Some, None, refl, sym, ap, ◌∙◌, nat_cmp, none-some, IsOrdered, Content, Prefix, Replica, Said, Cache, GatheredSuite, Suites, Doing, Running}
-use Rattle.law_run_knowledge.proofs.Vocabulary.{RunningSweep, Agent, Each, Beginning, GoesWith, Told, World, Event, Held, Upgrade, Aim, Prepare, DecideRead, DecideRefused, DecideWrite, DecideElsewhere, Overrule, GiveUp, Finish, Lose}
+use Rattle.law_run_knowledge.proofs.Vocabulary.{RunningSweep, Agent, Each, Beginning, GoesWith, Told, World, Event, Held, Upgrade}
 use Rattle.law_run_knowledge.proofs.Vocabulary.{happens, upgraded_told, run, May, Obeys, Stays, at2, Inv, run_stays, told_to, ToldOf, SaidIs, AreTold, CacheWas, ToldVersion, SuiteWas}
 use Rattle.suite_collect.specs.declared.told.Said.TheVariants as said
 use Rattle.suite_collect.specs.declared.told.Told as collect
@@ -21,16 +21,7 @@ one_told start w (Upgrade j u) may i t told is =
     at2 (λ o. StillTold o told) w.told j u (upgraded_told (w.told j u)) i t
     (λ at. (record { exclusive = true; copy = told.copy }, ap upgraded_told (ap (w.told j) (sym at.1) ∙ ap (λ i. w.told i t) (sym at.0) ∙ is), refl))
     (λ _. (told, is, refl))
-one_told start w (Aim u new) may i t told is = (told, is, refl)
-one_told start w (Prepare j u left) may i t told is = (told, is, refl)
-one_told start w (DecideRead u set known) may i t told is = (told, is, refl)
-one_told start w (DecideRefused u set known) may i t told is = (told, is, refl)
-one_told start w (DecideWrite u set known new) may i t told is = (told, is, refl)
-one_told start w (DecideElsewhere u verdict) may i t told is = (told, is, refl)
-one_told start w (Overrule u) may i t told is = (told, is, refl)
-one_told start w (GiveUp u) may i t told is = (told, is, refl)
-one_told start w (Finish j u verdict) may i t told is = (told, is, refl)
-one_told start w (Lose keep) may i t told is = (told, is, refl)
+one_told start w other may i t told is = (told, is, refl)
 
 pub still_told : (start : Beginning) (w : World) (events : List Event) → Obeys start w events → (i t : ℕ) (told : Told) → w.told i t ≡ Some told → StillTold ((run start w events).told i t) told
 still_told start w [] may i t told is = (told, is, refl)

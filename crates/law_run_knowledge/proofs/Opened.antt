@@ -1,7 +1,7 @@
 -- A content that may be had without asking is never fetched.
 use Rattle.law_run_knowledge.proofs.Vocabulary.{◌≡◌, ℕ, zero, suc, ◌+◌, ◌<◌, ◌≤◌, Bool, true, false, cond, [], ◌∷◌, Option, Some, None, refl, sym, ap, subst, ◌∙◌, arith, Equal, Greater, ◌==◌, length, is_some, nat_cmp, is_eq, is_at}
 use Rattle.law_run_knowledge.proofs.Vocabulary.{keys_of, eq-eqb, false≢true, nat_cmp_total, same_Some, none-some, lookup_head, lookup_tail, sorted_tail, IsOrdered, by_answer, insert_step, get_below, IsOrdered-insert, Content}
-use Rattle.law_run_knowledge.proofs.Vocabulary.{empty_content, held_by, content_at, Need, Hold, Know, Done, needs_what_is_unmet, ReadPoint, GatheredSuite, Suites, suite_of, with_suite, known_of, Fixed, Task, Gathered, opened, or_all}
+use Rattle.law_run_knowledge.proofs.Vocabulary.{empty_content, held_by, content_at, Know, needs_what_is_unmet, ReadPoint, GatheredSuite, Suites, suite_of, with_suite, known_of, Fixed, Task, Gathered, opened, or_all}
 use Rattle.law_run_knowledge.proofs.Vocabulary.{open_needed, open_suite, open_first, opened_with, free_content, heard_on, known_at, needed_first}
 use Rattle.file_exec.specs.declared.executor.Outcome.{Outcome as Executed}
 use Rattle.file_exec.specs.declared.executor.Outcome.TheVariants as exec
@@ -85,9 +85,7 @@ module _ (fixed : Fixed) (task : Task) (all : Gathered) (ordered : IsOrdered nat
 
   opens_more : (heard : Executed) (more : Gathered) → heard_on fixed task all.suites ≡ heard → open_needed task all heard ≡ Some more → OneMore all more
   opens_more (exec.Need (Know number)) more needs is = at_suite number (suite_of all.suites number) more needs refl is
-  opens_more (exec.Need (Hold number mode)) more needs is = cc
-  opens_more (exec.Done answers changes) more needs is = cc
-  opens_more (exec.Refused refusal) more needs is = cc
+  opens_more other more needs is = cc
 
   -- where each suite has its content
   none_left : closed all.suites ≤ 0 → IsAsked fixed task all

@@ -82,12 +82,7 @@ module _ (start : Beginning) (z : ℕ) (home : ℕ → ℕ) (decision : Event) (
       of : (b : Bool) → cond b (Some said.Down) None ≡ Some heard → SaidIs ((run start w (moves z home decision i w asked reply.Down)).told i task.t) heard
       of true says = subst (SaidIs ((run start w (moves z home decision i w asked reply.Down)).told i task.t)) (same_Some said.Down heard says) tt
       of false says = cc
-  says_so task found server asked reply.Lost is obeys tells heard says = cc
-  says_so task found server asked (reply.Given dver content) is obeys tells heard says = cc
-  says_so task found server asked reply.Prepared is obeys tells heard says = cc
-  says_so task found server asked (reply.Verdict v) is obeys tells heard says = cc
-  says_so task found server asked reply.Done is obeys tells heard says = cc
-  says_so task found server asked (reply.Locked locks) is obeys tells heard says = cc
+  says_so task found server asked other is obeys tells heard says = cc
 
   -- and a content that is given is of the version of which it was told
   pub gives_so : (later : World) → Lasts start w later → (t dver given : ℕ) (content : Content) → TellsContent w i t given content → 0 < dver → ToldVersion later t i dver → WasContent start later.log dver content

@@ -195,9 +195,7 @@ module _ (start : Beginning) (z : ℕ) (w : World) (copies : CopiesWere start w)
 
     needed_fits : (heard : Executed) (more : Gathered) → open_needed task all heard ≡ Some more → AllFit more
     needed_fits (exec.Need (Know number)) more is = at_suite number (suite_of all.suites number) more refl is
-    needed_fits (exec.Need (Hold number mode)) more is = cc
-    needed_fits (exec.Done answers changes) more is = cc
-    needed_fits (exec.Refused refusal) more is = cc
+    needed_fits other more is = cc
 
   opened_fits : (n : ℕ) (all : Gathered) → AllFit all → AllFit (opened n fixed task all)
   opened_fits zero all fits = fits
@@ -315,13 +313,9 @@ module _ (start : Beginning) (z : ℕ) (w : World) (copies : CopiesWere start w)
       of None there is None told = fits_give_up cache suites (Lost server) kept fit
 
   fits_lack : (cache : Cache) (suites : Suites) (phase : Phase) (server : ℕ) (lacked : Lack) → Kept cache → Fit suites → Fits (after_lack task cache suites phase server lacked)
-  fits_lack cache suites (Gathering number) server lacked kept fit = fits_give_up cache suites (lack_cause server lacked) kept fit
-  fits_lack cache suites (Fetching number) server lacked kept fit = fits_give_up cache suites (lack_cause server lacked) kept fit
-  fits_lack cache suites (Widening left granted) server lacked kept fit = fits_give_up cache suites (lack_cause server lacked) kept fit
-  fits_lack cache suites (Preparing left outcome) server lacked kept fit = fits_give_up cache suites (lack_cause server lacked) kept fit
-  fits_lack cache suites (Deciding outcome) server lacked kept fit = fits_give_up cache suites (lack_cause server lacked) kept fit
   fits_lack cache suites (Finishing [] v ending) server lacked kept fit = (kept, tt)
   fits_lack cache suites (Finishing (now ∷ left) v ending) server lacked kept fit = fits_end cache suites v ending left kept fit
+  fits_lack cache suites other server lacked kept fit = fits_give_up cache suites (lack_cause server lacked) kept fit
 
   -- what a response is to the suite: a request of it is answered so
   pub record Says (suites : Suites) (phase : Phase) (server : ℕ) (asked : Request) (response : Response) : Type 0 where

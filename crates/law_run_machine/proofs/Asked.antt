@@ -171,14 +171,9 @@ module _ (start : Beginning) (z : ℕ) (home : ℕ → ℕ) (decision : Event) (
   told_served t (request.Resolve u) (reply.Verdict v) is had keeps who = ap (λ told. is_some (told who t)) (told_ruling (home u == i) (w.verdict u) (Overrule u) refl) ∙ no_lock (is_some (w.told who t)) (i == who) false
   told_served t (request.Finish u v) reply.Done is had keeps who = no_lock (is_some (w.told who t)) (i == who) false
   told_served t (request.Break u s) reply.Done is had keeps who = ap (λ told. is_some (told who t)) (told_if (z == s) _ refl) ∙ no_lock (is_some (w.told who t)) (i == who) false
-  told_served t (request.Fetch u s) said is had keeps who = no_lock (is_some (w.told who t)) (i == who) (says_held (Replied said))
   told_served t request.Locks said is had keeps who = absurd (false≢true is)
   told_served t request.Crash said is had keeps who = absurd (false≢true is)
   told_served t request.Return said is had keeps who = absurd (false≢true is)
   told_served t (request.Poll u s m) said is had keeps who = no_response (is_some (w.told who t)) (i == who) (s == z)
   told_served t (request.Upgrade u s) said is had keeps who = no_response (is_some (w.told who t)) (i == who) (s == z)
-  told_served t (request.Prepare u parts) said is had keeps who = no_lock (is_some (w.told who t)) (i == who) (says_held (Replied said))
-  told_served t (request.Decide u decided) said is had keeps who = no_lock (is_some (w.told who t)) (i == who) (says_held (Replied said))
-  told_served t (request.Resolve u) said is had keeps who = no_lock (is_some (w.told who t)) (i == who) (says_held (Replied said))
-  told_served t (request.Finish u v) said is had keeps who = no_lock (is_some (w.told who t)) (i == who) (says_held (Replied said))
-  told_served t (request.Break u s) said is had keeps who = no_lock (is_some (w.told who t)) (i == who) (says_held (Replied said))
+  told_served t other said is had keeps who = no_lock (is_some (w.told who t)) (i == who) (says_held (Replied said))

@@ -1,6 +1,6 @@
 -- Agents keep to their side in every run: what each event keeps of agents and machine together.
-use Rattle.law_run_machine.proofs.Vocabulary.{◌≡◌, inl, inr, ℕ, zero, suc, ◌+◌, ◌<◌, ◌≤◌, Option, Some, None, is_some, refl, sym, ap, ◌∙◌, arith, ◌*◌, nat_cmp, none-some, IsOrdered, Suites, Phase, Gathering, Fetching, Widening}
-use Rattle.law_run_machine.proofs.Vocabulary.{Preparing, Deciding, Finishing, TransactionRun, Sweeping, Listing, Resolving, Telling, Breaking, Doing, Running, RunningSweep, Agent, left, locks, Actor, actor_at, World, MayFinish}
+use Rattle.law_run_machine.proofs.Vocabulary.{◌≡◌, inl, inr, ℕ, zero, suc, ◌+◌, ◌<◌, ◌≤◌, Option, Some, None, is_some, refl, sym, ap, ◌∙◌, arith, ◌*◌, nat_cmp, none-some, IsOrdered, Suites, Phase}
+use Rattle.law_run_machine.proofs.Vocabulary.{Finishing, TransactionRun, Sweeping, Telling, Doing, Running, RunningSweep, Agent, locks, Actor, actor_at, World, MayFinish}
 use Rattle.law_run_machine.proofs.Vocabulary.{ended_as}
 use Rattle.run_core.specs.Worlds as worlds
 use Rattle.law_run_machine.proofs.Quiet.{Quiet}
@@ -63,18 +63,12 @@ finish_quiet w later t v quiet may = record {
 }
 
 stage_quiet : (z : ℕ) (w later : World) (t : ℕ) (suites : Suites) (phase : Phase) → Quiet w later t → Stage z w t suites phase → Stage z later t suites phase
-stage_quiet z w later t suites (Gathering number) quiet stage = (going_quiet w later t quiet stage.0, quiet.aim ∙ stage.1)
-stage_quiet z w later t suites (Fetching number) quiet stage = (going_quiet w later t quiet stage.0, quiet.aim ∙ stage.1)
-stage_quiet z w later t suites (Widening left granted) quiet stage = (going_quiet w later t quiet stage.0, quiet.aim ∙ stage.1)
-stage_quiet z w later t suites (Preparing left outcome) quiet stage = (going_quiet w later t quiet stage.0, quiet.aim ∙ stage.1)
-stage_quiet z w later t suites (Deciding outcome) quiet stage = (going_quiet w later t quiet stage.0, quiet.aim ∙ stage.1)
 stage_quiet z w later t suites (Finishing servers v ending) quiet stage = finish_quiet w later t (ended_as v) quiet stage
+stage_quiet z w later t suites other quiet stage = (going_quiet w later t quiet stage.0, quiet.aim ∙ stage.1)
 
 round_later : (w later : World) (now : Sweeping) → ((t : ℕ) (v : _) → w.verdict t ≡ Some v → later.verdict t ≡ Some v) → InRound w now → InRound later now
-round_later w later Listing stays in' = tt
-round_later w later (Resolving t locks) stays in' = tt
 round_later w later (Telling t v locks) stays in' = stays t (ended_as v) in'
-round_later w later (Breaking lock locks) stays in' = tt
+round_later w later other stays in' = tt
 
 pub numbered_at : (t n count : ℕ) → t + 64 ≡ 64 * count + n → n < 64 → (place : ℕ) × (t ≡ 64 * place + n)
 numbered_at t n zero is small = absurd (omega arith)

@@ -37,10 +37,8 @@ IsOf t (DecideRead u set known) = u ≡ t
 IsOf t (DecideRefused u set known) = u ≡ t
 IsOf t (DecideWrite u set known new) = u ≡ t
 IsOf t (DecideElsewhere u verdict) = u ≡ t
-IsOf t (Overrule u) = Unit {0}
 IsOf t (GiveUp u) = u ≡ t
-IsOf t (Finish i u verdict) = Unit {0}
-IsOf t (Lose keep) = Unit {0}
+IsOf t other = Unit {0}
 
 abbrev pub AreOf : ℕ → List Event → Type 0
 AreOf t [] = Unit {0}

@@ -3,8 +3,8 @@ use Rattle.law_run_machine.proofs.Vocabulary.{◌≡◌, ◌⊎◌, inl, inr, �
 use Rattle.law_run_machine.proofs.Vocabulary.{nat_tests, max_servers, get, Shared, Part, Request, Reply, is_prepared, Has, filter_has, map_has, has_any, any_find, holds, Cache, GatheredSuite, Suites, suite_of, has_locks, holds_lock}
 use Rattle.law_run_machine.proofs.Vocabulary.{told_in, told_at, part_of, parts_at, Response, Replied, Lacked, Cause, Lost, Ending, Undecided, Changes, Fixed, Task, Proposal, Phase, Gathering, Fetching, Widening, Preparing, Deciding}
 use Rattle.law_run_machine.proofs.Vocabulary.{Finishing, TransactionRun, SweepRun, Doing, Running, RunningSweep, After, GoesOn, Ends, execute, tell_end, give_up, prepare, locked_at, numbers_from, lack_cause, after_response, request_in}
-use Rattle.law_run_machine.proofs.Vocabulary.{verdict_in, ending_by, cause_of_abort, Agent, next_in, take_in, left, IsEarly, goes_response, goes_execute, Beginning, World, Event, Held, Upgrade, Aim, Prepare, DecideRead, DecideRefused}
-use Rattle.law_run_machine.proofs.Vocabulary.{DecideWrite, DecideElsewhere, Overrule, GiveUp, Finish, Lose, happens, run, at2, itself, prepare_of}
+use Rattle.law_run_machine.proofs.Vocabulary.{verdict_in, ending_by, cause_of_abort, Agent, next_in, take_in, left, IsEarly, goes_response, goes_execute, Beginning, World, Event, Prepare}
+use Rattle.law_run_machine.proofs.Vocabulary.{happens, run, at2, itself, prepare_of}
 use Rattle.rep_core.specs.declared.reply.Reply.TheVariants as reply
 use Rattle.rep_core.specs.declared.reply.Verdict.{Verdict}
 use Rattle.rep_core.specs.declared.reply.Verdict.TheVariants as verdict
@@ -15,17 +15,7 @@ use Rattle.law_server_moves.specs.Preparing as preparing
 
 ready_event : (start : Beginning) (w : World) (event : Event) (i u : ℕ) → is_some (w.ready i u) ≡ true → is_some ((happens start w event).ready i u) ≡ true
 ready_event start w (Prepare j t left) i u is = at2 (λ o. is_some o ≡ true) w.ready j t (Some left) i u (λ _. refl) (λ _. is)
-ready_event start w (Held j t exclusive) i u is = is
-ready_event start w (Upgrade j t) i u is = is
-ready_event start w (Aim t new) i u is = is
-ready_event start w (DecideRead t set known) i u is = is
-ready_event start w (DecideRefused t set known) i u is = is
-ready_event start w (DecideWrite t set known new) i u is = is
-ready_event start w (DecideElsewhere t v) i u is = is
-ready_event start w (Overrule t) i u is = is
-ready_event start w (GiveUp t) i u is = is
-ready_event start w (Finish j t v) i u is = is
-ready_event start w (Lose keep) i u is = is
+ready_event start w other i u is = is
 
 pub ready_stays : (start : Beginning) (w : World) (events : List Event) (i u : ℕ) → is_some (w.ready i u) ≡ true → is_some ((run start w events).ready i u) ≡ true
 ready_stays start w [] i u is = is
@@ -104,10 +94,7 @@ prepared_now start w suites changes z i t is = by (preparing.part_of z (parts_at
 abbrev pub ReadyIn : ℕ → World → ℕ → Suites → Phase → Type 0
 ReadyIn z w t suites (Preparing left outcome) = (i : ℕ) → i < max_servers → holds Shared (told_at suites z) i ≡ true → Has left i ⊎ (is_some (w.ready i t) ≡ true)
 ReadyIn z w t suites (Deciding outcome) = (i : ℕ) → i < max_servers → holds Shared (told_at suites z) i ≡ true → is_some (w.ready i t) ≡ true
-ReadyIn z w t suites (Gathering number) = Unit {0}
-ReadyIn z w t suites (Fetching number) = Unit {0}
-ReadyIn z w t suites (Widening left granted) = Unit {0}
-ReadyIn z w t suites (Finishing servers v ending) = Unit {0}
+ReadyIn z w t suites other = Unit {0}
 
 abbrev ReadyLeft : ℕ → World → ℕ → After TransactionRun → Type 0
 ReadyLeft z w t (GoesOn txn_run) = (txn_run.task.t ≡ t) × ReadyIn z w t txn_run.suites txn_run.phase
@@ -116,10 +103,7 @@ ReadyLeft z w t (Ends ending) = Unit {0}
 pub ready_later : (z : ℕ) (w later : World) (t : ℕ) (suites : Suites) (phase : Phase) → ((i : ℕ) → is_some (w.ready i t) ≡ true → is_some (later.ready i t) ≡ true) → ReadyIn z w t suites phase → ReadyIn z later t suites phase
 ready_later z w later t suites (Preparing left outcome) more is = λ i small held. elim (is i small held) [ inl waits ↦ inl waits | inr ready ↦ inr (more i ready) ]
 ready_later z w later t suites (Deciding outcome) more is = λ i small held. more i (is i small held)
-ready_later z w later t suites (Gathering number) more is = tt
-ready_later z w later t suites (Fetching number) more is = tt
-ready_later z w later t suites (Widening left granted) more is = tt
-ready_later z w later t suites (Finishing servers v ending) more is = tt
+ready_later z w later t suites other more is = tt
 
 module _ (z : ℕ) (w : World) (task : Task) where
   ready_end : (cache : Cache) (suites : Suites) (v : Verdict) (ending : Ending) (servers : List ℕ) → ReadyLeft z w task.t (tell_end task cache suites v ending servers).after
@@ -136,12 +120,10 @@ module _ (z : ℕ) (w : World) (task : Task) where
   ready_prepare cache suites outcome (server ∷ left) is = (refl, is)
 
   ready_early : (suites : Suites) (phase : Phase) → IsEarly phase → ReadyLeft z w task.t (GoesOn (record { task = task; suites = suites; phase = phase }))
-  ready_early suites (Gathering number) is = (refl, tt)
-  ready_early suites (Fetching number) is = (refl, tt)
-  ready_early suites (Widening left granted) is = (refl, tt)
   ready_early suites (Preparing left outcome) is = absurd is
   ready_early suites (Deciding outcome) is = absurd is
   ready_early suites (Finishing servers v ending) is = absurd is
+  ready_early suites other is = (refl, tt)
 
   ready_prepares : (cache : Cache) (suites : Suites) (outcome : Proposal) → ReadyLeft z w task.t (prepare task cache suites outcome (locked_at suites)).after
   ready_prepares cache suites outcome = ready_prepare cache suites outcome (locked_at suites) (λ i small held. inl (locked_has suites z i small held))
@@ -155,14 +137,7 @@ module _ (z : ℕ) (w : World) (task : Task) where
 
 prepared_is : (said : Reply) → is_prepared said ≡ true → said ≡ reply.Prepared
 prepared_is reply.Prepared is = refl
-prepared_is (reply.Held prefix dver) is = absurd (false≢true is)
-prepared_is (reply.Busy holder p) is = absurd (false≢true is)
-prepared_is reply.Lost is = absurd (false≢true is)
-prepared_is (reply.Given dver content) is = absurd (false≢true is)
-prepared_is (reply.Verdict v) is = absurd (false≢true is)
-prepared_is reply.Done is = absurd (false≢true is)
-prepared_is (reply.Locked listed) is = absurd (false≢true is)
-prepared_is reply.Down is = absurd (false≢true is)
+prepared_is other is = absurd (false≢true is)
 
 module _ (z : ℕ) (w later : World) (fixed : Fixed) (task : Task) (cache : Cache) (suites : Suites) (server : ℕ) (asked : Request) (response : Response)
     (more : (i : ℕ) → is_some (w.ready i task.t) ≡ true → is_some (later.ready i task.t) ≡ true) where
@@ -171,9 +146,7 @@ module _ (z : ℕ) (w later : World) (fixed : Fixed) (task : Task) (cache : Cach
       → ReadyLeft z later task.t (after_response fixed (record { task = task; suites = suites; phase = phase }) cache server asked response).after
   ready_response (Gathering number) is ready now = ready_early_response z later task fixed cache suites (Gathering number) server asked response tt
   ready_response (Fetching number) is ready now = ready_early_response z later task fixed cache suites (Fetching number) server asked response tt
-  ready_response (Widening [] granted) is ready now = cc
   ready_response (Widening (number ∷ left) granted) is ready now = ready_early_response z later task fixed cache suites (Widening (number ∷ left) granted) server asked response tt
-  ready_response (Preparing [] outcome) is ready now = cc
   ready_response (Preparing (first ∷ left) outcome) is ready now = of response (λ said. now first left outcome refl said)
     where
       of : (response : Response) → (response ≡ Replied reply.Prepared → holds Shared (told_at suites z) first ≡ true → is_some (later.ready first task.t) ≡ true)
@@ -195,12 +168,12 @@ module _ (z : ℕ) (w later : World) (fixed : Fixed) (task : Task) (cache : Cach
       of : (response : Response) → ReadyLeft z later task.t (after_response fixed (record { task = task; suites = suites; phase = Deciding outcome }) cache server asked response).after
       of (Replied said) = ready_end z later task cache suites (verdict_in said verdict.Aborted) (ending_by (verdict_in said verdict.Aborted) (cause_of_abort said)) (locked_at suites)
       of (Lacked lacked) = ready_give_up z later task cache suites (lack_cause server lacked)
-  ready_response (Finishing [] v ending) is ready now = cc
   ready_response (Finishing (first ∷ left) v ending) is ready now = of response
     where
       of : (response : Response) → ReadyLeft z later task.t (after_response fixed (record { task = task; suites = suites; phase = Finishing (first ∷ left) v ending }) cache server asked response).after
       of (Replied said) = ready_end z later task cache suites v ending left
       of (Lacked lacked) = ready_end z later task cache suites v ending left
+  ready_response other is ready now = cc
 
 -- ---- an agent
 

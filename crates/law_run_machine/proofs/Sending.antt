@@ -1,5 +1,5 @@
 -- What a transaction asks a server, its machine of a suite lets it ask.
-use Rattle.law_run_machine.proofs.Vocabulary.{◌≡◌, ◌⊎◌, inl, inr, ℕ, Bool, true, false, cond, List, [], ◌∷◌, Option, Some, None, is_some, Ok, Err, refl, sym, ap, subst, ◌∙◌, arith, ◌==◌, ◌||◌, ◌≢◌, filter, find, nat_le, nat_cmp}
+use Rattle.law_run_machine.proofs.Vocabulary.{◌≡◌, ◌⊎◌, inl, inr, ℕ, Bool, true, false, cond, List, ◌∷◌, Option, Some, None, is_some, Ok, Err, refl, sym, ap, subst, ◌∙◌, arith, ◌==◌, ◌||◌, ◌≢◌, filter, find, nat_le, nat_cmp}
 use Rattle.law_run_machine.proofs.Vocabulary.{false≢true, and_parts, nat_tests, IsOrdered, Representative, LockMode, Shared, Lock, Prefix, Part, Request, has_prepared, is_keep, verdict_of, has_map, has_filter, find_some, get_has}
 use Rattle.law_run_machine.proofs.Vocabulary.{newest, holds, Collector, needed, got, all_told, wanted, request_for, Asked, Poll, Next, Ask, Current, Short, next, is_left, counted, is_member, members_of, version, asked_of, ask_or_short}
 use Rattle.law_run_machine.proofs.Vocabulary.{ReadPoint, GatheredSuite, Suites, suite_of, holds_lock, holds_exclusively, told_in, told_at, change_of, new_copy, new_prefix, sets_prefix, has_vote, takes_whole, take_of_changed, take_from}
@@ -107,13 +107,11 @@ module _ (z : ℕ) (w : World) (fixed : Fixed) (task : Task) (suites : Suites) (
   pub upgrade_told : (phase : Phase) (t s : ℕ) → request_in fixed task suites phase ≡ Some (server, request.Upgrade t s) → z ≡ s → is_some (w.told server task.t) ≡ true
   upgrade_told (Gathering number) t s is same = upgrade_for number t s is same
   upgrade_told (Fetching number) t s is same = fetch_none number t s (suite_of suites number) is
-  upgrade_told (Widening [] granted) t s is same = absurd cc
   upgrade_told (Widening (number ∷ left) granted) t s is same = upgrade_for number t s is same
-  upgrade_told (Preparing [] outcome) t s is same = absurd cc
   upgrade_told (Preparing (now ∷ left) outcome) t s is same = absurd (let same = asks_same now server (request.Prepare task.t (parts_at suites (changes_of outcome) now)) (request.Upgrade t s) is in cc)
   upgrade_told (Deciding outcome) t s is same = absurd (let same = asks_same (home_of fixed.service task.t) server (request.Decide task.t (decision_of task outcome)) (request.Upgrade t s) is in cc)
-  upgrade_told (Finishing [] v ending) t s is same = absurd cc
   upgrade_told (Finishing (now ∷ left) v ending) t s is same = absurd (let same = asks_same now server (request.Finish task.t v) (request.Upgrade t s) is in cc)
+  upgrade_told other t s is same = absurd cc
 
 -- ---- what is prepared goes by what is to be written
 
@@ -205,11 +203,7 @@ decides start z w task suites outcome may =
 pub decision_told : (start : Beginning) (z : ℕ) (w : World) (task : Task) (suites : Suites) (phase : Phase) → (happens start w (decision_in z w task suites phase)).told ≡ w.told
 decision_told start z w task suites (Deciding outcome) =
     ap (λ (w : World). w.told) (logs start w task.t outcome (to_write z suites outcome) (suite_of suites z)).1
-decision_told start z w task suites (Gathering number) = refl
-decision_told start z w task suites (Fetching number) = refl
-decision_told start z w task suites (Widening left granted) = refl
-decision_told start z w task suites (Preparing left outcome) = refl
-decision_told start z w task suites (Finishing servers v ending) = refl
+decision_told start z w task suites other = refl
 
 -- ---- the agent's side
 
@@ -241,9 +235,7 @@ module _ (start : Beginning) (z : ℕ) (home : ℕ → ℕ) (locks : List Lock) 
       → AgentSide start z home (decision_in z w task suites phase) server locks w asked
   agent_side (Gathering number) asked is stage may first = asks_lock number asked _ is
   agent_side (Fetching number) asked is stage may first = fetches number asked _ (suite_of suites number) is
-  agent_side (Widening [] granted) asked is stage may first = absurd cc
   agent_side (Widening (number ∷ left) granted) asked is stage may first = asks_lock number asked _ is
-  agent_side (Preparing [] outcome) asked is stage may first = absurd cc
   agent_side (Preparing (now ∷ left) outcome) asked is stage may first =
       let same = asks_same now server (request.Prepare task.t (parts_at suites (changes_of outcome) now)) asked is in
       subst (AgentSide start z home _ server locks w) same (sends z w task suites outcome now locks ordered stage.0 stage.1
@@ -251,6 +243,6 @@ module _ (start : Beginning) (z : ℕ) (home : ℕ → ℕ) (locks : List Lock) 
   agent_side (Deciding outcome) asked is stage may first =
       let same = asks_same (home_of fixed.service task.t) server (request.Decide task.t (decision_of task outcome)) asked is in
       subst (AgentSide start z home _ server locks w) same (λ _. decides start z w task suites outcome (may outcome refl))
-  agent_side (Finishing [] v ending) asked is stage may first = absurd cc
   agent_side (Finishing (now ∷ left) v ending) asked is stage may first =
       subst (AgentSide start z home _ server locks w) (asks_same now server (request.Finish task.t v) asked is) stage
+  agent_side other asked is stage may first = absurd cc

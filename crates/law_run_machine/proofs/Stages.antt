@@ -17,12 +17,10 @@ pub record Going (w : World) (t : ℕ) : Type 0 where
 
 -- first nothing is fixed, then what is to be written; and once it tells how it ended, it ended so
 abbrev pub Stage : ℕ → World → ℕ → Suites → Phase → Type 0
-Stage z w t suites (Gathering number) = Going w t × (w.aim t ≡ None)
-Stage z w t suites (Fetching number) = Going w t × (w.aim t ≡ None)
-Stage z w t suites (Widening left granted) = Going w t × (w.aim t ≡ None)
 Stage z w t suites (Preparing left outcome) = Going w t × (w.aim t ≡ to_write z suites outcome)
 Stage z w t suites (Deciding outcome) = Going w t × (w.aim t ≡ to_write z suites outcome)
 Stage z w t suites (Finishing servers v ending) = MayFinish w t (ended_as v)
+Stage z w t suites other = Going w t × (w.aim t ≡ None)
 
 abbrev pub StageLeft : ℕ → World → ℕ → After TransactionRun → Type 0
 StageLeft z w t (GoesOn txn_run) = (txn_run.task.t ≡ t) × Stage z w t txn_run.suites txn_run.phase
@@ -58,12 +56,10 @@ module _ (start : Beginning) (z : ℕ) (agent : Agent) (w : World) (task : Task)
 
   module _ (going : Going w task.t) (unaimed : w.aim task.t ≡ None) where
     early : (suites : Suites) (phase : Phase) → IsEarly phase → Does start z task.t w None false agent (GoesOn (record { task = task; suites = suites; phase = phase }))
-    early suites (Gathering number) is = record { does = tt; stage = (refl, (going, unaimed)) }
-    early suites (Fetching number) is = record { does = tt; stage = (refl, (going, unaimed)) }
-    early suites (Widening left granted) is = record { does = tt; stage = (refl, (going, unaimed)) }
     early suites (Preparing left outcome) is = absurd is
     early suites (Deciding outcome) is = absurd is
     early suites (Finishing servers v ending) is = absurd is
+    early suites other is = record { does = tt; stage = (refl, (going, unaimed)) }
 
     -- it fixes what it is to write
     aims_at : (suites : Suites) (outcome : Proposal) (new : Option Change) → to_write z suites outcome ≡ new
@@ -147,9 +143,7 @@ module _ (start : Beginning) (z : ℕ) (agent : Agent) (w later : World) (fixed 
       → Does start z task.t later (fixed_in phase) (is_finishing phase) agent (after_response fixed (record { task = task; suites = suites; phase = phase }) cache server asked response).after
   does_response (Gathering number) is stage = by_early (Gathering number) tt (asked_as rules false task number (suite_of suites number) server asked (λ mode. refl) refl is) stage
   does_response (Fetching number) is stage = by_early (Fetching number) tt (fetched_as rules false task number (suite_of suites number) server asked refl is) stage
-  does_response (Widening [] granted) is stage = cc
   does_response (Widening (number ∷ left) granted) is stage = by_early (Widening (number ∷ left) granted) tt (asked_as rules false task number (suite_of suites number) server asked (λ mode. refl) refl is) stage
-  does_response (Preparing [] outcome) is stage = cc
   does_response (Preparing (now ∷ left) outcome) is stage =
       let same = leaves.calm (ap rules (sym (asks_same now server (request.Prepare task.t (parts_at suites (changes_of outcome) now)) asked is))) in
       of (going_on w later task.t same stage.0) (ap (λ f. f task.t) same.aim ∙ stage.1) response
@@ -189,7 +183,6 @@ module _ (start : Beginning) (z : ℕ) (agent : Agent) (w later : World) (fixed 
           (locked_at suites) (silent (λ v same. absurd (let e = replied_same _ _ same in cc)))
       of (Replied (reply.Locked listed)) ruled silent = gives_up_at start z agent later task (Some outcome) cache suites (cause_of_abort (reply.Locked listed)) (locked_at suites)
           (silent (λ v same. absurd (let e = replied_same _ _ same in cc)))
-  does_response (Finishing [] v ending) is stage = cc
   does_response (Finishing (now ∷ left) v ending) is stage =
       let same = leaves.calm (ap rules (sym (asks_same now server (request.Finish task.t v) asked is))) in
       of (finish_on w later task.t (ended_as v) same stage) response
@@ -198,3 +191,4 @@ module _ (start : Beginning) (z : ℕ) (agent : Agent) (w later : World) (fixed 
           (after_response fixed (record { task = task; suites = suites; phase = Finishing (now ∷ left) v ending }) cache server asked response).after
       of may (Replied said) = finishing_on start z agent later task cache suites v ending left may
       of may (Lacked lacked) = finishing_on start z agent later task cache suites v ending left may
+  does_response other is stage = cc

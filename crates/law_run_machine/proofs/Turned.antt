@@ -1,8 +1,8 @@
 -- Agents against the machine of a suite: after a turn, and once a job begins.
 use Rattle.law_run_machine.proofs.Vocabulary.{◌≡◌, inl, ℕ, zero, suc, ◌+◌, ◌<◌, ◌≤◌, Bool, true, false, cond, List, [], ◌∷◌, ◌++◌, Option, Some, None, is_some, Ok, Err, refl, sym, ap, subst, ◌∙◌, arith, ◌*◌, ◌==◌, ◌&&◌, ◌||◌, nat_lt}
 use Rattle.law_run_machine.proofs.Vocabulary.{slice_get, slice_set, false≢true, and_parts, same_Some, none-some, Opening, Request, Reply, Stamped, Lock, has_prepared, State, reply_of, is_full, served, Identity, Op, ReadPoint}
-use Rattle.law_run_machine.proofs.Vocabulary.{GatheredSuite, Suites, suite_of, Response, Replied, Lacked, Job, Transaction, Sweep, Fixed, Task, Proposal, Phase, Gathering, Fetching, Widening, Preparing, Deciding, Finishing}
-use Rattle.law_run_machine.proofs.Vocabulary.{TransactionRun, Sweeping, Listing, Resolving, Telling, Breaking, SweepRun, Doing, Running, RunningSweep, After, GoesOn, Ends, home_of, execute, decision_of, asked_now, Agent, fixed_of}
+use Rattle.law_run_machine.proofs.Vocabulary.{GatheredSuite, Suites, suite_of, Response, Replied, Lacked, Job, Transaction, Sweep, Fixed, Task, Proposal, Phase, Preparing, Deciding}
+use Rattle.law_run_machine.proofs.Vocabulary.{TransactionRun, Sweeping, Resolving, Telling, SweepRun, Doing, Running, RunningSweep, After, GoesOn, Ends, home_of, execute, decision_of, asked_now, Agent, fixed_of}
 use Rattle.law_run_machine.proofs.Vocabulary.{next_in, next_of, take, take_in, begin, started, is_idle, has_sense, max_jobs, left, locks, says_held, is_decide, Keeps, nothing_held, begin_keeps, Actor, server_at, actor_at, with_server}
 use Rattle.law_run_machine.proofs.Vocabulary.{Beginning, Known, Change, World, Verdict, set1, Event, GiveUp, run, May, Obeys, one_is, one_not, Inv, Shows, ended_as, moves, AgentSide, beginning, replies_tell, may_sweep, asks_in_its_name}
 use Rattle.law_run_machine.proofs.Vocabulary.{asks_to_sweep, to_write, known_by, decides_with, decides_without, decides_first, decides_on, decision_by, decision_in, decision_with, aims, tells_aborted, begun_events, own_events}
@@ -28,10 +28,8 @@ use Rattle.law_run_machine.proofs.Turns.{Turn, Concerns, of_aims}
 
 round_side : (start : Beginning) (z : ℕ) (home : ℕ → ℕ) (decision : Event) (i : ℕ) (held : List Lock) (w : World) (fixed : Fixed) (sweep_run : SweepRun) (now : Sweeping)
     → InRound w now → AgentSide start z home decision i held w (asked_now fixed.service sweep_run now).1
-round_side start z home decision i held w fixed sweep_run Listing in' = tt
-round_side start z home decision i held w fixed sweep_run (Resolving t left) in' = tt
 round_side start z home decision i held w fixed sweep_run (Telling t v left) in' = record { ended = inl in' }
-round_side start z home decision i held w fixed sweep_run (Breaking lock left) in' = tt
+round_side start z home decision i held w fixed sweep_run other in' = tt
 
 pair_parts : (a b : ℕ × Request) → ◌≡◌ {A = Option (ℕ × Request)} (Some a) (Some b) → a ≡ b
 pair_parts a b same = same_Some a b same
@@ -41,17 +39,8 @@ pair_parts a b same = same_Some a b same
 silent_moves : (start : Beginning) (z : ℕ) (home : ℕ → ℕ) (decision : Event) (i : ℕ) (w : World) (asked : Request) (said : Reply) → is_decide asked ≡ true
     → ((v : replied.Verdict) → said ≡ reply.Verdict v → ⊥) → run start w (moves z home decision i w asked said) ≡ w
 silent_moves start z home decision i w (request.Decide t decided) (reply.Verdict v) is none = absurd (none v refl)
-silent_moves start z home decision i w (request.Poll t s m) said is none = absurd (false≢true is)
-silent_moves start z home decision i w (request.Upgrade t s) said is none = absurd (false≢true is)
-silent_moves start z home decision i w (request.Fetch t s) said is none = absurd (false≢true is)
-silent_moves start z home decision i w (request.Prepare t parts) said is none = absurd (false≢true is)
-silent_moves start z home decision i w (request.Resolve t) said is none = absurd (false≢true is)
-silent_moves start z home decision i w (request.Finish t v) said is none = absurd (false≢true is)
-silent_moves start z home decision i w (request.Break t s) said is none = absurd (false≢true is)
-silent_moves start z home decision i w request.Locks said is none = absurd (false≢true is)
-silent_moves start z home decision i w request.Crash said is none = absurd (false≢true is)
-silent_moves start z home decision i w request.Return said is none = absurd (false≢true is)
 silent_moves start z home decision i w (request.Decide t decided) said is none = refl
+silent_moves start z home decision i w other said is none = absurd (false≢true is)
 
 of_with : (w : World) (t : ℕ) (known : Known) (outcome : Proposal) (new : Option Change) → IsOf t (decides_with w t known outcome new)
 of_with w t known (Err refusal) new = refl
@@ -72,11 +61,7 @@ of_on w t outcome new None = of_without t outcome
 
 decision_of-task : (z : ℕ) (w : World) (task : Task) (suites : Suites) (phase : Phase) → IsOf task.t (decision_in z w task suites phase)
 decision_of-task z w task suites (Deciding outcome) = of_on w task.t outcome (to_write z suites outcome) (suite_of suites z)
-decision_of-task z w task suites (Gathering number) = refl
-decision_of-task z w task suites (Fetching number) = refl
-decision_of-task z w task suites (Widening left granted) = refl
-decision_of-task z w task suites (Preparing left outcome) = refl
-decision_of-task z w task suites (Finishing servers v ending) = refl
+decision_of-task z w task suites other = refl
 
 pub only : (before : TransactionRun) (P : TransactionRun → Type 0) → P before → (other : TransactionRun) → ◌≡◌ {A = Option Doing} (Some (Running before)) (Some (Running other)) → P other
 only before P is other same = subst P (let e : before ≡ other = cc in e) is

@@ -91,24 +91,20 @@ locked_apart suites = filter_apart (has_locks suites) (numbers_from 0 max_server
 
 -- none of its locks is prepared anywhere; or at those servers at which it is to prepare still
 abbrev pub Waits : ℕ → (ℕ → State) → Phase → Type 0
-Waits t servers (Gathering number) = (j : ℕ) → has_prepared t (servers j).locks ≡ false
-Waits t servers (Fetching number) = (j : ℕ) → has_prepared t (servers j).locks ≡ false
-Waits t servers (Widening left granted) = (j : ℕ) → has_prepared t (servers j).locks ≡ false
 Waits t servers (Preparing left outcome) = ((j : ℕ) → Has left j → has_prepared t (servers j).locks ≡ false) × AreApart left
 Waits t servers (Deciding outcome) = Unit {0}
 Waits t servers (Finishing told v ending) = Unit {0}
+Waits t servers other = (j : ℕ) → has_prepared t (servers j).locks ≡ false
 
 abbrev WaitsLeft : ℕ → (ℕ → State) → After TransactionRun → Type 0
 WaitsLeft t servers (GoesOn txn_run) = (txn_run.task.t ≡ t) × Waits t servers txn_run.phase
 WaitsLeft t servers (Ends ending) = Unit {0}
 
 pub waits_on : (old new : ℕ → State) (t : ℕ) (phase : Phase) → ((j : ℕ) → has_prepared t (old j).locks ≡ false → has_prepared t (new j).locks ≡ false) → Waits t old phase → Waits t new phase
-waits_on old new t (Gathering number) keeps waits = λ j. keeps j (waits j)
-waits_on old new t (Fetching number) keeps waits = λ j. keeps j (waits j)
-waits_on old new t (Widening left granted) keeps waits = λ j. keeps j (waits j)
 waits_on old new t (Preparing left outcome) keeps waits = (λ j has. keeps j (waits.0 j has), waits.1)
 waits_on old new t (Deciding outcome) keeps waits = tt
 waits_on old new t (Finishing told v ending) keeps waits = tt
+waits_on old new t other keeps waits = λ j. keeps j (waits j)
 
 module _ (task : Task) (servers : ℕ → State) where
   waits_end : (cache : Cache) (suites : Suites) (v : Verdict) (ending : Ending) (left : List ℕ) → WaitsLeft task.t servers (tell_end task cache suites v ending left).after
@@ -125,12 +121,10 @@ module _ (task : Task) (servers : ℕ → State) where
 
   module _ (none : (j : ℕ) → has_prepared task.t (servers j).locks ≡ false) where
     waits_early : (suites : Suites) (phase : Phase) → IsEarly phase → WaitsLeft task.t servers (GoesOn (record { task = task; suites = suites; phase = phase }))
-    waits_early suites (Gathering number) is = (refl, none)
-    waits_early suites (Fetching number) is = (refl, none)
-    waits_early suites (Widening left granted) is = (refl, none)
     waits_early suites (Preparing left outcome) is = absurd is
     waits_early suites (Deciding outcome) is = absurd is
     waits_early suites (Finishing told v ending) is = absurd is
+    waits_early suites other is = (refl, none)
 
     waits_prepares : (cache : Cache) (suites : Suites) (outcome : Proposal) → WaitsLeft task.t servers (prepare task cache suites outcome (locked_at suites)).after
     waits_prepares cache suites outcome = waits_prepare cache suites outcome (locked_at suites) (λ j _. none j) (locked_apart suites)
@@ -150,11 +144,9 @@ module _ (fixed : Fixed) (task : Task) (cache : Cache) (suites : Suites) (server
       (waits j)) fixed cache suites (Gathering number) server asked response tt
   waits_response (Fetching number) is waits =
       waits_early_response task new (λ j. keeps.unprepared task.t j (fetched_as (is_prepare task.t) false task number (suite_of suites number) server asked refl is) (waits j)) fixed cache suites (Fetching number) server asked response tt
-  waits_response (Widening [] granted) is waits = cc
   waits_response (Widening (number ∷ left) granted) is waits =
       waits_early_response task new (λ j. keeps.unprepared task.t j (asked_as (is_prepare task.t) false task number (suite_of suites number) server asked (λ mode. refl) refl is)
       (waits j)) fixed cache suites (Widening (number ∷ left) granted) server asked response tt
-  waits_response (Preparing [] outcome) is waits = cc
   waits_response (Preparing (now ∷ left) outcome) is waits = of response
     where
       here : now ≡ server
@@ -182,12 +174,12 @@ module _ (fixed : Fixed) (task : Task) (cache : Cache) (suites : Suites) (server
       of : (response : Response) → WaitsLeft task.t new (after_response fixed (record { task = task; suites = suites; phase = Deciding outcome }) cache server asked response).after
       of (Replied said) = waits_end task new cache suites (verdict_in said verdict.Aborted) (ending_by (verdict_in said verdict.Aborted) (cause_of_abort said)) (locked_at suites)
       of (Lacked lacked) = waits_give_up task new cache suites (lack_cause server lacked)
-  waits_response (Finishing [] v ending) is waits = cc
   waits_response (Finishing (now ∷ left) v ending) is waits = of response
     where
       of : (response : Response) → WaitsLeft task.t new (after_response fixed (record { task = task; suites = suites; phase = Finishing (now ∷ left) v ending }) cache server asked response).after
       of (Replied said) = waits_end task new cache suites v ending left
       of (Lacked lacked) = waits_end task new cache suites v ending left
+  waits_response other is waits = cc
 
 -- ---- an agent
 

@@ -1,5 +1,5 @@
 -- What a transaction knows of a suite, it knows from a quorum.
-use Rattle.law_run_quorums.proofs.Vocabulary.{◌≡◌, ℕ, ◌<◌, ◌≤◌, Bool, true, false, cond, ◌⊎◌, inl, inr, List, [], ◌∷◌, ◌++◌, Option, Some, refl, sym, ap, subst, ◌∙◌, arith, ◌==◌, ◌&&◌, ◌||◌, nat_lt, nat_le, max, false≢true, eqb-true}
+use Rattle.law_run_quorums.proofs.Vocabulary.{◌≡◌, ℕ, ◌≤◌, Bool, true, false, cond, ◌⊎◌, inl, inr, List, [], ◌∷◌, ◌++◌, Option, Some, refl, sym, ap, subst, ◌∙◌, arith, ◌==◌, ◌&&◌, ◌||◌, nat_lt, nat_le, max, false≢true, eqb-true}
 use Rattle.law_run_quorums.proofs.Vocabulary.{nat_tests, Representative, Configuration, votes_in, IsValid, Prefix, LockMode, Shared, Exclusive, serves, Said, Held, Busy, Down, is_held, newer, newest, holds, version_in, shown, greatest}
 use Rattle.law_run_quorums.proofs.Vocabulary.{Collector, all_told, needed_of, among, IsCurrent, gives_of, current_is_a_quorum, some_needed, ReadPoint, GatheredSuite, votes_more, Beginning, Known, WasPrefix, Told, World, IsQuorum, Inv}
 use Rattle.law_run_quorums.proofs.Vocabulary.{showed, known_by, told_to, ToldOf, SaidIs, AreTold, FirstFrom, early_collector, KnowsFromAQuorum}

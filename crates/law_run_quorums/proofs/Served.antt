@@ -164,12 +164,7 @@ module _ (start : Beginning) (z : ℕ) (home : ℕ → ℕ) (decision : Event) (
       says (reply.Held prefix dver) none s e = absurd (none prefix dver refl)
       says (reply.Busy holder prepared) none s e = let e' : Busy holder ≡ s = cc in ap is_held (sym e')
       says reply.Down none s e = down (is_poll asked) s e
-      says reply.Lost none s e = absurd cc
-      says (reply.Given dver content) none s e = absurd cc
-      says reply.Prepared none s e = absurd cc
-      says (reply.Verdict v) none s e = absurd cc
-      says reply.Done none s e = absurd cc
-      says (reply.Locked listed) none s e = absurd cc
+      says other none s e = absurd cc
 
       of : (b : Bool) → Agrees (told_to w t) (cond b (told_by list (record { server = i; request = asked; response = Replied said }) (Replied said)) list)
       of true = by (said_to asked said) (says said none)
@@ -202,12 +197,7 @@ module _ (start : Beginning) (z : ℕ) (home : ℕ → ℕ) (decision : Event) (
   served_agrees t (request.Break u s) reply.Done list is obeys tells agrees = same_list t (Later (request.Break u s) reply.Done) list (told_if (z == s) _ refl) agrees
   served_agrees t (request.Poll u s m) said list is obeys tells agrees = refused t (request.Poll u s m) said list (λ prefix dver is. absurd cc) agrees
   served_agrees t (request.Upgrade u s) said list is obeys tells agrees = refused t (request.Upgrade u s) said list (λ prefix dver is. absurd cc) agrees
-  served_agrees t (request.Fetch u s) said list is obeys tells agrees = agrees
-  served_agrees t (request.Prepare u parts) said list is obeys tells agrees = agrees
-  served_agrees t (request.Decide u decided) said list is obeys tells agrees = agrees
-  served_agrees t (request.Resolve u) said list is obeys tells agrees = agrees
-  served_agrees t (request.Finish u v) said list is obeys tells agrees = agrees
-  served_agrees t (request.Break u s) said list is obeys tells agrees = agrees
   served_agrees t request.Locks said list is obeys tells agrees = absurd (false≢true is)
   served_agrees t request.Crash said list is obeys tells agrees = absurd (false≢true is)
   served_agrees t request.Return said list is obeys tells agrees = absurd (false≢true is)
+  served_agrees t other said list is obeys tells agrees = agrees

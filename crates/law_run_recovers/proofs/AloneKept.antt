@@ -1,8 +1,8 @@
 -- What a transaction that goes alone leaves where its home was down: nothing is decided, and stored copies are as they were; servers are up that were.
 use Rattle.law_run_recovers.proofs.Vocabulary.{◌≡◌, inl, ℕ, ◌+◌, Bool, true, false, List, [], ◌∷◌, ◌++◌, append-nil, length, Option, Some, None, refl, sym, ap, subst, ◌∙◌, ◌*◌, ◌==◌, ◌||◌, not, Contains}
 use Rattle.law_run_recovers.proofs.Vocabulary.{false≢true, eqb-true, same_Some, Identity, Opening, Replica, Lock, Request, Verdict, is_answered, copy_of, State, Has, has_from, Op, Transaction, home_of, fixed_of, next_of, or_right}
-use Rattle.law_run_recovers.proofs.Vocabulary.{Event, Begin, Step, Crash, Return, Forget, Lack, Actor, World, server_at, actor_at, run, decisions, decisions_from, table_of, table_after_all, decisions_from-append, EndedSo, names}
-use Rattle.law_run_recovers.proofs.Vocabulary.{finish_is_after, so_many, IsOwnAt, names_mine, AllAt, MayAsk, asks_servers, up_in, is_up, up_free, locks_in, shown_in, shown_at, GoesAlone, begun_world, world_after}
+use Rattle.law_run_recovers.proofs.Vocabulary.{Event, Begin, Step, Crash, Return, Actor, World, server_at, actor_at, run, decisions, decisions_from, table_of, table_after_all, decisions_from-append, EndedSo, names}
+use Rattle.law_run_recovers.proofs.Vocabulary.{by_step, finish_is_after, so_many, IsOwnAt, names_mine, AllAt, MayAsk, asks_servers, up_in, is_up, up_free, locks_in, shown_in, shown_at, GoesAlone, begun_world, world_after}
 use Rattle.rep_core.specs.declared.request.Request.TheVariants as request
 use Rattle.rep_core.specs.declared.reply.Verdict.TheVariants as verdict
 use Rattle.file_ops.specs.Rows as rows
@@ -14,10 +14,14 @@ use Rattle.law_run_recovers.proofs.AloneLaws.{steadily, calm}
 use Rattle.law_run_recovers.proofs.DecidedSince.{none_since, not_before}
 use Rattle.law_run_recovers.proofs.HadVotes.{none_decided}
 use Rattle.law_run_recovers.proofs.Keeps.{run_at, after_append}
-use Rattle.law_run_recovers.proofs.MeetCalm.{Spares, stored_stays}
 use Rattle.law_run_recovers.proofs.Open.{Here, here_at, is_calm, its_begin, alone_is_unmet, unmet_is_among_locks, begun_servers, stands_open}
 use Rattle.law_run_recovers.proofs.Picks.{along}
 use Rattle.law_run_recovers.proofs.Free.{all_from}
+use Rattle.law_run_recovers.proofs.Stand.{copy_ways}
+
+-- a request that tells no answer
+abbrev Spares : Request → Type 0
+Spares asked = (t : ℕ) (v : Verdict) → asked ≡ request.Finish t v → is_answered v ≡ false
 
 -- ---- lists
 
@@ -114,8 +118,7 @@ module _ (given : Opening) (events later : List Event) (agent t : ℕ) (caller :
         of (verdict.Answered answers) ended =
             absurd (not_before given events later agent t caller site ops actor goes.can goes.there begun_number ended.decision
             (has_from (decisions given events) ended.decision (subst (λ all. Contains all ended.decision) (decisions_same so_far rest split) ended.there)) (ended.of_it ∙ same))
-        of (verdict.Refused refusal) ended = refl
-        of verdict.Aborted ended = refl
+        of other ended = refl
 
     abbrev Stored : ℕ → State → Type 0
     Stored i st = (old : State) → server_at (run given events) i ≡ Some old → (z : ℕ) → copy_of st.store z ≡ copy_of old.store z
@@ -124,7 +127,8 @@ module _ (given : Opening) (events later : List Event) (agent t : ℕ) (caller :
     stored_at : (so_far rest : List Event) → later ≡ so_far ++ rest → AllAt Stored (world_after given events agent caller site ops so_far)
     stored_at = along later (λ so_far. AllAt Stored (world_after given events agent caller site ops so_far))
         (λ so_far rest event split stored. subst (AllAt Stored) (sym (after_append (fixed_of given) so_far (event ∷ []) (begun_world given events agent caller site ops)))
-        (asks_servers (fixed_of given) Stored (λ i asked. Spares asked) (λ i st asked spares same old at z. stored_stays st asked z spares ∙ same old at z) (world_at so_far) stored event (may so_far rest event split)))
+        (asks_servers (fixed_of given) Stored (λ i asked. Spares asked) (λ i st asked spares same old at z.
+        by_step st _ (copy_ways st z) (λ asked new stamp stays. stays) asked (λ n v is answered up. absurd (false≢true (sym (spares n v is) ∙ answered))) ∙ same old at z) (world_at so_far) stored event (may so_far rest event split)))
         (λ i st at old was z. ap (λ (st : State). copy_of st.store z) (same_Some st old (sym at ∙ begun_servers given events later agent t caller site ops actor goes.can goes.there goes.begins i ∙ was)))
       where
         crash_not : Spares request.Crash
@@ -139,9 +143,7 @@ module _ (given : Opening) (events later : List Event) (agent t : ℕ) (caller :
             spares so_far (Step i ∷ rest) split here (ap (actor_at (world_at so_far)) (sym own) ∙ is) asked next
         may so_far rest (Crash server) split = crash_not
         may so_far rest (Return server) split = return_not
-        may so_far rest (Begin i job) split = tt
-        may so_far rest (Forget i other) split = tt
-        may so_far rest (Lack i why) split = tt
+        may so_far rest another split = tt
 
     pub shown_then : (z i : ℕ) → is_up first i ≡ true → shown_at (fixed_of given) last_world z i ≡ shown_at (fixed_of given) first z i
     shown_then z i up = of (server_at last_world i) refl (server_at first i) refl up (up_same i)

@@ -57,12 +57,10 @@ module _ (given : Opening) (events later : List Event) (agent t : ℕ) (caller :
         let asks = asked_by its_task z at.0.suite.collector server asked (sym (ap (asked_for its_task z) at.0.there) ∙ is) in
         subst Asks (sym asks.asked_is) (lock_asked z asks.question (gather_asks now suites z at asks))
     of_its_asks now suites (Fetching z) at is = subst Asks (sym (fetch_is its_task z (suite_of suites z) server asked is)) tt
-    of_its_asks now suites (doing.Widening [] granted) at is = absurd (none-some (server, asked) is)
     of_its_asks now suites (doing.Widening (z ∷ left) granted) at is =
         let asks = asked_by its_task z at.suite.collector server asked (sym (ap (asked_for its_task z) at.there) ∙ is) in
         subst Asks (sym asks.asked_is) (lock_asked z asks.question (widen_asks now suites z left granted at asks))
-    of_its_asks now suites (Preparing [] outcome) at is = absurd (none-some (server, asked) is)
     of_its_asks now suites (Preparing (first ∷ left) outcome) at is = subst Asks (asks_same first server (request.Prepare its_task.t (parts_at suites (changes_of outcome) first)) asked is) tt
     of_its_asks now suites (Deciding outcome) at is = subst Asks (asks_same (home_of (fixed_of given).service its_task.t) server (request.Decide its_task.t (decision_of its_task outcome)) asked is) tt
-    of_its_asks now suites (Finishing [] v ended) at is = absurd (none-some (server, asked) is)
     of_its_asks now suites (Finishing (first ∷ left) v ended) at is = subst Asks (asks_same first server (request.Finish its_task.t v) asked is) tt
+    of_its_asks now suites other at is = absurd (none-some (server, asked) is)

@@ -1,7 +1,7 @@
 -- How a transaction stands that goes steadily, at each moment at which it runs; and what an event that is not its own leaves of that.
 use Rattle.law_run_recovers.proofs.Vocabulary.{◌≡◌, ◌⊎◌, inl, inr, ⊎_elim, ℕ, ◌<◌, Bool, true, false, List, [], ◌∷◌, ◌++◌, Option, Some, None, refl, sym, ap, subst, ◌∙◌, arith, ◌+◌, ◌==◌, ◌||◌, false≢true, eqb-true}
 use Rattle.law_run_recovers.proofs.Vocabulary.{eq-eqb, nat_tests, none-some, Identity, Opening, Prefix, LockMode, Op, PlainTable, State, Has, Cache, forgotten, Transaction, Ending, Suites, Fixed, Task, Phase, Gathering, Fetching}
-use Rattle.law_run_recovers.proofs.Vocabulary.{Preparing, Deciding, Finishing, TransactionRun, Doing, Running, RunningSweep, Agent, fixed_of, is_idle, begin, forget, after_all, after-append, Event, Begin, Step, Crash, Return, Forget}
+use Rattle.law_run_recovers.proofs.Vocabulary.{TransactionRun, Doing, Running, RunningSweep, Agent, fixed_of, is_idle, begin, forget, after_all, after-append, Event, Begin, Step, Crash, Return, Forget}
 use Rattle.law_run_recovers.proofs.Vocabulary.{Lack, Actor, World, server_at, actor_at, step, run, decisions, table_of, names, may_sweep, same_place, agents_ask_for_themselves, holds_of, service_stays, agent_of, agent_at, locks_in}
 use Rattle.law_run_recovers.proofs.Vocabulary.{locks_at, runs, running_in, is_running, begun_world, world_after, robs, hinders_itself, bereaves, shows_same, Replica, all_consistent}
 use Rattle.file_ops.specs.Rows as rows
@@ -253,11 +253,8 @@ module _ (given : Opening) (events later : List Event) (agent t : ℕ) (caller :
         of : (suites : Suites) (phase : Phase) → PhaseIn suites now phase → PhaseIn suites (forgotten site' now) phase
         of suites (Gathering z) at = (at.0, λ z none prefix hinted. at.1 z none prefix (hint_forgotten site' site z now prefix hinted))
         of suites (Fetching z) at = (at.0, λ z none prefix hinted. at.1 z none prefix (hint_forgotten site' site z now prefix hinted))
-        of suites (doing.Widening [] granted) at = at
         of suites (doing.Widening (z ∷ left) granted) at = at
-        of suites (Preparing left outcome) at = at
-        of suites (Deciding outcome) at = at
-        of suites (Finishing left v ended) at = at
+        of suites other at = at
 
     -- it goes on, and was told no more, or to forget a site
     pub aside_on : Apart given agent (world_after given events agent caller site ops so_far) c.here c.there c.busy (step (fixed_of given) (world_after given events agent caller site ops so_far) event) → TellsNone so_far event

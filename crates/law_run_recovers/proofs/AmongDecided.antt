@@ -1,10 +1,10 @@
 -- What was decided of a transaction that goes steadily had its home up and its votes open, whether or not its agent went on to the end.
 use Rattle.law_run_recovers.proofs.Vocabulary.{◌≡◌, ◌⊎◌, inl, inr, ⊎_elim, ℕ, ◌<◌, true, List, [], ◌∷◌, ◌++◌, append_assoc, Option, Some, None, is_some, Result, Ok, Err, refl, sym, ap, subst, ◌∙◌, arith, ◌+◌, ◌*◌, ◌==◌, ◌&&◌, find}
-use Rattle.law_run_recovers.proofs.Vocabulary.{Contains, list_any, cons_option, false≢true, eqb-true, eq-eqb, or_cases, none-some, same_Some, Identity, Opening, LockMode, serves, Answer, Refusal, Op, Has, has_from, has_any, Request}
-use Rattle.law_run_recovers.proofs.Vocabulary.{Ending, Refused, Swept, Undecided, Transaction, ReadPoint, GatheredSuite, suite_of, Running, home_of, request_in, decision_of, Agent, fixed_of, next_in, next_of, EndedJob, Event, Begin}
+use Rattle.law_run_recovers.proofs.Vocabulary.{Contains, list_any, cons_option, false≢true, eqb-true, eq-eqb, none-some, same_Some, Identity, Opening, LockMode, serves, Answer, Refusal, Op, Has, has_from, has_any, Request}
+use Rattle.law_run_recovers.proofs.Vocabulary.{Ending, Refused, Transaction, ReadPoint, GatheredSuite, suite_of, Running, home_of, request_in, decision_of, Agent, fixed_of, next_in, next_of, EndedJob, Event, Begin}
 use Rattle.law_run_recovers.proofs.Vocabulary.{Step, Actor, World, server_at, actor_at, asks_at, asks, steps_once, step, run, Decided, decided, decided_by, decisions, decisions_from, task_of, task_at, table_of, IsAnsweredAsKnown, Runs}
 use Rattle.law_run_recovers.proofs.Vocabulary.{IsAt, EndStands, same_place, answers_follow_knowledge, holds_of, In, agent_of, agent_at, is_decided, is_up, runs, world_after, first_wanting, has_votes_open, is_gathered, GathersItsAsks}
-use Rattle.law_run_recovers.proofs.Vocabulary.{has_asked, locks_asked, asks_for, wants, answer_on, EndsThen, WasDecidedThen, Always, AreAnsweredAsBegun, GatherTheirAsks, GoesAmongLocks, HadVotesOpen, UnmetHadVotesUpAt}
+use Rattle.law_run_recovers.proofs.Vocabulary.{has_asked, locks_asked, asks_for, wants, answer_on, EndsThen, WasDecidedThen, Always, AreAnsweredAsBegun, GatherTheirAsks, GoesAmongLocks, HadVotesOpen, UnmetHadVotesUpAt, any_has, begun_world}
 use Rattle.rep_core.specs.declared.request.Request.TheVariants as request
 use Rattle.txn_core.specs.declared.ending.Ending.TheVariants.{Answered}
 use Rattle.txn_core.specs.Doing as doing
@@ -13,7 +13,7 @@ use Rattle.law_run_recovers.proofs.AmongLaws.{none_in, all_is, first_same, rows_
 use Rattle.law_run_recovers.proofs.Asking.{held_if, held_in}
 use Rattle.law_run_recovers.proofs.AtDecision.{decides_up}
 use Rattle.law_run_recovers.proofs.Deciding.{answer_as, decides_answer}
-use Rattle.law_run_recovers.proofs.DecidedSince.{decided_since, stood_since}
+use Rattle.law_run_recovers.proofs.DecidedSince.{stood_since}
 use Rattle.law_run_recovers.proofs.Keeps.{at_work, run_at}
 use Rattle.law_run_recovers.proofs.NearGround.{its, sight, number}
 use Rattle.law_run_recovers.proofs.Open.{its_begin, unmet_is_among_locks}
@@ -203,50 +203,40 @@ module _ (given : Opening) (events later : List Event) (agent t : ℕ) (caller :
 
   -- ---- all along
 
-  answered_in : (rest so_far : List Event) → later ≡ so_far ++ rest → State so_far → (one : Decided) → Has (decisions_from (fixed_of given) (world_after given events agent caller site ops so_far) rest) one → one.t ≡ t
-      → one.answer ≡ answer_on (table_of given events) t caller ops
-  answered_in [] so_far split state one has of_it = absurd has
-  answered_in (event ∷ rest) so_far split state one has of_it =
-      of (decided (fixed_of given) (world_after given events agent caller site ops so_far) event) refl
-      (λ has. answered_in rest (so_far ++ event ∷ []) (split ∙ sym (append_assoc so_far (event ∷ []) rest)) (state_on so_far rest event split state) one
-      (subst (λ w. Has (decisions_from (fixed_of given) w rest) one) (sym (next_is given events later agent t caller site ops actor goes so_far event)) has) of_it) has
-    where
-      of : (found : Option Decided) → decided (fixed_of given) (world_after given events agent caller site ops so_far) event ≡ found
-          → (Has (decisions_from (fixed_of given) (step (fixed_of given) (world_after given events agent caller site ops so_far) event).world rest) one → one.answer ≡ answer_on (table_of given events) t caller ops)
-          → Has (cons_option found (decisions_from (fixed_of given) (step (fixed_of given) (world_after given events agent caller site ops so_far) event).world rest)) one → one.answer ≡ answer_on (table_of given events) t caller ops
-      of None is go has = go has
-      of (Some other) is go (inl now) = answered_then so_far rest event split one (is ∙ ap (λ one. Some one) now) of_it state
-      of (Some other) is go (inr after) = go after
+  -- what is so in a step in which it is decided is so, wherever that is
+  module _ (Q : Decided → Type 0) (each : (so_far rest : List Event) (event : Event) → later ≡ so_far ++ event ∷ rest → (one : Decided) → decided (fixed_of given)
+      (world_after given events agent caller site ops so_far) event ≡ Some one → one.t ≡ t → State so_far → Q one) where
+    decided_in : (rest so_far : List Event) → later ≡ so_far ++ rest → State so_far → (one : Decided) → Has (decisions_from (fixed_of given) (world_after given events agent caller site ops so_far) rest) one → one.t ≡ t → Q one
+    decided_in [] so_far split state one has of_it = absurd has
+    decided_in (event ∷ rest) so_far split state one has of_it =
+        of (decided (fixed_of given) (world_after given events agent caller site ops so_far) event) refl
+        (λ has. decided_in rest (so_far ++ event ∷ []) (split ∙ sym (append_assoc so_far (event ∷ []) rest)) (state_on so_far rest event split state) one
+        (subst (λ w. Has (decisions_from (fixed_of given) w rest) one) (sym (next_is given events later agent t caller site ops actor goes so_far event)) has) of_it) has
+      where
+        of : (found : Option Decided) → decided (fixed_of given) (world_after given events agent caller site ops so_far) event ≡ found
+            → (Has (decisions_from (fixed_of given) (step (fixed_of given) (world_after given events agent caller site ops so_far) event).world rest) one → Q one)
+            → Has (cons_option found (decisions_from (fixed_of given) (step (fixed_of given) (world_after given events agent caller site ops so_far) event).world rest)) one → Q one
+        of None is go has = go has
+        of (Some other) is go (inl now) = each so_far rest event split one (is ∙ ap (λ one. Some one) now) of_it state
+        of (Some other) is go (inr after) = go after
+
+    decided_all : (one : Decided) → Has (decisions_from (fixed_of given) (begun_world given events agent caller site ops) later) one → one.t ≡ t → Q one
+    decided_all = decided_in later [] refl (inl (first_course given events later agent t caller site ops actor goes))
 
   pub answered_begun : (one : Decided) → Contains (decisions given (events ++ Begin agent (Transaction caller site ops) ∷ later)) one → one.t ≡ t → one.answer ≡ answer_on (table_of given events) t caller ops
   answered_begun one there of_it =
-      answered_in later [] refl (inl (first_course given events later agent t caller site ops actor goes)) one
+      decided_all (λ one. one.answer ≡ answer_on (table_of given events) t caller ops) answered_then one
       (stood_since given events later agent t caller site ops actor goes.can goes.there (its_begin given events later agent t caller site ops actor goes.can goes.there goes.begins).0 one
       (has_from (decisions given (events ++ Begin agent (Transaction caller site ops) ∷ later)) one there) of_it) of_it
 
-  -- what is so in the step in which it is decided, wherever that is
-  module _ (P : Type 0) (each : (so_far rest : List Event) (event : Event) → later ≡ so_far ++ event ∷ rest → (one : Decided) → decided (fixed_of given)
-      (world_after given events agent caller site ops so_far) event ≡ Some one → one.t ≡ t → State so_far → P) where
-    decided_in : (rest so_far : List Event) → later ≡ so_far ++ rest → State so_far → list_any (λ (one : Decided). one.t == t) (decisions_from (fixed_of given) (world_after given events agent caller site ops so_far) rest) ≡ true → P
-    decided_in [] so_far split state some = absurd (false≢true some)
-    decided_in (event ∷ rest) so_far split state some =
-        of (decided (fixed_of given) (world_after given events agent caller site ops so_far) event) refl
-        (λ some. decided_in rest (so_far ++ event ∷ []) (split ∙ sym (append_assoc so_far (event ∷ []) rest)) (state_on so_far rest event split state)
-        (subst (λ w. list_any (λ (one : Decided). one.t == t) (decisions_from (fixed_of given) w rest) ≡ true) (sym (next_is given events later agent t caller site ops actor goes so_far event)) some)) some
-      where
-        of : (found : Option Decided) → decided (fixed_of given) (world_after given events agent caller site ops so_far) event ≡ found
-            → (list_any (λ (one : Decided). one.t == t) (decisions_from (fixed_of given) (step (fixed_of given) (world_after given events agent caller site ops so_far) event).world rest) ≡ true → P)
-            → list_any (λ (one : Decided). one.t == t) (cons_option found (decisions_from (fixed_of given) (step (fixed_of given) (world_after given events agent caller site ops so_far) event).world rest)) ≡ true → P
-        of None is go some = go some
-        of (Some one) is go some = ⊎_elim
-            (λ now. each so_far rest event split one is (eqb-true one.t t now) state)
-            go
-            (or_cases (one.t == t) (list_any (λ (one : Decided). one.t == t) (decisions_from (fixed_of given) (step (fixed_of given) (world_after given events agent caller site ops so_far) event).world rest)) some)
-
-    pub decided_where : list_any (λ (one : Decided). one.t == t) (decisions given (events ++ Begin agent (Transaction caller site ops) ∷ later)) ≡ true → P
-    decided_where some =
-        decided_in later [] refl (inl (first_course given events later agent t caller site ops actor goes))
-        (decided_since given events later agent t caller site ops actor goes.can goes.there (its_begin given events later agent t caller site ops actor goes.can goes.there goes.begins).0 some)
+  pub decided_where : (P : Type 0) → ((so_far rest : List Event) (event : Event) → later ≡ so_far ++ event ∷ rest → (one : Decided) → decided (fixed_of given)
+      (world_after given events agent caller site ops so_far) event ≡ Some one → one.t ≡ t → State so_far → P)
+      → list_any (λ (one : Decided). one.t == t) (decisions given (events ++ Begin agent (Transaction caller site ops) ∷ later)) ≡ true → P
+  decided_where P each some =
+      let it = any_has (λ (one : Decided). one.t == t) (decisions given (events ++ Begin agent (Transaction caller site ops) ∷ later)) some in
+      let of_it = eqb-true it.0.t t it.2 in
+      decided_all (λ one. P) each it.0
+      (stood_since given events later agent t caller site ops actor goes.can goes.there (its_begin given events later agent t caller site ops actor goes.can goes.there goes.begins).0 it.0 it.1 of_it) of_it
 
   pub stood_had : list_any (λ (one : Decided). one.t == t) (decisions given (events ++ Begin agent (Transaction caller site ops) ∷ later)) ≡ true → HadAll
   stood_had some = decided_where HadAll had_then some
@@ -268,8 +258,7 @@ module _ (given : Opening) (events later : List Event) (agent t : ℕ) (caller :
           → list_any (λ (one : Decided). one.t == t) (decisions given (events ++ Begin agent (Transaction caller site ops) ∷ later)) ≡ true
       of (Answered answers) is decided' = stands (Ok answers) is
       of (Refused refusal) is decided' = stands (Err refusal) is
-      of (Swept broken finished left) is decided' = absurd (false≢true decided')
-      of (Undecided cause) is decided' = absurd (false≢true decided')
+      of other is decided' = absurd (false≢true decided')
 
   pub was_had : WasDecidedThen given events later agent t caller site ops → has_votes_open given events t caller ops ≡ true
   was_had was = ⊎_elim (λ some. stood_had some) (λ it. among_had given events later agent t caller site ops actor goes it.0 it.1 it.2) was

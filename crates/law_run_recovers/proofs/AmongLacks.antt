@@ -1,9 +1,8 @@
 -- A step of a transaction that is not served, or of which its agent is told so, once its end is fixed: it goes on to tell its end.
 use Rattle.law_run_recovers.proofs.Vocabulary.{◌≡◌, ◌⊎◌, inl, inr, ℕ, Bool, true, false, List, [], ◌∷◌, ◌++◌, Some, refl, sym, ap, subst, ◌∙◌, arith, ◌-◌, ◌||◌, false≢true, none-some, Identity, Opening, Op, Verdict, Ending, Transaction}
-use Rattle.law_run_recovers.proofs.Vocabulary.{Task, Phase, Gathering, Fetching, Preparing, Deciding, Finishing, TransactionRun, Running, After, GoesOn, Ends, after_lack, Agent, Taken, fixed_of, is_idle, next_of, left, end_of}
+use Rattle.law_run_recovers.proofs.Vocabulary.{Task, Phase, Finishing, TransactionRun, Running, After, GoesOn, Ends, after_lack, Agent, Taken, fixed_of, is_idle, next_of, left, end_of}
 use Rattle.law_run_recovers.proofs.Vocabulary.{with_step, take_in, take, begin, after-append, Event, EndedJob, Actor, World, actor_at, one_more, outcome_of, step, Stepped, ended, number_of, take_keeps, world_after, hinders_itself, robs}
 use Rattle.law_run_recovers.proofs.Vocabulary.{Lacked, nat_tests}
-use Rattle.txn_core.specs.Doing as doing
 use Rattle.txn_core.specs.Transactions.{Step as CourseStep}
 use Rattle.txn_core.specs.Agents as agents
 use Rattle.law_run_recovers.proofs.Steady.{GoesSteadily}
@@ -47,12 +46,8 @@ module _ (given : Opening) (events later : List Event) (agent t : ℕ) (caller :
             (sym (calm_so (hinders_itself given agent w event) (robs given agent t w event) (goes.free_hand so_far rest event split (open_works given events later agent t caller site ops actor goes so_far c its_run open'))) ∙ hinders))
 
         of : (phase : Phase) → its_run.txn_run.phase ≡ phase → Tells
-        of (Gathering z) is = not_open (subst IsOpenPhase (sym is) tt)
-        of (Fetching z) is = not_open (subst IsOpenPhase (sym is) tt)
-        of (doing.Widening numbers granted) is = not_open (subst IsOpenPhase (sym is) tt)
-        of (Preparing servers outcome) is = not_open (subst IsOpenPhase (sym is) tt)
-        of (Deciding outcome) is = not_open (subst IsOpenPhase (sym is) tt)
         of (Finishing servers v ending) is = record { r = its_run; servers = servers; v = v; ending = ending; is = is }
+        of other is = not_open (subst IsOpenPhase (sym is) tt)
 
     module _ (lacks : Lacking given agent (world_after given events agent caller site ops so_far) c.here c.there (step (fixed_of given) (world_after given events agent caller site ops so_far) event)) where
       abbrev r' : RunsIt given events later agent t caller site ops actor goes so_far c
@@ -75,9 +70,8 @@ module _ (given : Opening) (events later : List Event) (agent t : ℕ) (caller :
         where
           of : (servers : List ℕ) → PhaseIn given events later agent t caller site ops actor goes r'.txn_run.suites c.here.agent.cache (Finishing servers tells_now.v tells_now.ending)
               → Good given events later agent t caller site ops actor goes (lack_step its_task (Finishing servers tells_now.v tells_now.ending))
-          of [] right = (r'.txn_run.suites, right)
-          of (first ∷ []) right = (r'.txn_run.suites, right)
           of (first ∷ (next ∷ servers)) right = (refl, right)
+          of other right = (r'.txn_run.suites, right)
 
       here_lack : lacks.new.agent ≡ (with_step c.here.agent (lack_step r'.txn_run.task r'.txn_run.phase)).agent
       here_lack = lacks.took ∙ ap (λ (taken : Taken). taken.agent) lack_taken

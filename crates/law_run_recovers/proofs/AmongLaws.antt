@@ -30,9 +30,8 @@ find_members f g (x ∷ xs) same = ap (λ b. cond b (Some x) (find f xs)) (same 
 -- ---- ways
 
 open_not_met : (way : Option (Option ℕ)) → is_open_way way ≡ true → is_way_met way ≡ false
-open_not_met None is = refl
-open_not_met (Some None) is = refl
 open_not_met (Some (Some other)) is = absurd (false≢true is)
+open_not_met other is = refl
 
 down_not_met : (t z : ℕ) (mode : LockMode) (found : Option State) → up_in found ≡ false → is_way_met (way_in t z mode found) ≡ false
 down_not_met t z mode None down = refl
@@ -136,8 +135,7 @@ module _ (given : Opening) (events later : List Event) (agent t : ℕ) (caller :
 
   is_holder_so : (holder : ℕ) (way : Option (Option ℕ)) → is_holder given events later agent t caller site ops actor goes holder way ≡ true → way ≡ Some (Some holder)
   is_holder_so holder (Some (Some other)) is = ap (λ n. Some (Some n)) (eqb-true other holder is)
-  is_holder_so holder (Some None) is = absurd (false≢true is)
-  is_holder_so holder None is = absurd (false≢true is)
+  is_holder_so holder other is = absurd (false≢true is)
 
   abbrev EndsAsAt : ℕ → Ending → Option Want → Type 0
   EndsAsAt n ended found =

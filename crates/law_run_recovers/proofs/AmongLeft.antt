@@ -40,16 +40,7 @@ was_done past server = list_any (λ (one : Exchange). (one.server == server) && 
 
 not_finish : (asked : Request) (n : ℕ) → n < 3 → stage asked ≤ n → is_finish asked ≡ false
 not_finish (request.Finish t v) n few is = absurd (omega (arith, few, is))
-not_finish (request.Poll t suite mode) n few is = refl
-not_finish (request.Upgrade t suite) n few is = refl
-not_finish (request.Fetch t suite) n few is = refl
-not_finish (request.Prepare t parts) n few is = refl
-not_finish (request.Decide t decision) n few is = refl
-not_finish (request.Resolve t) n few is = refl
-not_finish (request.Break t suite) n few is = refl
-not_finish request.Locks n few is = refl
-not_finish request.Crash n few is = refl
-not_finish request.Return n few is = refl
+not_finish other n few is = refl
 
 none_of : (a b : Bool) → ((a && false) || b) ≡ b
 none_of true b = refl
@@ -72,15 +63,7 @@ done_of past server has =
 wants_it : (z : ℕ) (asked : Request) → locks z asked ≡ true → wants_lock asked ≡ true
 wants_it z (request.Poll t suite mode) is = refl
 wants_it z (request.Upgrade t suite) is = refl
-wants_it z (request.Fetch t suite) is = absurd (false≢true is)
-wants_it z (request.Prepare t parts) is = absurd (false≢true is)
-wants_it z (request.Decide t decision) is = absurd (false≢true is)
-wants_it z (request.Resolve t) is = absurd (false≢true is)
-wants_it z (request.Finish t v) is = absurd (false≢true is)
-wants_it z (request.Break t suite) is = absurd (false≢true is)
-wants_it z request.Locks is = absurd (false≢true is)
-wants_it z request.Crash is = absurd (false≢true is)
-wants_it z request.Return is = absurd (false≢true is)
+wants_it z other is = absurd (false≢true is)
 
 -- who gave a lock is one of those that hold one
 pub locked_of : (past : List Exchange) (z server : ℕ) → was_held past z server ≡ true → was_locked past server ≡ true
@@ -195,16 +178,7 @@ module _ (given : Opening) (events later : List Event) (agent t : ℕ) (caller :
           where
             number_so : 64 * actor.agent.count + actor.agent.index ≡ t
             number_so = number given events later agent t caller site ops actor goes
-        of (request.Poll u suite mode) is finish up has = false≢true finish
-        of (request.Upgrade u suite) is finish up has = false≢true finish
-        of (request.Fetch u suite) is finish up has = false≢true finish
-        of (request.Prepare u parts) is finish up has = false≢true finish
-        of (request.Decide u decision) is finish up has = false≢true finish
-        of (request.Resolve u) is finish up has = false≢true finish
-        of (request.Break u suite) is finish up has = false≢true finish
-        of request.Locks is finish up has = false≢true finish
-        of request.Crash is finish up has = false≢true finish
-        of request.Return is finish up has = false≢true finish
+        of other is finish up has = false≢true finish
 
     pub held_then : Held (so_far ++ Step agent ∷ []) told_then
     held_then server z on' = ⊎_elim old new (told_on (fixed_of given) (world_at so_far) (Step agent) server t z on)

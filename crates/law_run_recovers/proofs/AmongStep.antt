@@ -125,7 +125,6 @@ module _ (given : Opening) (events later : List Event) (agent t : ℕ) (caller :
         let is : took.asked.1 ≡ request.Fetch t z = fetch_is its_task z (suite_of suites z) took.asked.0 took.asked.1 asks' ∙ ap (λ n. request.Fetch n z) (number given events later agent t caller site ops actor goes) in
         ap (λ asked. is_some (given_in (reply_of took.st asked))) is
         ∙ fetch_right given events later agent t caller site ops actor goes so_far rest split (work tt) c.spared c.locks took.asked.0 took.st took.at c.here r.txn_run c.there r.running number_here z (asks_so (request.Fetch t z) is)
-    right_for now suites (doing.Widening [] granted) at work asks' = tt
     right_for now suites (doing.Widening (z ∷ left) granted) at work asks' =
         let asks = asked_by its_task z at.suite.collector took.asked.0 took.asked.1 (sym (ap (asked_for its_task z) at.there) ∙ asks') in
         lock_here z at.suite.collector (work tt) asks (near_for now suites (doing.Widening (z ∷ left) granted) at work asks' tt)
@@ -152,7 +151,7 @@ module _ (given : Opening) (events later : List Event) (agent t : ℕ) (caller :
             → ((is_up (run given events) took.asked.0 ≡ true) × (said ≡ reply.Verdict (verdict_of (decision_of its_task outcome)))) ⊎ ((is_up (run given events) took.asked.0 ≡ false) × (said ≡ reply.Down))
         by true is up down = inl (is, up is)
         by false is up down = inr (is, down is)
-    right_for now suites (Finishing left v ended) at work asks' = tt
+    right_for now suites other at work asks' = tt
 
     pub right_here : RightFor (fixed_of given) (run given events) (sight given events later agent t caller site ops actor goes) its_task r.txn_run.phase took.asked.0 took.asked.1 said
     right_here = right_for c.here.agent.cache r.txn_run.suites r.txn_run.phase r.at.1 work_in request_is

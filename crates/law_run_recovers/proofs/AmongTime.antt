@@ -2,7 +2,7 @@
 use Rattle.law_run_recovers.proofs.Vocabulary.{◌≡◌, ◌⊎◌, inl, inr, ⊎_elim, ℕ, ◌+◌, ◌<◌, ◌≤◌, Bool, true, false, cond, List, [], ◌∷◌, ◌++◌, append_assoc, length, Some, is_some, refl, sym, ap, subst, ◌∙◌, arith, Option, suc, zero, None}
 use Rattle.law_run_recovers.proofs.Vocabulary.{◌==◌, ◌&&◌, ◌||◌, cons_option, list_all, nat_tests, list_all-append, slice_get_within, none-some, slice_get_cases, Identity, Opening, Op, reply_of, Has, has_any, contains_from, any_has}
 use Rattle.law_run_recovers.proofs.Vocabulary.{has_filter, has_from, Transaction, Replied, Lacked, numbers_from, request_in, Agent, fixed_of, next_in, next_of, begin, after_all, is_idle, Exchange, exchange_of, exchanges, among}
-use Rattle.law_run_recovers.proofs.Vocabulary.{asks_only, names_of, names_only, says_held, exchanges-take, exchanges-forget, Event, Begin, Step, Crash, Return, Forget, Lack, EndedJob, Actor, World, step, server_at, dones, outcomes, run}
+use Rattle.law_run_recovers.proofs.Vocabulary.{asks_only, names_of, names_only, says_held, exchanges-take, exchanges-forget, Event, Begin, Step, EndedJob, Actor, World, step, server_at, dones, outcomes, run}
 use Rattle.law_run_recovers.proofs.Vocabulary.{table_of, number_of, so_many, its_step, own_steps, few_steps, begun_world, world_after, hinders_itself, Ending, Finishing, Request, Response}
 use Rattle.law_run_recovers.proofs.Vocabulary.{State, Verdict, VotesAreValid, and_parts, eqb-true, false≢true, append_has_right, asks_same, cache_valid, copy_valid, is_finish, jobs_end, locked, sent_to, wants_lock, was_locked}
 use Rattle.law_run_recovers.proofs.Vocabulary.{max_servers, finishes_in_order, Always, EndInTime, GoesAmongLocks, GoesUnmet, eq-eqb}
@@ -47,11 +47,7 @@ step_of agent (Step other) is = ap Step (same_at other agent is)
   where
     same_at : (a b : ℕ) → (a == b) ≡ true → a ≡ b
     same_at a b is = grind (arith, nat_tests)
-step_of agent (Begin other _) is = absurd (false≢true is)
-step_of agent (Crash server) is = absurd (false≢true is)
-step_of agent (Return server) is = absurd (false≢true is)
-step_of agent (Forget other _) is = absurd (false≢true is)
-step_of agent (Lack other why) is = absurd (false≢true is)
+step_of agent another is = absurd (false≢true is)
 
 -- who is among so many numbers is below their end
 below : (count start n : ℕ) → among (numbers_from start count) n ≡ true → n < start + count

@@ -1,11 +1,11 @@
 -- A suite whose copies in effect have at a quorum the versions that they had is the register that it was; and where nothing is in the way what is stored is in effect.
 use Rattle.law_run_recovers.proofs.Vocabulary.{◌≡◌, ◌≢◌, ◌⊎◌, inl, inr, ℕ, ◌≤◌, ◌<◌, Bool, true, false, cond, Option, Some, None, refl, sym, ap, subst, ◌∙◌, arith, ◌==◌, unwrap_or, nat_cmp, false≢true, eqb-true, get, Opening, LockMode}
-use Rattle.law_run_recovers.proofs.Vocabulary.{Replica, IsConsistent, conflicts, in_the_way, copy_of, left_by, State, has_from, find_none, server_at, Stays, Beginning, row, prefix_at, content_at, empty_of, Answered, Aborted, IsQuorum}
+use Rattle.law_run_recovers.proofs.Vocabulary.{Replica, IsConsistent, conflicts, in_the_way, copy_of, left_by, State, has_from, find_none, server_at, Stays, Beginning, row, prefix_at, content_at, empty_of, Answered, IsQuorum}
 use Rattle.law_run_recovers.proofs.Vocabulary.{in_effect, effect, within_row, Inv, plan_of, Shows, servers_of, home_in}
 use Rattle.rep_core.specs.Intentions as server
 use Rattle.rep_core.specs.State as state
 use Rattle.run_core.specs.Worlds as worlds
-use Rattle.law_suite_machine.specs.Machine.{World, Verdict, Refused, is_answered}
+use Rattle.law_suite_machine.specs.Machine.{World, Verdict, is_answered}
 use Rattle.law_run_recovers.proofs.Stand.{in_conflict}
 
 -- ---- two machines of a suite
@@ -74,10 +74,8 @@ module _ (given : Opening) (z : ℕ) (w : World) (world : worlds.World) (shows :
   none_yet = of (w.verdict t) refl
     where
       of : (found : Option Verdict) → w.verdict t ≡ found → is_answered found ≡ false
-      of None is = refl
       of (Some Answered) is = absurd (unanswered is)
-      of (Some Refused) is = refl
-      of (Some Aborted) is = refl
+      of other is = refl
 
   -- where nothing is in a transaction's way that is not answered, what is stored is in effect
   pub stored_effect : (i : ℕ) (st : State) → server_at world i ≡ Some st → in_the_way t z mode st.locks ≡ None → effect w i ≡ copy_of st.store z

@@ -1,7 +1,7 @@
 -- What an event that does not hinder an agent is to it: nothing at all, or its own step, which was served.
 use Rattle.law_run_recovers.proofs.Vocabulary.{◌≡◌, ◌≢◌, ◌⊎◌, inl, inr, ⊎_elim, ℕ, ◌+◌, Bool, true, false, cond, Option, Some, None, is_some, refl, sym, ap, subst, ◌∙◌, ◌*◌, ◌==◌, ◌&&◌, not, nat_lt, slice_get, slice_set, false≢true}
 use Rattle.law_run_recovers.proofs.Vocabulary.{and_parts, eqb-true, eq-eqb, not-false, none-some, same_Some, Opening, Request, Ending, Job, Lacked, Doing, Fixed, Agent, fixed_of, is_idle, has_sense, max_jobs, next_in, next_of, take}
-use Rattle.law_run_recovers.proofs.Vocabulary.{begin, started, forget, Event, Begin, Step, Crash, Return, Forget, Lack, EndedJob, Actor, World, Stepped, actor_at, has_no_job, with_actor, moved, outcome_of, becomes, asks, steps_once}
+use Rattle.law_run_recovers.proofs.Vocabulary.{begin, started, forget, Event, Begin, Step, Forget, Lack, EndedJob, Actor, World, Stepped, actor_at, has_no_job, with_actor, moved, outcome_of, becomes, asks, steps_once}
 use Rattle.law_run_recovers.proofs.Vocabulary.{lacks_for, lacks, step, begins_now, same_or, puts_in, none_of, with_job, hinders}
 use Rattle.rep_core.specs.declared.stamped.Lack.{Lack as Why}
 
@@ -101,7 +101,6 @@ module _ (given : Opening) (agent : ℕ) (world : World) where
   pub event_aside : (event : Event) → hinders given agent world event ≡ false → Aside agent world (step fixed world event) ⊎ IsOwnStep event
   event_aside (Begin other job) calm = inl (begin_aside other job (actor_at world other) refl calm)
   event_aside (Step other) calm = ⊎_elim inl (λ own. inr (ap Step own.0, own.1)) (step_aside other (actor_at world other) refl calm)
-  event_aside (Crash server) calm = absurd (false≢true (sym calm))
-  event_aside (Return server) calm = absurd (false≢true (sym calm))
   event_aside (Forget other site) calm = inl (forget_aside other site (actor_at world other) refl calm)
   event_aside (Lack other why) calm = inl (lack_aside other why (actor_at world other) refl calm)
+  event_aside other calm = absurd (false≢true (sym calm))

@@ -1,7 +1,7 @@
 -- Of whom a collector asks, and in which mode: of one that has a vote by the votes that count, as it wants.
 use Rattle.law_run_recovers.proofs.Vocabulary.{◌≡◌, inl, inr, ℕ, Bool, true, false, cond, List, [], ◌∷◌, Option, Some, None, refl, sym, ap, subst, ◌∙◌, ◌==◌, ◌&&◌, not, nat_lt, nat_le, find, false≢true, and_parts, and_from, eqb-true}
 use Rattle.law_run_recovers.proofs.Vocabulary.{eq-eqb, Representative, LockMode, Shared, Exclusive, serves, Has, any_has, has_any, find_some, newest, holds, has_refused, Collector, Asked, Poll, Upgrade, all_told, counted, wanted}
-use Rattle.law_run_recovers.proofs.Vocabulary.{needed, got, is_member, is_left, members_of, version, ask_or_short, mode_asked, Next, Current, Ask, Short, next, has_vote, has_asked}
+use Rattle.law_run_recovers.proofs.Vocabulary.{needed, got, is_member, is_left, members_of, version, ask_or_short, mode_asked, Next, Current, Ask, Short, next, has_vote, has_asked, not-true}
 use Rattle.law_run_recovers.proofs.Asking.{onto}
 use Rattle.law_run_recovers.proofs.Polled.{first_left}
 
@@ -41,11 +41,7 @@ module _ (c : Collector) (server : ℕ) (question : Asked) (is : next c ≡ Ask 
       let test = (find_some (is_left c) (counted c).reps left.0 left.1).1 in
       let front = and_parts (nat_lt 0 left.0.1 && not (is_member c left.0.0)) (not (has_refused (all_told c) left.0.0)) test in
       let votes = and_parts (nat_lt 0 left.0.1) (not (is_member c left.0.0)) front.0 in
-      (votes.0, not_so (is_member c left.0.0) votes.1)
-    where
-      not_so : (b : Bool) → not b ≡ true → b ≡ false
-      not_so true no' = sym no'
-      not_so false no' = refl
+      (votes.0, not-true (is_member c left.0.0) votes.1)
 
   pub next_vote : has_vote (counted c) server ≡ true
   next_vote =
@@ -76,8 +72,4 @@ module _ (c : Collector) (server : ℕ) (question : Asked) (is : next c ≡ Ask 
           let test = (find_some (is_left c) (counted c).reps rep there).1 in
           let front = and_parts (nat_lt 0 rep.1 && not (is_member c rep.0)) (not (has_refused (all_told c) rep.0)) test in
           let votes = and_parts (nat_lt 0 rep.1) (not (is_member c rep.0)) front.0 in
-          ap (λ after. mode_asked (question_of after)) (sym is) ∙ by rep (not_so (is_member c rep.0) votes.1) (holds Shared (all_told c) rep.0) refl
-        where
-          not_so : (b : Bool) → not b ≡ true → b ≡ false
-          not_so true no' = sym no'
-          not_so false no' = refl
+          ap (λ after. mode_asked (question_of after)) (sym is) ∙ by rep (not-true (is_member c rep.0) votes.1) (holds Shared (all_told c) rep.0) refl

@@ -11,16 +11,7 @@ use Rattle.rep_core.specs.declared.request.Request.TheVariants as request
 -- a server that is down decides nothing
 down_decides_none : (asked : Request) → answer_in (reply_down asked) ≡ None
 down_decides_none (request.Poll t suite mode) = refl
-down_decides_none (request.Upgrade t suite) = refl
-down_decides_none (request.Fetch t suite) = refl
-down_decides_none (request.Prepare t parts) = refl
-down_decides_none (request.Decide t decision) = refl
-down_decides_none (request.Resolve t) = refl
-down_decides_none (request.Finish t verdict) = refl
-down_decides_none (request.Break t suite) = refl
-down_decides_none request.Locks = refl
-down_decides_none request.Crash = refl
-down_decides_none request.Return = refl
+down_decides_none other = refl
 
 -- a decision is recorded at a server that is up
 pub decided_none : (found : Option State) (asked : Option ℕ) (task : Option Task) → decided_at found asked (decided_as task None) ≡ None

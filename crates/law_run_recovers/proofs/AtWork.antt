@@ -19,41 +19,25 @@ use Rattle.law_run_recovers.proofs.Picks.{along}
 open_releases : (fixed : Fixed) (task : Task) (suites : Suites) (phase : Phase) (server : ℕ) (asked : Request) → request_in fixed task suites phase ≡ Some (server, asked) → IsOpenPhase phase → releases asked ≡ false
 open_releases fixed task suites (Gathering number) server asked is open' = asked_as releases false task number (suite_of suites number) server asked (λ mode. refl) refl is
 open_releases fixed task suites (Fetching number) server asked is open' = fetched_as releases false task number (suite_of suites number) server asked refl is
-open_releases fixed task suites (Widening [] granted) server asked is open' = cc
 open_releases fixed task suites (Widening (number ∷ left) granted) server asked is open' = asked_as releases false task number (suite_of suites number) server asked (λ mode. refl) refl is
-open_releases fixed task suites (Preparing [] outcome) server asked is open' = cc
 open_releases fixed task suites (Preparing (now ∷ left) outcome) server asked is open' = ap releases (sym (asks_same now server (request.Prepare task.t (parts_at suites (changes_of outcome) now)) asked is))
 open_releases fixed task suites (Deciding outcome) server asked is open' = ap releases (sym (asks_same (home_of fixed.service task.t) server (request.Decide task.t (decision_of task outcome)) asked is))
 open_releases fixed task suites (Finishing servers v ending) server asked is open' = absurd open'
+open_releases fixed task suites other server asked is open' = cc
 
 module _ (t : ℕ) (st : State) where
   -- what takes no lock away and resolves nothing takes nothing
   takes_none : (asked : Request) → releases asked ≡ false → is_resolve asked ≡ false → (takes t st asked ≡ false) × (drops t st asked ≡ false)
-  takes_none (request.Poll u suite mode) none other = (refl, refl)
-  takes_none (request.Upgrade u suite) none other = (refl, refl)
-  takes_none (request.Fetch u suite) none other = (refl, refl)
-  takes_none (request.Prepare u parts) none other = (refl, refl)
-  takes_none (request.Decide u decided) none other = (refl, refl)
-  takes_none request.Locks none other = (refl, refl)
-  takes_none request.Return none other = (refl, refl)
   takes_none (request.Resolve u) none other = absurd (false≢true (sym other))
   takes_none (request.Finish u v) none other = absurd (false≢true (sym none))
   takes_none (request.Break u suite) none other = absurd (false≢true (sym none))
   takes_none request.Crash none other = absurd (false≢true (sym none))
+  takes_none another none other = (refl, refl)
 
   -- no agent asks a server to crash
   drops_none : (u : ℕ) (asked : Request) → (names u asked ≡ true) ⊎ (may_sweep asked ≡ true) → drops t st asked ≡ false
-  drops_none u (request.Poll v suite mode) so = refl
-  drops_none u (request.Upgrade v suite) so = refl
-  drops_none u (request.Fetch v suite) so = refl
-  drops_none u (request.Prepare v parts) so = refl
-  drops_none u (request.Decide v decided) so = refl
-  drops_none u (request.Resolve v) so = refl
-  drops_none u (request.Finish v ended) so = refl
-  drops_none u (request.Break v suite) so = refl
-  drops_none u request.Locks so = refl
-  drops_none u request.Return so = refl
   drops_none u request.Crash so = absurd (⊎_elim false≢true false≢true so)
+  drops_none u other so = refl
 
 -- ---- one event
 
@@ -96,11 +80,10 @@ module _ (given : Opening) (accepted : IsAccepted given) (all : List Event) (age
       here = works w agent t at_work
 
       own : (doing : Option Doing) → IsOpen doing → next_in (fixed_of given) doing ≡ Some (what.server, what.request.value) → (takes t st what.request.value ≡ false) × (drops t st what.request.value ≡ false)
-      own None open' next = absurd open'
-      own (Some (RunningSweep sweep_run)) open' next = absurd open'
       own (Some (Running txn_run)) open' next =
           takes_none t st what.request.value (open_releases (fixed_of given) txn_run.task txn_run.suites txn_run.phase what.server what.request.value next open')
           (never_resolves (fixed_of given) txn_run.task txn_run.suites txn_run.phase what.server what.request.value next)
+      own other open' next = absurd open'
 
       of : (b : Bool) → (other == agent) ≡ b → (takes t st what.request.value ≡ false) × (drops t st what.request.value ≡ false)
       of true same =
@@ -117,17 +100,12 @@ module _ (given : Opening) (accepted : IsAccepted given) (all : List Event) (age
 -- ---- all along
 
 early : (w : machine.World) (t : ℕ) (doing : Option Doing) → IsOpen doing → holding.DoingStands w t doing → Stands w t
-early w t None open' stands = absurd open'
-early w t (Some (RunningSweep sweep_run)) open' stands = absurd open'
 early w t (Some (Running txn_run)) open' stands = of txn_run.phase open' stands
   where
     of : (phase : Phase) → IsOpenPhase phase → holding.PhaseStands w t phase → Stands w t
-    of (Gathering number) open' stands = stands
-    of (Fetching number) open' stands = stands
-    of (Widening left granted) open' stands = stands
-    of (Preparing left outcome) open' stands = stands
-    of (Deciding outcome) open' stands = stands
     of (Finishing left v ended) open' stands = absurd open'
+    of other open' stands = stands
+early w t other open' stands = absurd open'
 
 pub mine_where : (t : ℕ) (doing : Option Doing) → runs t doing ≡ true → IsMine t doing
 mine_where t None is = tt

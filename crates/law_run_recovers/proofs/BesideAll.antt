@@ -3,7 +3,7 @@ use Rattle.law_run_recovers.proofs.Vocabulary.{and_from, and_parts, length, list
 use Rattle.law_run_recovers.proofs.Vocabulary.{◌≡◌, ℕ, Bool, true, false, List, [], ◌∷◌, ◌++◌, append-nil, append_assoc, Some, refl, sym, ap, subst, ◌∙◌, ◌%◌, ◌&&◌, ◌||◌, not, Contains, list_any, false≢true}
 use Rattle.law_run_recovers.proofs.Vocabulary.{same_Some, Opening, IsAccepted, LockMode, Request, State, has_from, has_any, Transaction, Task, request_in, fixed_of, next_in, next_of, Event, Begin, Actor}
 use Rattle.law_run_recovers.proofs.Vocabulary.{actor_at, step, run, names, CanBe, clear_servers, names_mine, can_front, run_more, clashes, clash, Begun, its_asks, GoSideBySide, GoSideBySideWhileDown, running_in, is_running, server_at}
-use Rattle.law_run_recovers.proofs.Vocabulary.{asks_for, Sweep}
+use Rattle.law_run_recovers.proofs.Vocabulary.{asks_for, Sweep, or_right}
 use Rattle.rep_core.specs.declared.request.Request.TheVariants as request
 use Rattle.law_run_recovers.proofs.AtWork.{mine_where}
 use Rattle.law_run_recovers.proofs.Keeps.{OfAsks}
@@ -50,11 +50,7 @@ pub free_where_up : (servers : List State) → list_all (λ (st : State). length
 free_where_up [] all = refl
 free_where_up (st ∷ servers) all =
     let parts = and_parts (length st.locks == 0) (list_all (λ (st : State). length st.locks == 0) servers) all in
-    and_from (not st.up || (length st.locks == 0)) (list_all (λ (st : State). not st.up || (length st.locks == 0)) servers) (or_so (not st.up) (length st.locks == 0) parts.0) (free_where_up servers parts.1)
-  where
-    or_so : (a b : Bool) → b ≡ true → (a || b) ≡ true
-    or_so true b is = refl
-    or_so false b is = is
+    and_from (not st.up || (length st.locks == 0)) (list_all (λ (st : State). not st.up || (length st.locks == 0)) servers) (or_right (not st.up) (length st.locks == 0) parts.0) (free_where_up servers parts.1)
 
 module _ (given : Opening) (events later : List Event) (go : GoSideBySide given events later) where
   up_first : AllUp given go.can.accepted (run given (events ++ []))
@@ -164,12 +160,4 @@ module _ (given : Opening) (events later : List Event) (go : GoSideBySideWhileDo
               → MayLock (Owned so_far) question
           of (request.Poll named suite mode) is = record { one = busy_one.one; number = sym is.0; running = one_runs; asks = is.1 }
           of (request.Upgrade named suite) is = record { one = busy_one.one; number = sym is.0; running = one_runs; asks = is.1 }
-          of (request.Fetch named suite) is = tt
-          of (request.Prepare named parts) is = tt
-          of (request.Decide named decision) is = tt
-          of (request.Resolve named) is = tt
-          of (request.Finish named v) is = tt
-          of (request.Break named suite) is = tt
-          of request.Locks is = tt
-          of request.Crash is = tt
-          of request.Return is = tt
+          of other is = tt

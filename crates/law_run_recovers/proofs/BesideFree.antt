@@ -37,25 +37,11 @@ pub record IsKind (asked : Request) (said : Reply) : Type 0 where
 
 given_kind : (asked : Request) (said : Reply) → is_some (given_in said) ≡ true → IsKind asked said
 given_kind asked (reply.Given dver content) is = record { busy = refl; down = refl; kept = refl; decides = λ decide is. cc }
-given_kind asked (reply.Held prefix dver) is = absurd (false≢true is)
-given_kind asked (reply.Busy holder prepared) is = absurd (false≢true is)
-given_kind asked reply.Prepared is = absurd (false≢true is)
-given_kind asked (reply.Verdict v) is = absurd (false≢true is)
-given_kind asked reply.Done is = absurd (false≢true is)
-given_kind asked (reply.Locked locks) is = absurd (false≢true is)
-given_kind asked reply.Down is = absurd (false≢true is)
-given_kind asked reply.Lost is = absurd (false≢true is)
+given_kind asked other is = absurd (false≢true is)
 
 prepared_kind : (asked : Request) (said : Reply) → is_prepared said ≡ true → IsKind asked said
 prepared_kind asked reply.Prepared is = record { busy = refl; down = refl; kept = refl; decides = λ decide is. cc }
-prepared_kind asked (reply.Given dver content) is = absurd (false≢true is)
-prepared_kind asked (reply.Held prefix dver) is = absurd (false≢true is)
-prepared_kind asked (reply.Busy holder prepared) is = absurd (false≢true is)
-prepared_kind asked (reply.Verdict v) is = absurd (false≢true is)
-prepared_kind asked reply.Done is = absurd (false≢true is)
-prepared_kind asked (reply.Locked locks) is = absurd (false≢true is)
-prepared_kind asked reply.Down is = absurd (false≢true is)
-prepared_kind asked reply.Lost is = absurd (false≢true is)
+prepared_kind asked other is = absurd (false≢true is)
 
 not_aborted : (task : Task) (outcome : doing.Proposal) → verdict_of (decision_of task outcome) ≡ verdict.Aborted → ⊥
 not_aborted task (Ok granted) is = cc
@@ -117,12 +103,7 @@ module _ (given : Opening) (events later : List Event) (agent t : ℕ) (caller :
     lock_kind z question has (reply.Held prefix dver) right = record { busy = refl; down = refl; kept = refl; decides = λ decide is. cc }
     lock_kind z question has (reply.Busy holder prepared) right = absurd (false≢true (sym right.0 ∙ open_so took.asked.0 z (mode_asked question) has first_up))
     lock_kind z question has reply.Down right = absurd (false≢true (sym right.0 ∙ open_so took.asked.0 z (mode_asked question) has first_up))
-    lock_kind z question has reply.Lost right = absurd right
-    lock_kind z question has (reply.Given dver content) right = absurd right
-    lock_kind z question has reply.Prepared right = absurd right
-    lock_kind z question has (reply.Verdict v) right = absurd right
-    lock_kind z question has reply.Done right = absurd right
-    lock_kind z question has (reply.Locked locks) right = absurd right
+    lock_kind z question has other right = absurd right
 
     kind_in : (now : Cache) (suites : Suites) (phase : Phase) → PhaseIn given events later agent t caller site ops actor goes suites now phase → request_in (fixed_of given) its_task suites phase ≡ Some (took.asked.0, took.asked.1)
         → RightFor (fixed_of given) (run given events) (sight given events later agent t caller site ops actor goes) its_task phase took.asked.0 took.asked.1 said → IsKind took.asked.1 said

@@ -2,9 +2,9 @@
 use Rattle.law_run_recovers.proofs.Vocabulary.{◌≡◌, ◌≢◌, ⊎_elim, ℕ, Bool, true, false, cond, List, [], ◌∷◌, ◌++◌, append-nil, append_assoc, Option, Some, None, is_some, refl, sym, ap, subst, ◌∙◌, ◌==◌, ◌&&◌, ◌||◌, not, option_map}
 use Rattle.law_run_recovers.proofs.Vocabulary.{Contains, false≢true, and_parts, and_from, eqb-true, eq-eqb, same_Some, Opening, LockMode, is_exclusive, Lock, in_the_way, conflicts, State, Has, find_some, Job, Transaction}
 use Rattle.law_run_recovers.proofs.Vocabulary.{fixed_of, Served, Event}
-use Rattle.law_run_recovers.proofs.Vocabulary.{Begin, Step, Crash, Return, Forget, Lack, World, server_at, actor_at, has_no_job, step, run, names, begins_job, MayAsk, asks_servers}
+use Rattle.law_run_recovers.proofs.Vocabulary.{Begin, Step, Lack, World, server_at, actor_at, has_no_job, step, run, names, begins_job, MayAsk, asks_servers}
 use Rattle.law_run_recovers.proofs.Vocabulary.{clashes, clash, Begun, its_asks, spoils, GoSideBySideWhileDown, up_in, is_up, asks_for, is_way_met, way_in, in_its_way, GoesAmongLocks, locks_in, locks_at, is_running, is_telling, takes, up_and, of_up}
-use Rattle.law_run_recovers.proofs.Vocabulary.{robs, hinders_itself, StandsOpen, everywhere}
+use Rattle.law_run_recovers.proofs.Vocabulary.{robs, hinders_itself, StandsOpen, everywhere, not-true}
 use Rattle.law_run_recovers.proofs.Keeps.{step_asks}
 use Rattle.law_run_recovers.proofs.Owned.{AllOwned, MayLock, owned_stays}
 use Rattle.law_run_recovers.proofs.Sides.{compared, names_one, takes_named}
@@ -20,17 +20,18 @@ conflict_parts : (t z : ℕ) (mode : LockMode) (lock : Lock) → conflicts t z m
 conflict_parts t z mode lock is =
     let parts = and_parts ((lock.suite == z) && not (lock.t == t)) (is_exclusive mode || is_exclusive lock.mode) is in
     let more = and_parts (lock.suite == z) (not (lock.t == t)) parts.0 in
-    (eqb-true lock.suite z more.0, of (lock.t == t) more.1, parts.1)
-  where
-    of : (b : Bool) → not b ≡ true → b ≡ false
-    of true is = sym is
-    of false is = refl
+    (eqb-true lock.suite z more.0, not-true (lock.t == t) more.1, parts.1)
 
 or_same : (a b : Bool) → (a || b) ≡ true → (b || a) ≡ true
 or_same true true is = refl
 or_same true false is = refl
 or_same false true is = refl
 or_same false false is = is
+
+pub clash_back : (a b : ℕ × LockMode) → clashes a b ≡ true → clashes b a ≡ true
+clash_back a b is =
+    let parts = and_parts (a.0 == b.0) (is_exclusive a.1 || is_exclusive b.1) is in
+    and_from (b.0 == a.0) (is_exclusive b.1 || is_exclusive a.1) (eq-eqb b.0 a.0 (sym (eqb-true a.0 b.0 parts.0))) (or_same (is_exclusive a.1) (is_exclusive b.1) parts.1)
 
 module _ (given : Opening) (events later : List Event) (go : GoSideBySideWhileDown given events later) (so_far rest : List Event) (event : Event) (split : later ≡ so_far ++ event ∷ rest) (sides : Sides given events later go so_far) where
   abbrev w : World
@@ -81,10 +82,6 @@ module _ (given : Opening) (events later : List Event) (go : GoSideBySideWhileDo
     free_hand = of event calm
       where
         of : (event : Event) → spoils given (run given (events ++ so_far)) event ≡ false → (hinders_itself given one.agent (run given (events ++ so_far)) event || robs given one.agent one.t (run given (events ++ so_far)) event) ≡ false
-        of (Begin i job) quiet = refl
-        of (Crash server) quiet = refl
-        of (Return server) quiet = refl
-        of (Forget i site) quiet = refl
         of (Lack i why) quiet = by (i == one.agent) refl
           where
             by : (b : Bool) → (i == one.agent) ≡ b → (b || false) ≡ false
@@ -104,6 +101,7 @@ module _ (given : Opening) (events later : List Event) (go : GoSideBySideWhileDo
                 (not_both (has_no_job (actor_at w i)) (is_some (step (fixed_of given) w (Step i)).done.served) quiet (ap (λ i. has_no_job (actor_at w i)) (eqb-true i one.agent same) ∙ has_job))
             by false apart =
                 others_none (i == one.agent) (is_some (step (fixed_of given) w (Step i)).done.served) (not (is_telling w one.agent)) (of_up (takes one.t) w (step (fixed_of given) w (Step i)).done.served) apart (not_robbed i apart)
+        of other quiet = refl
 
   -- in the words of its own world
   pub its_hand : (one : Begun given events so_far) → is_running (world_then given events one.before one.agent one.t one.caller one.site one.ops one.after) one.agent one.t ≡ true
@@ -116,11 +114,7 @@ module _ (given : Opening) (events later : List Event) (go : GoSideBySideWhileDo
 
   may_ask : (event : Event) → MayAsk (fixed_of given) (λ s asked. MayLock (Owned given events later go so_far) asked) (run given (events ++ so_far)) event
   may_ask (Step i) = λ actor asked is next. may_lock given events later go so_far (event ∷ rest) split sides i actor is asked next
-  may_ask (Crash server) = tt
-  may_ask (Return server) = tt
-  may_ask (Begin i job) = tt
-  may_ask (Forget i site) = tt
-  may_ask (Lack i why) = tt
+  may_ask other = tt
 
   -- at a server that was up all along
   locks_were : (server : ℕ) (st : State) → server_at (step (fixed_of given) (run given (events ++ so_far)) event).world server ≡ Some st → is_up (run given events) server ≡ true → AllOwned (Owned given events later go so_far) st.locks
@@ -217,14 +211,9 @@ module _ (given : Opening) (events later : List Event) (go : GoSideBySideWhileDo
       (λ same. apart (same_one one other same.0 same.1))
       (λ order. ⊎_elim
       (λ first. false≢true (sym (first_apart one other first.0 first.1 runs_one) ∙ clash_of (its_asks given events (so_far ++ event ∷ []) one) (its_asks given events (so_far ++ event ∷ []) other) a b has_a has_b is))
-      (λ second. false≢true (sym (first_apart other one second.0 second.1 runs_other) ∙ clash_of (its_asks given events (so_far ++ event ∷ []) other) (its_asks given events (so_far ++ event ∷ []) one) b a has_b has_a (turned a b is)))
+      (λ second. false≢true (sym (first_apart other one second.0 second.1 runs_other) ∙ clash_of (its_asks given events (so_far ++ event ∷ []) other) (its_asks given events (so_far ++ event ∷ []) one) b a has_b has_a (clash_back a b is)))
       order)
       (compared one.before other.before (Begin one.agent (Transaction one.caller one.site one.ops)) (Begin other.agent (Transaction other.caller other.site other.ops)) one.after other.after (sym one.parts ∙ other.parts))
-    where
-      turned : (a b : ℕ × LockMode) → clashes a b ≡ true → clashes b a ≡ true
-      turned a b is =
-          let parts = and_parts (a.0 == b.0) (is_exclusive a.1 || is_exclusive b.1) is in
-          and_from (b.0 == a.0) (is_exclusive b.1 || is_exclusive a.1) (eq-eqb b.0 a.0 (sym (eqb-true a.0 b.0 parts.0))) (or_same (is_exclusive a.1) (is_exclusive b.1) parts.1)
 
   -- ---- nothing is in the way of one that runs
 

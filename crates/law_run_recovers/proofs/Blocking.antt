@@ -3,7 +3,7 @@ use Rattle.law_run_recovers.proofs.Vocabulary.{◌≡◌, ◌⊎◌, inl, inr, �
 use Rattle.law_run_recovers.proofs.Vocabulary.{nat_lt, nat_le, option_map, Contains, mod-lt, false≢true, and_parts, and_from, eqb-true, eq-eqb, nat_tests, All-contains, Representative, Configuration, votes_in, total_votes, IsValid}
 use Rattle.law_run_recovers.proofs.Vocabulary.{Opening, LockMode, Shared, Exclusive, Lock, Request, Stamped, conflicts, in_the_way, has_prepared, State, served, is_full, answer_of, contains_from, has_filter, any_has, has_any}
 use Rattle.law_run_recovers.proofs.Vocabulary.{find_some, needed_of, has_vote, Fixed, home_of, fixed_of, Event, Crash, World, server_at, operates, operated, opening, step, run, same_or, puts_in, all_up, up_in, is_up, locks_in, locks_at}
-use Rattle.law_run_recovers.proofs.Vocabulary.{is_in_doubt, in_doubt, way_in, is_open_way, is_open_at, Want, sweeps, blocks, SweepsAll, can_have, DoubtedAt, IsBlocker, WasItsHome, Always, BlockedByDoubtsAt, OneCrashBlocksAt, SomeServerBlocksAt}
+use Rattle.law_run_recovers.proofs.Vocabulary.{is_in_doubt, in_doubt, way_in, is_open_way, is_open_at, Want, sweeps, blocks, SweepsAll, can_have, DoubtedAt, IsBlocker, WasItsHome, Always, BlockedByDoubtsAt, OneCrashBlocksAt, SomeServerBlocksAt, not-true}
 use Rattle.vote_core.specs.Validity.{IsAccepted}
 use Rattle.rep_core.specs.declared.request.Request.TheVariants as request
 use Rattle.run_core.proofs.Appending.{after-append}
@@ -88,12 +88,8 @@ module _ (given : Opening) (events : List Event) (agent : ℕ) (sweep_run : List
             there = contains_from (locks_at first server) lock has.0;
             way = found.1;
             prepared = parts.0;
-            home_down = not_so (is_up first (home_of (fixed_of given).service lock.t)) parts.1;
+            home_down = not-true (is_up first (home_of (fixed_of given).service lock.t)) parts.1;
           }
-        where
-          not_so : (b : Bool) → not b ≡ true → b ≡ false
-          not_so true is = sym is
-          not_so false is = refl
 
   pub blocker : (t : ℕ) (want : Want) → IsValid want.votes → can_have given (events ++ sweeps agent sweep_run) t want ≡ false → IsBlocker given first t want
   blocker t want valid short =

@@ -1,7 +1,7 @@
 -- Where no sweep begins, who is busy runs a transaction; and where every agent was idle, one that began there.
 use Rattle.law_run_recovers.proofs.Vocabulary.{all_idle, List, None, Option, Some, [], ap, append-nil, append_assoc, cond, false, is_some, refl, subst, sym, true, ℕ, ⊎_elim, ◌++◌, ◌∙◌, ◌∷◌, ◌≡◌, eqb-true, eq-eqb, false≢true, busy}
 use Rattle.law_run_recovers.proofs.Vocabulary.{Identity, Op, CanBe, Running, RunningSweep, names_mine, names, can_front, run_more, all_none, doing_at, doing_of, BeginsNone, event_doing, none_begins, begins_job, holds_of, same_or, agent_of}
-use Rattle.law_run_recovers.proofs.Vocabulary.{Request, Decided, IsAt, IsMine, Leaves, leaves_response, decisions, run, Actor, World, actor_at, step, Event, Begin, Crash, Forget, Lack, Return, Step, Opening, Agent, fixed_of, is_idle, is_decide, said_by}
+use Rattle.law_run_recovers.proofs.Vocabulary.{Request, Decided, IsAt, IsMine, Leaves, leaves_response, decisions, run, Actor, World, actor_at, step, Event, Begin, Opening, Agent, fixed_of, is_idle, is_decide, said_by}
 use Rattle.law_run_recovers.proofs.Vocabulary.{after_response, left, next_in, next_of, take_in, Doing, Task, TransactionRun, After, GoesOn, Ends, Job, Sweep, Transaction, Response, Begun, running_in, runs}
 use Rattle.law_run_recovers.proofs.AtWork.{mine_where}
 use Rattle.law_run_recovers.proofs.BesideUnmet.{begins_there, job_same, onward}
@@ -20,13 +20,12 @@ mine_left t task (Ends ended) same number = tt
 pub mine_taken : (given : Opening) (ds : List Decided) (i t : ℕ) (agent : Agent) (response : Response) (asked : ℕ × Request) (doing : Option Doing)
     → next_in (fixed_of given) doing ≡ Some asked → IsAt ds i agent.count doing → runs t doing ≡ true
     → IsMine t (take_in (fixed_of given) agent response doing (Some asked)).agent.doing
-mine_taken given ds i t agent response asked None next at is = absurd (false≢true is)
-mine_taken given ds i t agent response asked (Some (RunningSweep sweep_run)) next at is = absurd (false≢true is)
 mine_taken given ds i t agent response asked (Some (Running txn_run)) next at is =
     mine_left t txn_run.task (after_response (fixed_of given) txn_run agent.cache asked.0 asked.1 response).after
     (λ more goes. (subst (Leaves txn_run.task (cond (is_decide asked.1) (said_by response at.said) at.said)) goes
     (leaves_response (fixed_of given) txn_run.task agent.cache txn_run.suites txn_run.phase asked.0 asked.1 response at.said next at.tells)).0)
     (eqb-true txn_run.task.t t is)
+mine_taken given ds i t agent response asked other next at is = absurd (false≢true is)
 
 pub mine_runs : (t : ℕ) (doing : Option Doing) → IsMine t doing → is_idle doing ≡ false → runs t doing ≡ true
 mine_runs t None mine busy = absurd (false≢true (sym busy))
@@ -126,11 +125,7 @@ module _ (given : Opening) (events later : List Event) (can : CanBe given (event
 
           of : (same : Event) → event ≡ same → BusyWith (so_far ++ event ∷ []) i here.agent.doing
           of (Begin k job) is = by k job is (begins_job given w (Begin k job)) refl
-          of (Step k) is = none_so (subst (BeginsNone given i w) (sym is) tt)
-          of (Crash server) is = none_so (subst (BeginsNone given i w) (sym is) tt)
-          of (Return server) is = none_so (subst (BeginsNone given i w) (sym is) tt)
-          of (Forget k site) is = none_so (subst (BeginsNone given i w) (sym is) tt)
-          of (Lack k why) is = none_so (subst (BeginsNone given i w) (sym is) tt)
+          of other is = none_so (subst (BeginsNone given i w) (sym is) tt)
 
       busy_next : BusyAt (so_far ++ event ∷ [])
       busy_next i here there busy = busy_now i here (ap (λ w. actor_at w i) (sym (run_next so_far event)) ∙ there) busy

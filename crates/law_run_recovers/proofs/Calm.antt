@@ -1,7 +1,7 @@
 -- Sweeps decide nothing, and change nothing that is in effect.
 use Rattle.law_run_recovers.proofs.Vocabulary.{◌≡◌, inl, inr, ℕ, ◌+◌, Bool, true, false, cond, List, [], ◌∷◌, ◌++◌, append-nil, Option, Some, None, is_some, refl, sym, ap, subst, ◌∙◌, ◌*◌, ◌==◌, ◌&&◌, not, nat_lt, slice_set}
 use Rattle.law_run_recovers.proofs.Vocabulary.{cons_option, false≢true, and_parts, eqb-true, not-true, none-some, Opening, Sweep, Lacked, Fixed, SweepRun, Doing, Running, RunningSweep, After, GoesOn, Ends, Agent, fixed_of, is_idle}
-use Rattle.law_run_recovers.proofs.Vocabulary.{has_sense, max_jobs, next_in, left, begin, started, Event, Begin, Step, Crash, Return, Forget, Lack, Actor, World, Stepped, actor_at, has_no_job, becomes, asks, steps_once, step, after}
+use Rattle.law_run_recovers.proofs.Vocabulary.{has_sense, max_jobs, next_in, left, begin, started, Event, Begin, Step, Forget, Lack, Actor, World, Stepped, actor_at, has_no_job, becomes, asks, steps_once, step, after}
 use Rattle.law_run_recovers.proofs.Vocabulary.{run, decided, decided_by, decisions_from, task_of, task_at, task_in, begins_now, puts_in, begins_job, with_job, step_events, asked_events, events_of, history_from, no_task, hinders}
 use Rattle.law_run_recovers.proofs.Vocabulary.{unhindered_from, sweeps, goes_round, Always, SweepsKeepEffectsAt}
 use Rattle.law_suite_machine.specs.Machine as machine
@@ -47,18 +47,13 @@ module _ (given : Opening) (agent : ℕ) where
   quiet_event : (w : World) (event : Event) → hinders given agent w event ≡ false → HasNoTask w → (z : ℕ) (m : machine.World) → AllQuiet (events_of given z m w event)
   quiet_event w (Begin other job) calm none z m = quiet_begin given z m job (actor_at w other)
   quiet_event w (Step other) calm none z m = quiet_step z m w (actor_at w other) (stepper w other (is_some (step fixed w (Step other)).done.served) (actor_at w other) refl calm none)
-  quiet_event w (Crash server) calm none z m = absurd (false≢true (sym calm))
-  quiet_event w (Return server) calm none z m = absurd (false≢true (sym calm))
   quiet_event w (Forget other site) calm none z m = refl
   quiet_event w (Lack other why) calm none z m = quiet_lack given z m (Lacked why) (actor_at w other)
+  quiet_event w other calm none z m = absurd (false≢true (sym calm))
 
   none_in : (w : World) (event : Event) → hinders given agent w event ≡ false → HasNoTask w → task_in w event ≡ None
-  none_in w (Begin other job) calm none = refl
   none_in w (Step other) calm none = stepper w other (is_some (step fixed w (Step other)).done.served) (actor_at w other) refl calm none
-  none_in w (Crash server) calm none = refl
-  none_in w (Return server) calm none = refl
-  none_in w (Forget other site) calm none = refl
-  none_in w (Lack other why) calm none = refl
+  none_in w another calm none = refl
 
   decides_none : (w : World) (event : Event) → task_in w event ≡ None → decided fixed w event ≡ None
   decides_none w event none = ap (λ task. decided_by w task (step fixed w event).done.served) none ∙ no_task w (step fixed w event).done.served

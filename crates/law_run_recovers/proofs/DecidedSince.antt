@@ -1,21 +1,11 @@
 -- A transaction was not decided before it began, nor as it did.
-use Rattle.law_run_recovers.proofs.Vocabulary.{◌≡◌, inl, inr, ⊎_elim, ℕ, ◌+◌, ◌*◌, ◌≤◌, Bool, true, List, [], ◌∷◌, ◌++◌, append-nil, Option, Some, sym, ap, subst, ◌∙◌, arith, ◌==◌, list_any, cons_option, eqb-true, or_cases, refl}
+use Rattle.law_run_recovers.proofs.Vocabulary.{◌≡◌, ⊎_elim, ℕ, ◌+◌, ◌*◌, ◌≤◌, List, [], ◌∷◌, ◌++◌, append-nil, Option, Some, sym, ap, subst, ◌∙◌, arith, cons_option}
 use Rattle.law_run_recovers.proofs.Vocabulary.{Identity, Opening, Op, Transaction, fixed_of, Event, Begin, Actor, actor_at, opening, step, run, Decided, decisions, decisions_from, decisions_from-append, not_begun, has_append, append_has_right, holds_of}
 use Rattle.law_run_recovers.proofs.Vocabulary.{Has, agent_of, agent_at, no_task, CanBe}
-
-any_right : {X : Type 0} (p : X → Bool) (xs ys : List X) → ((x : X) → Has xs x → p x ≡ true → ⊥) → list_any p (xs ++ ys) ≡ true → list_any p ys ≡ true
-any_right p [] ys none is = is
-any_right p (x ∷ xs) ys none is = ⊎_elim
-    (λ here. absurd (none x (inl refl) here))
-    (λ later. any_right p xs ys (λ y has. none y (inr has)) later)
-    (or_cases (p x) (list_any p (xs ++ ys)) is)
 
 -- it was not decided before, nor as it began
 module _ (given : Opening) (events later : List Event) (agent t : ℕ) (caller : Identity) (site : ℕ) (ops : List Op) (actor : Actor) (can : CanBe given (events ++ Begin agent (Transaction caller site ops) ∷ later))
     (there : actor_at (run given events) agent ≡ Some actor) (number : 64 * actor.agent.count + agent ≡ t) where
-  abbrev pub by_then : Bool
-  by_then = list_any (λ (one : Decided). one.t == t) (decisions_from (fixed_of given) (step (fixed_of given) (run given events) (Begin agent (Transaction caller site ops))).world later)
-
   -- none of its number stood there as it began
   pub not_before : (one : Decided) → Has (decisions given events) one → one.t ≡ t → ⊥
   not_before one before of_it =
@@ -42,10 +32,6 @@ module _ (given : Opening) (events later : List Event) (agent t : ℕ) (caller :
       → Has (decisions_from (fixed_of given) (step (fixed_of given) (run given events) (Begin agent (Transaction caller site ops))).world later) one
   stood_since one has of_it =
       ⊎_elim (λ before. absurd (not_before one before of_it)) (λ since. since) (has_append (decisions given events) since one (subst (λ ds. Has ds one) parts has))
-
-  pub decided_since : list_any (λ (one : Decided). one.t == t) (decisions given (events ++ Begin agent (Transaction caller site ops) ∷ later)) ≡ true → by_then ≡ true
-  decided_since is =
-      any_right (λ (one : Decided). one.t == t) (decisions given events) since (λ one has same. not_before one has (eqb-true one.t t same)) (sym (ap (list_any (λ (one : Decided). one.t == t)) parts) ∙ is)
 
   -- where none stands among those since, they are as they were
   pub none_since : decisions_from (fixed_of given) (step (fixed_of given) (run given events) (Begin agent (Transaction caller site ops))).world later ≡ []

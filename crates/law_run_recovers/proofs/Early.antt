@@ -1,6 +1,6 @@
 -- What a transaction asks for where it may execute next, and how its job ends.
-use Rattle.law_run_recovers.proofs.Vocabulary.{◌≡◌, ℕ, false, Option, Some, None, refl, sym, ap, none-some, same_Some, Request, Ending, ReadPoint, GatheredSuite, Suites, suite_of, Fixed, Task, Phase, Gathering, Fetching, Widening}
-use Rattle.law_run_recovers.proofs.Vocabulary.{Preparing, Deciding, Finishing, fetched_at, fetched_for, request_in, is_decide, asks_same, asked_as, fetched_as, EndedJob, Actor, outcome_of, releases}
+use Rattle.law_run_recovers.proofs.Vocabulary.{◌≡◌, ℕ, false, Option, Some, None, refl, sym, ap, none-some, same_Some, Request, Ending, ReadPoint, GatheredSuite, Suites, suite_of, Fixed, Task, Phase, Gathering, Fetching}
+use Rattle.law_run_recovers.proofs.Vocabulary.{fetched_at, fetched_for, request_in, is_decide, asks_same, asked_as, fetched_as, EndedJob, Actor, outcome_of, releases}
 use Rattle.rep_core.specs.declared.request.Request.TheVariants as request
 use Rattle.law_run_recovers.proofs.Heard.{MayExecute}
 use Rattle.law_run_recovers.proofs.Still.{IsOpenPhase}
@@ -8,10 +8,7 @@ use Rattle.law_run_recovers.proofs.Still.{IsOpenPhase}
 pub early_open : (phase : Phase) → MayExecute phase → IsOpenPhase phase
 early_open (Gathering number) may = tt
 early_open (Fetching number) may = tt
-early_open (Widening left granted) may = absurd may
-early_open (Preparing left outcome) may = absurd may
-early_open (Deciding outcome) may = absurd may
-early_open (Finishing left v ended) may = absurd may
+early_open other may = absurd may
 
 -- it asks for nothing that takes a lock away, or that decides
 pub early_asks : (fixed : Fixed) (task : Task) (suites : Suites) (phase : Phase) → MayExecute phase → (server : ℕ) (asked : Request) → request_in fixed task suites phase ≡ Some (server, asked)
@@ -20,10 +17,7 @@ early_asks fixed task suites (Gathering number) may server asked is =
     (asked_as releases false task number (suite_of suites number) server asked (λ mode. refl) refl is, asked_as is_decide false task number (suite_of suites number) server asked (λ mode. refl) refl is)
 early_asks fixed task suites (Fetching number) may server asked is =
     (fetched_as releases false task number (suite_of suites number) server asked refl is, fetched_as is_decide false task number (suite_of suites number) server asked refl is)
-early_asks fixed task suites (Widening left granted) may server asked is = absurd may
-early_asks fixed task suites (Preparing left outcome) may server asked is = absurd may
-early_asks fixed task suites (Deciding outcome) may server asked is = absurd may
-early_asks fixed task suites (Finishing left v ended) may server asked is = absurd may
+early_asks fixed task suites other may server asked is = absurd may
 
 -- a content is fetched by Fetch
 pub fetch_is : (task : Task) (number : ℕ) (found : Option GatheredSuite) (server : ℕ) (asked : Request) → fetched_for task number found ≡ Some (server, asked) → asked ≡ request.Fetch task.t number

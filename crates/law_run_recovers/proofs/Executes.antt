@@ -4,7 +4,7 @@ use Rattle.law_run_recovers.proofs.Vocabulary.{find, unwrap_or, list_any, nat_cm
 use Rattle.law_run_recovers.proofs.Vocabulary.{Exclusive, serves, Has, any_has, has_any, Answer, Refusal, PlainTable, row_of, replies, Change, Need, Hold, Know, Ended, Heard, heard, Done, first_unmet, exec_of, AgreesWith, on_table}
 use Rattle.law_run_recovers.proofs.Vocabulary.{transaction, goes_alike, on_transaction, changes_are_held, Collector, collect, raise, Cache, hint, searched, search_keeps_all, ReadPoint, GatheredSuite, Suites, suite_of, with_suite}
 use Rattle.law_run_recovers.proofs.Vocabulary.{known_of, Fixed, Task, Granted, Gathered, start_from, raised_or_new, gather, widen_all, heard_on, after_search, free_content, opened_with, open_first, open_suite, open_needed, or_all}
-use Rattle.law_run_recovers.proofs.Vocabulary.{opened, proceed, execute, prepare, locked_at, self, with_at, each_but, each_with, but_with, are_nil, World, is_met, MayStart, has_asked, not_asked, changes_on, mode_or, first_mode, serves_shared}
+use Rattle.law_run_recovers.proofs.Vocabulary.{opened, proceed, execute, prepare, locked_at, self, with_at, each_but, each_with, but_with, are_nil, World, is_met, MayStart, has_asked, not_asked, changes_on, mode_or, first_mode, serves_shared, or_right}
 use Rattle.file_exec.specs.declared.executor.Outcome.{Outcome as Executed}
 use Rattle.file_exec.specs.declared.executor.Outcome.TheVariants as exec
 use Rattle.file_exec.specs.Changes as changes
@@ -58,11 +58,7 @@ none_with suites number new z none = of (number == z) refl (sym (with_at number 
 -- what is among those left is among all
 asks_onto : (so_far left : List (ℕ × LockMode)) (z : ℕ) → asks_of left z ≡ true → asks_of (onto so_far left) z ≡ true
 asks_onto [] left z is = is
-asks_onto (one ∷ so_far) left z is = asks_onto so_far (one ∷ left) z (or_so (one.0 == z) (asks_of left z) is)
-  where
-    or_so : (a b : Bool) → b ≡ true → (a || b) ≡ true
-    or_so true b is = refl
-    or_so false b is = is
+asks_onto (one ∷ so_far) left z is = asks_onto so_far (one ∷ left) z (or_right (one.0 == z) (asks_of left z) is)
 
 weak_or_not : (mode other : LockMode) → serves mode other ≡ false → other ≡ Exclusive
 weak_or_not Shared Shared is = absurd (false≢true (sym is))
@@ -177,9 +173,7 @@ module _ (fixed : Fixed) (world : World) (sight : Sight) (table : PlainTable) (t
 
     opens : (what : Executed) (more : Gathered) → open_needed task all what ≡ Some more → Opened all more
     opens (exec.Need (Know number)) more is = opens_suite number (suite_of all.suites number) refl more is
-    opens (exec.Need (Hold number mode)) more is = absurd (none-some more is)
-    opens (exec.Done answers changes) more is = absurd (none-some more is)
-    opens (exec.Refused refusal) more is = absurd (none-some more is)
+    opens other more is = absurd (none-some more is)
 
   pub opened_stands : (n : ℕ) (all : Gathered) → Ready all.suites → Hinted all.suites all.cache → Opened all (opened n fixed task all)
   opened_stands zero all ready hints = record { ready = ready; hints = hints; there = λ z some. some }

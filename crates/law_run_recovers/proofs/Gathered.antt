@@ -1,7 +1,7 @@
 -- A suite that a transaction gathers: it falls short as its demand says, or had a Current.
 use Rattle.law_run_recovers.proofs.Vocabulary.{◌≡◌, inl, inr, ⊎_elim, ℕ, ◌+◌, ◌<◌, ◌≤◌, Bool, true, false, cond, List, [], ◌∷◌, Option, Some, None, is_some, refl, sym, ap, subst, ◌∙◌, arith, ◌==◌, ◌&&◌, ◌||◌, not, nat_lt, nat_le}
 use Rattle.law_run_recovers.proofs.Vocabulary.{eqb-true, nat_tests, nat_cmp_total, All-contains, same_Some, IsOrdered-insert, Representative, Configuration, votes_in, IsValid, max_servers, Prefix, LockMode, Shared, Exclusive, serves}
-use Rattle.law_run_recovers.proofs.Vocabulary.{Has, contains_from, PlainTable, holds, newest, Collector, all_told, first_members, version, needed, needed_of, got, Next, Current, Ask, Short, next, Cache, Undecided, ReadPoint}
+use Rattle.law_run_recovers.proofs.Vocabulary.{Has, contains_from, PlainTable, holds, newest, Collector, all_told, first_members, version, needed, needed_of, got, Next, Current, Short, next, Cache, Undecided, ReadPoint}
 use Rattle.law_run_recovers.proofs.Vocabulary.{GatheredSuite, Suites, suite_of, with_suite, settled, first_or, source_of, Fixed, Task, short_cause, gather_by, locked_at, self, with_at, each_but, each_with, World, is_met, demand_by}
 use Rattle.law_run_recovers.proofs.Vocabulary.{led_to_by, has_asked, serves_shared, Told, is_held, and_parts, or_cases, or_right, false≢true}
 use Rattle.rep_core.specs.declared.reply.Verdict.TheVariants as verdict
@@ -120,8 +120,7 @@ module _ (fixed : Fixed) (world : World) (sight : Sight) (table : PlainTable) (t
         of : (after : Next) → next g.suite.collector ≡ after → Good (gather_by task now suites number after)
         of (Short had wanting busy) is =
             told_stands fixed world sight table task cache Was ground now suites verdict.Aborted (Undecided (short_cause number had wanting busy)) (locked_at suites) (gathering_short had wanting busy is)
-        of (Ask server asked) is = (refl, (g, hints))
-        of (Current prefix dver members) is = (refl, (g, hints))
+        of other is = (refl, (g, hints))
 
   -- ---- it had a Current
 

@@ -8,7 +8,6 @@ use Rattle.law_run_recovers.proofs.Vocabulary.{MayStart, is_met, ending_of, mode
 use Rattle.rep_core.specs.declared.reply.Reply.TheVariants as reply
 use Rattle.rep_core.specs.declared.reply.Verdict.TheVariants as verdict
 use Rattle.file_exec.specs.Known as known
-use Rattle.suite_collect.specs.Collecting.{Widening}
 use Rattle.txn_core.specs.Doing as doing
 use Rattle.txn_core.specs.Transactions as txn_run
 use Rattle.txn_core.specs.Transactions.{Step}
@@ -35,21 +34,17 @@ LockRight fixed world sight t z server asked said = (question : Asked) → asked
 abbrev pub RightFor : Fixed → World → Sight → Task → Phase → ℕ → Request → Reply → Type 0
 RightFor fixed world sight task (Gathering z) server asked said = LockRight fixed world sight task.t z server asked said
 RightFor fixed world sight task (Fetching z) server asked said = is_some (given_in said) ≡ true
-RightFor fixed world sight task (doing.Widening [] granted) server asked said = Unit {0}
 RightFor fixed world sight task (doing.Widening (z ∷ left) granted) server asked said = LockRight fixed world sight task.t z server asked said
 RightFor fixed world sight task (Preparing left outcome) server asked said = is_prepared said ≡ true
 RightFor fixed world sight task (Deciding outcome) server asked said =
     ((is_up world server ≡ true) × (said ≡ reply.Verdict (verdict_of (decision_of task outcome)))) ⊎ ((is_up world server ≡ false) × (said ≡ reply.Down))
-RightFor fixed world sight task (Finishing left v ended) server asked said = Unit {0}
+RightFor fixed world sight task other server asked said = Unit {0}
 
 -- where a transaction stands that may execute next
 abbrev pub MayExecute : Phase → Type 0
 MayExecute (Gathering number) = Unit {0}
 MayExecute (Fetching number) = Unit {0}
-MayExecute (doing.Widening left granted) = ⊥
-MayExecute (Preparing left outcome) = ⊥
-MayExecute (Deciding outcome) = ⊥
-MayExecute (Finishing left v ended) = ⊥
+MayExecute other = ⊥
 
 -- what a collector asks of a server
 pub record AsksFor (t number : ℕ) (c : Collector) (server : ℕ) (asked : Request) : Type 0 where
@@ -64,8 +59,7 @@ asks_for task number c server asked = of (next c) refl
     of (Ask who question) is given =
         let same = same_Some (who, request_for task.t number question) (server, asked) given in
         record { question = question; is = is ∙ ap (λ (asked : ℕ × Request). Ask asked.0 question) same; asked_is = sym (ap (λ (asked : ℕ × Request). asked.1) same) }
-    of (Current prefix dver members) is given = absurd (none-some (server, asked) given)
-    of (Short had wanting busy) is given = absurd (none-some (server, asked) given)
+    of other is given = absurd (none-some (server, asked) given)
 
 -- what it is told so
 record HeardOne (number : ℕ) (suite : GatheredSuite) (server : ℕ) (asked : Request) (said : Reply) : Type 0 where
@@ -94,8 +88,7 @@ module _ (fixed : Fixed) (world : World) (sight : Sight) (t number : ℕ) (suite
     where
       Right : Next → Type 0
       Right (Ask who question) = Answers fixed world sight number question who said
-      Right (Current prefix dver members) = Unit {0}
-      Right (Short had wanting busy) = Unit {0}
+      Right other = Unit {0}
 
 module _ (fixed : Fixed) (world : World) (sight : Sight) (table : PlainTable) (task : Task) (cache : Cache) (Was : ℕ → Prefix → Type 0)
     (ground : Ground fixed world sight cache task.site (locks_on table task) Was) (same_service : table.service ≡ fixed.service) where

@@ -31,8 +31,7 @@ prepare_cache task now suites outcome (server ∷ servers) = refl
 
 gather_cache : (task : Task) (now : Cache) (suites : Suites) (number : ℕ) (after : Next) → (gather_by task now suites number after).cache ≡ now
 gather_cache task now suites number (Short had wanting busy) = up_cache task now suites (txn_run.short_cause number had wanting busy)
-gather_cache task now suites number (Ask server asked) = refl
-gather_cache task now suites number (Current prefix dver members) = refl
+gather_cache task now suites number other = refl
 
 widen_cache : (task : Task) (now : Cache) (granted : Granted) (left : List ℕ) (suites : Suites) → (widen_all task now suites granted left).cache ≡ now
 widen_cache task now granted [] suites = prepare_cache task now suites (Ok granted) (locked_at suites)
@@ -84,9 +83,7 @@ module _ (fixed : Fixed) (world : World) (sight : Sight) (table : PlainTable) (t
 
     needed_hint : (what : Executed) (more : Gathered) → open_needed task all what ≡ Some more → SameHint more
     needed_hint (exec.Need (Know number)) more is = suite_hint number (suite_of all.suites number) more is
-    needed_hint (exec.Need (Hold number mode)) more is = absurd (none-some more is)
-    needed_hint (exec.Done answers changes) more is = absurd (none-some more is)
-    needed_hint (exec.Refused refusal) more is = absurd (none-some more is)
+    needed_hint other more is = absurd (none-some more is)
 
   opened_hint : (n : ℕ) (all : Gathered) (z : ℕ) → hint (opened n fixed task all).cache task.site z ≡ hint all.cache task.site z
   opened_hint zero all z = refl
@@ -148,10 +145,9 @@ module _ (fixed : Fixed) (world : World) (sight : Sight) (table : PlainTable) (t
             at z prefix hinted false apart = led z prefix (hint_put task.site z number apart fixed.limits entry refl refl now prefix hinted)
 
         of : (found : Option GatheredSuite) → suite_of suites number ≡ found → (given : Option Content) → Led (fetched fixed task now suites number found server given).cache
-        of None there None = as_now (give_up task now suites (Lost server)) (up_cache task now suites (Lost server))
-        of None there (Some content) = as_now (give_up task now suites (Lost server)) (up_cache task now suites (Lost server))
         of (Some suite) there None = as_now (give_up task now suites (Lost server)) (up_cache task now suites (Lost server))
         of (Some suite) there (Some content) = by suite there content suite.first refl
+        of None there other = as_now (give_up task now suites (Lost server)) (up_cache task now suites (Lost server))
 
     prepared_hints : (suites : Suites) (outcome : doing.Proposal) (left : List ℕ) (b : Bool) → Led (cond b (prepare task now suites outcome left) (give_up task now suites (Lost server))).cache
     prepared_hints suites outcome left true = as_now (prepare task now suites outcome left) (prepare_cache task now suites outcome left)

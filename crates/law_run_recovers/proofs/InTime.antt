@@ -1,7 +1,7 @@
 -- The votes that a job meets in a run are valid.
 use Rattle.law_run_recovers.proofs.Vocabulary.{◌≡◌, inl, inr, ⊎_elim, ℕ, Bool, true, false, cond, List, [], ◌∷◌, ◌++◌, append_assoc, Option, Some, None, refl, sym, ap, subst, ◌∙◌, arith, ◌==◌, ◌&&◌, is_some, Contains, IsValid, Opening}
 use Rattle.law_run_recovers.proofs.Vocabulary.{Request, Reply, Stamped, State, copy_of, reply_of, reply_up, reply_down, is_full, answer_of, Has, has_from, Response, Replied, Lacked, Fixed, Agent, Take, fixed_of, next_of, take, begin}
-use Rattle.law_run_recovers.proofs.Vocabulary.{forget, Exchange, exchange_of, exchanges, Event, Begin, Step, Crash, Return, Forget, Lack, Served, EndedJob, World, Actor, server_at, actor_at, serve, answered, asks_at, asks, steps_once}
+use Rattle.law_run_recovers.proofs.Vocabulary.{forget, Exchange, exchange_of, exchanges, Event, Begin, Step, Forget, Lack, Served, EndedJob, World, Actor, server_at, actor_at, serve, answered, asks_at, asks, steps_once}
 use Rattle.law_run_recovers.proofs.Vocabulary.{step, run, ShowsValidVotes, VotesAreValid, asks_now, told_of, told_at, told_in, EndsInItsTime, runs_end_in_time, has_append, CanBe, front, TellsValid, up_valid, copy_valid, cache_valid}
 use Rattle.law_run_recovers.proofs.Vocabulary.{RunsEndByTheBounds}
 use Rattle.rep_core.specs.declared.request.Request.TheVariants as request
@@ -32,8 +32,7 @@ reply_shows st asked valid = of st.up
 
 abbrev pub Shows : agents.Event → Type 0
 Shows (Take (Replied said)) = ShowsValidVotes said
-Shows (Take (Lacked why)) = Unit {0}
-Shows (agents.Forget site) = Unit {0}
+Shows other = Unit {0}
 
 abbrev pub AllShow : List agents.Event → Type 0
 AllShow [] = Unit {0}
@@ -87,15 +86,13 @@ module _ (given : Opening) (past : List Event) (can : CanBe given past) (world :
   of_shows (Some asked) served valid = by_shows (server_at world asked.0) served valid
 
   told_shows : (n : ℕ) (event : Event) → AllShow (told_at (fixed_of given) world n event)
-  told_shows n (Begin i job) = tt
-  told_shows n (Crash server) = tt
-  told_shows n (Return server) = tt
   told_shows n (Step i) = elim (i == n) as (λ b. AllShow (cond b (told_of world (asks_now (fixed_of given) (actor_at world n)) (step (fixed_of given) world (Step i)).done.served) [])) [
     | true ↦ of_shows (asks_now (fixed_of given) (actor_at world n)) (step (fixed_of given) world (Step i)).done.served (step_shows i)
     | false ↦ tt
   ]
   told_shows n (Forget i site) = elim (i == n) as (λ b. AllShow (cond b (agents.Forget site ∷ []) [])) [ true ↦ (tt, tt) | false ↦ tt ]
   told_shows n (Lack i why) = elim ((i == n) && is_some (asks_now (fixed_of given) (actor_at world n))) as (λ b. AllShow (cond b (Take (Lacked why) ∷ []) [])) [ true ↦ (tt, tt) | false ↦ tt ]
+  told_shows n other = tt
 
 all_told_show : (given : Opening) (past events : List Event) → CanBe given (past ++ events) → (world : World) → run given past ≡ world → (n : ℕ) → AllShow (told_in (fixed_of given) world n events)
 all_told_show given past [] can world is n = tt

@@ -1,7 +1,7 @@
 -- While a transaction goes among locks that stay, and until its end is fixed, what near servers have stored of its suites stays where they are open to it.
 use Rattle.law_run_recovers.proofs.Vocabulary.{◌≡◌, ℕ, ◌+◌, ◌≤◌, Bool, true, false, cond, List, [], ◌∷◌, ◌++◌, Option, Some, None, refl, sym, ap, subst, ◌∙◌, arith, ◌*◌, ◌==◌, ◌&&◌, ◌||◌, not, nat_lt, Contains}
 use Rattle.law_run_recovers.proofs.Vocabulary.{list_any, false≢true, eqb-true, eq-eqb, nat_tests, none-some, same_Some, Identity, Opening, Replica, LockMode, Exclusive, Op, Lock, Verdict, Request, copy_of, State, is_full, answer_of}
-use Rattle.law_run_recovers.proofs.Vocabulary.{Job, Transaction, Response, Lacked, Fixed, Doing, Running, RunningSweep, Phase, Gathering, Fetching, Widening, Preparing, Deciding, Finishing, is_finish, Agent, fixed_of, is_idle}
+use Rattle.law_run_recovers.proofs.Vocabulary.{Job, Transaction, Response, Lacked, Fixed, Doing, Running, RunningSweep, Phase, Finishing, is_finish, Agent, fixed_of, is_idle}
 use Rattle.law_run_recovers.proofs.Vocabulary.{has_sense, max_jobs, begin, started, forget, take, take_in, next_of, Served, Event, Begin, Step, Crash, Return, Forget, Lack, Actor, World, server_at, actor_at, becomes, serve, operated}
 use Rattle.law_run_recovers.proofs.Vocabulary.{operates, asks_at, asks, answered, steps_once, lacks_for, lacks, step, Decided, decisions, after, run, IsAt, take_keeps, holds_of, new_of, each_event, agent_of, agent_at, CanBe, begins_job}
 use Rattle.law_run_recovers.proofs.Vocabulary.{all_consistent, asks_for, is_open_way, way_in, is_open_at, runs, running_in, is_running, is_told, tells, telling_in, is_telling, world_after, takes, up_and, of_up, robs, hinders_itself}
@@ -66,25 +66,16 @@ back_all fixed i (event ∷ events) w old is =
 -- ---- in the words of the premise
 
 open_of : (t : ℕ) (doing : Option Doing) → runs t doing ≡ true → tells doing ≡ false → IsOpen doing
-open_of t None runs told = absurd (false≢true runs)
-open_of t (Some (RunningSweep sweep_run)) runs told = absurd (false≢true runs)
 open_of t (Some (Running txn_run)) runs told = of txn_run.phase told
   where
     of : (phase : Phase) → is_told phase ≡ false → IsOpenPhase phase
-    of (Gathering number) told = tt
-    of (Fetching number) told = tt
-    of (Widening numbers granted) told = tt
-    of (Preparing servers outcome) told = tt
-    of (Deciding outcome) told = tt
     of (Finishing servers v ending) told = absurd (false≢true (sym told))
+    of other told = tt
+open_of t other runs told = absurd (false≢true runs)
 
 untold : (phase : Phase) → IsOpenPhase phase → is_told phase ≡ false
-untold (Gathering number) open' = refl
-untold (Fetching number) open' = refl
-untold (Widening numbers granted) open' = refl
-untold (Preparing servers outcome) open' = refl
-untold (Deciding outcome) open' = refl
 untold (Finishing servers v ending) open' = absurd open'
+untold other open' = refl
 
 -- the agent runs the transaction, and its end is not fixed
 pub record IsAtWork (w : World) (agent t : ℕ) : Type 0 where
@@ -109,20 +100,17 @@ pub at_work : (w : World) (agent t : ℕ) (actor : Actor) → actor_at w agent �
 at_work w agent t actor there open' runs = record { running = ap (running_in t) there ∙ runs; untold = ap telling_in there ∙ of actor.agent.doing open' }
   where
     of : (doing : Option Doing) → IsOpen doing → tells doing ≡ false
-    of None open' = absurd open'
-    of (Some (RunningSweep sweep_run)) open' = absurd open'
     of (Some (Running txn_run)) open' = untold txn_run.phase open'
+    of other open' = absurd open'
 
 -- a transaction that an agent runs is the last that it began
 pub last_of : (ds : List Decided) (i count t : ℕ) (doing : Option Doing) → IsAt ds i count doing → runs t doing ≡ true → t + 64 ≡ 64 * count + i
-last_of ds i count t None at is = absurd (false≢true is)
-last_of ds i count t (Some (RunningSweep sweep_run)) at is = absurd (false≢true is)
 last_of ds i count t (Some (Running txn_run)) at is = let numbered = at.numbered in let last = at.last in let same = eqb-true txn_run.task.t t is in omega (arith, numbered, last, same)
+last_of ds i count t other at is = absurd (false≢true is)
 
 is_last : (ds : List Decided) (i count t : ℕ) (doing : Option Doing) → IsAt ds i count doing → IsOpen doing → t + 64 ≡ 64 * count + i → runs t doing ≡ true
-is_last ds i count t None at open' last' = absurd open'
-is_last ds i count t (Some (RunningSweep sweep_run)) at open' last' = absurd open'
 is_last ds i count t (Some (Running txn_run)) at open' last' = let numbered = at.numbered in let last = at.last in eq-eqb txn_run.task.t t (omega (arith, numbered, last, last'))
+is_last ds i count t other at open' last' = absurd open'
 
 -- ---- what is asked in an event
 
@@ -356,15 +344,7 @@ module _ (given : Opening) (events later : List Event) (agent t : ℕ) (caller :
   told_so : (w : World) (server : ℕ) (question : Request) → OfAsks t asked question → ((one : ℕ × LockMode) → Contains asked one → SameWay first w server t one.0 one.1) → told_as_first first w server question
   told_so w server (request.Poll named suite mode) of_it same = subst (λ t. SameWay first w server t suite mode) (sym of_it.0) (same (suite, mode) of_it.1)
   told_so w server (request.Upgrade named suite) of_it same = subst (λ t. SameWay first w server t suite Exclusive) (sym of_it.0) (same (suite, Exclusive) of_it.1)
-  told_so w server (request.Fetch named suite) of_it same = tt
-  told_so w server (request.Prepare named parts) of_it same = tt
-  told_so w server (request.Decide named decision) of_it same = tt
-  told_so w server (request.Resolve named) of_it same = tt
-  told_so w server (request.Finish named v) of_it same = tt
-  told_so w server (request.Break named suite) of_it same = tt
-  told_so w server request.Locks of_it same = tt
-  told_so w server request.Crash of_it same = tt
-  told_so w server request.Return of_it same = tt
+  told_so w server other of_it same = tt
 
   pub as_at_its_begin : (so_far rest : List Event) → later ≡ so_far ++ rest → IsAtWork (world_then so_far) agent t → (server : ℕ) (question : Request) → goes.near server ≡ true → OfAsks t asked question
       → AsAtItsBegin first (world_then so_far) server question

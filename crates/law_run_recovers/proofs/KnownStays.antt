@@ -3,7 +3,7 @@ use Rattle.law_run_recovers.proofs.Vocabulary.{◌≡◌, inl, inr, ℕ, zero, s
 use Rattle.law_run_recovers.proofs.Vocabulary.{list_any, nat_cmp, is_eq, false≢true, eqb-true, nat_tests, nat_cmp_total, none-some, same_Some, IsOrdered, IsOrdered-insert, max_servers, Prefix, Shared, Has, filter_has, Verdict}
 use Rattle.law_run_recovers.proofs.Vocabulary.{PlainTable, row_of, Hold, Know, IsSoAt, AgreesWith, holds, raise, all_told, Next, Current, Ask, Short, next, Cache, Ending, Undecided, ReadPoint, GatheredSuite, Suites, suite_of}
 use Rattle.law_run_recovers.proofs.Vocabulary.{with_suite, known_of, holds_lock, has_locks, Fixed, Task, Granted, TransactionRun, GoesOn, Gathered, numbers_from, locked_at, tell_end, prepare, short_cause, gather_by, gather}
-use Rattle.law_run_recovers.proofs.Vocabulary.{raised_or_new, widened, widen_by, widen_one, widen_all, to_widen, proceed, opened, heard_on, execute, with_at, World}
+use Rattle.law_run_recovers.proofs.Vocabulary.{raised_or_new, widened, widen_by, widen_one, widen_all, to_widen, proceed, opened, heard_on, execute, with_at, World, or_right}
 use Rattle.rep_core.specs.declared.reply.Verdict.TheVariants as verdict
 use Rattle.file_exec.specs.declared.executor.Outcome.{Outcome as Executed}
 use Rattle.file_exec.specs.declared.executor.Outcome.TheVariants as exec
@@ -21,13 +21,9 @@ pub any_at : (p : GatheredSuite → Bool) (suites : Suites) (z : ℕ) (suite : G
 any_at p [] z suite is so = absurd (none-some suite is)
 any_at p (e ∷ es) z suite is so = of (is_eq (nat_cmp z e.0)) is (λ is. any_at p es z suite is so)
   where
-    right : (a b : Bool) → b ≡ true → (a || b) ≡ true
-    right true b is = refl
-    right false b is = is
-
     of : (b : Bool) → cond b (Some e.1) (suite_of es z) ≡ Some suite → (suite_of es z ≡ Some suite → list_any (λ (one : ℕ × GatheredSuite). p one.1) es ≡ true) → list_any (λ (one : ℕ × GatheredSuite). p one.1) (e ∷ es) ≡ true
     of true is go = ap (λ b. b || list_any (λ (one : ℕ × GatheredSuite). p one.1) es) (ap p (same_Some e.1 suite is) ∙ so)
-    of false is go = right (p e.1) (list_any (λ (one : ℕ × GatheredSuite). p one.1) es) (go is)
+    of false is go = or_right (p e.1) (list_any (λ (one : ℕ × GatheredSuite). p one.1) es) (go is)
 
 pub among_numbers : (count start n : ℕ) → start ≤ n → n < start + count → Has (numbers_from start count) n
 among_numbers zero start n from below = absurd (omega (arith, from, below))
@@ -118,8 +114,7 @@ module _ (task : Task) (now : Cache) (suites : Suites) where
 
   gathers_on : (more : Suites) → Like suites more → (number : ℕ) (after : Next) → KnowsOn suites (gather_by task now more number after)
   gathers_on more like number (Short had wanting busy) = tells_on more like verdict.Aborted (Undecided (short_cause number had wanting busy))
-  gathers_on more like number (Ask server asked) = record { txn_run = record { task = task; suites = more; phase = doing.Gathering number }; is = refl; like = like }
-  gathers_on more like number (Current prefix dver members) = record { txn_run = record { task = task; suites = more; phase = doing.Gathering number }; is = refl; like = like }
+  gathers_on more like number other = record { txn_run = record { task = task; suites = more; phase = doing.Gathering number }; is = refl; like = like }
 
   widens_on : (left : List ℕ) (more : Suites) → Like suites more → (granted : Granted) → KnowsOn suites (widen_all task now more granted left)
   widens_on [] more like granted = prepares_on more like (Ok granted) (locked_at more)

@@ -1,7 +1,7 @@
 -- What comes of an own step of an agent that is not served, and of what tells it so.
 use Rattle.law_run_recovers.proofs.Vocabulary.{◌≡◌, ◌⊎◌, inl, inr, ℕ, Bool, true, false, cond, Option, Some, None, is_some, refl, sym, ap, subst, ◌∙◌, ◌==◌, not, false≢true, and_parts, eqb-true, none-some, same_Some, Opening, Request}
-use Rattle.law_run_recovers.proofs.Vocabulary.{Stamped, State, is_full, answer_of, Lacked, fixed_of, next_of, take, Served, Event, Begin, Step, Crash, Return, Forget, Lack, Actor, World, Stepped, server_at, actor_at, quiet, serve}
-use Rattle.law_run_recovers.proofs.Vocabulary.{moved, outcome_of, answered, asks_at, asks, steps_once, lacks_for, lacks, step, puts_in, hinders_itself}
+use Rattle.law_run_recovers.proofs.Vocabulary.{Stamped, State, is_full, answer_of, Lacked, fixed_of, next_of, take, Served, Event, Step, Lack, Actor, World, Stepped, server_at, actor_at, quiet, serve}
+use Rattle.law_run_recovers.proofs.Vocabulary.{moved, outcome_of, answered, asks_at, asks, steps_once, lacks_for, lacks, step, puts_in, hinders_itself, not-true}
 use Rattle.rep_core.specs.declared.stamped.Lack.{Lack as Why}
 use Rattle.rep_core.specs.declared.stamped.Lack.TheVariants as lack
 
@@ -75,17 +75,10 @@ module _ (given : Opening) (agent : ℕ) (w : World) (here : Actor) (there : act
   -- ---- either
 
   pub hindered : (event : Event) → hinders_itself given agent w event ≡ true → Lacking (step (fixed_of given) w event) ⊎ Nothing (step (fixed_of given) w event)
-  hindered (Begin i job) is = absurd (false≢true is)
-  hindered (Crash server) is = absurd (false≢true is)
-  hindered (Return server) is = absurd (false≢true is)
-  hindered (Forget i site) is = absurd (false≢true is)
   hindered (Lack i why) is = subst (λ i. Either (step (fixed_of given) w (Lack i why))) (sym (eqb-true i agent is)) (of_lack why)
   hindered (Step i) is =
       let parts = and_parts (i == agent) (not (is_some (step (fixed_of given) w (Step i)).done.served)) is in
       let same : i ≡ agent = eqb-true i agent parts.0 in
       subst (λ i. Either (step (fixed_of given) w (Step i))) (sym same)
-      (of_step (subst (λ i. is_some (step (fixed_of given) w (Step i)).done.served ≡ false) same (negated (is_some (step (fixed_of given) w (Step i)).done.served) parts.1)))
-    where
-      negated : (b : Bool) → not b ≡ true → b ≡ false
-      negated false is = refl
-      negated true is = absurd (false≢true is)
+      (of_step (subst (λ i. is_some (step (fixed_of given) w (Step i)).done.served ≡ false) same (not-true (is_some (step (fixed_of given) w (Step i)).done.served) parts.1)))
+  hindered other is = absurd (false≢true is)

@@ -311,10 +311,9 @@ first_accepted : VotesAccepted 3 at_the_first
 first_accepted = accepted_without_fault 3 at_the_first refl (All-from_recursion (λ (rep : Representative). rep.1 < 256) at_the_first.reps (lit< tt, tt))
 
 covers_up : (server : ℕ) → is_up (run two_agents in_the_dark) server ≡ true → list_any (λ (one : ℕ × List Event). one.0 == server) sweep_up ≡ true
-covers_up zero up = refl
 covers_up (suc zero) up = absurd (false≢true up)
-covers_up (suc (suc zero)) up = refl
 covers_up (suc (suc (suc more))) up = absurd (false≢true up)
+covers_up other up = refl
 
 sweeps_all : SweepsAll two_agents in_the_dark 1 sweep_up
 sweeps_all = record {

@@ -1,7 +1,7 @@
 -- Where a collector ends to which servers stand as a sight says: at the prefix that its start leads to, with the votes of the servers that are open.
 use Rattle.law_run_recovers.proofs.Vocabulary.{◌≡◌, ◌⊎◌, inl, inr, ℕ, suc, ◌≤◌, Bool, true, false, cond, List, [], ◌∷◌, length, Option, Some, None, refl, sym, ap, subst, ◌∙◌, arith, ◌&&◌, not, nat_lt, nat_le, find, option_map}
 use Rattle.law_run_recovers.proofs.Vocabulary.{false≢true, and_parts, and_from, ltb-false, nat_tests, none-some, Representative, votes_in, votes_in-wider, Prefix, LockMode, Shared, Exclusive, serves, Reply, find_some, Has, Said, Held}
-use Rattle.law_run_recovers.proofs.Vocabulary.{Busy, Down, Told, newer, newest, holds, has_refused, Collector, all_told, needed_of, is_left, tell, told_by, Current, Short, next, collect, raise, Opening, fixed_of, Fixed, World, row, WasPrefix}
+use Rattle.law_run_recovers.proofs.Vocabulary.{Told, newer, newest, holds, has_refused, Collector, all_told, needed_of, is_left, tell, told_by, Current, Short, next, collect, raise, Opening, fixed_of, Fixed, World, row, WasPrefix}
 use Rattle.law_run_recovers.proofs.Vocabulary.{IsQuorum, Inv, beginning, shown_at, shows_newer_by, newer_by, led_so_far_by, led_to_by, serves_itself}
 use Rattle.law_suite_machine.specs.Machine as machine
 use Rattle.law_run_recovers.proofs.Found.{Answering, newest_is_row}
@@ -73,8 +73,6 @@ module _ (fixed : Fixed) (world : World) (sight : Sight) (suite : ℕ) (Known : 
           → (mode ≡ sight.first suite) ⊎ Settled (newest start told)
           → (steps : ℕ) × (led_so_far_by steps fixed world (finds_at sight suite) suite start ≡ newer (newest start told) said) × Known
           (newer (newest start told) said) × ((mode ≡ sight.first suite) ⊎ Settled (newer (newest start told) said))
-      of server (Busy holder) right rep left same settled = (going.steps, going.at, going.known, settled)
-      of server Down right rep left same settled = (going.steps, going.at, going.known, settled)
       of server (Held prefix dver) right rep left same settled = by (nat_lt (newest start told).pver prefix.pver) refl settled
         where
           has : Has (newest start told).votes.reps rep
@@ -116,6 +114,7 @@ module _ (fixed : Fixed) (world : World) (sight : Sight) (suite : ℕ) (Known : 
             inl first,
           )
           by true less (inr none) = absurd (not_settled told rep has some finds (ap (λ (p : Prefix). nat_lt (newest start told).pver p.pver) shows ∙ less) none)
+      of server other right rep left same settled = (going.steps, going.at, going.known, settled)
 
   -- where none is newer, that is where the start leads
   ends_at : (mode : LockMode) (told : List Told) → Going mode told → Settled (newest start told) → newest start told ≡ led_to_by fixed world (finds_at sight suite) suite start

@@ -112,7 +112,6 @@ pub mod MeetEnds
 pub mod MeetApart
 pub mod MeetBarred
 pub mod MeetWants
-pub mod MeetReads
 pub mod MeetAsked
 pub mod MeetCalmed
 pub mod MeetClear

@@ -1,7 +1,7 @@
 -- A transaction that had a lock at a server, and has none there any more, is not decided from then on.
 use Rattle.law_run_recovers.proofs.Vocabulary.{◌≡◌, ◌⊎◌, inl, inr, ⊎_elim, ℕ, zero, suc, ◌+◌, true, false, List, [], ◌∷◌, ◌++◌, append_assoc, Option, Some, None, refl, sym, ap, subst, ◌∙◌, ◌==◌, ◌&&◌, ◌||◌, unwrap_or, slice_get}
-use Rattle.law_run_recovers.proofs.Vocabulary.{cons_option, false≢true, and_parts, cases_Bool, eqb-true, eq-eqb, none-some, Opening, serves, Lock, State, is_own, Has, any_has, can_front, fixed_of, Event, Begin, Step, Crash, Return}
-use Rattle.law_run_recovers.proofs.Vocabulary.{Forget, Lack, World, opening, server_at, servers_from, step, after, run, Decided, decided, decisions, decisions_from, decisions_from-append, servers_of, no_task, CanBe, TellsOfLock}
+use Rattle.law_run_recovers.proofs.Vocabulary.{cons_option, false≢true, and_parts, cases_Bool, eqb-true, eq-eqb, none-some, Opening, serves, Lock, State, is_own, Has, any_has, can_front, fixed_of, Event, Step}
+use Rattle.law_run_recovers.proofs.Vocabulary.{World, opening, server_at, servers_from, step, after, run, Decided, decided, decisions, decisions_from, decisions_from-append, servers_of, no_task, CanBe, TellsOfLock}
 use Rattle.law_run_recovers.proofs.Vocabulary.{has_lock_after, locks_stand, locks_in, locks_at, stands, Always, TakenAwayAreNeverDecidedAt}
 use Rattle.rep_core.specs.State as state
 use Rattle.rep_core.proofs.Members as members
@@ -36,11 +36,7 @@ module _ (given : Opening) where
 
   is_step : (w : World) (event : Event) (one : Decided) → decided (fixed_of given) w event ≡ Some one → (number : ℕ) × (event ≡ Step number)
   is_step w (Step number) one is = (number, refl)
-  is_step w (Begin i job) one is = absurd (none-some one (sym (no_task w _) ∙ is))
-  is_step w (Crash server) one is = absurd (none-some one (sym (no_task w _) ∙ is))
-  is_step w (Return server) one is = absurd (none-some one (sym (no_task w _) ∙ is))
-  is_step w (Forget i site) one is = absurd (none-some one (sym (no_task w _) ∙ is))
-  is_step w (Lack i why) one is = absurd (none-some one (sym (no_task w _) ∙ is))
+  is_step w other one is = absurd (none-some one (sym (no_task w _) ∙ is))
 
   record DecidedIn (w : World) (events : List Event) (t : ℕ) : Type 0 where
     first : List Event

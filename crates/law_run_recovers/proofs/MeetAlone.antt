@@ -1,14 +1,15 @@
 -- Where two alone begin nobody is beside: so what is promised to two that meet while others are beside is promised to them.
 use Rattle.law_run_recovers.proofs.Vocabulary.{Bool, Contains, List, None, Option, Some, [], ap, append-nil, false, inl, inr, is_some, not, refl, subst, sym, true, ℕ, ⊎_elim, ◌&&◌, ◌++◌, ◌==◌, ◌||◌, ◌∙◌, ◌∷◌, ◌≡◌, ◌⊎◌}
 use Rattle.law_run_recovers.proofs.Vocabulary.{eqb-true, false≢true, list_any, Row, row_of, is_decided, IsNotDecided, find_some, Has, contains_from, has_from, State, Lock, decisions, run, table_of, World, actor_at, has_no_job, server_at}
-use Rattle.law_run_recovers.proofs.Vocabulary.{step, EndedJob, Event, Begin, Crash, Forget, Lack, Return, Step, Opening, LockMode, Exclusive, fixed_of, Sweep, Transaction, Configuration, Begun, clashes, its_asks, spoils, votes_of_row, votes_set}
+use Rattle.law_run_recovers.proofs.Vocabulary.{step, EndedJob, Event, Begin, Crash, Lack, Step, Opening, LockMode, Exclusive, fixed_of, Sweep, Configuration, Begun, clashes, its_asks, spoils, votes_of_row, votes_set}
 use Rattle.law_run_recovers.proofs.Vocabulary.{HasFirstVotes, EndsThen, VotesNeverMovedOf, AreTight, TheyMeet, first_clash, its_votes, SetsApart, TheyMeetByRows, votes_now}
 use Rattle.law_run_recovers.proofs.Vocabulary.{and_parts, list_all, is_idle, Doing, Actor, hinders_itself, locks_at, locks_in, Always, OneThatMeetsByRowsIsDecidedAt, OneThatMeetsIsDecidedAt}
 use Rattle.law_run_recovers.specs.MeetsBeside.{GoesOn, IsServed, TheyMeetBeside, first_asks, sweeps_now, upsets}
 use Rattle.law_run_recovers.proofs.BesideAll.{not_both}
 use Rattle.law_run_recovers.proofs.MeetAsks.{sets_asked}
 use Rattle.law_run_recovers.proofs.MeetBoth.{same_place, place_of, third, none_first}
-use Rattle.law_run_recovers.proofs.MeetCalmed.{AllCalm, asks_same, votes_same, calm_where}
+use Rattle.law_run_recovers.proofs.MeetCalm.{Calm}
+use Rattle.law_run_recovers.proofs.MeetCalmed.{AnySuite, asks_same, calm_where, votes_same}
 use Rattle.law_run_recovers.proofs.MeetEnds.{undecided_not}
 use Rattle.law_run_recovers.proofs.MeetLaw.{decided_one}
 use Rattle.law_run_recovers.proofs.MeetLocks.{owned_at}
@@ -19,19 +20,11 @@ use Rattle.law_run_recovers.proofs.Open.{busy_of}
 -- nothing upsets it
 pub upsets_not : (given : Opening) (w : World) (event : Event) → spoils given w event ≡ false → upsets given w event ≡ false
 upsets_not given w (Begin agent (Sweep server)) calm = calm
-upsets_not given w (Begin agent (Transaction caller site ops)) calm = refl
-upsets_not given w (Step agent) calm = refl
 upsets_not given w (Crash server) calm = calm
-upsets_not given w (Return server) calm = refl
-upsets_not given w (Forget agent site) calm = refl
-upsets_not given w (Lack agent why) calm = refl
+upsets_not given w other calm = refl
 
 -- and who has a job is served
 pub hinders_not : (given : Opening) (w : World) (agent : ℕ) (event : Event) → has_no_job (actor_at w agent) ≡ false → spoils given w event ≡ false → hinders_itself given agent w event ≡ false
-hinders_not given w agent (Begin other job) has calm = refl
-hinders_not given w agent (Crash server) has calm = refl
-hinders_not given w agent (Return server) has calm = refl
-hinders_not given w agent (Forget other site) has calm = refl
 hinders_not given w agent (Lack other why) has calm = by (other == agent) refl
   where
     by : (b : Bool) → (other == agent) ≡ b → b ≡ false
@@ -42,6 +35,7 @@ hinders_not given w agent (Step other) has calm = by (other == agent) refl
     by : (b : Bool) → (other == agent) ≡ b → (b && not (is_some (step (fixed_of given) w (Step other)).done.served)) ≡ false
     by false apart = refl
     by true same = ap not (not_both (has_no_job (actor_at w other)) (is_some (step (fixed_of given) w (Step other)).done.served) calm (ap (λ i. has_no_job (actor_at w i)) (eqb-true other agent same) ∙ has))
+hinders_not given w agent another has calm = refl
 
 module _ (given : Opening) (events later : List Event) (unspoiled : (before after : List Event) (event : Event) → later ≡ before ++ event ∷ after → spoils given (run given (events ++ before)) event ≡ false) where
   pub all_served : (one : Begun given events later) → IsServed given events later one
@@ -98,7 +92,7 @@ module _ (given : Opening) (events later : List Event) (one other : Begun given 
     not_other = undecided_not given events later goes other outcome other_ends other_undecided
 
     -- whoever began is one of both, so nothing is decided
-    calm : AllCalm given events later
+    calm : Calm given events later AnySuite
     calm =
         calm_where given events later goes meets.idle meets.free (all_served given events later meets.unspoiled) (λ third. inl (λ decision there same.
         ⊎_elim

@@ -2,13 +2,9 @@
 use Rattle.law_run_recovers.proofs.Vocabulary.{◌≡◌, ◌⊎◌, inl, inr, ⊎_elim, ℕ, Bool, true, false, cond, List, [], ◌∷◌, Option, Some, None, Result, Ok, Err, Less, Equal, Greater, refl, ap, subst, ◌∙◌, ◌==◌, ◌&&◌, ◌||◌, filter}
 use Rattle.law_run_recovers.proofs.Vocabulary.{list_any, nat_cmp, match_ordering, Ordering, false≢true, eqb-true, eq-eqb, insert, Identity, Configuration, LockMode, Exclusive, serves, Answer, Op, Refusal, PlainTable}
 use Rattle.law_run_recovers.proofs.Vocabulary.{Row, row_of, Change, Edit, Need, Hold, Know, with_change, changes_at, Course, Give, Refuse, Look, Read, Set, Edits, Ended, is_set, unless_set, looked, content_read, needs, ending}
-use Rattle.law_run_recovers.proofs.Vocabulary.{transaction, Has, has_filter, has_map, has_asked, not_asked, locks_asked, change_in, changes_on, votes_set, or_right, serves_itself, tied}
+use Rattle.law_run_recovers.proofs.Vocabulary.{transaction, Has, has_filter, has_map, has_asked, not_asked, locks_asked, change_in, changes_on, votes_set, or_right, or_cases, serves_itself, tied}
 use Rattle.law_run_recovers.proofs.Asked.{asked_exclusive}
 use Rattle.law_run_recovers.proofs.Asking.{suite_in, mode_in, is_hold}
-
-or_parts : (a b : Bool) → (a || b) ≡ true → (a ≡ true) ⊎ (b ≡ true)
-or_parts true b is = inl refl
-or_parts false b is = inr is
 
 -- ---- edits
 
@@ -34,7 +30,7 @@ sets_needed rows z edits (Read suite later) ended is any =
     of false has = inr has
 sets_needed rows z edits (Set suite edit later) ended is any =
     ⊎_elim
-    (λ old. ⊎_elim (λ here. inr (inl (ap (λ n. Hold n Exclusive) (eqb-true suite z here)))) (λ before. inl before) (or_parts (suite == z) (list_any (at z) edits) old))
+    (λ old. ⊎_elim (λ here. inr (inl (ap (λ n. Hold n Exclusive) (eqb-true suite z here)))) (λ before. inl before) (or_cases (suite == z) (list_any (at z) edits) old))
     (λ has. inr (inr has))
     (sets_needed rows z ((suite, edit) ∷ edits) later ended is any)
 
@@ -83,7 +79,7 @@ needed_asked (Hold s k ∷ needed) asked z mode has = of (has_asked asked s k) r
         (λ had. ⊎_elim
         (λ here. inr (ap (λ b. b || has_asked (not_asked ((s, k) ∷ asked) needed) z mode) here))
         (λ before. inl before)
-        (or_parts ((s == z) && serves k mode) (has_asked asked z mode) had))
+        (or_cases ((s == z) && serves k mode) (has_asked asked z mode) had))
         (λ rest. inr (or_right ((s == z) && serves k mode) (has_asked (not_asked ((s, k) ∷ asked) needed) z mode) rest))
         (go ((s, k) ∷ asked) later)
 

@@ -65,15 +65,7 @@ refused_way t z st (request.Upgrade u s) up lock said = of (has_lock u s st.lock
         (subst (λ z. Way u z Exclusive st.locks) (eqb-true s z parts.1)
         (refused_poll st u s Exclusive (ap (λ b. says_busy (cond b (locking_reply (in_the_way u s Exclusive st.locks) (copy_of st.store s)) reply.Lost)) (sym is) ∙ said_up)))
     of false is = absurd (false≢true (sym (ap (λ b. says_busy (cond b (locking_reply (in_the_way u s Exclusive st.locks) (copy_of st.store s)) reply.Lost)) is) ∙ said_up))
-refused_way t z st (request.Fetch u s) up lock said = absurd (false≢true lock)
-refused_way t z st (request.Prepare u parts) up lock said = absurd (false≢true lock)
-refused_way t z st (request.Decide u decision) up lock said = absurd (false≢true lock)
-refused_way t z st (request.Resolve u) up lock said = absurd (false≢true lock)
-refused_way t z st (request.Finish u v) up lock said = absurd (false≢true lock)
-refused_way t z st (request.Break u s) up lock said = absurd (false≢true lock)
-refused_way t z st request.Locks up lock said = absurd (false≢true lock)
-refused_way t z st request.Crash up lock said = absurd (false≢true lock)
-refused_way t z st request.Return up lock said = absurd (false≢true lock)
+refused_way t z st other up lock said = absurd (false≢true lock)
 
 -- ---- in a part of the run
 

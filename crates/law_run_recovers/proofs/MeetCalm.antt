@@ -1,41 +1,16 @@
 -- A run in which all servers are up and nothing upsets it. It is calm where rows, prefixes and stored copies of some suites stand still meanwhile.
-use Rattle.law_run_recovers.proofs.Vocabulary.{all_idle, List, None, Option, Some, [], ap, append-nil, append_assoc, false, inl, Bool, is_some, refl, subst, sym, true, ℕ, ◌++◌, ◌∙◌, ◌∷◌, ◌≡◌, eqb-true, false≢true}
+use Rattle.law_run_recovers.proofs.Vocabulary.{List, None, Option, Some, [], ap, append-nil, append_assoc, false, inl, Bool, is_some, refl, subst, sym, true, ℕ, ◌++◌, ◌∙◌, ◌∷◌, ◌≡◌, false≢true}
 use Rattle.law_run_recovers.proofs.Vocabulary.{cons_option, Identity, Op, CanBe, all_at, at_has, has_any, Running, RunningSweep, eq-eqb, is_up, can_front, run_more, AllAt}
-use Rattle.law_run_recovers.proofs.Vocabulary.{begins_job, machine_of, answers_follow_knowledge, append_has_right, IsAnsweredAsKnown, beginning, WasPrefix, Has}
-use Rattle.law_run_recovers.proofs.Vocabulary.{Ways, by_step, is_answered, State, copy_of, finished, row_of, Verdict, Request, Stamped, decisions_from-append, Decided, decided, decisions, decisions_from, run, table_of, Actor}
+use Rattle.law_run_recovers.proofs.Vocabulary.{begins_job, machine_of, append_has_left, append_has_right, beginning, WasPrefix, Has}
+use Rattle.law_run_recovers.proofs.Vocabulary.{State, copy_of, row_of, decisions_from-append, Decided, decided, decisions, decisions_from, run, table_of, Actor}
 use Rattle.law_run_recovers.proofs.Vocabulary.{actor_at, opening, server_at, step, Event, Begin, IsAccepted, Opening, Prefix, fixed_of, is_idle, Doing, Sweep}
 use Rattle.law_run_recovers.proofs.Vocabulary.{Begun, asks_for, hinders_itself, is_running, runs}
-use Rattle.rep_core.specs.declared.request.Request.TheVariants as request
-use Rattle.rep_core.specs.Serving as serving
 use Rattle.law_run_recovers.specs.MeetsBeside.{GoesOn, sweeps_now, upsets}
-use Rattle.law_run_recovers.proofs.Busy.{BusyWith, busy_by, busy_at}
+use Rattle.law_run_recovers.proofs.Busy.{BusyWith, busy_by}
 use Rattle.law_run_recovers.proofs.Found.{Answering}
 use Rattle.law_run_recovers.proofs.Sides.{AllUp, up_unless}
 use Rattle.law_run_recovers.proofs.Stands.{asks_of}
 use Rattle.law_run_recovers.proofs.Picks.{along}
-
--- ---- a server
-
--- a request that tells no answer leaves what is stored
-abbrev pub Spares : Request → Type 0
-Spares asked = (t : ℕ) (v : Verdict) → asked ≡ request.Finish t v → is_answered v ≡ false
-
-stored_ways : (st : State) (z : ℕ) → Ways st (λ asked new. Spares asked → copy_of new.store z ≡ copy_of st.store z)
-stored_ways st z = record {
-  same = λ asked spares. refl;
-  poll = λ named suite mode free spares. refl;
-  upgrade = λ named suite has free spares. refl;
-  prepare = λ named parts may room spares. refl;
-  decide = λ named decision free spares. refl;
-  resolve = λ named free spares. refl;
-  finish = λ named v up spares. ap (λ b. copy_of (finished named b st.store) z) (spares named v refl);
-  break = λ named suite spares. refl;
-  crash = λ spares. refl;
-  return = λ spares. refl;
-}
-
-pub stored_stays : (st : State) (asked : Stamped Request) (z : ℕ) → Spares asked.value → copy_of (serving.step st asked).store z ≡ copy_of st.store z
-stored_stays st asked z spares = by_step st _ (stored_ways st z) (λ asked new stamp stays. stays) asked spares
 
 -- ---- the run
 
@@ -132,6 +107,13 @@ module _ (given : Opening) (events later : List Event) (fair : Fair given events
 
   -- ---- what is decided
 
+  -- what a front decides stands among the decisions
+  pub decided_on : (so_far rest : List Event) → later ≡ so_far ++ rest → (d : Decided) → Has (decisions given (events ++ so_far)) d → Has (decisions given (events ++ later)) d
+  decided_on so_far rest split d has =
+      subst (λ all. Has (decisions given all) d) (append_assoc events so_far rest ∙ ap (λ later. events ++ later) (sym split))
+      (subst (λ list. Has list d) (sym (decisions_from-append (fixed_of given) (opening given) (events ++ so_far) rest))
+      (append_has_left (decisions given (events ++ so_far)) (decisions_from (fixed_of given) (run given (events ++ so_far)) rest) d has))
+
   module _ (so_far rest : List Event) (event : Event) (split : later ≡ so_far ++ event ∷ rest) (d : Decided) (is : decided (fixed_of given) (run given (events ++ so_far)) event ≡ Some d) where
     -- it stands among the decisions
     pub decided_has : Has (decisions given (events ++ later)) d
@@ -141,26 +123,3 @@ module _ (given : Opening) (events later : List Event) (fair : Fair given events
         (subst (λ list. Has list d) (sym (decisions_from-append (fixed_of given) (opening given) all (event ∷ rest)))
         (append_has_right (decisions given all) (decisions_from (fixed_of given) (run given all) (event ∷ rest)) d
         (subst (λ found. Has (cons_option found (decisions_from (fixed_of given) (step (fixed_of given) (run given all) event).world rest)) d) (sym is) (inl refl))))
-
-  -- ---- who is decided, where every agent was idle
-
-  module _ (idle : all_idle (run given events) ≡ true) (so_far rest : List Event) (event : Event) (split : later ≡ so_far ++ event ∷ rest) (d : Decided) (is : decided (fixed_of given) (run given (events ++ so_far)) event ≡ Some d) where
-    -- it is of one that began
-    pub record IsOfOne : Type 0 where
-      pub so : IsAnsweredAsKnown given (run given (events ++ so_far)) event d
-      pub one : Begun given events so_far
-      pub who : one.agent ≡ so.number
-      pub number : d.t ≡ one.t
-      pub runs_it : runs one.t so.actor.agent.doing ≡ true
-
-    pub decided_of_one : IsOfOne
-    decided_of_one =
-        let known = answers_follow_knowledge given (events ++ so_far) event d is in
-        let busy = busy_at given events later fair.can unswept idle so_far (event ∷ rest) split known.number known.actor known.there (ap is_idle known.running) in
-        record {
-          so = known;
-          one = busy.one;
-          who = busy.who;
-          number = known.t ∙ eqb-true known.txn_run.task.t busy.one.t (ap (runs busy.one.t) (sym known.running) ∙ busy.runs_it);
-          runs_it = busy.runs_it;
-        }

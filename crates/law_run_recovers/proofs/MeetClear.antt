@@ -1,11 +1,11 @@
 -- A run is calm at suites at which each exclusive lock that there ever is belongs to one that is never decided: who writes a suite has it locked exclusively as it is decided.
-use Rattle.law_run_recovers.proofs.Vocabulary.{home_in, ◌≡◌, ℕ, ◌+◌, ◌<◌, ◌≤◌, true, List, [], ◌∷◌, ◌++◌, append-nil, append_assoc, Option, Some, None, Ok, Err, refl, sym, ap, subst, ◌∙◌}
+use Rattle.law_run_recovers.proofs.Vocabulary.{home_in, ◌≡◌, ◌⊎◌, inl, inr, ℕ, ◌<◌, ◌≤◌, true, List, [], ◌∷◌, ◌++◌, append-nil, append_assoc, Option, Some, None, Ok, Err, refl, sym, ap, subst, ◌∙◌}
 use Rattle.law_run_recovers.proofs.Vocabulary.{arith, ◌==◌, unwrap_or, nat_cmp, and_parts, eqb-true, false≢true, leb-true, none-some, same_Some, find_some}
 use Rattle.law_run_recovers.proofs.Vocabulary.{votes_in, IsValid, Opening, Prefix, LockMode, Exclusive, Shared, is_exclusive, get, Intention, Lock, Verdict, State, copy_of, is_own, is_answered}
-use Rattle.law_run_recovers.proofs.Vocabulary.{HasPreparedLock, served, Has, contains_from, has_from, fixed_of, Proposal, GatheredSuite, ReadPoint, suite_of, append_has_left}
-use Rattle.law_run_recovers.proofs.Vocabulary.{Event, Step, Served, World, server_at, step, opening, run, after, Decided, decided, decisions, decisions_from, decisions_from-append, finish_is_after, EndedSo, IsNotDecided, answers_follow_knowledge}
+use Rattle.law_run_recovers.proofs.Vocabulary.{HasPreparedLock, served, Has, contains_from, has_from, fixed_of, Proposal, GatheredSuite, ReadPoint, suite_of}
+use Rattle.law_run_recovers.proofs.Vocabulary.{Event, Step, Served, World, server_at, step, opening, run, after, Decided, decided, decisions, finish_is_after, EndedSo, IsNotDecided, answers_follow_knowledge}
 use Rattle.law_run_recovers.proofs.Vocabulary.{IsAnsweredAsKnown, row, prefix_at, beginning, servers_of, machine_of, to_write, known_by, LogIs, decision_at, event_log, machine_one, all_shown, row_shown, Together}
-use Rattle.law_run_recovers.proofs.Vocabulary.{holds_after, all_keep, undecided, Replica, Shows, effect, plan_of, is_up, up_in, shown_at, shown_in, CanBe, can_front, all_consistent, AllAt}
+use Rattle.law_run_recovers.proofs.Vocabulary.{holds_after, all_keep, undecided, Replica, Shows, effect, plan_of, is_up, up_in, shown_at, shown_in, CanBe, can_front, all_consistent, AllAt, Fixed, at_puts, puts_in, slice_get, slice_set, Begun, locks_at, locks_in, ⊎_elim}
 use Rattle.rep_core.specs.declared.request.Request.TheVariants as request
 use Rattle.rep_core.specs.declared.reply.Verdict.TheVariants as verdict
 use Rattle.rep_core.specs.Locks.{lock_at}
@@ -24,9 +24,11 @@ use Rattle.law_one_table.proofs.Effects as effects
 use Rattle.law_headline.proofs.Beside.{is_ready_now}
 use Rattle.law_headline.proofs.Keeping.{agents_owe}
 use Rattle.law_headline.proofs.Unbroken.{AllAsTold, AsTold, as_told}
-use Rattle.law_run_recovers.proofs.Serves.{Serves}
-use Rattle.law_run_recovers.proofs.MeetCalm.{Fair, Calm, accepted, can_at, run_next, decided_has}
-use Rattle.law_run_recovers.proofs.MeetCalmed.{finished_none, served_so, each_next}
+use Rattle.law_run_recovers.proofs.Serves.{Serves, event_serves}
+use Rattle.law_run_recovers.specs.MeetsBeside.{AllOthers}
+use Rattle.law_run_recovers.proofs.MeetBoth.{none_yet as none_begun}
+use Rattle.law_run_recovers.proofs.MeetCalm.{Fair, Calm, accepted, can_at, run_next, decided_has, decided_on}
+use Rattle.law_run_recovers.proofs.Stand.{copy_served, finished_none}
 use Rattle.law_run_recovers.proofs.Picks.{along}
 use Rattle.law_run_recovers.proofs.Gathered.{some_voter}
 
@@ -137,8 +139,8 @@ module _ (given : Opening) (all : List Event) (number : ℕ) (can : CanBe given 
         → Leaves (decides_first (machine_of given z all) so.txn_run.task.t outcome new suite first)
     by_first (Ok granted) (Some new) suite (Some first) owes = absurd (unlocked (subst (λ t. LockedBy (run given all) t z) (sym so.t) (written_locked suite first new owes)))
     by_first (Ok granted) None suite (Some first) owes = (refl, λ p. refl)
-    by_first (Err refusal) new suite (Some first) owes = (refl, λ p. refl)
     by_first (Ok granted) new suite None owes = (refl, λ p. refl)
+    by_first (Err refusal) new suite (Some first) owes = (refl, λ p. refl)
     by_first (Err refusal) new suite None owes = (refl, λ p. refl)
 
     by_suite : (outcome : Proposal) (new : Option registers.Change) (found : Option GatheredSuite) → Owes (beginning z given) (machine_of given z all) so.txn_run.task.t outcome new found
@@ -166,10 +168,26 @@ leaves_at given all z d unlocked event can is =
     subst (λ event. SameLog given z (events_of_suite.happens (beginning z given) (machine_of given z all) (decision_at z (machine_of given z all) (run given all) event)).log (machine_of given z all).log) (sym step')
     (leaves_log given all number (subst (λ event. CanBe given (all ++ event ∷ [])) step' can) d (subst (λ event. decided (fixed_of given) (run given all) event ≡ Some d) step' is) z unlocked)
 
+-- what each server has, and the one that serves an event has after it, each has after the event
+pub each_next : (fixed : Fixed) (w : World) (event : Event) (P : ℕ → State → Type 0) → AllAt P w → ((it : Serves w (step fixed w event)) → P it.target (served it.st it.asked)) → AllAt P (step fixed w event).world
+each_next fixed w event P all next = of (event_serves fixed w event)
+  where
+    by : Serves w (step fixed w event) → AllAt P (step fixed w event).world
+    by it s st there =
+        let puts = puts_in w.servers it.target it.st (served it.st it.asked) it.at in
+        elim (at_puts (slice_get w.servers) (slice_get (slice_set w.servers it.target (served it.st it.asked))) it.target it.st (served it.st it.asked) puts s st (ap (λ servers. slice_get servers s) (sym it.servers) ∙ there)) [
+          | inl here ↦ subst (λ s. P s st) (sym here.at) (subst (P it.target) (sym here.is) (next it))
+          | inr there' ↦ all s st there'.was
+        ]
+
+    of : ((step fixed w event).world.servers ≡ w.servers) ⊎ Serves w (step fixed w event) → AllAt P (step fixed w event).world
+    of (inl same) = λ s st there. all s st (ap (λ servers. slice_get servers s) (sym same) ∙ there)
+    of (inr it) = by it
+
 -- ---- all along
 
 module _ (given : Opening) (events later : List Event) (fair : Fair given events later) (still : ℕ → Type 0)
-    (clear : (so_far rest : List Event) → later ≡ so_far ++ rest → (s : ℕ) (st : State) → server_at (run given (events ++ so_far)) s ≡ Some st → (lock : Lock) → Has st.locks lock → still lock.suite → lock.mode ≡ Exclusive
+    (clear : (so_far rest : List Event) (event : Event) → later ≡ so_far ++ event ∷ rest → (s : ℕ) (st : State) → server_at (run given (events ++ so_far)) s ≡ Some st → (lock : Lock) → Has st.locks lock → still lock.suite → lock.mode ≡ Exclusive
     → IsNotDecided (decisions given (events ++ later)) lock.t)
     (none_there : (s : ℕ) (st : State) → server_at (run given (events ++ [])) s ≡ Some st → (lock : Lock) → Has st.locks lock → still lock.suite → lock.mode ≡ Exclusive → ⊥) where
   module _ (z : ℕ) (kept : still z) where
@@ -201,9 +219,6 @@ module _ (given : Opening) (events later : List Event) (fair : Fair given events
       can_here : CanBe given (events ++ so_far)
       can_here = can_at given events later fair so_far (event ∷ rest) split
 
-      all_is : (events ++ so_far) ++ event ∷ rest ≡ events ++ later
-      all_is = append_assoc events so_far (event ∷ rest) ∙ ap (λ later. events ++ later) (sym split)
-
       -- ---- the log
 
       record Kept : Type 0 where
@@ -220,7 +235,7 @@ module _ (given : Opening) (events later : List Event) (fair : Fair given events
 
       not_locked : (d : Decided) → decided (fixed_of given) (run given (events ++ so_far)) event ≡ Some d → LockedBy (run given (events ++ so_far)) d.t z → ⊥
       not_locked d is locked =
-          clear so_far (event ∷ rest) split locked.server locked.st locked.at locked.lock locked.has (subst still (sym locked.on_it) kept) locked.exclusive
+          clear so_far rest event split locked.server locked.st locked.at locked.lock locked.has (subst still (sym locked.on_it) kept) locked.exclusive
           d (contains_from (decisions given (events ++ later)) d (decided_has given events later fair so_far rest event split d is)) (sym locked.of_it)
 
       kept_here : Kept
@@ -250,20 +265,16 @@ module _ (given : Opening) (events later : List Event) (fair : Fair given events
 
           by : (v : Verdict) → is_answered v ≡ true → EndedSo given (events ++ so_far) t v → ⊥
           by (verdict.Answered answers) answered ended =
-              clear so_far (event ∷ rest) split s st at lock.lock (has_from st.locks lock.lock lock.there) (subst still (sym lock.on_it) kept) (exclusive_is lock.lock.mode lock.exclusive)
+              clear so_far rest event split s st at lock.lock (has_from st.locks lock.lock lock.there) (subst still (sym lock.on_it) kept) (exclusive_is lock.lock.mode lock.exclusive)
               ended.decision
               (contains_from (decisions given (events ++ later)) ended.decision
-              (subst (λ all. Has (decisions given all) ended.decision) all_is
-              (subst (λ list. Has list ended.decision) (sym (decisions_from-append (fixed_of given) (opening given) base (event ∷ rest)))
-              (append_has_left (decisions given base) (decisions_from (fixed_of given) (run given base) (event ∷ rest)) ended.decision (has_from (decisions given base) ended.decision ended.there)))))
+              (decided_on given events later fair so_far (event ∷ rest) split ended.decision (has_from (decisions given base) ended.decision ended.there)))
               (ended.of_it ∙ sym same ∙ sym lock.of_it)
-          by (verdict.Refused refusal) answered ended = false≢true answered
-          by verdict.Aborted answered ended = false≢true answered
+          by other answered ended = false≢true answered
 
       target_stored : (it : Serves (run given (events ++ so_far)) (step (fixed_of given) (run given (events ++ so_far)) event)) → Stored it.target (served it.st it.asked)
       target_stored it old was =
-          served_so it.st it.asked z
-          (λ t v asks answered. finished_none it.st t z (all_consistent given base it.target it.st it.at) (ends_none it.target it.st it.at _ it.done t v asks answered))
+          copy_served it z (λ t v asks answered up. finished_none it.st t z (all_consistent given base it.target it.st it.at) (ends_none it.target it.st it.at _ it.done t v asks answered))
           ∙ here.stored it.target it.st it.at old was
 
       stored_next : AllAt Stored (step (fixed_of given) (run given (events ++ so_far)) event).world
@@ -320,3 +331,26 @@ module _ (given : Opening) (events later : List Event) (fair : Fair given events
     where
       can_first : CanBe given events
       can_first = can_front given events later fair.can
+
+-- ---- two of which none is decided, and others beside
+
+module _ (given : Opening) (events later : List Event) (goes : Fair given events later) (one other : Begun given events later) (still : ℕ → Type 0) (so : Lock → Type 0)
+    (not_one : IsNotDecided (decisions given (events ++ later)) one.t) (not_other : IsNotDecided (decisions given (events ++ later)) other.t)
+    (beside : AllOthers given events later one other so) (apart : (lock : Lock) → so lock → still lock.suite → lock.mode ≡ Exclusive → ⊥) where
+  whose : (so_far back : List Event) → later ≡ so_far ++ back → (s : ℕ) (st : State) → server_at (run given (events ++ so_far)) s ≡ Some st → (lock : Lock) → Has st.locks lock
+      → (lock.t ≡ one.t) ⊎ ((lock.t ≡ other.t) ⊎ so lock)
+  whose so_far back split s st at lock has = beside so_far back s lock split (contains_from (locks_at (run given (events ++ so_far)) s) lock (subst (λ found. Has (locks_in found) lock) (sym at) has))
+
+  pub calm_beside : Calm given events later still
+  calm_beside =
+      calm_clear given events later goes still
+      (λ so_far rest event split s st at lock has kept exclusive.
+      ⊎_elim
+      (λ same. subst (IsNotDecided (decisions given (events ++ later))) (sym same) not_one)
+      (λ more. ⊎_elim (λ same. subst (IsNotDecided (decisions given (events ++ later))) (sym same) not_other) (λ aside. absurd (apart lock aside kept exclusive)) more)
+      (whose so_far (event ∷ rest) split s st at lock has))
+      (λ s st at lock has kept exclusive.
+      ⊎_elim
+      (λ same. none_begun given events later goes.can one s st at lock has same)
+      (λ more. ⊎_elim (λ same. none_begun given events later goes.can other s st at lock has same) (λ aside. apart lock aside kept exclusive) more)
+      (whose [] later refl s st at lock has))

@@ -156,11 +156,6 @@ module _ (given : Opening) (base events later : List Event) (agent t : ℕ) (cal
             inl (record { here = here; there = there; txn_run = more; running = does; task_is = stands.0; is_open = open'; stands = subst (λ now. PhaseIn more.suites now more.phase) (sym cache) stands.1 })
 
         of : (phase : Phase) → more.phase ≡ phase → State' so_far
-        of (Gathering z) is = open_now (subst IsOpenPhase (sym is) tt)
-        of (Fetching z) is = open_now (subst IsOpenPhase (sym is) tt)
-        of (doing.Widening numbers granted) is = open_now (subst IsOpenPhase (sym is) tt)
-        of (Preparing servers outcome) is = open_now (subst IsOpenPhase (sym is) tt)
-        of (Deciding outcome) is = open_now (subst IsOpenPhase (sym is) tt)
         of (Finishing servers v ended) is =
             let told = subst (words.Tells verdict.Aborted) is leaves.1 in
             let right : Right_of more.suites ended = subst (PhaseIn more.suites now) is stands.1 in
@@ -174,6 +169,7 @@ module _ (given : Opening) (base events later : List Event) (agent t : ℕ) (cal
                     (ap (λ (a : Actor). a.agent.doing) (same_Some next.heard.here here (sym next.heard.there ∙ there)) ∙ does);
               },
             )
+        of other is = open_now (subst IsOpenPhase (sym is) tt)
 
     -- ---- its begin
 
@@ -197,11 +193,8 @@ module _ (given : Opening) (base events later : List Event) (agent t : ℕ) (cal
     forgets : (site' : ℕ) (now : Cache) (suites : Suites) (phase : Phase) → IsOpenPhase phase → PhaseIn suites now phase → PhaseIn suites (forgotten site' now) phase
     forgets site' now suites (Gathering z) open' at = (at.0, λ z none prefix hinted. at.1 z none prefix (hint_forgotten site' site z now prefix hinted))
     forgets site' now suites (Fetching z) open' at = (at.0, λ z none prefix hinted. at.1 z none prefix (hint_forgotten site' site z now prefix hinted))
-    forgets site' now suites (doing.Widening [] granted) open' at = at
-    forgets site' now suites (doing.Widening (z ∷ left) granted) open' at = at
-    forgets site' now suites (Preparing left outcome) open' at = at
-    forgets site' now suites (Deciding outcome) open' at = at
     forgets site' now suites (Finishing left v ended) open' at = absurd open'
+    forgets site' now suites other open' at = at
 
     aside : (so_far rest : List Event) (event : Event) (split : later ≡ so_far ++ event ∷ rest) (c : Course so_far) (busy : _)
         → Apart given agent (world_after given events agent caller site ops so_far) c.here c.there busy (step (fixed_of given) (world_after given events agent caller site ops so_far) event) → Course (so_far ++ event ∷ [])
@@ -283,7 +276,6 @@ module _ (given : Opening) (base events later : List Event) (agent t : ℕ) (cal
           let is = fetch_is its z (suite_of suites z) took.asked.0 took.asked.1 asks' in
           ap (λ said. is_some (given_in said))
           (replies_up ∙ ap (reply_up took.st) is ∙ ap (λ b. cond b (gives (copy_of took.st.store z)) reply.Lost) (subst (Finds took.st) is its_finds))
-      right_for now suites (doing.Widening [] granted) at open' asks' = tt
       right_for now suites (doing.Widening (z ∷ left) granted) at open' asks' =
           lock_here z (subst (λ all. asks_of all z ≡ true) (sym at.sets.all)
           (has_any (λ (one : ℕ × LockMode). one.0 == z) (onto at.sets.so_far []) (z, Exclusive)
@@ -302,7 +294,7 @@ module _ (given : Opening) (base events later : List Event) (agent t : ℕ) (cal
           ap (record_of took.st) number
           ∙ unrecorded_at given events later agent t caller site ops actor goes.can goes.there goes.begins goes.spared so_far (Step agent ∷ rest) split work took.asked.0 took.st took.at in
           inl (up.1, replies_up ∙ ap (reply_up took.st) is ∙ ap (λ old. reply.Verdict (recorded old (verdict_of decision))) none)
-      right_for now suites (Finishing left v ended) at open' asks' = tt
+      right_for now suites other at open' asks' = tt
 
       -- ---- its course
 
@@ -400,12 +392,8 @@ module _ (given : Opening) (base events later : List Event) (agent t : ℕ) (cal
           (words.leaves_response (fixed_of given) its c.here.agent.cache c.txn_run.suites c.txn_run.phase took.asked.0 took.asked.1 (Replied said) verdict.Aborted request_is (tells_open c.txn_run.phase c.is_open)))
         where
           tells_open : (phase : Phase) → IsOpenPhase phase → words.Tells verdict.Aborted phase
-          tells_open (Gathering z) open' = refl
-          tells_open (Fetching z) open' = refl
-          tells_open (doing.Widening numbers granted) open' = refl
-          tells_open (Preparing servers outcome) open' = refl
-          tells_open (Deciding outcome) open' = refl
           tells_open (Finishing servers v ended) open' = absurd open'
+          tells_open other open' = refl
 
     -- ---- all along, where it never asks to be decided
 

@@ -1,8 +1,7 @@
 -- One that ended undecided stands nowhere among the decisions; and the moment at which the end of one is fixed.
 use Rattle.law_run_recovers.proofs.Vocabulary.{Bool, List, [], ap, append-nil, append_assoc, false, inl, inr, refl, subst, sym, true, ℕ, ⊎_elim, ◌++◌, ◌∙◌, ◌∷◌, ◌≡◌, ◌⊎◌, false≢true, is_decided, EndStands, holds_of, NotIn}
 use Rattle.law_run_recovers.proofs.Vocabulary.{append_has_right, IsNotDecided, ended, number_of, Has, has_from, finished, dones-append, outcomes-append, Decided, decisions, done_in, dones, outcomes, run, World, opening, step}
-use Rattle.law_run_recovers.proofs.Vocabulary.{EndedJob, Event, Begin, Opening, fixed_of, left, Ending, Refused, Swept, Undecided, Transaction, Begun, EndsThen, stands, begun_world, is_running, is_telling, world_after}
-use Rattle.txn_core.specs.declared.ending.Ending.TheVariants.{Answered}
+use Rattle.law_run_recovers.proofs.Vocabulary.{EndedJob, Event, Begin, Opening, fixed_of, left, Ending, Swept, Undecided, Transaction, Begun, EndsThen, stands, begun_world, is_running, is_telling, world_after}
 use Rattle.law_run_recovers.proofs.AmongCourse.{head_or, tail_or, parted}
 use Rattle.law_run_recovers.proofs.AmongOver.{has_after}
 use Rattle.law_run_recovers.proofs.Keeps.{IsAtWork}
@@ -87,10 +86,9 @@ module _ (given : Opening) (events later : List Event) (fair : Fair given events
       (has_from (outcomes (dones (fixed_of given) (begun_world given base who.agent who.caller who.site who.ops) who.after)) job ends.there))))
 
   not_in : (ds : List Decided) (t : ℕ) (ending : Ending) → is_decided ending ≡ false → EndStands ds t ending → NotIn ds t
-  not_in ds t (Answered answers) none stands = absurd (false≢true (sym none))
-  not_in ds t (Refused refusal) none stands = absurd (false≢true (sym none))
   not_in ds t (Swept broken finished left) none stands = stands
   not_in ds t (Undecided cause) none stands = stands
+  not_in ds t other none stands = absurd (false≢true (sym none))
 
   -- undecided: then it is nowhere among the decisions
   pub undecided_not : is_decided job.ending ≡ false → IsNotDecided (decisions given (events ++ later)) who.t

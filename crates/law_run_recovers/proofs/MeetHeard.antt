@@ -29,16 +29,12 @@ inside (x ∷ xs) (v ∷ us) u ys vs is =
 
 early_stage : (asked : Request) → stage asked < 4 → is_finish asked ≡ false → stage asked ≤ 2
 early_stage (request.Finish t v) few is = absurd (false≢true (sym is))
-early_stage (request.Poll t suite mode) few is = omega arith
-early_stage (request.Upgrade t suite) few is = omega arith
-early_stage (request.Fetch t suite) few is = omega arith
-early_stage (request.Prepare t parts) few is = omega arith
-early_stage (request.Decide t decision) few is = omega arith
 early_stage (request.Resolve t) few is = absurd (omega (arith, few))
 early_stage (request.Break t suite) few is = absurd (omega (arith, few))
 early_stage request.Locks few is = absurd (omega (arith, few))
 early_stage request.Crash few is = absurd (omega (arith, few))
 early_stage request.Return few is = absurd (omega (arith, few))
+early_stage other few is = omega arith
 
 module _ (given : Opening) (base events later : List Event) (agent t : ℕ) (caller : Identity) (site : ℕ) (ops : List Op) (actor : Actor) (goes : GoesQuietly given base events later agent t caller site ops actor) where
   abbrev world_at : List Event → World

@@ -13,7 +13,7 @@ use Rattle.law_run_recovers.proofs.MeetBarred.{barred_by}
 use Rattle.law_run_recovers.proofs.MeetBehind.{reach, bound}
 use Rattle.law_run_recovers.proofs.MeetBoth.{Place, place, its_event, in_part, cancel, held_in, none_yet, IsGranted, granted_now, all_granted}
 use Rattle.law_run_recovers.proofs.MeetCalm.{Calm, IsOurs, Ours, ours_front}
-use Rattle.law_run_recovers.proofs.MeetClear.{calm_clear}
+use Rattle.law_run_recovers.proofs.MeetClear.{calm_beside}
 use Rattle.law_run_recovers.proofs.MeetCount.{votes_split, Falls, falls_by, Met, OtherMet, Same, IsRefused, IsRefusedToo, not_both_short}
 use Rattle.law_run_recovers.proofs.MeetEnds.{fronts, Fixed, undecided_not, fixed_at}
 use Rattle.law_run_recovers.proofs.MeetLocks.{owned_at}
@@ -382,31 +382,9 @@ module _ (given : Opening) (events later : List Event) (one other : Begun given 
     Still z = asks_of (first_asks given events later one ++ first_asks given events later other) z ≡ true
 
     -- what one of them asks for nobody else has locked exclusively
-    clear : (so_far rest : List Event) → later ≡ so_far ++ rest → (s : ℕ) (st : State) → server_at (run given (events ++ so_far)) s ≡ Some st → (lock : Lock) → Has st.locks lock → Still lock.suite → lock.mode ≡ Exclusive
-        → IsNotDecided (decisions given (events ++ later)) lock.t
-    clear so_far back split s st at lock has kept exclusive =
-        by lock kept exclusive
-        (meets.beside so_far back s lock split (contains_from (locks_at (run given (events ++ so_far)) s) lock (subst (λ found. Has (locks_in found) lock) (sym at) has)))
-      where
-        by : (lock : Lock) → Still lock.suite → lock.mode ≡ Exclusive
-            → (lock.t ≡ one.t) ⊎ ((lock.t ≡ other.t) ⊎ (meets_some lock (first_asks given events later one ++ first_asks given events later other) ≡ false)) → IsNotDecided (decisions given (events ++ later)) lock.t
-        by lock kept exclusive (inl same) = subst (IsNotDecided (decisions given (events ++ later))) (sym same) not_one
-        by lock kept exclusive (inr (inl same)) = subst (IsNotDecided (decisions given (events ++ later))) (sym same) not_other
-        by lock kept exclusive (inr (inr aside)) = absurd (never_meets lock (Mine ++ Theirs) aside (exclusive_clashes (Mine ++ Theirs) lock.suite lock.mode exclusive kept))
-
-    none_there : (s : ℕ) (st : State) → server_at (run given (events ++ [])) s ≡ Some st → (lock : Lock) → Has st.locks lock → Still lock.suite → lock.mode ≡ Exclusive → ⊥
-    none_there s st at lock has kept exclusive =
-        by lock has kept exclusive
-        (meets.beside [] later s lock refl (contains_from (locks_at (run given (events ++ [])) s) lock (subst (λ found. Has (locks_in found) lock) (sym at) has)))
-      where
-        by : (lock : Lock) → Has st.locks lock → Still lock.suite → lock.mode ≡ Exclusive
-            → (lock.t ≡ one.t) ⊎ ((lock.t ≡ other.t) ⊎ (meets_some lock (first_asks given events later one ++ first_asks given events later other) ≡ false)) → ⊥
-        by lock has kept exclusive (inl same) = none_yet given events later meets.goes.can one s st at lock has same
-        by lock has kept exclusive (inr (inl same)) = none_yet given events later meets.goes.can other s st at lock has same
-        by lock has kept exclusive (inr (inr aside)) = never_meets lock (Mine ++ Theirs) aside (exclusive_clashes (Mine ++ Theirs) lock.suite lock.mode exclusive kept)
-
     calm : Calm given events later Still
-    calm = calm_clear given events later meets.goes Still clear none_there
+    calm = calm_beside given events later meets.goes one other Still (λ lock. meets_some lock (Mine ++ Theirs) ≡ false) not_one not_other meets.beside
+        (λ lock aside kept exclusive. never_meets lock (Mine ++ Theirs) aside (exclusive_clashes (Mine ++ Theirs) lock.suite lock.mode exclusive kept))
 
     ours : Ours given events later Still one
     ours = record { asks = λ z has. any_front (λ (one : ℕ × LockMode). one.0 == z) Mine Theirs has; served = meets.served }

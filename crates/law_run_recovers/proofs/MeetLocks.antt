@@ -145,7 +145,6 @@ module _ (t z : ℕ) (mode : LockMode) where
         of : (b : Bool) → HasMode t z mode (cond b (after_locking (in_the_way u s Exclusive st.locks) u s Exclusive st) st).locks
         of true = locking (in_the_way u s Exclusive st.locks) u s Exclusive
         of false = is
-    up_keeps (request.Fetch u s) calm other = is
     up_keeps (request.Prepare u parts) calm other = of (prepares st u parts)
       where
         of : (b : Bool) → HasMode t z mode (cond b (record st { store = intended u parts st.store; locks = map (prepared_lock u parts) st.locks }) st).locks
@@ -155,9 +154,8 @@ module _ (t z : ℕ) (mode : LockMode) where
     up_keeps (request.Resolve u) calm other = recorded_same (record_of st u) u _ _
     up_keeps (request.Finish u v) calm other = passed (λ lock. not (lock.t == u)) (finish_spares u v calm)
     up_keeps (request.Break u s) calm other = passed (λ lock. not (is_own u s lock && not lock.prepared)) (break_spares u s calm)
-    up_keeps request.Locks calm other = is
     up_keeps request.Crash calm other = passed (λ lock. lock.prepared) (crash_spares other)
-    up_keeps request.Return calm other = is
+    up_keeps another calm other = is
 
     -- what takes nothing of it leaves it the lock
     pub after_keeps : (asked : Request) → st.up ≡ true → takes t st asked ≡ false → drops t st asked ≡ false → HasMode t z mode (after st asked).locks
@@ -203,15 +201,7 @@ granted t z st (request.Upgrade u s) up lock said = of (has_lock u s st.locks) r
               (subst (λ b. HasMode u s Exclusive (cond b (after_locking (in_the_way u s Exclusive st.locks) u s Exclusive st) st).locks) (sym is) g.1);
         }))
     of false is = absurd (false≢true (sym (ap (λ b. says_held (cond b (locking_reply (in_the_way u s Exclusive st.locks) (copy_of st.store s)) reply.Lost)) is) ∙ said_up))
-granted t z st (request.Fetch u s) up lock said = absurd (false≢true lock)
-granted t z st (request.Prepare u parts) up lock said = absurd (false≢true lock)
-granted t z st (request.Decide u decision) up lock said = absurd (false≢true lock)
-granted t z st (request.Resolve u) up lock said = absurd (false≢true lock)
-granted t z st (request.Finish u v) up lock said = absurd (false≢true lock)
-granted t z st (request.Break u s) up lock said = absurd (false≢true lock)
-granted t z st request.Locks up lock said = absurd (false≢true lock)
-granted t z st request.Crash up lock said = absurd (false≢true lock)
-granted t z st request.Return up lock said = absurd (false≢true lock)
+granted t z st other up lock said = absurd (false≢true lock)
 
 -- where a lock of another that clashes is there, none is free
 pub keeps_out : (t u z : ℕ) (m k : LockMode) (locks : List Lock) → (t == u) ≡ false → HasMode t z m locks → clashes (z, m) (z, k) ≡ true → in_the_way u z k locks ≡ None → ⊥
@@ -333,15 +323,7 @@ module _ (given : Opening) (events later : List Event) (fair : Fair given events
     owned_served : (value : Request) → asked.value ≡ value → AllOwned (O s) (served st asked).locks
     owned_served (request.Poll u z mode) is = by_poll u z mode is
     owned_served (request.Upgrade u z) is = by_upgrade u z is
-    owned_served (request.Fetch u z) is = granted_so (subst (MayLock (O s)) (sym is) tt)
-    owned_served (request.Prepare u parts) is = granted_so (subst (MayLock (O s)) (sym is) tt)
-    owned_served (request.Decide u decision) is = granted_so (subst (MayLock (O s)) (sym is) tt)
-    owned_served (request.Resolve u) is = granted_so (subst (MayLock (O s)) (sym is) tt)
-    owned_served (request.Finish u v) is = granted_so (subst (MayLock (O s)) (sym is) tt)
-    owned_served (request.Break u z) is = granted_so (subst (MayLock (O s)) (sym is) tt)
-    owned_served request.Locks is = granted_so (subst (MayLock (O s)) (sym is) tt)
-    owned_served request.Crash is = granted_so (subst (MayLock (O s)) (sym is) tt)
-    owned_served request.Return is = granted_so (subst (MayLock (O s)) (sym is) tt)
+    owned_served other is = granted_so (subst (MayLock (O s)) (sym is) tt)
 
   module _ (so_far rest : List Event) (event : Event) (split : later ≡ so_far ++ event ∷ rest) (all : AllAt OwnedAt (run given (events ++ so_far))) where
     abbrev w : World

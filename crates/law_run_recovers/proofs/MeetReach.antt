@@ -99,14 +99,7 @@ too_few a b is = grind (arith, nat_tests)
 
 says_so : (answer : Reply) → held_by answer ≡ true → says_held (Replied answer) ≡ true
 says_so (reply.Held prefix dver) is = refl
-says_so (reply.Busy holder prepared) is = absurd (false≢true is)
-says_so reply.Lost is = absurd (false≢true is)
-says_so (reply.Given dver content) is = absurd (false≢true is)
-says_so reply.Prepared is = absurd (false≢true is)
-says_so (reply.Verdict v) is = absurd (false≢true is)
-says_so reply.Done is = absurd (false≢true is)
-says_so (reply.Locked all) is = absurd (false≢true is)
-says_so reply.Down is = absurd (false≢true is)
+says_so other is = absurd (false≢true is)
 
 module _ (given : Opening) (base events later : List Event) (agent t : ℕ) (caller : Identity) (site : ℕ) (ops : List Op) (actor : Actor) (goes : GoesQuietly given base events later agent t caller site ops actor)
     (never : (so_far rest : List Event) → later ≡ so_far ++ Step agent ∷ rest → IsAtWork (world_after given events agent caller site ops so_far) agent t → (here : Actor) → actor_at
@@ -356,15 +349,14 @@ module _ (given : Opening) (base events later : List Event) (agent t : ℕ) (cal
         (at.sets.all ∙ ap (λ xs. onto xs []) some.2 ∙ onto_append some.0 (y, Exclusive) some.1 [])
         (λ other has there. had_held suites other there (λ suite found. at.sets.right other.0 suite found)
         (at.sets.had other (subst (λ xs. Has xs other) (sym some.2) (append_later some.0 (y, Exclusive) some.1 other has))))
-    of_phase now suites (Preparing [] outcome) at is = absurd (none-some _ is)
     of_phase now suites (Preparing (server ∷ left) outcome) at is =
         not_lock _ (sym (asks_same server what.server (request.Prepare (its given base events later agent t caller site ops actor goes).t (parts_at suites (changes_of outcome) server)) what.request.value is)) refl
     of_phase now suites (Deciding outcome) at is =
         not_lock _ (sym (asks_same (home_of (fixed_of given).service (its given base events later agent t caller site ops actor goes).t) what.server
         (request.Decide (its given base events later agent t caller site ops actor goes).t (decision_of (its given base events later agent t caller site ops actor goes) outcome)) what.request.value is)) refl
-    of_phase now suites (Finishing [] v ended) at is = absurd (none-some _ is)
     of_phase now suites (Finishing (server ∷ left) v ended) at is =
         not_lock _ (sym (asks_same server what.server (request.Finish (its given base events later agent t caller site ops actor goes).t v) what.request.value is)) refl
+    of_phase now suites other at is = absurd (none-some _ is)
 
     pub reaches_now : Reaches (z, mode_of what.request.value)
     reaches_now = of_phase c.here.agent.cache c.txn_run.suites c.txn_run.phase c.stands request_is

@@ -12,14 +12,14 @@ use Rattle.law_run_recovers.proofs.MeetAsks.{sets_asked}
 use Rattle.law_run_recovers.proofs.MeetBarred.{Barred, barred_by}
 use Rattle.law_run_recovers.proofs.MeetBoth.{Place, place, its_event, cancel, held_in, none_yet, reached_then}
 use Rattle.law_run_recovers.proofs.MeetCalm.{Calm, Ours}
-use Rattle.law_run_recovers.proofs.MeetClear.{calm_clear}
+use Rattle.law_run_recovers.proofs.MeetClear.{calm_beside}
 use Rattle.law_run_recovers.proofs.MeetCount.{votes_split}
 use Rattle.law_run_recovers.proofs.MeetEnds.{Fixed, undecided_not, fixed_at}
 use Rattle.law_run_recovers.proofs.MeetLaw.{any_back, any_front, exclusive_clashes, none_apart, open_not, some_more, some_shut, not_neither}
 use Rattle.law_run_recovers.proofs.MeetLocks.{owned_at}
 use Rattle.law_run_recovers.proofs.Stands.{asks_of}
 use Rattle.law_run_recovers.proofs.MeetReach.{reaches_asks}
-use Rattle.law_run_recovers.proofs.MeetReads.{OnlyReads}
+use Rattle.law_run_recovers.proofs.MeetCalmed.{OnlyReads}
 use Rattle.law_run_recovers.proofs.MeetRun.{its_actor, goes_of, run_is}
 use Rattle.law_run_recovers.proofs.MeetTold.{for_lock, says_held, grants, refuses, some_step, there_in, four_from, not_both}
 use Rattle.law_run_recovers.proofs.MeetWants.{Wants, WereFound, wants}
@@ -91,27 +91,9 @@ module _ (given : Opening) (events later : List Event) (writer reader : Begun gi
       (λ has. never_both_ways theirs y way aside.of_reader (exclusive_clashes theirs y way exclusive (has_any (λ (one : ℕ × LockMode). one.0 == y) theirs some.0 has some.2)))
       (has_append mine theirs some.0 some.1)
 
-  clear : (so_far rest : List Event) → later ≡ so_far ++ rest → (s : ℕ) (st : State) → server_at (run given (events ++ so_far)) s ≡ Some st → (lock : Lock) → Has st.locks lock → Still lock.suite → lock.mode ≡ Exclusive
-      → IsNotDecided (decisions given (events ++ later)) lock.t
-  clear so_far rest split s st at lock has kept exclusive = ⊎_elim
-      (λ same. subst (IsNotDecided (decisions given (events ++ later))) (sym same) undecided)
-      (λ more. ⊎_elim
-      (λ same. subst (IsNotDecided (decisions given (events ++ later))) (sym same) other_undecided)
-      (λ aside. absurd (aside_shares lock.suite lock.mode exclusive kept aside))
-      more)
-      (others so_far rest split s st at lock has)
-
-  none_there : (s : ℕ) (st : State) → server_at (run given (events ++ [])) s ≡ Some st → (lock : Lock) → Has st.locks lock → Still lock.suite → lock.mode ≡ Exclusive → ⊥
-  none_there s st at lock has kept exclusive = ⊎_elim
-      (λ same. none_yet given events later meets.goes.can writer s st at lock has same)
-      (λ more. ⊎_elim
-      (λ same. none_yet given events later meets.goes.can reader s st at lock has same)
-      (λ aside. aside_shares lock.suite lock.mode exclusive kept aside)
-      more)
-      (others [] later refl s st at lock has)
-
   calm : Calm given events later Still
-  calm = calm_clear given events later meets.goes Still clear none_there
+  calm = calm_beside given events later meets.goes writer reader Still (ReadsToo meets.suite mine theirs) undecided other_undecided meets.beside
+      (λ lock (aside : ReadsToo meets.suite mine theirs lock) kept exclusive. aside_shares lock.suite lock.mode exclusive kept (record { of_reader = aside.of_reader; of_writer = aside.of_writer }))
 
   ours : Ours given events later Still writer
   ours = record { asks = λ z has. any_front (λ (one : ℕ × LockMode). one.0 == z) mine theirs has; served = meets.served }

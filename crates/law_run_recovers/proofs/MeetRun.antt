@@ -2,8 +2,8 @@
 use Rattle.law_run_recovers.proofs.Vocabulary.{Bool, Err, List, None, Ok, Option, Some, [], ap, append-nil, append_assoc, arith, cond, false, is_some, not, refl, subst, sym, true, ℕ, ◌%◌, ◌&&◌, ◌++◌, ◌==◌, ◌||◌, ◌∙◌, ◌∷◌}
 use Rattle.law_run_recovers.proofs.Vocabulary.{◌≡◌, eq-eqb, eqb-true, false≢true, nat_tests, same_Some, undecided, CanBe, decides, IsNotDecided, names, contains_from, recorded, reply_down, reply_of}
 use Rattle.law_run_recovers.proofs.Vocabulary.{reply_up, verdict_of, State, record_of, copy_of, Request, Decided, answer_in, decided, decided_as, decided_at, decided_by, decisions, task_at, task_of, to_decide, run, table_of}
-use Rattle.law_run_recovers.proofs.Vocabulary.{Actor, World, actor_at, server_at, step, Served, Event, Begin, Crash, Forget, Lack, Return, Step, next, Opening, Replica, fixed_of, next_in, next_of, Doing, Running}
-use Rattle.law_run_recovers.proofs.Vocabulary.{◌*◌, ◌+◌, ◌<◌, zero, suc, agent_of, answers_follow_knowledge, holds_of, names_mine, rest_of, RunningSweep, Task, is_decide, decision_of, Transaction, Begun, row_of, is_up, shown_at, shown_in, up_in, bereaves, hinders_itself, is_running, is_telling, of_up, robs, running_in}
+use Rattle.law_run_recovers.proofs.Vocabulary.{Actor, World, actor_at, server_at, step, Served, Event, Begin, Crash, Step, next, Opening, Replica, fixed_of, next_in, next_of, Doing, Running}
+use Rattle.law_run_recovers.proofs.Vocabulary.{◌*◌, ◌+◌, ◌<◌, zero, suc, agent_of, answers_follow_knowledge, holds_of, names_mine, rest_of, Task, is_decide, decision_of, Transaction, Begun, row_of, is_up, shown_at, shown_in, up_in, bereaves, hinders_itself, is_running, is_telling, of_up, robs, running_in}
 use Rattle.law_run_recovers.proofs.Vocabulary.{runs, takes, up_and, world_after}
 use Rattle.rep_core.specs.declared.request.Request.TheVariants as request
 use Rattle.rep_core.specs.declared.reply.Reply.TheVariants as reply
@@ -100,25 +100,17 @@ module _ (given : Opening) (events later : List Event) {still : ℕ → Type 0} 
         of (Some what) served = at_server what served (server_at w what.server)
 
     robbed_not : (event : Event) → robs given one.agent one.t (run given (events ++ front)) event ≡ false
-    robbed_not (Begin i job) = refl
-    robbed_not (Crash server) = refl
-    robbed_not (Return server) = refl
-    robbed_not (Forget i site) = refl
-    robbed_not (Lack i why) = refl
     robbed_not (Step i) = by (i == one.agent) refl
       where
         by : (b : Bool) → (i == one.agent) ≡ b
             → (not (i == one.agent) && not (is_telling (run given (events ++ front)) one.agent) && of_up (takes one.t) (run given (events ++ front)) (step (fixed_of given) (run given (events ++ front)) (Step i)).done.served) ≡ false
         by true same = first_not (i == one.agent) (not (is_telling w one.agent)) (of_up (takes one.t) w (step (fixed_of given) w (Step i)).done.served) same
         by false apart = last_not (not (i == one.agent)) (not (is_telling w one.agent)) (of_up (takes one.t) w (step (fixed_of given) w (Step i)).done.served) (not_robbed i apart)
+    robbed_not other = refl
 
     none_crashes : (event : Event) → upsets given (run given (events ++ front)) event ≡ false → bereaves given one.agent one.t (run given (events ++ front)) event ≡ false
-    none_crashes (Begin i job) calm_here = refl
-    none_crashes (Step i) calm_here = refl
     none_crashes (Crash server) calm_here = absurd (false≢true (sym calm_here))
-    none_crashes (Return server) calm_here = refl
-    none_crashes (Forget i site) calm_here = refl
-    none_crashes (Lack i why) calm_here = refl
+    none_crashes other calm_here = refl
 
   module _ (ours : Ours given events later still one) where
     pub spared : (so_far rest : List Event) (event : Event) → one.after ≡ so_far ++ event ∷ rest → IsAtWork (then_at so_far) one.agent one.t
@@ -232,8 +224,6 @@ module _ (given : Opening) (events later : List Event) {still : ℕ → Type 0} 
       same = same_Some took.asked asked (sym took.next ∙ next)
 
       by : (doing : Option Doing) → here.agent.doing ≡ doing → next_in (fixed_of given) doing ≡ Some asked → runs one.t doing ≡ true → is_decide asked.1 ≡ true → ⊥
-      by None at next running decide = false≢true running
-      by (Some (RunningSweep sweep_run)) at next running decide = false≢true running
       by (Some (Running txn_run)) at next running decide =
           let d = decides (fixed_of given) txn_run.task txn_run.suites txn_run.phase asked.0 asked.1 next decide in
           let value : took.asked.1 ≡ request.Decide txn_run.task.t (decision_of txn_run.task d.outcome) = ap (λ (asked : ℕ × Request). asked.1) same ∙ d.decide in
@@ -247,6 +237,7 @@ module _ (given : Opening) (events later : List Event) {still : ℕ → Type 0} 
           ∙ ap (λ found. is_some (decided_at found (to_decide took.asked.1) (decided_as (Some txn_run.task) (answer_in (reply_of took.st took.asked.1))))) took.at
           ∙ ap (λ value. is_some (decided_at (Some took.st) (to_decide value) (decided_as (Some txn_run.task) (answer_in (reply_of took.st value))))) value
           ∙ first_decides took.st txn_run.task d.outcome (up_now so_far (Step one.agent ∷ rest) split took.asked.0 took.st took.at) none)
+      by other at next running decide = false≢true running
 
       of : (b : Bool) → is_decide asked.1 ≡ b → b ≡ false
       of false is = refl

@@ -1,8 +1,8 @@
 -- Which servers granted a transaction a lock in its run, and which refused one: a server never does both, of one mode. So sights go by either.
-use Rattle.law_run_recovers.proofs.Vocabulary.{◌≡◌, ⊎_elim, ℕ, Bool, true, false, List, [], ◌∷◌, ◌++◌, Option, Some, None, is_some, refl, sym, ap, subst, ◌∙◌, arith, ◌==◌, ◌&&◌, ◌||◌, not, false≢true, and_parts, and_from, eqb-true}
-use Rattle.law_run_recovers.proofs.Vocabulary.{eq-eqb, nat_tests, none-some, same_Some, Identity, Opening, Prefix, LockMode, Shared, Exclusive, serves, Op, Request, Reply, Said, is_held, Asked, Poll, Upgrade, mode_of, mode_asked}
-use Rattle.law_run_recovers.proofs.Vocabulary.{request_for, Transaction, Replied, Fixed, Doing, Running, RunningSweep, fixed_of, next_in, next_of, Exchange, locks, heard_in, is_finish, Served, Event, Begin, Step, Crash, Return, Forget}
-use Rattle.law_run_recovers.proofs.Vocabulary.{Lack, Actor, World, actor_at, step, after, run, task_of, names, may_sweep, agents_ask_for_themselves, names_mine, is_up, runs, begun_world, world_after, serves_itself, same_mode}
+use Rattle.law_run_recovers.proofs.Vocabulary.{◌≡◌, ⊎_elim, ℕ, Bool, true, false, List, [], ◌∷◌, ◌++◌, Option, Some, None, is_some, refl, sym, ap, subst, ◌∙◌, ◌==◌, ◌&&◌, ◌||◌, not, false≢true, and_parts, and_from, eqb-true}
+use Rattle.law_run_recovers.proofs.Vocabulary.{eq-eqb, none-some, same_Some, Identity, Opening, Prefix, LockMode, Shared, Exclusive, serves, Op, Request, Reply, Said, is_held, Asked, Poll, Upgrade, mode_of, mode_asked}
+use Rattle.law_run_recovers.proofs.Vocabulary.{request_for, Transaction, Replied, Fixed, Doing, Running, RunningSweep, fixed_of, next_in, next_of, Exchange, locks, heard_in, is_finish, Served, Event, Begin, Step}
+use Rattle.law_run_recovers.proofs.Vocabulary.{Actor, World, actor_at, step, after, run, task_of, names, may_sweep, agents_ask_for_themselves, names_mine, is_up, runs, begun_world, world_after, serves_itself, same_mode, or_right}
 use Rattle.rep_core.specs.declared.request.Request.TheVariants as request
 use Rattle.rep_core.specs.declared.reply.Reply.TheVariants as reply
 use Rattle.suite_collect.specs.declared.told.Said.TheVariants as said
@@ -70,11 +70,7 @@ module _ (p : Served → Bool) (agent : ℕ) (fixed : Fixed) where
       of (Some what) at so =
           let same = eqb-true other agent parts.0 in
           record { front = []; back = events; parts = ap (λ i. Step i ∷ events) same; what = what; served = ap (λ i. (step fixed w (Step i)).done.served) (sym same) ∙ at; is = so }
-  found_here w (Begin i job) events is = absurd (false≢true is)
-  found_here w (Crash server) events is = absurd (false≢true is)
-  found_here w (Return server) events is = absurd (false≢true is)
-  found_here w (Forget i site) events is = absurd (false≢true is)
-  found_here w (Lack i why) events is = absurd (false≢true is)
+  found_here w other events is = absurd (false≢true is)
 
   pub found_in : (w : World) (events : List Event) → some_step p agent fixed w events ≡ true → Found w events
   found_in w [] is = absurd (false≢true is)
@@ -92,25 +88,14 @@ module _ (p : Served → Bool) (agent : ℕ) (fixed : Fixed) where
       ap (λ b. (b && of_served p (step fixed w (Step agent)).done.served) || some_step p agent fixed (step fixed w (Step agent)).world back) (eq-eqb agent agent refl)
       ∙ ap (λ found. of_served p found || some_step p agent fixed (step fixed w (Step agent)).world back) served
       ∙ ap (λ b. b || some_step p agent fixed (step fixed w (Step agent)).world back) is
-  there_in (event ∷ front) back w what served is = or_so (steps_so p agent fixed w event) _ (there_in front back (step fixed w event).world what served is)
-    where
-      or_so : (a b : Bool) → b ≡ true → (a || b) ≡ true
-      or_so a b is = grind (arith, nat_tests)
+  there_in (event ∷ front) back w what served is = or_right (steps_so p agent fixed w event) _ (there_in front back (step fixed w event).world what served is)
 
 -- ---- what is asked for
 
 pub for_lock_named : (t z : ℕ) (asked : Request) → for_lock t z asked ≡ true → (names t asked ≡ true) × (locks z asked ≡ true) × (may_sweep asked ≡ false) × (is_finish asked ≡ false)
 for_lock_named t z (request.Poll u suite mode) is = let parts = and_parts (u == t) (suite == z) is in (parts.0, parts.1, refl, refl)
 for_lock_named t z (request.Upgrade u suite) is = let parts = and_parts (u == t) (suite == z) is in (parts.0, parts.1, refl, refl)
-for_lock_named t z (request.Fetch u suite) is = absurd (false≢true is)
-for_lock_named t z (request.Prepare u parts) is = absurd (false≢true is)
-for_lock_named t z (request.Decide u decision) is = absurd (false≢true is)
-for_lock_named t z (request.Resolve u) is = absurd (false≢true is)
-for_lock_named t z (request.Finish u v) is = absurd (false≢true is)
-for_lock_named t z (request.Break u suite) is = absurd (false≢true is)
-for_lock_named t z request.Locks is = absurd (false≢true is)
-for_lock_named t z request.Crash is = absurd (false≢true is)
-for_lock_named t z request.Return is = absurd (false≢true is)
+for_lock_named t z other is = absurd (false≢true is)
 
 pub asks_lock : (t z : ℕ) (question : Asked) → for_lock t z (request_for t z question) ≡ true
 asks_lock t z (Poll mode) = and_from (t == t) (z == z) (eq-eqb t t refl) (eq-eqb z z refl)
@@ -118,36 +103,15 @@ asks_lock t z Upgrade = and_from (t == t) (z == z) (eq-eqb t t refl) (eq-eqb z z
 
 heard_held : (asked : Request) (answer : Reply) → says_held answer ≡ true → (s : Said) × (heard_in asked (Replied answer) ≡ Some s) × (is_held s ≡ true)
 heard_held asked (reply.Held prefix dver) is = (said.Held prefix dver, refl, refl)
-heard_held asked (reply.Busy holder prepared) is = absurd (false≢true is)
-heard_held asked reply.Lost is = absurd (false≢true is)
-heard_held asked (reply.Given dver content) is = absurd (false≢true is)
-heard_held asked reply.Prepared is = absurd (false≢true is)
-heard_held asked (reply.Verdict v) is = absurd (false≢true is)
-heard_held asked reply.Done is = absurd (false≢true is)
-heard_held asked (reply.Locked all) is = absurd (false≢true is)
-heard_held asked reply.Down is = absurd (false≢true is)
+heard_held asked other is = absurd (false≢true is)
 
 heard_busy : (asked : Request) (answer : Reply) → says_busy answer ≡ true → (s : Said) × (heard_in asked (Replied answer) ≡ Some s) × (is_held s ≡ false)
 heard_busy asked (reply.Busy holder prepared) is = (said.Busy holder, refl, refl)
-heard_busy asked (reply.Held prefix dver) is = absurd (false≢true is)
-heard_busy asked reply.Lost is = absurd (false≢true is)
-heard_busy asked (reply.Given dver content) is = absurd (false≢true is)
-heard_busy asked reply.Prepared is = absurd (false≢true is)
-heard_busy asked (reply.Verdict v) is = absurd (false≢true is)
-heard_busy asked reply.Done is = absurd (false≢true is)
-heard_busy asked (reply.Locked all) is = absurd (false≢true is)
-heard_busy asked reply.Down is = absurd (false≢true is)
+heard_busy asked other is = absurd (false≢true is)
 
 never_both : (answer : Reply) → says_held answer ≡ true → says_busy answer ≡ true → ⊥
 never_both (reply.Held prefix dver) held busy = false≢true busy
-never_both (reply.Busy holder prepared) held busy = false≢true held
-never_both reply.Lost held busy = false≢true held
-never_both (reply.Given dver content) held busy = false≢true held
-never_both reply.Prepared held busy = false≢true held
-never_both (reply.Verdict v) held busy = false≢true held
-never_both reply.Done held busy = false≢true held
-never_both (reply.Locked all) held busy = false≢true held
-never_both reply.Down held busy = false≢true held
+never_both other held busy = false≢true held
 
 pub serves_over : (a b c : LockMode) → serves a b ≡ true → serves b c ≡ true → serves a c ≡ true
 serves_over Exclusive b c one other = refl

@@ -1,7 +1,7 @@
 -- A transaction that is at work was not decided, nor is it where it asks for a lock.
-use Rattle.law_run_recovers.proofs.Vocabulary.{List, None, Option, Some, ap, false, refl, subst, sym, true, ℕ, ◌++◌, ◌∙◌, ◌∷◌, ◌≡◌, eqb-true, false≢true, Identity, Op, CanBe, begins_job, IsAt, holds_of, agent_of, Has}
-use Rattle.law_run_recovers.proofs.Vocabulary.{Verdict, Request, Decided, decisions, run, Actor, actor_at, Event, Begin, Opening, Deciding, Doing, Fetching, Finishing, Gathering, Phase, Preparing, Running, RunningSweep}
-use Rattle.law_run_recovers.proofs.Vocabulary.{Widening, is_decide, Transaction, runs, world_after}
+use Rattle.law_run_recovers.proofs.Vocabulary.{List, Option, Some, ap, false, refl, subst, sym, true, ℕ, ◌++◌, ◌∙◌, ◌∷◌, ◌≡◌, eqb-true, false≢true, Identity, Op, CanBe, begins_job, IsAt, holds_of, agent_of, Has}
+use Rattle.law_run_recovers.proofs.Vocabulary.{Verdict, Request, Decided, decisions, run, Actor, actor_at, Event, Begin, Opening, Doing, Finishing, Phase, Running}
+use Rattle.law_run_recovers.proofs.Vocabulary.{is_decide, Transaction, runs, world_after}
 use Rattle.rep_core.specs.declared.request.Request.TheVariants as request
 use Rattle.rep_core.specs.declared.reply.Verdict.TheVariants as verdict
 use Rattle.law_runs.proofs.Standing as standing
@@ -12,19 +12,14 @@ use Rattle.law_run_recovers.proofs.MeetTold.{for_lock}
 
 -- nothing was said of one that has not told how it ended
 untold : (said : Verdict) (phase : Phase) → IsOpenPhase phase → Tells said phase → said ≡ verdict.Aborted
-untold said (Gathering z) open' tells = tells
-untold said (Fetching z) open' tells = tells
-untold said (Widening left granted) open' tells = tells
-untold said (Preparing left outcome) open' tells = tells
-untold said (Deciding outcome) open' tells = tells
 untold said (Finishing left v ended) open' tells = absurd open'
+untold said other open' tells = tells
 
 none_of : (ds : List Decided) (i count t : ℕ) (doing : Option Doing) → IsAt ds i count doing → IsOpen doing → runs t doing ≡ true → (d : Decided) → Has ds d → d.t ≡ t → ⊥
-none_of ds i count t None at open' running d has same = absurd open'
-none_of ds i count t (Some (RunningSweep sweep_run)) at open' running d has same = absurd open'
 none_of ds i count t (Some (Running txn_run)) at open' running d has same =
     let none : standing.Stands ds txn_run.task.t verdict.Aborted = subst (standing.Stands ds txn_run.task.t) (untold at.said txn_run.phase open' at.tells) at.stands in
     none d has (same ∙ sym (eqb-true txn_run.task.t t running))
+none_of ds i count t other at open' running d has same = absurd open'
 
 module _ (given : Opening) (events later : List Event) (agent t : ℕ) (caller : Identity) (site : ℕ) (ops : List Op) (actor : Actor)
     (can : CanBe given (events ++ Begin agent (Transaction caller site ops) ∷ later)) (there : actor_at (run given events) agent ≡ Some actor)
@@ -40,14 +35,5 @@ module _ (given : Opening) (events later : List Event) (agent t : ℕ) (caller :
 
 -- a request for a lock decides nothing
 pub lock_decides_none : (t z : ℕ) (asked : Request) → for_lock t z asked ≡ true → is_decide asked ≡ false
-lock_decides_none t z (request.Poll u suite mode) is = refl
-lock_decides_none t z (request.Upgrade u suite) is = refl
-lock_decides_none t z (request.Fetch u suite) is = refl
-lock_decides_none t z (request.Prepare u parts) is = refl
 lock_decides_none t z (request.Decide u decision) is = absurd (false≢true is)
-lock_decides_none t z (request.Resolve u) is = refl
-lock_decides_none t z (request.Finish u v) is = refl
-lock_decides_none t z (request.Break u suite) is = refl
-lock_decides_none t z request.Locks is = refl
-lock_decides_none t z request.Crash is = refl
-lock_decides_none t z request.Return is = refl
+lock_decides_none t z other is = refl

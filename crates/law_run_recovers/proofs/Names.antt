@@ -61,15 +61,13 @@ module _ (fixed : Fixed) (world : World) (sight : Sight) (table : PlainTable) (t
       let ready = at.0 in
       let held = sym (ready.asks.modes z Shared) ∙ fetch_found suites z server asked (suite_of suites z) is in
       ap (names_of (suites_named table task)) (fetch_is task z (suite_of suites z) server asked is) ∙ asked_named ready.asked _ z ready.asks.order (any_wider ready.asked z held)
-  names_for now suites (doing.Widening [] granted) at server asked is = absurd (none-some (server, asked) is)
   names_for now suites (doing.Widening (z ∷ numbers) granted) at server asked is =
       let asks = asks_for task z at.suite.collector server asked (sym (ap (asked_for task z) at.there) ∙ is) in
       ap (names_of (suites_named table task)) asks.asked_is ∙ names_lock (suites_named table task) task.t z asks.question ∙ asked_named at.sets.so_far [] z at.sets.all (at.sets.locked (z, at.votes) (inl refl))
-  names_for now suites (Preparing [] outcome) at server asked is = absurd (none-some (server, asked) is)
   names_for now suites (Preparing (now' ∷ numbers) outcome) at server asked is = ap (names_of (suites_named table task)) (sym (asks_same now' server (request.Prepare task.t (parts_at suites (changes_of outcome) now')) asked is))
   names_for now suites (Deciding outcome) at server asked is = ap (names_of (suites_named table task)) (sym (asks_same (home_of fixed.service task.t) server (request.Decide task.t (decision_of task outcome)) asked is))
-  names_for now suites (Finishing [] v ended) at server asked is = absurd (none-some (server, asked) is)
   names_for now suites (Finishing (now' ∷ numbers) v ended) at server asked is = ap (names_of (suites_named table task)) (sym (asks_same now' server (request.Finish task.t v) asked is))
+  names_for now suites other at server asked is = absurd (none-some (server, asked) is)
 
 -- ---- how often it asks
 

@@ -1,6 +1,6 @@
 -- What a transaction stands on that goes steadily: near servers that are open to it answer what is in effect, and prefixes that are found name
 -- near servers.
-use Rattle.law_run_recovers.proofs.Vocabulary.{◌≡◌, ℕ, Bool, true, false, List, [], ◌∷◌, Option, Some, None, refl, sym, ap, subst, ◌*◌, ◌+◌, ◌==◌, ◌&&◌, Contains, list_any, and_parts, and_from, eqb-true, Identity, IsValid, Opening}
+use Rattle.law_run_recovers.proofs.Vocabulary.{◌≡◌, ℕ, Bool, true, false, List, [], ◌∷◌, Option, Some, refl, sym, ap, subst, ◌*◌, ◌+◌, ◌==◌, ◌&&◌, Contains, list_any, and_parts, and_from, eqb-true, Identity, IsValid, Opening}
 use Rattle.law_run_recovers.proofs.Vocabulary.{Prefix, LockMode, Shared, Exclusive, Op, row_of, needs, transaction, Has, any_has, has_from, contains_from, Transaction, has_vote, Task, fixed_of, Event, Begin, Actor, server_at, run}
 use Rattle.law_run_recovers.proofs.Vocabulary.{table_of, WasPrefix, beginning, machine_of, CanBe, all_keep, no_lock, can_front, all_consistent, is_up, locks_asked, MayStart, asks_for, way_at, is_open_at, first_mode}
 use Rattle.law_one_table.proofs.Effects as effects
@@ -34,8 +34,7 @@ module _ (given : Opening) (events later : List Event) (agent t : ℕ) (caller :
 
   abbrev pub is_holder : ℕ → Option (Option ℕ) → Bool
   is_holder holder (Some (Some other)) = other == holder
-  is_holder holder (Some None) = false
-  is_holder holder None = false
+  is_holder holder other = false
 
   -- whose lock is in its way there, in some mode in which it asks
   abbrev pub met_by : ℕ → ℕ → ℕ → Bool

@@ -1,8 +1,8 @@
 -- Who goes alone is left alone where it asks; and who meets no lock is among locks that stay.
 use Rattle.law_run_recovers.proofs.Vocabulary.{◌≡◌, ⊎_elim, ℕ, ◌+◌, Bool, true, false, cond, List, [], ◌∷◌, ◌++◌, Option, Some, None, is_some, refl, sym, ap, subst, ◌∙◌, arith, ◌*◌, ◌==◌, ◌&&◌, ◌||◌, not, nat_lt, option_map, length}
 use Rattle.law_run_recovers.proofs.Vocabulary.{slice_get, slice_set, Contains, false≢true, and_parts, eqb-true, eq-eqb, false_from_ne_true, nat_tests, none-some, same_Some, Identity, Opening, LockMode, Op, Lock, Verdict, in_the_way}
-use Rattle.law_run_recovers.proofs.Vocabulary.{State, served, all_at, Job, Transaction, Fixed, Task, Doing, Running, RunningSweep, TransactionRun, After, GoesOn, Ends, execute, fixed_of, is_idle, has_sense, max_jobs, begins, begin}
-use Rattle.law_run_recovers.proofs.Vocabulary.{started, next_in, next_of, left, Event, Begin, Step, Crash, Return, Forget, Lack, Actor, World, server_at, actor_at, has_no_job, becomes, asks, steps_once, step, after, run, begins_now}
+use Rattle.law_run_recovers.proofs.Vocabulary.{State, served, all_at, Job, Transaction, Fixed, Task, Doing, Running, TransactionRun, After, GoesOn, Ends, execute, fixed_of, is_idle, has_sense, max_jobs, begins, begin}
+use Rattle.law_run_recovers.proofs.Vocabulary.{started, next_in, next_of, left, Event, Begin, Step, Forget, Lack, Actor, World, server_at, actor_at, has_no_job, becomes, asks, steps_once, step, after, run, begins_now}
 use Rattle.law_run_recovers.proofs.Vocabulary.{same_or, holds_of, Leaves, leaves_begin, agent_of, puts_in, CanBe, begins_job, IsOwnAt, nothing_in_the_way, with_job, at_has, none_own, no_lock, IsCalm, busy, can_front, starts}
 use Rattle.law_run_recovers.proofs.Vocabulary.{cache_valid, up_in, is_up, hinders, unhindered_from, GoesAlone, asks_for, way_in, is_way_met, in_its_way, runs, running_in, is_running, is_telling, begun_world, world_after, takes, of_up}
 use Rattle.law_run_recovers.proofs.Vocabulary.{robs, hinders_itself, StandsOpen, GoesUnmet, StandsStill, GoesAmongLocks, not-true, up_as}
@@ -26,10 +26,9 @@ pub is_calm : (given : Opening) (up : ℕ → Bool) (agent : ℕ) (w : World) (e
 is_calm given up agent w (Begin other job) calm = λ at. not_some (other == agent) (begins_job given w (Begin other job)) calm (eq-eqb other agent at)
 is_calm given up agent w (Step other) calm = λ actor asked is next.
     eqb-true other agent (its_turn (has_no_job (actor_at w other)) (other == agent) (is_some (step (fixed_of given) w (Step other)).done.served) (ap has_no_job is ∙ busy (fixed_of given) actor.agent.doing asked next) calm)
-is_calm given up agent w (Crash server) calm = absurd (false≢true (sym calm))
-is_calm given up agent w (Return server) calm = absurd (false≢true (sym calm))
 is_calm given up agent w (Forget other site) calm = tt
 is_calm given up agent w (Lack other why) calm = tt
+is_calm given up agent w other calm = absurd (false≢true (sym calm))
 
 -- ---- a server
 
@@ -62,9 +61,8 @@ busy_of t None is = absurd (false≢true is)
 busy_of t (Some actor) is = of actor.agent.doing is
   where
     of : (doing : Option Doing) → runs t doing ≡ true → is_idle doing ≡ false
-    of None is = absurd (false≢true is)
     of (Some (Running txn_run)) is = refl
-    of (Some (RunningSweep sweep_run)) is = absurd (false≢true is)
+    of other is = absurd (false≢true is)
 
 idle_asks : (fixed : Fixed) (w : World) (other : ℕ) (found : Option Actor) → has_no_job found ≡ true → (steps_once fixed w other found).done.served ≡ None
 idle_asks fixed w other None idle = refl
@@ -89,7 +87,6 @@ not_told : (a i : Bool) → (a && not i) ≡ false → i ≡ false → (a || fal
 not_told a i calm busy = grind (arith, nat_tests)
 
 free_hand : (given : Opening) (agent t : ℕ) (w : World) (event : Event) → hinders given agent w event ≡ false → is_running w agent t ≡ true → (hinders_itself given agent w event || robs given agent t w event) ≡ false
-free_hand given agent t w (Begin other job) calm running = refl
 free_hand given agent t w (Step other) calm running = of (has_no_job (actor_at w other)) refl
   where
     of : (b : Bool) → has_no_job (actor_at w other) ≡ b → (hinders_itself given agent w (Step other) || robs given agent t w (Step other)) ≡ false
@@ -101,10 +98,8 @@ free_hand given agent t w (Step other) calm running = of (has_no_job (actor_at w
     of false busy =
         own_served (other == agent) (is_some (step (fixed_of given) w (Step other)).done.served) (not (is_telling w agent)) (of_up (takes t) w (step (fixed_of given) w (Step other)).done.served)
         (it_is (has_no_job (actor_at w other)) (other == agent) (is_some (step (fixed_of given) w (Step other)).done.served) calm busy)
-free_hand given agent t w (Crash server) calm running = refl
-free_hand given agent t w (Return server) calm running = refl
-free_hand given agent t w (Forget other site) calm running = refl
 free_hand given agent t w (Lack other why) calm running = not_told (other == agent) (has_no_job (actor_at w agent)) calm (busy_of t (actor_at w agent) running)
+free_hand given agent t w another calm running = refl
 
 -- ---- no server comes
 

@@ -45,8 +45,7 @@ gathering start mode told = record { start = start; mode = mode; told = told; wi
 
 abbrev server_of : Next → ℕ
 server_of (Ask server asked) = server
-server_of (Current prefix dver members) = 0
-server_of (Short had wanting busy) = 0
+server_of other = 0
 
 -- it is told something only where it asks the first that is left
 pub first_left : (c : Collector) (server : ℕ) (asked : Asked) → next c ≡ Ask server asked → (rep : Representative) × (find (is_left c) (counted c).reps ≡ Some rep) × (rep.0 ≡ server)
@@ -69,13 +68,11 @@ at_current c prefix dver members is = of (nat_le (needed c) (got c)) (find (is_l
   where
     prefix_of : Next → Prefix
     prefix_of (Current prefix dver members) = prefix
-    prefix_of (Ask server asked) = c.start
-    prefix_of (Short had wanting busy) = c.start
+    prefix_of other = c.start
 
     dver_of : Next → ℕ
     dver_of (Current prefix dver members) = dver
-    dver_of (Ask server asked) = 0
-    dver_of (Short had wanting busy) = 0
+    dver_of other = 0
 
     of : (b : Bool) (found : Option Representative) → nat_le (needed c) (got c) ≡ b
         → cond b (Current (newest c.start c.told) (version c) (members_of (counted c) (is_member c))) (ask_or_short c found) ≡ Current prefix dver members → AtCurrent c prefix dver
@@ -178,32 +175,29 @@ module _ (fixed : Fixed) (world : World) (sight : Sight) (suite : ℕ) where
   -- as it is for one that wants more
   pub right_wider : (wanted more mode : LockMode) (server : ℕ) (said : Said) → serves more wanted ≡ true → RightSaid wanted mode server said → RightSaid more mode server said
   right_wider wanted more mode server (Held prefix dver) wide right = right
-  right_wider wanted more mode server (Busy holder) wide right = (closed_wider sight suite wanted more server wide right.0, right.1)
-  right_wider wanted more mode server Down wide right = (closed_wider sight suite wanted more server wide right.0, right.1)
+  right_wider wanted more mode server other wide right = (closed_wider sight suite wanted more server wide right.0, right.1)
 
   pub all_wider : (wanted more : LockMode) (told : List Told) → serves more wanted ≡ true → AllRight wanted told → AllRight more told
   all_wider wanted more [] wide right = tt
   all_wider wanted more (one ∷ told) wide right = (right_wider wanted more one.mode one.server one.said wide right.0, all_wider wanted more told wide right.1)
 
   newer_not : (before : Prefix) (said : Said) (n : ℕ) → nat_lt before.pver n ≡ false → nat_lt (newer before said).pver n ≡ false
-  newer_not before (Busy holder) n is = is
-  newer_not before Down n is = is
   newer_not before (Held prefix dver) n is = of (nat_lt before.pver prefix.pver) refl
     where
       of : (b : Bool) → nat_lt before.pver prefix.pver ≡ b → nat_lt (cond b prefix before).pver n ≡ false
       of true less = still_not before.pver prefix.pver n less is
       of false less = is
+  newer_not before other n is = is
 
   -- a server that said it held is open, and shows none that is newer than the newest since
   said_open : (wanted mode : LockMode) (server : ℕ) (said : Said) (before : Prefix) → RightSaid wanted mode server said → is_held said ≡ true
       → (sight.opens suite mode server ≡ true) × (nat_lt (newer before said).pver (shown server).pver ≡ false)
-  said_open wanted mode server (Busy holder) before right held = absurd (false≢true held)
-  said_open wanted mode server Down before right held = absurd (false≢true held)
   said_open wanted mode server (Held prefix dver) before right held = (right.0, of (nat_lt before.pver prefix.pver) refl)
     where
       of : (b : Bool) → nat_lt before.pver prefix.pver ≡ b → nat_lt (cond b prefix before).pver (shown server).pver ≡ false
       of true less = ap (λ (p : Prefix). nat_lt p.pver (shown server).pver) right.1 ∙ not_itself (shown server).pver
       of false less = ap (λ (p : Prefix). nat_lt before.pver p.pver) (sym right.1) ∙ less
+  said_open wanted mode server other before right held = absurd (false≢true held)
 
   pub held_open : (start : Prefix) (wanted : LockMode) (told : List Told) → AllRight wanted told → (mode : LockMode) (server : ℕ) → holds mode told server ≡ true
       → (sight.opens suite mode server ≡ true) × (nat_lt (newest start told).pver (shown server).pver ≡ false)
@@ -232,8 +226,7 @@ module _ (fixed : Fixed) (world : World) (sight : Sight) (suite : ℕ) where
       of : (b : Bool) (said : Said) → RightSaid wanted one.mode one.server said → telling.shown told server ≤ n → cond b (version_in said (telling.shown told server)) (telling.shown told server) ≤ n
       of false said now rest = rest
       of true (Held prefix dver) now rest = subst (λ d. d ≤ n) (sym now.2) (below one.mode one.server now.0)
-      of true (Busy holder) now rest = rest
-      of true Down now rest = rest
+      of true other now rest = rest
 
   pub greatest_below : (wanted : LockMode) (told : List Told) → AllRight wanted told → (n : ℕ) → AllBelow n → (servers : List ℕ) → greatest told servers ≤ n
   greatest_below wanted told right n below [] = omega arith
@@ -242,9 +235,8 @@ module _ (fixed : Fixed) (world : World) (sight : Sight) (suite : ℕ) where
 
   -- one that refused is closed
   said_closed : (wanted mode : LockMode) (server : ℕ) (said : Said) → RightSaid wanted mode server said → not (is_held said) ≡ true → sight.opens suite wanted server ≡ false
-  said_closed wanted mode server (Busy holder) right is = right.0
-  said_closed wanted mode server Down right is = right.0
   said_closed wanted mode server (Held prefix dver) right is = absurd (false≢true is)
+  said_closed wanted mode server other right is = right.0
 
   pub refused_closed : (wanted : LockMode) (told : List Told) → AllRight wanted told → (server : ℕ) → has_refused told server ≡ true → sight.opens suite wanted server ≡ false
   refused_closed wanted [] right server is = absurd (false≢true is)
@@ -268,8 +260,7 @@ module _ (fixed : Fixed) (world : World) (sight : Sight) (suite : ℕ) where
       of (Busy other) now None found same go =
           let pair = same_Some (one.server, other) (server, holder) same in
           subst (λ server. sight.met suite server holder ≡ true) (ap (λ (p : ℕ × ℕ). p.0) pair) (subst (λ holder. sight.met suite one.server holder ≡ true) (ap (λ (p : ℕ × ℕ). p.1) pair) now.1)
-      of (Held prefix dver) now None found same go = absurd (none-some (server, holder) same)
-      of Down now None found same go = absurd (none-some (server, holder) same)
+      of other now None found same go = absurd (none-some (server, holder) same)
 
   -- where none was, who refused is down
   pub refused_down : (wanted : LockMode) (told : List Told) → AllRight wanted told → first_busy told ≡ None → (server : ℕ) → has_refused told server ≡ true → is_up world server ≡ false
@@ -327,8 +318,6 @@ module _ (fixed : Fixed) (world : World) (sight : Sight) (suite : ℕ) where
   -- what is told is so
   pub told_is : (after : Next) (answer : Reply) (one : Told) → told_by after answer ≡ Some one → ((server : ℕ) (asked : Asked) → after ≡ Ask server asked → Answers asked server answer)
       → RightSaid one.mode one.mode one.server one.said × ((asked : Asked) × (after ≡ Ask one.server asked) × (mode_asked asked ≡ one.mode))
-  told_is (Current prefix dver members) answer one told so = absurd (none-some one told)
-  told_is (Short had wanting busy) answer one told so = absurd (none-some one told)
   told_is (Ask server asked) answer one told so = by answer (so server asked refl) told
     where
       Is : Told → Type 0
@@ -341,24 +330,15 @@ module _ (fixed : Fixed) (world : World) (sight : Sight) (suite : ℕ) where
       by reply.Down right is =
           subst Is (same_Some (record { server = server; mode = mode_asked asked; said = Down }) one (sym (ap (option_map (λ said. record { server = server; mode = mode_asked asked; said = said })) right.2) ∙ is))
           ((right.0, right.1), (asked, refl, refl))
-      by reply.Lost right is = absurd right
-      by (reply.Given dver content) right is = absurd right
-      by reply.Prepared right is = absurd right
-      by (reply.Verdict v) right is = absurd right
-      by reply.Done right is = absurd right
-      by (reply.Locked locks) right is = absurd right
+      by other right is = absurd right
+  told_is other answer one told so = absurd (none-some one told)
 
   -- whatever is answered rightly is heard
   pub hears : (asked : Asked) (server : ℕ) (answer : Reply) → Answers asked server answer → (said : Said) × (said_to asked answer ≡ Some said)
   hears asked server (reply.Held prefix dver) right = (Held prefix dver, refl)
   hears asked server (reply.Busy holder prepared) right = (Busy holder, refl)
   hears asked server reply.Down right = (Down, right.2)
-  hears asked server reply.Lost right = absurd right
-  hears asked server (reply.Given dver content) right = absurd right
-  hears asked server reply.Prepared right = absurd right
-  hears asked server (reply.Verdict v) right = absurd right
-  hears asked server reply.Done right = absurd right
-  hears asked server (reply.Locked locks) right = absurd right
+  hears asked server other right = absurd right
 
   -- ---- who is left
 

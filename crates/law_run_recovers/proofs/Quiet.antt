@@ -1,7 +1,7 @@
 -- Events that decide nothing change nothing that is in effect.
 use Rattle.law_run_recovers.proofs.Vocabulary.{◌≡◌, ℕ, Bool, true, false, cond, List, [], ◌∷◌, ◌++◌, append-nil, Option, Some, None, refl, sym, ap, subst, ◌∙◌, ◌==◌, ◌&&◌, list_all, false≢true, and_parts, Opening, is_exclusive, Part}
 use Rattle.law_run_recovers.proofs.Vocabulary.{Request, Reply, State, reply_of, is_full, answer_of, Job, Response, Replied, Lacked, Suites, Proposal, Doing, Running, RunningSweep, SweepRun, asked_now, is_decide, Taken, fixed_of}
-use Rattle.law_run_recovers.proofs.Vocabulary.{next_in, next_of, take, begin, Actor, opening, server_at, decisions, decisions_from, decisions_from-append, sweep_decides_none, Beginning, Aborted, effect, begun, Aim, Prepare, DecideRead}
+use Rattle.law_run_recovers.proofs.Vocabulary.{next_in, next_of, take, begin, Actor, opening, server_at, decisions, decisions_from, decisions_from-append, sweep_decides_none, Beginning, Aborted, effect, begun, Prepare, DecideRead}
 use Rattle.law_run_recovers.proofs.Vocabulary.{DecideRefused, DecideWrite, DecideElsewhere, Overrule, GiveUp, Finish, Lose, happens, May, Obeys, Inv, prepared_effect, finished_effect, decided_effect, part_of, moves, first_verdict}
 use Rattle.law_run_recovers.proofs.Vocabulary.{prepare_of, left_by_break, beginning, to_write, decision_by, fixed_in, aim_of, aims_once, aims, is_finishing, is_at_an_end, gives_up, tells_aborted, begun_events, own_events, home_in}
 use Rattle.law_run_recovers.proofs.Vocabulary.{begin_events, answered_events, asked_at_events, asked_events, lacks_for_events, lack_events, history_from, machine_of, history_of, run-append, AllKeepSides, copy_at, earlier, CanBe, all_keep}
@@ -31,18 +31,14 @@ abbrev pub AllQuiet : List Event → Type 0
 AllQuiet events = list_all is_quiet events ≡ true
 
 same_effect : (start : Beginning) (w : World) → Inv start w → (event : Event) → is_quiet event ≡ true → May start w event → (i : ℕ) → effect (happens start w event) i ≡ effect w i
-same_effect start w inv (Held j t exclusive) calm may i = refl
-same_effect start w inv (Upgrade j t) calm may i = refl
-same_effect start w inv (Aim t new) calm may i = refl
 same_effect start w inv (Prepare j t left) calm may i = prepared_effect w inv.sound j t left may i
 same_effect start w inv (DecideRead t set known) calm may i = absurd (false≢true calm)
 same_effect start w inv (DecideRefused t set known) calm may i = absurd (false≢true calm)
 same_effect start w inv (DecideWrite t set known new) calm may i = absurd (false≢true calm)
 same_effect start w inv (DecideElsewhere t verdict) calm may i = absurd (false≢true calm)
 same_effect start w inv (Overrule t) calm may i = decided_effect w t Aborted w.log may.undecided (λ j plan there of. refl) i
-same_effect start w inv (GiveUp t) calm may i = refl
 same_effect start w inv (Finish j t verdict) calm may i = finished_effect w inv.sound j t verdict may i
-same_effect start w inv (Lose keep) calm may i = refl
+same_effect start w inv other calm may i = refl
 
 same_effects : (start : Beginning) (w : World) → Inv start w → (events : List Event) → AllQuiet events → Obeys start w events → (i : ℕ) → effect (run start w events) i ≡ effect w i
 same_effects start w inv [] calm obeys i = refl
@@ -70,8 +66,7 @@ quiet_once z t suites (Some old) (Some outcome) = refl
 
 quiet_aims : (z t : ℕ) (before : Option Proposal) (after : Option Doing) → AllQuiet (aims z t before after)
 quiet_aims z t before (Some (Running txn_run)) = quiet_once z t txn_run.suites before (fixed_in txn_run.phase)
-quiet_aims z t before (Some (RunningSweep sweep_run)) = refl
-quiet_aims z t before None = refl
+quiet_aims z t before other = refl
 
 quiet_if : (t : ℕ) (b : Bool) → AllQuiet (cond b (GiveUp t ∷ []) [])
 quiet_if t true = refl
@@ -85,18 +80,15 @@ quiet_begun : (z : ℕ) (before after : Option Doing) → AllQuiet (begun_events
 quiet_begun z None (Some (Running txn_run)) =
     all_both (aims_once z txn_run.task.t txn_run.suites None (fixed_in txn_run.phase)) (cond (tells_aborted txn_run.phase) (GiveUp txn_run.task.t ∷ []) [])
     (quiet_once z txn_run.task.t txn_run.suites None (fixed_in txn_run.phase)) (quiet_if txn_run.task.t (tells_aborted txn_run.phase))
-quiet_begun z None (Some (RunningSweep sweep_run)) = refl
-quiet_begun z None None = refl
-quiet_begun z (Some doing) (Some (Running txn_run)) = refl
 quiet_begun z (Some doing) (Some (RunningSweep sweep_run)) = refl
-quiet_begun z (Some doing) None = refl
+quiet_begun z None other = refl
+quiet_begun z (Some doing) other = refl
 
 quiet_own : (z : ℕ) (before : Option Doing) (taken : Taken) → AllQuiet (own_events z before taken)
 quiet_own z (Some (Running before)) taken =
     all_both (aims z before.task.t (fixed_in before.phase) taken.agent.doing) (gives_up before.task.t (is_finishing before.phase) taken)
     (quiet_aims z before.task.t (fixed_in before.phase) taken.agent.doing) (quiet_end before.task.t (is_finishing before.phase) (is_at_an_end taken.agent.doing taken.ending))
-quiet_own z (Some (RunningSweep sweep_run)) taken = refl
-quiet_own z None taken = refl
+quiet_own z other taken = refl
 
 -- ---- what a server does that is asked for no decision
 

@@ -1,31 +1,20 @@
 -- Where all that begin but one only read nobody else is beside: so what is promised to one that writes and one that reads while others are beside is promised to them.
 use Rattle.law_run_recovers.proofs.Vocabulary.{Bool, Contains, List, ap, false, inl, inr, refl, subst, sym, true, ℕ, ⊎_elim, ◌++◌, ◌==◌, ◌||◌, ◌∙◌, ◌≡◌, ◌⊎◌, WriterOrReadersAreDecidedAt}
-use Rattle.law_run_recovers.proofs.Vocabulary.{and_parts, and_from, eq-eqb, eqb-true, false≢true, list_any, is_decided, IsNotDecided, Has, any_has, contains_from, has_any, has_from, Lock, decisions, run, EndedJob, Event, is_exclusive}
+use Rattle.law_run_recovers.proofs.Vocabulary.{and_parts, eqb-true, false≢true, list_any, is_decided, IsNotDecided, Has, any_has, contains_from, has_any, has_from, Lock, decisions, run, EndedJob, Event, is_exclusive}
 use Rattle.law_run_recovers.proofs.Vocabulary.{Opening, LockMode, Exclusive, Shared, Begun, clashes, its_asks, EndsThen, asks_for, ReadersMeet, only_reads, Always}
 use Rattle.law_run_recovers.specs.MeetsBeside.{GoesOn, ReaderMeetsBeside, ReadsToo, first_asks, meets_some}
+use Rattle.law_run_recovers.proofs.BesideNext.{clash_back}
 use Rattle.law_run_recovers.proofs.MeetAlone.{all_served, idle_unswept, lock_in, never_upset}
 use Rattle.law_run_recovers.proofs.MeetAsked.{all_asked}
 use Rattle.law_run_recovers.proofs.MeetBoth.{same_place}
 use Rattle.law_run_recovers.proofs.MeetCalm.{Calm, Ours}
-use Rattle.law_run_recovers.proofs.MeetCalmed.{AllCalm, AnySuite, asks_same, calm_of_all, calm_where, votes_same}
+use Rattle.law_run_recovers.proofs.MeetCalmed.{AnySuite, OnlyReads, asks_same, calm_where, votes_same}
 use Rattle.law_run_recovers.proofs.MeetEnds.{undecided_not}
 use Rattle.law_run_recovers.proofs.MeetReaders.{decided_one, reads_none, shared_where}
-use Rattle.law_run_recovers.proofs.MeetReads.{OnlyReads}
 
 -- what clashes with a lock is of its suite, and the lock clashes with it
 suite_of_clash : (one other : ℕ × LockMode) → clashes one other ≡ true → one.0 ≡ other.0
 suite_of_clash one other is = eqb-true one.0 other.0 (and_parts (one.0 == other.0) (is_exclusive one.1 || is_exclusive other.1) is).0
-
-clash_back : (one other : ℕ × LockMode) → clashes one other ≡ true → clashes other one ≡ true
-clash_back one other is =
-    and_from (other.0 == one.0) (is_exclusive other.1 || is_exclusive one.1) (eq-eqb other.0 one.0 (sym (suite_of_clash one other is)))
-    (turned (is_exclusive one.1) (is_exclusive other.1) (and_parts (one.0 == other.0) (is_exclusive one.1 || is_exclusive other.1) is).1)
-  where
-    turned : (a b : Bool) → (a || b) ≡ true → (b || a) ≡ true
-    turned true true is = refl
-    turned true false is = refl
-    turned false true is = refl
-    turned false false is = is
 
 -- who only reads clashes with no shared lock
 shares : (asked : List (ℕ × LockMode)) (y : ℕ) (mode : LockMode) → OnlyReads asked → mode ≡ Shared → list_any (clashes (y, mode)) asked ≡ true → ⊥
@@ -48,16 +37,13 @@ module _ (given : Opening) (events later : List Event) (writer reader : Begun gi
     none : IsNotDecided (decisions given (events ++ later)) writer.t
     none = undecided_not given events later goes writer job ends undecided
 
-    calm : AllCalm given events later
+    calm : Calm given events later AnySuite
     calm =
         calm_where given events later goes meets.idle meets.free (all_served given events later meets.unspoiled) (λ other.
         ⊎_elim
         (λ same. inl (λ d there is. none d there (is ∙ (same_place given events later other writer same).t)))
         (λ reads. inr (reads_none (its_asks given events later other) reads))
         (meets.others_read other))
-
-    any_calm : Calm given events later AnySuite
-    any_calm = calm_of_all given events later calm
 
     any_ours : (who : Begun given events later) → Ours given events later AnySuite who
     any_ours who = record { asks = λ z has. tt; served = all_served given events later meets.unspoiled who }
@@ -102,7 +88,7 @@ module _ (given : Opening) (events later : List Event) (writer reader : Begun gi
       suite = meets.suite;
       beside = λ before after server lock split has.
           let there = lock_in (run given (events ++ before)) server lock has in
-          let asked = all_asked given events later any_calm meets.idle meets.free any_ours before after split server there.0 there.1 lock there.2 in
+          let asked = all_asked given events later calm meets.idle meets.free any_ours before after split server there.0 there.1 lock there.2 in
           ⊎_elim
           (λ same. inl (asked.number ∙ (same_place given events later asked.who writer same).t))
           (λ other_reads. inr (inr (reads_too asked.who other_reads lock asked.asks)))

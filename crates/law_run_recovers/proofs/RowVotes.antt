@@ -90,12 +90,10 @@ module _ (W : Configuration → Type 0) where
 
   changed_in : (e : Edit) (row : Option Row) → Sets W e → (sets_votes e ≡ false → AreIn row) → AreIn (changed e row)
   changed_in (edit.Make made) row sets before r is = subst (λ (r : Row). W r.votes) (same_Some made r is) sets
-  changed_in (edit.SetAcl acl) None sets before r is = absurd (none-some r is)
-  changed_in (edit.SetVotes votes) None sets before r is = absurd (none-some r is)
-  changed_in (edit.SetContent content) None sets before r is = absurd (none-some r is)
   changed_in (edit.SetAcl acl) (Some row) sets before r is = subst (λ (r : Row). W r.votes) (same_Some (record row { acl = acl }) r is) (before refl row refl)
   changed_in (edit.SetVotes votes) (Some row) sets before r is = subst (λ (r : Row). W r.votes) (same_Some (record row { votes = votes }) r is) sets
   changed_in (edit.SetContent content) (Some row) sets before r is = subst (λ (r : Row). W r.votes) (same_Some (record row { content = content }) r is) (before refl row refl)
+  changed_in other None sets before r is = absurd (none-some r is)
 
   -- where some edit sets them, or where they are so before
   seen_in : (found : ℕ → Option Row) (edits : Edits) (z : ℕ) → AllSet W edits → (some sets_votes edits z ≡ false → AreIn (found z)) → AreIn (seen edits z (found z))
@@ -184,10 +182,9 @@ sets_valid table t caller ops c0 valid ended is =
     known = known_rows (knows_all table.service table.rows t caller ops)
 
     one : (e : Edit) (row : Option Row) → FitsRow e row → Sets IsValid e
-    one (edit.SetAcl acl) row fits = tt
     one (edit.SetVotes votes) row fits = fits
-    one (edit.SetContent content) row fits = tt
     one (edit.Make made) row fits = fits
+    one other row fits = tt
 
     go : (edits : Edits) → AllFit known edits → AllSet IsValid edits
     go [] all = tt

@@ -99,16 +99,7 @@ up_grows st request.Return up = same_grows st request.Return st.locks refl
 
 down_same : (st : State) (asked : Request) → (after_down st asked).locks ≡ st.locks
 down_same st (request.Poll t suite mode) = refl
-down_same st (request.Upgrade t suite) = refl
-down_same st (request.Fetch t suite) = refl
-down_same st (request.Prepare t parts) = refl
-down_same st (request.Decide t decision) = refl
-down_same st (request.Resolve t) = refl
-down_same st (request.Finish t verdict) = refl
-down_same st (request.Break t suite) = refl
-down_same st request.Locks = refl
-down_same st request.Crash = refl
-down_same st request.Return = refl
+down_same st other = refl
 
 after_grows : (st : State) (asked : Request) → Grows st asked (after st asked).locks
 after_grows st asked =
@@ -127,6 +118,7 @@ pub record Serves (w : World) (stepped : Stepped) : Type 0 where
   pub at : server_at w target ≡ Some st
   pub servers : stepped.world.servers ≡ slice_set w.servers target (served st asked)
   pub done : stepped.done.served ≡ Some (record { server = target; request = asked; reply = answer_of st asked })
+  pub room : is_full st asked ≡ false
 
 abbrev pub Serving : World → Stepped → Type 0
 Serving w stepped = (stepped.world.servers ≡ w.servers) ⊎ Serves w stepped
@@ -134,17 +126,17 @@ Serving w stepped = (stepped.world.servers ≡ w.servers) ⊎ Serves w stepped
 module _ (fixed : Fixed) (w : World) where
   answered_serves : (i : ℕ) (actor : Actor) (target : ℕ) (st : State) (asked : Stamped Request) → server_at w target ≡ Some st → Serving w (answered fixed w i actor st (serve target st asked))
   answered_serves i actor target st asked at =
-      elim (is_full st asked) as (λ b. Serving w (answered fixed w i actor st (cond b None (Some (record { server = target; request = asked; reply = answer_of st asked }))))) [
-        | true ↦ inl refl
-        | false ↦ inr (record { target = target; st = st; asked = asked; at = at; servers = refl; done = refl })
-      ]
+      elim (is_full st asked) as (λ b. is_full st asked ≡ b → Serving w (answered fixed w i actor st (cond b None (Some (record { server = target; request = asked; reply = answer_of st asked }))))) [
+        | true ↦ λ _. inl refl
+        | false ↦ λ room. inr (record { target = target; st = st; asked = asked; at = at; servers = refl; done = refl; room = room })
+      ] refl
 
   operated_serves : (target : ℕ) (st : State) (asked : Stamped Request) → server_at w target ≡ Some st → Serving w (operated w st (serve target st asked))
   operated_serves target st asked at =
-      elim (is_full st asked) as (λ b. Serving w (operated w st (cond b None (Some (record { server = target; request = asked; reply = answer_of st asked }))))) [
-        | true ↦ inl refl
-        | false ↦ inr (record { target = target; st = st; asked = asked; at = at; servers = refl; done = refl })
-      ]
+      elim (is_full st asked) as (λ b. is_full st asked ≡ b → Serving w (operated w st (cond b None (Some (record { server = target; request = asked; reply = answer_of st asked }))))) [
+        | true ↦ λ _. inl refl
+        | false ↦ λ room. inr (record { target = target; st = st; asked = asked; at = at; servers = refl; done = refl; room = room })
+      ] refl
 
   becomes_serves : (i : ℕ) (change : Agent → Agent) (found : Option Actor) → Serving w (becomes w i change found)
   becomes_serves i change None = inl refl

@@ -1,6 +1,6 @@
 -- What is so of any run: who runs has not ended, a number is its agent's, nobody asks a server to crash, and servers that are up stay so.
 use Rattle.law_run_recovers.proofs.Vocabulary.{◌≡◌, ◌⊎◌, inl, inr, ⊎_elim, ℕ, zero, suc, ◌+◌, true, false, List, [], ◌∷◌, ◌++◌, length, Option, Some, None, is_some, refl, sym, ap, subst, ◌∙◌, arith, ◌%◌, ◌==◌, slice_get, false≢true}
-use Rattle.law_run_recovers.proofs.Vocabulary.{and_parts, eqb-true, none-some, same_Some, Opening, IsAccepted, Request, State, Has, Job, Agent, fixed_of, EndedJob, Event, Begin, Step, Crash, Return, Forget, Lack, Actor, World, opening}
+use Rattle.law_run_recovers.proofs.Vocabulary.{and_parts, eqb-true, none-some, same_Some, Opening, IsAccepted, Request, State, Has, Job, Agent, fixed_of, EndedJob, Event, Begin, Step, Crash, Return, Actor, World, opening}
 use Rattle.law_run_recovers.proofs.Vocabulary.{server_at, actor_at, step, dones, done_in, outcomes, run, decisions, dones-append, outcomes-append, ended, names, may_sweep, number_of, begins_at, same_place, agents_ask_for_themselves}
 use Rattle.law_run_recovers.proofs.Vocabulary.{each_is_begun_once, holds_of, so_many, append_has_left, agent_of, agent_at, begins_job, is_crash, up_stays, with_job, AllServers, MayAsk, asks_servers, spoils, up_in, is_up, runs}
 use Rattle.law_run_recovers.proofs.Vocabulary.{running_in, is_running, takes}
@@ -51,36 +51,18 @@ names_one t u (request.Decide n decision) one other = sym (eqb-true n t one) ∙
 names_one t u (request.Resolve n) one other = sym (eqb-true n t one) ∙ eqb-true n u other
 names_one t u (request.Finish n v) one other = sym (eqb-true n t one) ∙ eqb-true n u other
 names_one t u (request.Break n suite) one other = sym (eqb-true n t one) ∙ eqb-true n u other
-names_one t u request.Locks one other = absurd (false≢true one)
-names_one t u request.Crash one other = absurd (false≢true one)
-names_one t u request.Return one other = absurd (false≢true one)
+names_one t u another one other = absurd (false≢true one)
 
 -- what takes something of a transaction names it
 pub takes_named : (t : ℕ) (st : State) (asked : Request) → takes t st asked ≡ true → names t asked ≡ true
 takes_named t st (request.Break named suite) is = (and_parts (named == t) _ is).0
 takes_named t st (request.Finish named v) is = (and_parts (named == t) _ is).0
 takes_named t st (request.Resolve named) is = (and_parts (named == t) _ is).0
-takes_named t st (request.Poll named suite mode) is = absurd (false≢true is)
-takes_named t st (request.Upgrade named suite) is = absurd (false≢true is)
-takes_named t st (request.Fetch named suite) is = absurd (false≢true is)
-takes_named t st (request.Prepare named parts) is = absurd (false≢true is)
-takes_named t st (request.Decide named decision) is = absurd (false≢true is)
-takes_named t st request.Locks is = absurd (false≢true is)
-takes_named t st request.Crash is = absurd (false≢true is)
-takes_named t st request.Return is = absurd (false≢true is)
+takes_named t st other is = absurd (false≢true is)
 
 never_crash : (t : ℕ) (asked : Request) → (names t asked ≡ true) ⊎ (may_sweep asked ≡ true) → is_crash asked ≡ false
 never_crash t request.Crash so = absurd (⊎_elim false≢true false≢true so)
-never_crash t (request.Poll named suite mode) so = refl
-never_crash t (request.Upgrade named suite) so = refl
-never_crash t (request.Fetch named suite) so = refl
-never_crash t (request.Prepare named parts) so = refl
-never_crash t (request.Decide named decision) so = refl
-never_crash t (request.Resolve named) so = refl
-never_crash t (request.Finish named v) so = refl
-never_crash t (request.Break named suite) so = refl
-never_crash t request.Locks so = refl
-never_crash t request.Return so = refl
+never_crash t other so = refl
 
 module _ (given : Opening) (accepted : IsAccepted given) where
   -- a number's rest by 64 is its agent
@@ -121,9 +103,7 @@ module _ (given : Opening) (accepted : IsAccepted given) where
           ⊎_elim (λ self. never_crash self.task.t asked.1 (inl self.named)) (λ sweeps. never_crash 0 asked.1 (inr sweeps.swept)) (agents_ask_for_themselves given accepted all i actor asked.0 asked.1 is next)
       may (Crash server) none = absurd (none server refl)
       may (Return server) none = refl
-      may (Begin i job) none = tt
-      may (Forget i site) none = tt
-      may (Lack i why) none = tt
+      may other none = tt
 
   pub up_next : (all : List Event) (event : Event) → spoils given (run given all) event ≡ false → AllUp (run given all) → AllUp (step (fixed_of given) (run given all) event).world
   up_next all event calm up = up_unless all event (λ server is. false≢true (sym calm ∙ ap (spoils given (run given all)) is)) up

@@ -1,17 +1,54 @@
 -- What an open server has stored of a suite stands still, unless something is taken from the transaction to which it is open.
-use Rattle.law_run_recovers.proofs.Vocabulary.{◌≡◌, ⊎_elim, ℕ, Bool, true, false, cond, Option, Some, None, refl, sym, ap, ◌∙◌, arith, ◌==◌, ◌&&◌, ◌||◌, not, option_map, slice_get, slice_set, list_any, nat_cmp, false≢true, eqb-true}
-use Rattle.law_run_recovers.proofs.Vocabulary.{eq-eqb, nat_tests, same_Some, get, LockMode, Exclusive, is_exclusive, Lock, AuditItem, Verdict, Request, Intention, IsConsistent, HasPreparedLock, conflicts, in_the_way, has_lock}
-use Rattle.law_run_recovers.proofs.Vocabulary.{with_prepared, copy_of, copy_in, left_by, with_copies, finished, intended, State, record_of, after_locking, after_poll, after_record, after_up, after_down, prepares, is_answered}
-use Rattle.law_run_recovers.proofs.Vocabulary.{verdict_of, audit_of, served, Has, has_from, has_any, find_none, copy_in-with_copies, Fixed, Event, World, server_at, step, same_or, puts_in, is_open_way, way_in}
-use Rattle.rep_core.specs.declared.reply.Verdict.TheVariants as verdict
+use Rattle.law_run_recovers.proofs.Vocabulary.{◌≡◌, ⊎_elim, ℕ, Bool, true, false, cond, Option, Some, None, refl, sym, ap, subst, ◌∙◌, arith, ◌==◌, ◌&&◌, ◌||◌, not, option_map, slice_get, slice_set, list_any, nat_cmp, false≢true, eqb-true}
+use Rattle.law_run_recovers.proofs.Vocabulary.{eq-eqb, nat_tests, same_Some, get, LockMode, is_exclusive, Lock, Verdict, Request, Intention, IsConsistent, HasPreparedLock, conflicts, in_the_way}
+use Rattle.law_run_recovers.proofs.Vocabulary.{copy_of, left_by, finished, State, is_answered, Ways, by_request, room, Stepped}
+use Rattle.law_run_recovers.proofs.Vocabulary.{served, Has, has_from, has_any, find_none, copy_in-with_copies, Fixed, Event, World, server_at, step, same_or, puts_in, is_open_way, way_in}
 use Rattle.rep_core.specs.declared.request.Request.TheVariants as request
 use Rattle.rep_core.specs.Store.{in_effect}
-use Rattle.rep_core.specs.Service.{after}
 use Rattle.law_run_recovers.proofs.Serves.{Serves, event_serves}
 
 -- a Finish of the transaction finds no lock of it
 abbrev pub Spares : ℕ → State → Request → Type 0
 Spares t st asked = (named : ℕ) (v : Verdict) → asked ≡ request.Finish named v → ((named == t) && list_any (λ (lock : Lock). lock.t == t) st.locks) ≡ false
+
+-- ---- a copy, whatever is asked
+
+-- what is finished there, and answered, leaves the copy of a suite
+abbrev pub Leaves : State → ℕ → Request → Type 0
+Leaves st z asked = (t : ℕ) (v : Verdict) → asked ≡ request.Finish t v → is_answered v ≡ true → st.up ≡ true → copy_of (finished t true st.store) z ≡ copy_of st.store z
+
+finish_leaves : (st : State) (z t : ℕ) (v : Verdict) → st.up ≡ true → Leaves st z (request.Finish t v) → copy_of (finished t (is_answered v) st.store) z ≡ copy_of st.store z
+finish_leaves st z t v up leaves = elim (is_answered v) as (λ b. is_answered v ≡ b → copy_of (finished t b st.store) z ≡ copy_of st.store z) [ true ↦ λ is. leaves t v refl is up | false ↦ λ _. refl ] refl
+
+-- so it stays: nothing else changes it
+pub copy_ways : (st : State) (z : ℕ) → Ways st (λ asked new. Leaves st z asked → copy_of new.store z ≡ copy_of st.store z)
+copy_ways st z = record {
+  same = λ asked leaves. refl;
+  poll = λ t suite mode free leaves. refl;
+  upgrade = λ t suite has free leaves. refl;
+  prepare = λ t parts may room leaves. refl;
+  decide = λ t decision free leaves. refl;
+  resolve = λ t free leaves. refl;
+  finish = λ t v up leaves. finish_leaves st z t v up leaves;
+  break = λ t suite leaves. refl;
+  crash = λ leaves. refl;
+  return = λ leaves. refl;
+}
+
+pub copy_served : {w : World} {stepped : Stepped} (it : Serves w stepped) (z : ℕ) → Leaves it.st z it.asked.value → copy_of (served it.st it.asked).store z ≡ copy_of it.st.store z
+copy_served it z leaves = by_request it.st _ (copy_ways it.st z) it.asked.value (room it.st it.asked it.room) leaves
+
+-- what is finished of a transaction that intends nothing there leaves it
+pub finished_none : (st : State) (t z : ℕ) → IsConsistent st → ((intention : Intention) → get nat_cmp st.store.intentions z ≡ Some intention → intention.t ≡ t → ⊥) → copy_of (finished t true st.store) z ≡ copy_of st.store z
+finished_none st t z is none = copy_in-with_copies st.store.c0 t st.store.intentions st.store.copies z is.sound.rising ∙ of (get nat_cmp st.store.intentions z) refl
+  where
+    of : (found : Option Intention) → get nat_cmp st.store.intentions z ≡ found → in_effect found (λ u. u == t) (copy_of st.store z) ≡ copy_of st.store z
+    of None there = refl
+    of (Some intention) there = by (intention.t == t) refl
+      where
+        by : (b : Bool) → (intention.t == t) ≡ b → cond b (left_by intention.take (copy_of st.store z)) (copy_of st.store z) ≡ copy_of st.store z
+        by false apart = refl
+        by true same = absurd (none intention there (eqb-true intention.t t same))
 
 -- ---- an intention whose lock would be in the way
 
@@ -41,63 +78,6 @@ module _ (st : State) (consistent : IsConsistent st) (t z : ℕ) (mode : LockMod
           (sym (find_none (conflicts t z mode) st.locks beside.lock free has)
           ∙ in_conflict t z mode beside.lock beside.on_it (named_so named t beside.lock.t apart (beside.of_it ∙ same)) beside.exclusive))
 
-  finish_keeps : (named : ℕ) (v : Verdict) → ((named == t) && list_any (λ (lock : Lock). lock.t == t) st.locks) ≡ false → copy_of (finished named (is_answered v) st.store) z ≡ copy_of st.store z
-  finish_keeps named v calm =
-      elim (is_answered v) as (λ b. copy_in st.store.c0 (cond b (with_copies st.store.c0 named st.store.intentions st.store.copies) st.store.copies) z ≡ copy_in st.store.c0 st.store.copies z) [
-        | true ↦ copy_in-with_copies st.store.c0 named st.store.intentions st.store.copies z consistent.sound.rising ∙ of (get nat_cmp st.store.intentions z) refl
-        | false ↦ refl
-      ]
-    where
-      of : (found : Option Intention) → get nat_cmp st.store.intentions z ≡ found → in_effect found (λ u. u == named) (copy_in st.store.c0 st.store.copies z) ≡ copy_in st.store.c0 st.store.copies z
-      of None is = refl
-      of (Some intention) is = by (intention.t == named) refl
-        where
-          by : (b : Bool) → (intention.t == named) ≡ b → cond b (left_by intention.take (copy_in st.store.c0 st.store.copies z)) (copy_in st.store.c0 st.store.copies z) ≡ copy_in st.store.c0 st.store.copies z
-          by false other = refl
-          by true same = absurd (false≢true (sym calm ∙ whose intention is named (eqb-true intention.t named same)))
-
-  locking_keeps : (other : Option Lock) (named suite : ℕ) (m : LockMode) → copy_of (after_locking other named suite m st).store z ≡ copy_of st.store z
-  locking_keeps None named suite m = refl
-  locking_keeps (Some other) named suite m = refl
-
-  record_keeps : (old : Option Verdict) (named : ℕ) (v : Verdict) (item : Option AuditItem) → copy_of (after_record old named v item st).store z ≡ copy_of st.store z
-  record_keeps None named v item = refl
-  record_keeps (Some old) named v item = refl
-
-  up_keeps : (asked : Request) → Spares t st asked → copy_of (after_up st asked).store z ≡ copy_of st.store z
-  up_keeps (request.Poll named suite m) calm = locking_keeps (in_the_way named suite m st.locks) named suite m
-  up_keeps (request.Upgrade named suite) calm =
-      elim (has_lock named suite st.locks) as (λ b. copy_of (cond b (after_poll st named suite Exclusive) st).store z ≡ copy_of st.store z)
-      [ true ↦ locking_keeps (in_the_way named suite Exclusive st.locks) named suite Exclusive | false ↦ refl ]
-  up_keeps (request.Fetch named suite) calm = refl
-  up_keeps (request.Prepare named parts) calm =
-      elim (prepares st named parts) as (λ b. copy_of (cond b (record st { store = intended named parts st.store; locks = with_prepared named parts st.locks }) st).store z ≡ copy_of st.store z) [ true ↦ refl | false ↦ refl ]
-  up_keeps (request.Decide named decision) calm = record_keeps (record_of st named) named (verdict_of decision) (audit_of named decision)
-  up_keeps (request.Resolve named) calm = record_keeps (record_of st named) named verdict.Aborted None
-  up_keeps (request.Finish named v) calm = finish_keeps named v (calm named v refl)
-  up_keeps (request.Break named suite) calm = refl
-  up_keeps request.Locks calm = refl
-  up_keeps request.Crash calm = refl
-  up_keeps request.Return calm = refl
-
-  down_keeps : (asked : Request) → copy_of (after_down st asked).store z ≡ copy_of st.store z
-  down_keeps (request.Poll named suite m) = refl
-  down_keeps (request.Upgrade named suite) = refl
-  down_keeps (request.Fetch named suite) = refl
-  down_keeps (request.Prepare named parts) = refl
-  down_keeps (request.Decide named decision) = refl
-  down_keeps (request.Resolve named) = refl
-  down_keeps (request.Finish named v) = refl
-  down_keeps (request.Break named suite) = refl
-  down_keeps request.Locks = refl
-  down_keeps request.Crash = refl
-  down_keeps request.Return = refl
-
-  -- where nothing is in the way of the transaction, and nothing is taken from it, the copy stays
-  pub copy_stands : (asked : Request) → (st.up ≡ true → Spares t st asked) → copy_of (after st asked).store z ≡ copy_of st.store z
-  copy_stands asked calm =
-      elim (st.up) as (λ b. st.up ≡ b → copy_of (cond b (after_up st asked) (after_down st asked)).store z ≡ copy_of st.store z) [ true ↦ λ up. up_keeps asked (calm up) | false ↦ λ down. down_keeps asked ] refl
-
 -- ---- in a world
 
 -- an open server has nothing in the way
@@ -126,8 +106,8 @@ module _ (fixed : Fixed) (w : World) (event : Event) (server t z : ℕ) (mode : 
           (λ (here : server ≡ serves.target).
           let same : serves.st ≡ st = same_Some serves.st st (sym serves.at ∙ ap (server_at w) (sym here) ∙ at) in
           let is : served serves.st serves.asked ≡ new = same_Some (served serves.st serves.asked) new (sym puts.here ∙ ap (slice_get (slice_set w.servers serves.target (served serves.st serves.asked))) (sym here) ∙ there) in
-          ap (λ (st : State). copy_of st.store z) (sym is)
-          ∙ ap (λ st. copy_of (after st serves.asked.value).store z) same
-          ∙ copy_stands st consistent t z mode free serves.asked.value (spares serves (sym here)))
+          let leaves : Leaves st z serves.asked.value =
+          λ named v asks answered up. finished_none st named z consistent (λ intention there of_it. false≢true (sym (spares serves (sym here) up named v asks) ∙ whose st consistent t z mode free intention there named of_it)) in
+          ap (λ (st : State). copy_of st.store z) (sym is) ∙ copy_served serves z (subst (λ st. Leaves st z serves.asked.value) (sym same) leaves) ∙ ap (λ (st : State). copy_of st.store z) same)
           (λ apart. ap (λ (st : State). copy_of st.store z) (same_Some new st (sym there ∙ puts.apart server apart ∙ at)))
           (same_or server serves.target)

@@ -1,7 +1,7 @@
 -- What the course of a transaction stands on, be it among locks that stay, or told what it would have been told as it began.
 use Rattle.law_run_recovers.proofs.Vocabulary.{◌≡◌, ℕ, Bool, true, false, cond, List, [], ◌∷◌, ◌++◌, append_assoc, Option, Some, None, refl, sym, ap, subst, ◌∙◌, arith, ◌==◌, ◌&&◌, ◌||◌, not, slice_get, false≢true, and_parts, eqb-true}
 use Rattle.law_run_recovers.proofs.Vocabulary.{nat_tests, none-some, same_Some, Identity, Opening, Op, Lock, Request, Stamped, State, after_up, after_down, is_full, served, answer_of, Has, any_has, Transaction, Fixed, fixed_of, next_of}
-use Rattle.law_run_recovers.proofs.Vocabulary.{Served, Event, Begin, Step, Crash, Return, Forget, Lack, Actor, World, server_at, actor_at, operates, operated, step, run, CanBe, begins_job, puts_in, up_in, is_up, locks_in, locks_at}
+use Rattle.law_run_recovers.proofs.Vocabulary.{Served, Event, Begin, Step, Crash, Actor, World, server_at, actor_at, operates, operated, step, run, CanBe, begins_job, puts_in, up_in, is_up, locks_in, locks_at}
 use Rattle.law_run_recovers.proofs.Vocabulary.{AreNear, asks_for, running_in, is_running, is_telling, begun_world, world_after, up_and, of_up, robs, hinders_itself, GoesAmongLocks, AsAtItsBegin, ToldAsAtItsBegin, bereaves, drops}
 use Rattle.law_run_recovers.proofs.Vocabulary.{everywhere, and_right}
 use Rattle.rep_core.specs.declared.request.Request.TheVariants as request
@@ -126,12 +126,8 @@ module _ (given : Opening) (events later : List Event) (agent t : ℕ) (caller :
 
     pub among_kept : (so_far rest : List Event) (event : Event) → later ≡ so_far ++ event ∷ rest → IsAtWork (world_after given events agent caller site ops so_far) agent t → Answered so_far
         → bereaves given agent t (world_after given events agent caller site ops so_far) event ≡ false
-    among_kept so_far rest (Begin i job) split work answered = refl
-    among_kept so_far rest (Step i) split work answered = refl
     among_kept so_far rest (Crash server) split work answered = kept_so so_far rest server split work answered
-    among_kept so_far rest (Return server) split work answered = refl
-    among_kept so_far rest (Forget i site') split work answered = refl
-    among_kept so_far rest (Lack i why) split work answered = refl
+    among_kept so_far rest other split work answered = refl
 
     abbrev pub steady : GoesSteadily given events later agent t caller site ops actor
     steady = record {

@@ -36,43 +36,32 @@ record_stays st asked t other third = by_step st (StaysRecorded st t) (record_wa
 
 -- a transaction that has not yet told how it ended
 abbrev pub IsOpenPhase : Phase → Type 0
-IsOpenPhase (Gathering number) = Unit {0}
-IsOpenPhase (Fetching number) = Unit {0}
-IsOpenPhase (Widening numbers granted) = Unit {0}
-IsOpenPhase (Preparing servers outcome) = Unit {0}
-IsOpenPhase (Deciding outcome) = Unit {0}
 IsOpenPhase (Finishing servers v ending) = ⊥
+IsOpenPhase other = Unit {0}
 
 abbrev pub IsOpen : Option Doing → Type 0
 IsOpen (Some (Running txn_run)) = IsOpenPhase txn_run.phase
-IsOpen (Some (RunningSweep sweep_run)) = ⊥
-IsOpen None = ⊥
+IsOpen other = ⊥
 
 -- what it asks then finishes nothing
 open_asks : (fixed : Fixed) (task : Task) (suites : Suites) (phase : Phase) (server : ℕ) (asked : Request) → request_in fixed task suites phase ≡ Some (server, asked) → IsOpenPhase phase → is_finish asked ≡ false
 open_asks fixed task suites (Gathering number) server asked is open' = asked_as is_finish false task number (suite_of suites number) server asked (λ mode. refl) refl is
 open_asks fixed task suites (Fetching number) server asked is open' = fetched_as is_finish false task number (suite_of suites number) server asked refl is
-open_asks fixed task suites (Widening [] granted) server asked is open' = cc
 open_asks fixed task suites (Widening (number ∷ left) granted) server asked is open' = asked_as is_finish false task number (suite_of suites number) server asked (λ mode. refl) refl is
-open_asks fixed task suites (Preparing [] outcome) server asked is open' = cc
 open_asks fixed task suites (Preparing (now ∷ left) outcome) server asked is open' = ap is_finish (sym (asks_same now server (request.Prepare task.t (parts_at suites (changes_of outcome) now)) asked is))
 open_asks fixed task suites (Deciding outcome) server asked is open' = ap is_finish (sym (asks_same (home_of fixed.service task.t) server (request.Decide task.t (decision_of task outcome)) asked is))
 open_asks fixed task suites (Finishing servers v ending) server asked is open' = absurd open'
+open_asks fixed task suites other server asked is open' = cc
 
 pub open_next : (fixed : Fixed) (doing : Option Doing) (asked : ℕ × Request) → next_in fixed doing ≡ Some asked → IsOpen doing → is_finish asked.1 ≡ false
 open_next fixed (Some (Running txn_run)) asked is open' = open_asks fixed txn_run.task txn_run.suites txn_run.phase asked.0 asked.1 is open'
-open_next fixed (Some (RunningSweep sweep_run)) asked is open' = absurd open'
-open_next fixed None asked is open' = absurd open'
+open_next fixed other asked is open' = absurd open'
 
 -- and who asks anything else than to finish is open
 closed_asks : (fixed : Fixed) (task : Task) (suites : Suites) (phase : Phase) (server : ℕ) (asked : Request) → request_in fixed task suites phase ≡ Some (server, asked) → is_finish asked ≡ false → IsOpenPhase phase
-closed_asks fixed task suites (Gathering number) server asked is other = tt
-closed_asks fixed task suites (Fetching number) server asked is other = tt
-closed_asks fixed task suites (Widening numbers granted) server asked is other = tt
-closed_asks fixed task suites (Preparing servers outcome) server asked is other = tt
-closed_asks fixed task suites (Deciding outcome) server asked is other = tt
 closed_asks fixed task suites (Finishing [] v ending) server asked is other = cc
 closed_asks fixed task suites (Finishing (now ∷ left) v ending) server asked is other = absurd (false≢true (sym other ∙ ap is_finish (sym (asks_same now server (request.Finish task.t v) asked is))))
+closed_asks fixed task suites another server asked is other = tt
 
 pub open_where : (fixed : Fixed) (txn_run : TransactionRun) (asked : ℕ × Request) → next_in fixed (Some (Running txn_run)) ≡ Some asked → is_finish asked.1 ≡ false → IsOpen (Some (Running txn_run))
 open_where fixed txn_run asked is other = closed_asks fixed txn_run.task txn_run.suites txn_run.phase asked.0 asked.1 is other
@@ -85,14 +74,11 @@ not_open task cache suites v ending (server ∷ servers) open' = open'
 was_open : (fixed : Fixed) (task : Task) (cache : Cache) (suites : Suites) (phase : Phase) (server : ℕ) (asked : Request) (response : Response)
     → IsOpen (left Running (after_response fixed (record { task = task; suites = suites; phase = phase }) cache server asked response).after) → IsOpenPhase phase
 was_open fixed task cache suites (Gathering number) server asked response open' = tt
-was_open fixed task cache suites (Fetching number) server asked response open' = tt
-was_open fixed task cache suites (Widening numbers granted) server asked response open' = tt
-was_open fixed task cache suites (Preparing servers outcome) server asked response open' = tt
-was_open fixed task cache suites (Deciding outcome) server asked response open' = tt
 was_open fixed task cache suites (Finishing [] v ending) server asked (Replied said) open' = open'
 was_open fixed task cache suites (Finishing [] v ending) server asked (Lacked lacked) open' = open'
 was_open fixed task cache suites (Finishing (now ∷ servers) v ending) server asked (Replied said) open' = not_open task cache suites v ending servers open'
 was_open fixed task cache suites (Finishing (now ∷ servers) v ending) server asked (Lacked lacked) open' = not_open task cache suites v ending servers open'
+was_open fixed task cache suites other server asked response open' = tt
 
 pub open_before : (fixed : Fixed) (agent : Agent) (response : Response) (doing : Option Doing) (asked : ℕ × Request) → next_in fixed doing ≡ Some asked → IsOpen (take_in fixed agent response doing (Some asked)).agent.doing → IsOpen doing
 open_before fixed agent response (Some (Running txn_run)) asked is open' = was_open fixed txn_run.task agent.cache txn_run.suites txn_run.phase asked.0 asked.1 response open'
@@ -108,15 +94,13 @@ no_decide : (fixed : Fixed) (task : Task) (cache : Cache) (suites : Suites) (pha
     → IsOpen (left Running (after_response fixed (record { task = task; suites = suites; phase = phase }) cache server asked response).after) → is_decide asked ≡ false
 no_decide fixed task cache suites (Gathering number) server asked response is open' = asked_as is_decide false task number (suite_of suites number) server asked (λ mode. refl) refl is
 no_decide fixed task cache suites (Fetching number) server asked response is open' = fetched_as is_decide false task number (suite_of suites number) server asked refl is
-no_decide fixed task cache suites (Widening [] granted) server asked response is open' = cc
 no_decide fixed task cache suites (Widening (number ∷ left) granted) server asked response is open' = asked_as is_decide false task number (suite_of suites number) server asked (λ mode. refl) refl is
-no_decide fixed task cache suites (Preparing [] outcome) server asked response is open' = cc
 no_decide fixed task cache suites (Preparing (now ∷ left) outcome) server asked response is open' = ap is_decide (sym (asks_same now server (request.Prepare task.t (parts_at suites (changes_of outcome) now)) asked is))
 no_decide fixed task cache suites (Deciding outcome) server asked (Replied said) is open' =
     absurd (not_open task cache suites (verdict_in said verdict.Aborted) (ending_by (verdict_in said verdict.Aborted) (cause_of_abort said)) (locked_at suites) open')
 no_decide fixed task cache suites (Deciding outcome) server asked (Lacked lacked) is open' = absurd (not_open task cache suites verdict.Aborted (Undecided (lack_cause server lacked)) (locked_at suites) open')
-no_decide fixed task cache suites (Finishing [] v ending) server asked response is open' = cc
 no_decide fixed task cache suites (Finishing (now ∷ left) v ending) server asked response is open' = ap is_decide (sym (asks_same now server (request.Finish task.t v) asked is))
+no_decide fixed task cache suites other server asked response is open' = cc
 
 pub open_undecided : (fixed : Fixed) (agent : Agent) (response : Response) (doing : Option Doing) (asked : ℕ × Request) → next_in fixed doing ≡ Some asked → IsOpen (take_in fixed agent response doing (Some asked)).agent.doing
     → is_decide asked.1 ≡ false

@@ -1,6 +1,6 @@
 -- A transaction that is told as at its begin, though a lock came in its way and went, by computation. And all runs that the laws are about.
 use Rattle.law_run_recovers.proofs.Vocabulary.{◌≡◌, ℕ, Bool, true, false, [], ◌∷◌, ◌++◌, Option, Some, None, refl, sym, ap, ◌∙◌, ◌==◌, ◌&&◌, ◌||◌, not, and_parts, eqb-true, eq-eqb, Opening, LockMode, Exclusive, Request}
-use Rattle.law_run_recovers.proofs.Vocabulary.{State, copy_of, Transaction, fixed_of, next_of, owner, a, Event, Begin, Step, Crash, Return, Forget, Lack, Actor, World, server_at, actor_at, run, way_at, is_up, is_running, is_telling}
+use Rattle.law_run_recovers.proofs.Vocabulary.{State, copy_of, Transaction, fixed_of, next_of, owner, a, Event, Begin, Step, Actor, World, server_at, actor_at, run, way_at, is_up, is_running, is_telling}
 use Rattle.law_run_recovers.proofs.Vocabulary.{hinders_itself, robs, bereaves, begun_world, world_after, puts, not-true}
 use Rattle.rep_core.specs.declared.request.Request.TheVariants as request
 use Rattle.suite_prefix.specs.code.Equality.{same_prefix, same_prefix_decides}
@@ -43,15 +43,7 @@ module _ (given : Opening) (first : World) (agent t : ℕ) where
   told_is : (w : World) (server : ℕ) (asked : Request) → told_so w server asked ≡ true → told_as_first first w server asked
   told_is w server (request.Poll u suite mode) is = lock_is w server u suite mode is
   told_is w server (request.Upgrade u suite) is = lock_is w server u suite Exclusive is
-  told_is w server (request.Fetch u suite) is = tt
-  told_is w server (request.Prepare u parts) is = tt
-  told_is w server (request.Decide u decision) is = tt
-  told_is w server (request.Resolve u) is = tt
-  told_is w server (request.Finish u v) is = tt
-  told_is w server (request.Break u suite) is = tt
-  told_is w server request.Locks is = tt
-  told_is w server request.Crash is = tt
-  told_is w server request.Return is = tt
+  told_is w server other is = tt
 
   abbrev asks_then : Option Actor → Option (ℕ × Request)
   asks_then (Some actor) = next_of (fixed_of given) actor.agent
@@ -67,11 +59,7 @@ module _ (given : Opening) (first : World) (agent t : ℕ) where
 
   abbrev step_so : World → Event → Bool
   step_so w (Step i) = not ((i == agent) && works w) || as_first w (asks_then (actor_at w agent))
-  step_so w (Begin i job) = true
-  step_so w (Crash server) = true
-  step_so w (Return server) = true
-  step_so w (Forget i site) = true
-  step_so w (Lack i why) = true
+  step_so w other = true
 
   abbrev free_so : World → Event → Bool
   free_so w event = not (works w) || not (hinders_itself given agent w event || (robs given agent t w event || bereaves given agent t w event))

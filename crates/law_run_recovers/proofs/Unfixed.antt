@@ -37,29 +37,15 @@ module _ (st : State) (t : ℕ) where
   up_same (request.Poll u suite m) calm = locking_same (in_the_way u suite m st.locks) u suite m
   up_same (request.Upgrade u suite) calm =
       elim (has_lock u suite st.locks) as (λ b. record_of (cond b (after_poll st u suite Exclusive) st) t ≡ record_of st t) [ true ↦ locking_same (in_the_way u suite Exclusive st.locks) u suite Exclusive | false ↦ refl ]
-  up_same (request.Fetch u suite) calm = refl
   up_same (request.Prepare u parts) calm =
       elim (prepares st u parts) as (λ b. record_of (cond b (record st { store = intended u parts st.store; locks = with_prepared u parts st.locks }) st) t ≡ record_of st t) [ true ↦ refl | false ↦ refl ]
   up_same (request.Decide u decision) calm = record_same (record_of st u) u (verdict_of decision) (audit_of u decision) calm
   up_same (request.Resolve u) calm = record_same (record_of st u) u verdict.Aborted None calm
-  up_same (request.Finish u v) calm = refl
-  up_same (request.Break u suite) calm = refl
-  up_same request.Locks calm = refl
-  up_same request.Crash calm = refl
-  up_same request.Return calm = refl
+  up_same other calm = refl
 
   down_same : (asked : Request) → record_of (after_down st asked) t ≡ record_of st t
   down_same (request.Poll u suite m) = refl
-  down_same (request.Upgrade u suite) = refl
-  down_same (request.Fetch u suite) = refl
-  down_same (request.Prepare u parts) = refl
-  down_same (request.Decide u decision) = refl
-  down_same (request.Resolve u) = refl
-  down_same (request.Finish u v) = refl
-  down_same (request.Break u suite) = refl
-  down_same request.Locks = refl
-  down_same request.Crash = refl
-  down_same request.Return = refl
+  down_same other = refl
 
   pub after_same : (asked : Request) → (st.up ≡ true → fixes t asked ≡ false) → record_of (after st asked) t ≡ record_of st t
   after_same asked calm = of st.up refl
@@ -106,15 +92,7 @@ module _ (given : Opening) (accepted : IsAccepted given) (all : List Event) (age
         by_value : (asked : Request) → what.request.value ≡ asked → ((u : ℕ) (decision : _) → asked ≡ request.Decide u decision → (u == t) ≡ false) → fixes t asked ≡ false
         by_value (request.Decide u decision) is decides = decides u decision refl
         by_value (request.Resolve u) is decides = unresolved st u (none what.server st at) (ap (takes t st) (sym is) ∙ untaken)
-        by_value (request.Poll u suite mode) is decides = refl
-        by_value (request.Upgrade u suite) is decides = refl
-        by_value (request.Fetch u suite) is decides = refl
-        by_value (request.Prepare u parts) is decides = refl
-        by_value (request.Finish u v) is decides = refl
-        by_value (request.Break u suite) is decides = refl
-        by_value request.Locks is decides = refl
-        by_value request.Crash is decides = refl
-        by_value request.Return is decides = refl
+        by_value other is decides = refl
 
         of : (same : Event) → event ≡ same → (step (fixed_of given) w event).done.served ≡ Some what → fixes t what.request.value ≡ false
         of (Begin i job) is done = absurd (none-some what (sym (becomes_none w i (λ agent. begin (fixed_of given) agent job) (actor_at w i)) ∙ ap (λ event. (step (fixed_of given) w event).done.served) (sym is) ∙ done))

@@ -107,51 +107,19 @@ module _ (z t i : ℕ) (w : World) (st : State) (shows : ShowsAt z st w i) (stan
     moves_stand request.Locks said calm = plain request.Locks said (spare_moves z home decision spares i w request.Locks said refl)
     moves_stand request.Return said calm = plain request.Return said (spare_moves z home decision spares i w request.Return said refl)
     moves_stand (request.Finish u v) reply.Done calm = finish_stands u v (ended_as v) (calm refl).0
-    moves_stand (request.Finish u v) (reply.Held prefix dver) calm = stands
-    moves_stand (request.Finish u v) (reply.Busy holder prepared) calm = stands
-    moves_stand (request.Finish u v) reply.Lost calm = stands
-    moves_stand (request.Finish u v) (reply.Given dver content) calm = stands
-    moves_stand (request.Finish u v) reply.Prepared calm = stands
-    moves_stand (request.Finish u v) (reply.Verdict said) calm = stands
-    moves_stand (request.Finish u v) (reply.Locked locks) calm = stands
-    moves_stand (request.Finish u v) reply.Down calm = stands
     moves_stand (request.Break u suite) reply.Done calm = of (z == suite) refl
       where
         of : (b : Bool) → (z == suite) ≡ b → Stands (run start w (cond b (machine.Lose (left_by_break w i u) ∷ []) [])) t
         of true same = break_stands u (ap (λ suite. takes t st (request.Break u suite)) (eqb-true z suite same) ∙ (calm refl).0)
         of false other = stands
-    moves_stand (request.Break u suite) (reply.Held prefix dver) calm = stands
-    moves_stand (request.Break u suite) (reply.Busy holder prepared) calm = stands
-    moves_stand (request.Break u suite) reply.Lost calm = stands
-    moves_stand (request.Break u suite) (reply.Given dver content) calm = stands
-    moves_stand (request.Break u suite) reply.Prepared calm = stands
-    moves_stand (request.Break u suite) (reply.Verdict said) calm = stands
-    moves_stand (request.Break u suite) (reply.Locked locks) calm = stands
-    moves_stand (request.Break u suite) reply.Down calm = stands
     moves_stand request.Crash reply.Done calm = crash_stands (calm refl).1
-    moves_stand request.Crash (reply.Held prefix dver) calm = stands
-    moves_stand request.Crash (reply.Busy holder prepared) calm = stands
-    moves_stand request.Crash reply.Lost calm = stands
-    moves_stand request.Crash (reply.Given dver content) calm = stands
-    moves_stand request.Crash reply.Prepared calm = stands
-    moves_stand request.Crash (reply.Verdict said) calm = stands
-    moves_stand request.Crash (reply.Locked locks) calm = stands
-    moves_stand request.Crash reply.Down calm = stands
+    moves_stand another other calm = stands
 
 -- ---- in a world
 
 down_not_done : (asked : Request) → (asked ≡ request.Return → ⊥) → reply_down asked ≡ reply.Done → ⊥
-down_not_done (request.Poll u suite mode) other is = cc
-down_not_done (request.Upgrade u suite) other is = cc
-down_not_done (request.Fetch u suite) other is = cc
-down_not_done (request.Prepare u parts) other is = cc
-down_not_done (request.Decide u decided) other is = cc
-down_not_done (request.Resolve u) other is = cc
-down_not_done (request.Finish u v) other is = cc
-down_not_done (request.Break u suite) other is = cc
-down_not_done request.Locks other is = cc
-down_not_done request.Crash other is = cc
 down_not_done request.Return other is = other refl
+down_not_done another other is = cc
 
 -- nothing is taken by what a server is asked that is up
 abbrev pub Untaken : ℕ → State → Request → Type 0
@@ -162,17 +130,11 @@ untaken_done t st asked untaken = of st.up refl asked untaken
   where
     of : (b : Bool) → st.up ≡ b → (asked : Request) → Untaken t st asked → cond b (reply_up st asked) (reply_down asked) ≡ reply.Done → (takes t st asked ≡ false) × (drops t st asked ≡ false)
     of true up asked untaken is = untaken up
-    of false down request.Return untaken is = (refl, refl)
-    of false down (request.Poll u suite mode) untaken is = (refl, refl)
-    of false down (request.Upgrade u suite) untaken is = (refl, refl)
-    of false down (request.Fetch u suite) untaken is = (refl, refl)
-    of false down (request.Prepare u parts) untaken is = (refl, refl)
-    of false down (request.Decide u decided) untaken is = (refl, refl)
-    of false down request.Locks untaken is = (refl, refl)
     of false down (request.Resolve u) untaken is = absurd (down_not_done (request.Resolve u) (λ same. cc) is)
     of false down (request.Finish u v) untaken is = absurd (down_not_done (request.Finish u v) (λ same. cc) is)
     of false down (request.Break u suite) untaken is = absurd (down_not_done (request.Break u suite) (λ same. cc) is)
     of false down request.Crash untaken is = absurd (down_not_done request.Crash (λ same. cc) is)
+    of false down other untaken is = (refl, refl)
 
 -- In an event what is served takes nothing of a transaction.
 abbrev pub TakesNothing : Opening → ℕ → worlds.World → Event → Type 0

@@ -1,5 +1,5 @@
 -- Events that give no votes of their own give valid ones.
-use Rattle.law_run_recovers.proofs.Vocabulary.{◌≡◌, Bool, true, false, List, [], ◌∷◌, Some, None, AllByRecursion, list_all, false≢true, and_parts, Action, Op, Transaction, Sweep, Event, Begin, Step, Crash, Return, Forget, Lack, GivesValidVotes}
+use Rattle.law_run_recovers.proofs.Vocabulary.{◌≡◌, Bool, true, false, List, [], ◌∷◌, Some, None, AllByRecursion, list_all, false≢true, and_parts, Action, Op, Transaction, Event, Begin, GivesValidVotes}
 use Rattle.law_run_recovers.proofs.Vocabulary.{EventGivesValidVotes}
 use Rattle.file_ops.specs.declared.operation.Action.TheVariants as action
 
@@ -25,9 +25,4 @@ event_sets_none _ = true
 
 pub valid_event : (event : Event) → event_sets_none event ≡ true → EventGivesValidVotes event
 valid_event (Begin number (Transaction caller site ops)) is = all_by (λ (op : Op). GivesValidVotes op.action) (λ op. sets_none op.action) (λ op. valid_action op.action) ops is
-valid_event (Begin number (Sweep server)) is = tt
-valid_event (Step number) is = tt
-valid_event (Crash server) is = tt
-valid_event (Return server) is = tt
-valid_event (Forget number site) is = tt
-valid_event (Lack number why) is = tt
+valid_event other is = tt

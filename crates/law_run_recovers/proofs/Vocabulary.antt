@@ -137,7 +137,7 @@ pub use Rattle.rep_core.proofs.Intentions.{copy_in-with_copies}
 pub use Rattle.rep_core.proofs.Members.{Has, all_at, any_has, between_has, contains_from, filter_has, find_none, has_any, has_between, has_filter, has_from, has_map, map_has}
 pub use Rattle.rep_core.proofs.Records.{record_apart}
 pub use Rattle.rep_core.proofs.Stays.{serves_itself}
-pub use Rattle.rep_core.proofs.Ways.{Ways, by_step}
+pub use Rattle.rep_core.proofs.Ways.{Ways, by_request, by_step, room}
 pub use Rattle.rep_core.specs.Consistency.{HasPreparedLock, IsConsistent}
 pub use Rattle.rep_core.specs.Fits.{is_busy, is_down, is_lost, is_prepared}
 pub use Rattle.rep_core.specs.Intentions.{Intention}

@@ -1,5 +1,5 @@
 -- The votes that a transaction sets by what it knows are those that it sets on the table.
-use Rattle.law_run_recovers.proofs.Vocabulary.{◌≡◌, inl, inr, ℕ, Bool, true, false, cond, List, [], ◌∷◌, Option, Some, None, Ok, Less, Equal, Greater, refl, sym, ap, ◌∙◌, map, filter, option_map, nat_cmp, match_ordering, Ordering}
+use Rattle.law_run_recovers.proofs.Vocabulary.{◌≡◌, inl, inr, ℕ, Bool, true, false, cond, List, [], ◌∷◌, Option, Some, None, Ok, Greater, refl, sym, ap, ◌∙◌, map, filter, option_map, nat_cmp, match_ordering, Ordering}
 use Rattle.law_run_recovers.proofs.Vocabulary.{nat_cmp_total, eq_by_cmp_equiv, IsDistinct-from_sorted, lookup-from_Contains, none-some, same_Some, IsOrdered, insert, IsOrdered-insert, Identity, Configuration, Exclusive, Has, has_filter}
 use Rattle.law_run_recovers.proofs.Vocabulary.{has_map, contains_from, all_at, Answer, Op, Service, Row, Rows, row_of, Change, Edit, some, makes, sets_acl, sets_votes, with_change, changes_at, Edits, Ended, seen, is_set, emptied, head}
 use Rattle.law_run_recovers.proofs.Vocabulary.{Known, known_rows, is_held_for, Done, exec_of, AgreesWith, held_head, head_seen, sets_what_is_held, Changes, change_of, change_in, changes_on}
@@ -20,9 +20,8 @@ module _ {V W : Type 0} (see : V → W) where
       of : (o : Ordering) → seen_all (insert nat_cmp es key value) ≡ insert nat_cmp (seen_all es) key (see value)
           → seen_all (match_ordering o ((key, value) ∷ e ∷ es) ((e.0, value) ∷ es) (e ∷ insert nat_cmp es key value))
           ≡ match_ordering o ((key, see value) ∷ (e.0, see e.1) ∷ seen_all es) ((e.0, see value) ∷ seen_all es) ((e.0, see e.1) ∷ insert nat_cmp (seen_all es) key (see value))
-      of Less go = refl
-      of Equal go = refl
       of Greater go = ap (λ rest. (e.0, see e.1) ∷ rest) go
+      of other go = refl
 
 -- ---- of changes: whether votes are set, and the votes after them
 

@@ -19,15 +19,9 @@ start_stays c one = of c.widening
 
 pub same_said : (t number : ℕ) (asked : Asked) (said : Reply) → txn_run.said_to (request_for t number asked) said ≡ said_to asked said
 same_said t number asked (reply.Held prefix dver) = refl
-same_said t number asked (reply.Busy holder prepared) = refl
 same_said t number (Poll mode) reply.Down = refl
 same_said t number Upgrade reply.Down = refl
-same_said t number asked reply.Lost = refl
-same_said t number asked (reply.Given dver content) = refl
-same_said t number asked reply.Prepared = refl
-same_said t number asked (reply.Verdict v) = refl
-same_said t number asked reply.Done = refl
-same_said t number asked (reply.Locked locks) = refl
+same_said t number asked other = refl
 
 -- ---- whose servers answer rightly
 

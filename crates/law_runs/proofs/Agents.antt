@@ -61,8 +61,7 @@ EndStands ds t (Undecided cause) = NotIn ds t
 
 end_stands : (ds : List Decided) (t : ℕ) (v : Verdict) (ending : Ending) → EndsAs v ending → Stands ds t v → EndStands ds t ending
 end_stands ds t (verdict.Answered answers) ending ends is = subst (EndStands ds t) (sym ends.1) is
-end_stands ds t (verdict.Refused refusal) ending ends is = subst (EndStands ds t) (sym ends.1) is
-end_stands ds t verdict.Aborted ending ends is = subst (EndStands ds t) (sym ends.1) is
+end_stands ds t other ending ends is = subst (EndStands ds t) (sym ends.1) is
 
 pub end_more : (ds more : List Decided) (t : ℕ) (ending : Ending) → NotIn more t → EndStands ds t ending → EndStands (ds ++ more) t ending
 end_more ds more t (Answered answers) new is = in_more ds more t (Ok answers) is

@@ -1,7 +1,7 @@
 -- Each number of a transaction is begun once, and asked for by its agent alone.
 use Rattle.law_runs.proofs.Vocabulary.{◌≡◌, ◌⊎◌, inl, inr, ⊎_elim, ℕ, ◌+◌, ◌≤◌, ◌<◌, true, false, cond, List, [], ◌∷◌, ◌++◌, Option, Some, None, refl, sym, ap, subst, ◌∙◌, arith, ◌*◌, ◌%◌, ◌&&◌, nat_eq, nat_lt, AllByRecursion}
 use Rattle.law_runs.proofs.Vocabulary.{cons_option, ne_eqb, none-some, same_Some, cond_some, IsDistinct-cons, Opening, Request, Has, contains_from, Answered, Job, Response, Fixed, Doing, Running, RunningSweep, Agent, next_in, next_of}
-use Rattle.law_runs.proofs.Vocabulary.{take, begin, started, fixed_of, is_idle, has_sense, max_jobs, asks_same, Event, Begin, Step, Crash, Return, Forget, Lack, EndedJob, Actor, World, actor_at, opening, becomes, step, run, Decided}
+use Rattle.law_runs.proofs.Vocabulary.{take, begin, started, fixed_of, is_idle, has_sense, max_jobs, asks_same, Event, Begin, EndedJob, Actor, World, actor_at, opening, becomes, step, run, Decided}
 use Rattle.law_runs.proofs.Vocabulary.{decisions, task_of, may_sweep, begins_now, begins_at, begun_from, begun, EachIsBegunOnce, AgentsAskForThemselves, AsksForItself, AsksToSweep, ChangesAreMet}
 use Rattle.std.specs.List.{IsDistinct}
 use Rattle.law_runs.proofs.Asking.{asks_in_its_name, asks_to_sweep, decides}
@@ -82,11 +82,7 @@ begins_one : (given : Opening) (world : World) (event : Event) (ds : List Decide
 begins_one given world (Begin i job) ds past t holds is =
     let now = begins_in (fixed_of given) world i t job (actor_at world i) refl is in
     (not_yet (fixed_of given) world ds past i t job holds now, now_begun (fixed_of given) world i t job now)
-begins_one given world (Step i) ds past t holds is = absurd (none-some t is)
-begins_one given world (Crash server) ds past t holds is = absurd (none-some t is)
-begins_one given world (Return server) ds past t holds is = absurd (none-some t is)
-begins_one given world (Forget i site) ds past t holds is = absurd (none-some t is)
-begins_one given world (Lack i why) ds past t holds is = absurd (none-some t is)
+begins_one given world other ds past t holds is = absurd (none-some t is)
 
 -- ---- all numbers that are begun from a world on
 

@@ -1,6 +1,6 @@
 -- A transaction that tells its end is not decided any more.
 use Rattle.law_runs.proofs.Vocabulary.{◌≡◌, ℕ, ◌+◌, ◌<◌, true, false, cond, List, [], ◌∷◌, ◌++◌, Option, Some, None, refl, sym, ap, subst, ◌∙◌, arith, ⊎_elim, ◌*◌, ◌&&◌, nat_lt, cons_option, same_Some, Opening, IsAccepted, Request, Has}
-use Rattle.law_runs.proofs.Vocabulary.{Cache, Job, Response, Replied, Lacked, Suites, Fixed, Task, Phase, Gathering, Fetching, Widening, Preparing, Deciding, Finishing, SweepRun, Doing, Running, RunningSweep, After, GoesOn, Ends}
+use Rattle.law_runs.proofs.Vocabulary.{Cache, Job, Response, Replied, Lacked, Suites, Fixed, Task, Phase, Gathering, Finishing, SweepRun, Doing, Running, RunningSweep, After, GoesOn, Ends}
 use Rattle.law_runs.proofs.Vocabulary.{after_response, Agent, next_of, left, take_in, take, begin, started, fixed_of, is_idle, has_sense, max_jobs, Event, opening, step, run, Decided, decided, decisions, decisions_from, after-append}
 use Rattle.law_runs.proofs.Vocabulary.{decisions_from-append}
 use Rattle.txn_core.specs.Sweeps as sweep
@@ -26,16 +26,13 @@ TellsEnd None = Unit {0}
 telling_response : (fixed : Fixed) (task : Task) (cache : Cache) (suites : Suites) (phase : Phase) (server : ℕ) (asked : Request) (response : Response) → IsTelling phase
     → TellsEnd (left Running (after_response fixed (record { task = task; suites = suites; phase = phase }) cache server asked response).after)
 telling_response fixed task cache suites (Gathering number) server asked response is = absurd is
-telling_response fixed task cache suites (Fetching number) server asked response is = absurd is
-telling_response fixed task cache suites (Widening numbers granted) server asked response is = absurd is
-telling_response fixed task cache suites (Preparing servers outcome) server asked response is = absurd is
-telling_response fixed task cache suites (Deciding outcome) server asked response is = absurd is
 telling_response fixed task cache suites (Finishing [] told ending) server asked (Replied said) is = tt
 telling_response fixed task cache suites (Finishing [] told ending) server asked (Lacked why) is = tt
 telling_response fixed task cache suites (Finishing (now ∷ []) told ending) server asked (Replied said) is = tt
 telling_response fixed task cache suites (Finishing (now ∷ []) told ending) server asked (Lacked why) is = tt
 telling_response fixed task cache suites (Finishing (now ∷ (next ∷ servers)) told ending) server asked (Replied said) is = tt
 telling_response fixed task cache suites (Finishing (now ∷ (next ∷ servers)) told ending) server asked (Lacked why) is = tt
+telling_response fixed task cache suites other server asked response is = absurd is
 
 telling_round : (after : After SweepRun) → TellsEnd (left RunningSweep after)
 telling_round (GoesOn sweep_run) = tt

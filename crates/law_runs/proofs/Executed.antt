@@ -230,9 +230,7 @@ fit_suite task all number None there fit = tt
 
 fit_needed : (task : Task) (all : Gathered) (heard : Executed) → AreFit all.suites → FitIf (open_needed task all heard)
 fit_needed task all (exec.Need (Know number)) fit = fit_suite task all number (suite_of all.suites number) refl fit
-fit_needed task all (exec.Need (Hold number mode)) fit = tt
-fit_needed task all (exec.Done answers set) fit = tt
-fit_needed task all (exec.Refused refusal) fit = tt
+fit_needed task all other fit = tt
 
 fit_or : (all : Gathered) (more : Option Gathered) (go_on : Gathered → Gathered) → AreFit all.suites → FitIf more → ((all : Gathered) → AreFit all.suites → AreFit (go_on all).suites) → AreFit (or_all all more go_on).suites
 fit_or all (Some more) go_on fit fits goes = goes more fits
@@ -331,11 +329,6 @@ left_prepared fixed task cache suites outcome server left said came =
 
 pub left_response : (fixed : Fixed) (task : Task) (cache : Cache) (suites : Suites) (phase : Phase) (server : ℕ) (asked : Request) (response : Response)
     → Keeps fixed task suites phase → Left fixed (after_response fixed (record { task = task; suites = suites; phase = phase }) cache server asked response).after
-left_response fixed task cache suites (Gathering number) server asked (Lacked lacked) keeps = left_give_up fixed task cache suites (lack_cause server lacked)
-left_response fixed task cache suites (Fetching number) server asked (Lacked lacked) keeps = left_give_up fixed task cache suites (lack_cause server lacked)
-left_response fixed task cache suites (Widening left granted) server asked (Lacked lacked) keeps = left_give_up fixed task cache suites (lack_cause server lacked)
-left_response fixed task cache suites (Preparing left outcome) server asked (Lacked lacked) keeps = left_give_up fixed task cache suites (lack_cause server lacked)
-left_response fixed task cache suites (Deciding outcome) server asked (Lacked lacked) keeps = left_give_up fixed task cache suites (lack_cause server lacked)
 left_response fixed task cache suites (Finishing [] v ending) server asked (Lacked lacked) keeps = tt
 left_response fixed task cache suites (Finishing (now ∷ left) v ending) server asked (Lacked lacked) keeps = left_end fixed task cache suites v ending left
 left_response fixed task cache suites (Gathering number) server asked (Replied said) keeps = left_gathering fixed task cache suites number (suite_of suites number) server asked said refl keeps
@@ -348,3 +341,4 @@ left_response fixed task cache suites (Deciding outcome) server asked (Replied s
     (ending_by (verdict_in said verdict.Aborted) (cause_of_abort said)) (locked_at suites)
 left_response fixed task cache suites (Finishing [] v ending) server asked (Replied said) keeps = tt
 left_response fixed task cache suites (Finishing (now ∷ left) v ending) server asked (Replied said) keeps = left_end fixed task cache suites v ending left
+left_response fixed task cache suites other server asked (Lacked lacked) keeps = left_give_up fixed task cache suites (lack_cause server lacked)

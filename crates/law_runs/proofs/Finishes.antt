@@ -1,7 +1,7 @@
 -- A Finish says how its transaction ended; and whose Finish was served before a transaction was decided, was decided before it.
 use Rattle.law_runs.proofs.Vocabulary.{◌≡◌, ℕ, Bool, true, false, cond, List, [], ◌∷◌, ◌++◌, append_assoc, Option, Some, None, refl, sym, ap, subst, ◌∙◌, arith, ◌==◌, not, Ok, Err, Contains, and_parts, false≢true, nat_tests, none-some}
 use Rattle.law_runs.proofs.Vocabulary.{same_Some, Service, Opening, IsAccepted, Request, Verdict, Stamped, Lock, State, record_of, is_full, answer_of, is_finish, Has, has_from, contains_from, Ending, Lacked, Suites, suite_of, parts_at}
-use Rattle.law_runs.proofs.Vocabulary.{home_of, Fixed, Task, Phase, Gathering, Fetching, Widening, Preparing, Deciding, Finishing, TransactionRun, SweepRun, Doing, Running, RunningSweep, Sweeping, Listing, Resolving, Telling, Breaking}
+use Rattle.law_runs.proofs.Vocabulary.{home_of, Fixed, Task, Phase, Gathering, Fetching, Widening, Preparing, Deciding, Finishing, TransactionRun, SweepRun, Doing, Running, RunningSweep, Sweeping, Telling}
 use Rattle.law_runs.proofs.Vocabulary.{request_in, changes_of, decision_of, asked_now, Agent, next_in, next_of, fixed_of, asks_same, asked_as, fetched_as, Event, Begin, Step, Crash, Return, Forget, Lack, Served, Actor, World, opening}
 use Rattle.law_runs.proofs.Vocabulary.{server_at, actor_at, serve, becomes, answered, asks_at, asks, steps_once, lacks_for, lacks, operated, operates, step, after, dones, run, Decided, decisions, after-append, names, may_sweep}
 use Rattle.law_runs.proofs.Vocabulary.{IsDecidedAs, EndedSo, FinishIsAfter, asks_for_itself, FinishedBefore, FinishedChangesAreMet, SomeRunsFinish}
@@ -34,19 +34,17 @@ record Finishes (task : Task) (phase : Phase) (t : ℕ) (v : Verdict) : Type 0 w
 finishes : (fixed : Fixed) (task : Task) (suites : Suites) (phase : Phase) (server t : ℕ) (v : Verdict) → request_in fixed task suites phase ≡ Some (server, request.Finish t v) → Finishes task phase t v
 finishes fixed task suites (Gathering number) server t v is = absurd (false≢true (sym (asked_as (is_finish t) false task number (suite_of suites number) server (request.Finish t v) (λ mode. refl) refl is) ∙ itself t))
 finishes fixed task suites (Fetching number) server t v is = absurd (false≢true (sym (fetched_as (is_finish t) false task number (suite_of suites number) server (request.Finish t v) refl is) ∙ itself t))
-finishes fixed task suites (Widening [] granted) server t v is = cc
 finishes fixed task suites (Widening (number ∷ left) granted) server t v is = absurd (false≢true (sym (asked_as (is_finish t) false task number (suite_of suites number) server (request.Finish t v) (λ mode. refl) refl is) ∙ itself t))
-finishes fixed task suites (Preparing [] outcome) server t v is = cc
 finishes fixed task suites (Preparing (now ∷ left) outcome) server t v is =
     absurd (false≢true (ap (is_finish t) (asks_same now server (request.Prepare task.t (parts_at suites (changes_of outcome) now)) (request.Finish t v) is) ∙ itself t))
 finishes fixed task suites (Deciding outcome) server t v is =
     absurd (false≢true (ap (is_finish t) (asks_same (home_of fixed.service task.t) server (request.Decide task.t (decision_of task outcome)) (request.Finish t v) is) ∙ itself t))
-finishes fixed task suites (Finishing [] told ending) server t v is = cc
 finishes fixed task suites (Finishing (now ∷ left) told ending) server t v is =
     let same = asks_same now server (request.Finish task.t told) (request.Finish t v) is in
     let of_it : task.t ≡ t = cc in
     let told_is : told ≡ v = cc in
     record { servers = now ∷ left; ending = ending; finishing = ap (λ v. Finishing (now ∷ left) v ending) told_is; of_it = of_it }
+finishes fixed task suites other server t v is = cc
 
 -- or a sweep, that tells of it
 record TellsOf (now : Sweeping) (t : ℕ) (v : Verdict) : Type 0 where
@@ -54,13 +52,11 @@ record TellsOf (now : Sweeping) (t : ℕ) (v : Verdict) : Type 0 where
   telling : now ≡ Telling t v locks
 
 tells_of : (service : Service) (sweep_run : SweepRun) (now : Sweeping) (t : ℕ) (v : Verdict) → (asked_now service sweep_run now).1 ≡ request.Finish t v → TellsOf now t v
-tells_of service sweep_run Listing t v is = absurd cc
-tells_of service sweep_run (Resolving u locks) t v is = absurd cc
 tells_of service sweep_run (Telling u told locks) t v is =
     let of_it : u ≡ t = cc in
     let told_is : told ≡ v = cc in
     record { locks = locks; telling = λ i. Telling (of_it i) (told_is i) locks }
-tells_of service sweep_run (Breaking lock locks) t v is = absurd cc
+tells_of service sweep_run other t v is = absurd cc
 
 -- ---- it says how its transaction ended
 
@@ -218,29 +214,18 @@ finish_is_after = record { asked = finish_asked; served = finish_served }
 
 -- what two transactions are named in is of one
 one_named : (a b : ℕ) (asked : Request) → names a asked ≡ true → names b asked ≡ true → a ≡ b
-one_named a b (request.Poll t suite mode) x y = grind (arith, nat_tests)
-one_named a b (request.Upgrade t suite) x y = grind (arith, nat_tests)
-one_named a b (request.Fetch t suite) x y = grind (arith, nat_tests)
-one_named a b (request.Prepare t parts) x y = grind (arith, nat_tests)
-one_named a b (request.Decide t decision) x y = grind (arith, nat_tests)
-one_named a b (request.Resolve t) x y = grind (arith, nat_tests)
-one_named a b (request.Finish t v) x y = grind (arith, nat_tests)
-one_named a b (request.Break t suite) x y = grind (arith, nat_tests)
 one_named a b request.Locks x y = absurd (false≢true x)
 one_named a b request.Crash x y = absurd (false≢true x)
 one_named a b request.Return x y = absurd (false≢true x)
+one_named a b other x y = grind (arith, nat_tests)
 
 -- until it tells its end the home has said nothing
 said_nothing : (fixed : Fixed) (task : Task) (suites : Suites) (phase : Phase) (server : ℕ) (asked : Request) (said : Verdict)
     → request_in fixed task suites phase ≡ Some (server, asked) → may_sweep asked ≡ false → Tells said phase → said ≡ verdict.Aborted
-said_nothing fixed task suites (Gathering number) server asked said is own tells = tells
-said_nothing fixed task suites (Fetching number) server asked said is own tells = tells
-said_nothing fixed task suites (Widening numbers granted) server asked said is own tells = tells
-said_nothing fixed task suites (Preparing servers outcome) server asked said is own tells = tells
-said_nothing fixed task suites (Deciding outcome) server asked said is own tells = tells
 said_nothing fixed task suites (Finishing [] told ending) server asked said is own tells = cc
 said_nothing fixed task suites (Finishing (now ∷ left) told ending) server asked said is own tells =
     absurd (false≢true (sym own ∙ ap may_sweep (sym (asks_same now server (request.Finish task.t told) asked is))))
+said_nothing fixed task suites other server asked said is own tells = tells
 
 not_both : (b : Bool) → not b ≡ true → b ≡ false
 not_both true is = absurd (false≢true is)

@@ -49,10 +49,8 @@ TellsRules fixed f (Some (Running txn_run)) = Unit {0}
 TellsRules fixed f None = Unit {0}
 
 told_later : (fixed : Fixed) (f g : ℕ → Option State) (now : Sweeping) → RulesStay fixed f g → IsTold fixed f now → IsTold fixed g now
-told_later fixed f g Listing stay is = tt
-told_later fixed f g (Resolving t locks) stay is = tt
 told_later fixed f g (Telling t v locks) stay is = stay t v is
-told_later fixed f g (Breaking lock locks) stay is = tt
+told_later fixed f g other stay is = tt
 
 rules_later : (fixed : Fixed) (f g : ℕ → Option State) (doing : Option Doing) → RulesStay fixed f g → TellsRules fixed f doing → TellsRules fixed g doing
 rules_later fixed f g (Some (RunningSweep sweep_run)) stay is = told_later fixed f g sweep_run.now stay is

@@ -31,16 +31,7 @@ decides_at st task asked said = decided_at (Some st) (to_decide asked) (decided_
 
 pub no_decide : (asked : Request) → is_decide asked ≡ false → to_decide asked ≡ None
 no_decide (request.Decide t decision) is = absurd cc
-no_decide (request.Poll t suite mode) is = refl
-no_decide (request.Upgrade t suite) is = refl
-no_decide (request.Fetch t suite) is = refl
-no_decide (request.Prepare t parts) is = refl
-no_decide (request.Resolve t) is = refl
-no_decide (request.Finish t v) is = refl
-no_decide (request.Break t suite) is = refl
-no_decide request.Locks is = refl
-no_decide request.Crash is = refl
-no_decide request.Return is = refl
+no_decide other is = refl
 
 quiet_records : (st new : State) (asked : Request) → is_decide asked ≡ false → Records st asked new → Quiet st new []
 quiet_records st new asked other (Same same audit) = record { none = refl; old = λ t v has. inl (sym (same t) ∙ has); audit = audit }

@@ -32,12 +32,10 @@ leaves_prepare task cache suites outcome [] = (refl, refl)
 leaves_prepare task cache suites outcome (server ∷ servers) = (refl, refl)
 
 leaves_early : (task : Task) (suites : Suites) (phase : Phase) → IsEarly phase → Leaves task verdict.Aborted (GoesOn (record { task = task; suites = suites; phase = phase }))
-leaves_early task suites (Gathering number) is = (refl, refl)
-leaves_early task suites (Fetching number) is = (refl, refl)
-leaves_early task suites (Widening left granted) is = (refl, refl)
 leaves_early task suites (Preparing left outcome) is = absurd is
 leaves_early task suites (Deciding outcome) is = absurd is
 leaves_early task suites (Finishing servers told ending) is = absurd is
+leaves_early task suites other is = (refl, refl)
 
 leaves_prepares : (task : Task) (cache : Cache) (suites : Suites) (outcome : Proposal) → Leaves task verdict.Aborted (prepare task cache suites outcome (locked_at suites)).after
 leaves_prepares task cache suites outcome = leaves_prepare task cache suites outcome (locked_at suites)
@@ -71,11 +69,9 @@ leaves_response fixed task cache suites (Gathering number) server asked response
     calm task asked response v _ (asked_as is_decide false task number (suite_of suites number) server asked (λ mode. refl) refl is) tells (leaves_response_early fixed task cache suites (Gathering number) server asked response tt)
 leaves_response fixed task cache suites (Fetching number) server asked response v is tells =
     calm task asked response v _ (fetched_as is_decide false task number (suite_of suites number) server asked refl is) tells (leaves_response_early fixed task cache suites (Fetching number) server asked response tt)
-leaves_response fixed task cache suites (Widening [] granted) server asked response v is tells = cc
 leaves_response fixed task cache suites (Widening (number ∷ left) granted) server asked response v is tells =
     calm task asked response v _ (asked_as is_decide false task number (suite_of suites number) server asked (λ mode. refl) refl is) tells
     (leaves_response_early fixed task cache suites (Widening (number ∷ left) granted) server asked response tt)
-leaves_response fixed task cache suites (Preparing [] outcome) server asked response v is tells = cc
 leaves_response fixed task cache suites (Preparing (now ∷ left) outcome) server asked response v is tells =
     let same = asks_same now server (request.Prepare task.t (parts_at suites (changes_of outcome) now)) asked is in
     calm task asked response v _ (ap is_decide (sym same)) tells (of response)
@@ -94,7 +90,6 @@ leaves_response fixed task cache suites (Deciding outcome) server asked response
     of (Replied said) =
         leaves_end task cache suites (verdict_in said verdict.Aborted) (ending_by (verdict_in said verdict.Aborted) (cause_of_abort said)) (locked_at suites) (cause_of_abort said, refl)
     of (Lacked lacked) = leaves_give_up task cache suites (lack_cause server lacked)
-leaves_response fixed task cache suites (Finishing [] told ending) server asked response v is tells = cc
 leaves_response fixed task cache suites (Finishing (now ∷ left) told ending) server asked response v is tells =
     let same = asks_same now server (request.Finish task.t told) asked is in
     subst (λ asked. Leaves task (cond (is_decide asked) (said_by response v) v)
@@ -103,3 +98,4 @@ leaves_response fixed task cache suites (Finishing (now ∷ left) told ending) s
     of : (response : Response) → Leaves task v (after_response fixed (record { task = task; suites = suites; phase = Finishing (now ∷ left) told ending }) cache server (request.Finish task.t told) response).after
     of (Replied said) = subst (λ w. Leaves task v (tell_end task cache suites w ending left).after) (sym tells.0) (leaves_end task cache suites v ending left tells.1)
     of (Lacked lacked) = subst (λ w. Leaves task v (tell_end task cache suites w ending left).after) (sym tells.0) (leaves_end task cache suites v ending left tells.1)
+leaves_response fixed task cache suites other server asked response v is tells = cc
