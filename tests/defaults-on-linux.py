@@ -1,9 +1,9 @@
 #!/usr/bin/env python3
-"""tests/defaults-on-linux.py [--rows]
+"""tests/defaults-on-linux.py [--rows] [PROGRAM]
 
 Measures on this Linux what a file and a folder get in a folder that has a default list, mode by mode, and what getfacl
 prints of such a folder; the lists that Linux gives are the ones wanted of the program. Without `--rows` it looks
-whether each row that comes of it stands in crates/rows/stdin, which tests/checked-build.py plays. With `--rows` it
+whether each row that comes of it stands in crates/rows/stdin, and what the program prints for it. With `--rows` it
 prints the rows.
 
 It needs Debian's package acl, and root on a file system with lists, here /dev/shm (tmpfs). It is no part of the gate.
@@ -17,7 +17,7 @@ import typing
 
 import played
 
-from common import text_of
+from common import built, text_of
 
 ACCESS = "u::rwx,g::r-x,o::--x"
 # Without a mask, with named users and groups under wide and narrow masks, and with a mask alone.
@@ -119,24 +119,30 @@ def measured() -> typing.Iterator[typing.Any]:
         yield from (shown_row(place, lists) for lists in SHOWN)
 
 
+def lines(given: list[str]) -> str:
+    return "".join(line + "\n" for line in given)
+
+
 def told(found: typing.Any) -> str:
     """A title or a row, as a row of crates/rows/stdin."""
     if isinstance(found, str):
         return f"= {found}\n"
     words, given, printed = found
-    lines = [f"$ {words}", *given, "> 0", *printed]
-    return "".join(line.replace("\t", "\\t") + "\n" for line in lines)
+    return lines([f"$ {words}", *given, "> 0", *printed]).replace("\t", "\\t")
 
 
 def main() -> None:
-    if played.words(__doc__, rows=False).rows:
+    given = played.words(__doc__, "program", rows=False)
+    if given.rows:
         print("".join(told(found) for found in measured()), end="")
         return
     kept = text_of("crates", "rows", "stdin")
     rows = [found for found in measured() if not isinstance(found, str)]
     absent = sum(told(row) not in kept for row in rows)
-    print(f"{len(rows)} rows measured, of which {absent} do not stand in crates/rows/stdin")
-    sys.exit(1 if absent else 0)
+    program = played.program(given.program)
+    differ = sum(built.asked(name, lines(asked), path=program) != (0, lines(told)) for name, asked, told in rows)
+    print(f"{len(rows)} rows measured, {differ} differ; {absent} do not stand in crates/rows/stdin")
+    sys.exit(1 if absent or differ else 0)
 
 
 main()

@@ -12,12 +12,13 @@ from collections.abc import Iterable
 
 import played
 from played import Tally
-from spoken import ran, text_of
+from spoken import HEADER, ran, text_of
 
 from common import read_rows
 
 # Rows of sessions, in the form of crates/rows/stdin, whose program plays none.
 ROWS, FEWEST = os.path.join(played.TOP, "tests", "sessions.txt"), 20
+DAMAGED = "Lines with other words than they may have are told, and have done nothing"
 SERVER, COPY, LOCK = (
     re.compile(form) for form in (
         r"= server (\d+) (up|down)$", r"    (?:\S+=)?suite (\d+) \w+ prefix (\d+) content (\d+) votes ",
@@ -41,6 +42,17 @@ def by_hand(path: str, tally: Tally) -> None:
         told = ran(path, [word.decode() for word in row["words"][1:]], row["input"])
         tally.holds(told == (row["status"], row["output"]), f"{ROWS}, line {row['line']}", told)
     tally.holds(len(rows) >= FEWEST, "rows of sessions", len(rows))
+    damaged = next(row["input"] for row in rows if row["title"] == DAMAGED).splitlines()[len(HEADER) :]
+    alone(path, damaged[: damaged.index(b"room")], tally)
+
+
+def alone(path: str, damaged: list[bytes], tally: Tally) -> None:
+    """Each damaged line in a session of its own is told as a misspelled word is, and has done nothing."""
+    wanted = text_of((b"fault line 6: S1", *of_room((1, 0), (1, 0), (1, 0))))
+    for line in damaged:
+        told = ran(path, [], text_of((*HEADER, line, b"room")))
+        tally.holds(told == (3, wanted), "damaged", line, told)
+    tally.holds(len(damaged) >= 16, "damaged lines", len(damaged))
 
 
 def by_trace(path: str, tally: Tally) -> None:

@@ -1,5 +1,5 @@
-"""Runs all tests that need no proof (test.py, `./suites --test`), and where they pass `rt ci`, the gate; tells
-before its last line how long that took and what each step cost.
+"""Runs all tests that need no proof (test.py, `./suites --test`) but those that `rt ci` runs too, and where they pass
+`rt ci`, the gate; tells before its last line how long that took and what each step cost.
 
 What passes and what fails is rt's alone: its output and its status are handed on as they are. The environment
 variable SUITES_GATE_TIMES names a file that is to keep the times (gate_times.py makes a table of it), and
@@ -76,7 +76,7 @@ def tell(times: gate_times.Times, begun: float, number: int | None) -> None:
 
 def main() -> int:
     console.words(__doc__).parse_args()
-    if subprocess.run(tool("test"), stdin=subprocess.DEVNULL).returncode != 0:
+    if subprocess.run(tool("test", "--gate"), stdin=subprocess.DEVNULL).returncode != 0:
         return 1
     begun, number = time.monotonic(), lanes()
     given = {**os.environ, **({"RT_JOBS": str(number)} if number else {})}

@@ -6,9 +6,10 @@ try`), the examples of docs/FAULTS.md, the command lines that README.md, docs/FA
 `./suites votes` tells, pictures, what `explore` tells and answers, random scripts of `play` against the plain table,
 and the checks of documents. With --long those too that take minutes: every program that only tests and measurements
 have is compiled, instructions are counted, allocations are refused, reads and writes fail, inputs are cut off, lies are
-told about runs, and races between threads are looked for: some ten minutes more on four free processors. Prints a line
+told about runs, and races between threads are looked for: some ten minutes more on four free processors. The gate
+(.ci/run) begins with it, with --gate: without the tests of crates, which `rt ci` runs as they are proved. Prints a line
 for each part as it ends, of a part that fails also what it printed, and last how many passed and failed. Status 1 where
-one failed. The gate (.ci/run) begins with it.
+one failed.
 """
 import os
 import re
@@ -221,7 +222,9 @@ def main() -> int:
     read = console.words(__doc__)
     read.usage = "./suites --test [--long]"
     read.add_argument("--long", action="store_true")
-    parts = (*PARTS, *LONG) if read.parse_args().long else PARTS
+    read.add_argument("--gate", action="store_true")
+    given = read.parse_args()
+    parts = [part for part in (*PARTS, *(LONG if given.long else ())) if not (given.gate and part.words is TRY)]
     sources.Kit().wanted()
     sources.make_folder()
     teller, number = console.Teller(), lanes()
