@@ -22,7 +22,7 @@ FOLDERS = ("tools", "tools/*", "tests", "bench")
 CONFIG = """[mypy]
 strict_optional = False
 disallow_untyped_defs = True
-ignore_missing_imports = True
+ignore_missing_imports = {alone}
 follow_imports = silent
 warn_no_return = False
 mypy_path = {path}
@@ -60,7 +60,8 @@ def checked(files: list[str], room: str) -> list[str]:
     is_alone = len(files) == 1
     path = f"{TOP}:{TOP}/tools" if is_alone else f"{TOP}/tools:{TOP}/tests:{TOP}/bench"
     with open(os.path.join(room, "mypy.ini"), "w", encoding="utf-8") as file:
-        file.write(CONFIG.format(path=path, cache=os.path.join(room, "alone" if is_alone else "all")))
+        cache = os.path.join(room, "alone" if is_alone else "all")
+        file.write(CONFIG.format(path=path, cache=cache, alone=is_alone))
         file.write("explicit_package_bases = True\n" if is_alone else "")
     done = subprocess.run(["mypy", "--config-file", file.name, *files], cwd=TOP, stdout=subprocess.PIPE, text=True)
     found = [line for line in done.stdout.splitlines() if re.search(r": (error|note): ", line)]

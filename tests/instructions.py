@@ -17,11 +17,9 @@ import counting
 import played
 
 sys.path.append(os.path.join(os.path.dirname(os.path.abspath(__file__)), "..", "bench"))
-import acl
 from common import console
+import inputs
 import left
-import play
-import table
 import unproved
 
 COUNTS = os.path.join(unproved.TOP, "docs", "instructions.csv")
@@ -31,13 +29,13 @@ MORE = 0.01
 
 def commented() -> bytes:
     """A list with comments before each entry, and white space behind it."""
-    items, comment = acl.list_of_64(1)[0].split(), b"# " + b"x" * 98 + b"\n"
+    items, comment = inputs.list_of_64(1).split(), b"# " + b"x" * 98 + b"\n"
     return b"".join(comment * 100 + item + b" " * 10_000 + b"\n" for item in items)
 
 
 def users() -> bytes:
     """A list of many users, the last of whom is the first again."""
-    return ",".join([acl.SINGLES, *(f"u:{user}:r" for user in range(1, 30_000)), "u:1:r"]).encode()
+    return ",".join([inputs.SINGLES, *(f"u:{user}:r" for user in range(1, 30_000)), "u:1:r"]).encode()
 
 
 def denials() -> bytes:
@@ -49,10 +47,10 @@ def denials() -> bytes:
 INPUTS: tuple[tuple[str, str, typing.Callable[[], bytes]], ...] = (
     ("users", "acl", users),
     ("comments", "acl", commented),
-    ("operations", "table", lambda: table.script(10_000)[0]),
-    ("events", "play", lambda: play.events(40_000)[0]),
+    ("operations", "table", lambda: inputs.operations(10_000)),
+    ("events", "play", lambda: inputs.events(4_000)),
     ("denials", "play", denials),
-    ("reads", "play", lambda: play.reads(4, 8, 500)),
+    ("reads", "play", lambda: inputs.reads(4, 8, 500)),
     ("in-flight", "play", lambda: left.in_flight(50).encode()),
     ("relisted", "play", lambda: left.relisted(2_000).encode()),
     ("crashes", "play", lambda: left.crashes(2_000).encode()),

@@ -1,4 +1,4 @@
-"""Asks the program about a history, and says on a terminal how far that is where it takes its time. The program `judge`
+"""Asks the program about a history, and says on a terminal how far that is where it takes its time. The command `judge`
 tells nothing before its verdict: of it is said how many lines it was given, how much memory it took, and the seconds.
 """
 from __future__ import annotations
