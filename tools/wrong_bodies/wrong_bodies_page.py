@@ -30,7 +30,7 @@ change of its public contracts or its definitions lands.
 The last column names the function, and in brackets the clause or the definition that the edit breaks. A function with
 one clause is named alone.
 
-The gate has none of nine crates of laws, of the commands but `may`, of `event_json`, `suite_cli`, `suite_args`,
+The gate has none of eight crates of laws, of the commands but `may`, of `event_json`, `suite_cli`, `suite_args`,
 `suite_script` and `suite_play` (the rows of `crates/rows` show what the last four print), and none of the crates that
 the others only build on (`suite_content`, `byte_streams`, `script_text`, `acl_text`, `file_exec`): the proof of a
 crate above fails where it needs a clause that was weakened. Nobody looked whether each of their clauses is needed
