@@ -1,18 +1,6 @@
 -- Which entries stand at the ends of a valid list: the owner's first, the others' last, and the mask right before it.
-use Rattle.std.proofs.Common.{◌≡◌, ℕ, zero, suc, ◌+◌, ◌<◌, ◌≤◌, Bool, true, false, cond, eqb, List, [], ◌∷◌, length, get_or, refl, ◌∙◌, ap, sym, inl, inr, filter, arith}
-use Rattle.std.specs.List.{list_any}
-use Rattle.std.proofs.lemmas.Bool.{cases_Bool}
-use Rattle.std.proofs.lemmas.Bool.Decides.{nat_tests}
-use Rattle.std.proofs.lemmas.List.{get_or_default}
-use Rattle.acl_core.specs.declared.entry.Tag.{Tag}
-use Rattle.acl_core.specs.declared.entry.Tag.TheVariants.{UserObj, User, GroupObj, Group, Mask, Other}
-use Rattle.acl_core.specs.declared.entry.Entry.{Entry}
-use Rattle.acl_core.specs.Tags.{same_tag, precedes, is_user}
-use Rattle.acl_core.specs.AccessLists.{IsAcl, IsCanonical, count_of}
-use Rattle.acl_core.specs.declared.perms.Perms.{Perms}
-use Rattle.acl_core.specs.Permissions.{has_all}
-use Rattle.acl_core.specs.Identity.{Identity}
-use Rattle.acl_core.specs.Checks.{answer, check_of, mask_grants, one_grants}
+use Rattle.acl_core.proofs.Vocabulary.{◌≡◌, ℕ, zero, suc, ◌+◌, ◌<◌, ◌≤◌, Bool, true, false, cond, eqb, List, [], ◌∷◌, length, get_or, refl, ◌∙◌, ap, sym, inl, inr, filter, arith, list_any, cases_Bool, nat_tests, get_or_default, Tag}
+use Rattle.acl_core.proofs.Vocabulary.{UserObj, User, GroupObj, Group, Mask, Other, Entry, same_tag, precedes, is_user, IsAcl, IsCanonical, count_of, Perms, has_all, Identity, answer, check_of, mask_grants, one_grants}
 use Rattle.acl_core.proofs.TagFacts.{same_tag_is}
 use Rattle.acl_core.proofs.Answering.{answer_named, one_any}
 use Rattle.acl_core.proofs.OneEntry.{any_kept, none_at_end, one_at}

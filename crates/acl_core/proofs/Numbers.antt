@@ -1,19 +1,8 @@
 -- Users and groups by their numbers: which stand among entries, and whether one stands twice.
-use Rattle.std.proofs.Common.{◌≡◌, ℕ, ◌+◌, ◌<◌, Bool, true, eqb, ltb, cond, not, ◌&&◌, ◌||◌, List, [], ◌∷◌, length, get_or, drop, map, refl, sym, ap, ◌∙◌, arith, IsPermutation, IsSorted}
-use Rattle.std.specs.List.{list_any, count_by, cons_option, filter_map, zip}
-use Rattle.std.specs.List.Sorted.{IsNonDecreasingBy}
-use Rattle.std.specs.Ordering.{nat_cmp}
-use Rattle.std.proofs.lemmas.Bool.{le-ltb, ne_eqb, or_right}
-use Rattle.std.proofs.lemmas.List.{get_or-map, length-map}
-use Rattle.std.proofs.lemmas.List.Sorted.{IsNonDecreasingBy-from_sort, IsPermutation-map}
-use Rattle.acl_core.specs.declared.entry.Tag.{Tag}
-use Rattle.acl_core.specs.declared.entry.Tag.TheVariants.{UserObj, User, GroupObj, Group, Mask, Other}
-use Rattle.acl_core.specs.declared.entry.Entry.{Entry}
+use Rattle.acl_core.proofs.Vocabulary.{◌≡◌, ℕ, ◌+◌, ◌<◌, Bool, true, eqb, ltb, cond, not, ◌&&◌, ◌||◌, List, [], ◌∷◌, length, get_or, drop, map, refl, sym, ap, ◌∙◌, arith, IsPermutation, IsSorted, list_any, count_by, cons_option, filter_map}
+use Rattle.acl_core.proofs.Vocabulary.{zip, IsNonDecreasingBy, nat_cmp, le-ltb, ne_eqb, or_right, get_or-map, length-map, IsNonDecreasingBy-from_sort, IsPermutation-map, Tag, UserObj, User, GroupObj, Group, Mask, Other, Entry, rank}
+use Rattle.acl_core.proofs.Vocabulary.{same_tag, precedes, is_user, is_group, count_of, has_named, has_twice, IsSortedCopy, stands_beside, is_doubled, user_of, group_of}
 use Rattle.acl_core.specs.Entries.{entry_of}
-use Rattle.acl_core.specs.Tags.{rank, same_tag, precedes, is_user, is_group}
-use Rattle.acl_core.specs.AccessLists.{count_of, has_named, has_twice}
-use Rattle.acl_core.specs.code.Sorted.{IsSortedCopy, stands_beside}
-use Rattle.acl_core.specs.Tallies.{is_doubled, user_of, group_of}
 use Rattle.acl_core.proofs.Doubles.{beside-twice}
 use Rattle.acl_core.proofs.ListFacts.{count_by-cons}
 

@@ -1,16 +1,6 @@
 -- The one entry of a tag in a canonical list, by the place before which all entries stand before the tag.
-use Rattle.std.proofs.Common.{◌≡◌, ℕ, zero, suc, ◌<◌, ◌≤◌, Bool, true, false, cond, eqb, ltb, Less, Equal, Greater, Option, None, Some, is_some, List, [], ◌∷◌, All, length, get_or, refl, ◌∙◌, ap, sym, inl, inr, filter, arith}
-use Rattle.std.specs.List.{cons_option, list_any}
-use Rattle.std.specs.Ordering.{partial_lt}
-use Rattle.std.specs.List.Sorted.{IsPartitionedBy}
-use Rattle.std.proofs.lemmas.Bool.{cases_Bool}
-use Rattle.std.proofs.lemmas.Bool.Decides.{nat_tests}
-use Rattle.std.proofs.lemmas.List.Elements.{All-head, All-tail}
-use Rattle.acl_core.specs.declared.entry.Tag.{Tag}
-use Rattle.acl_core.specs.declared.entry.Tag.TheVariants.{UserObj, User, GroupObj, Group, Mask, Other}
-use Rattle.acl_core.specs.declared.entry.Entry.{Entry}
-use Rattle.acl_core.specs.Tags.{same_tag, precedes}
-use Rattle.acl_core.specs.AccessLists.{IsCanonical}
+use Rattle.acl_core.proofs.Vocabulary.{◌≡◌, ℕ, zero, suc, ◌<◌, Bool, true, false, cond, eqb, ltb, Option, None, Some, is_some, List, [], ◌∷◌, All, length, get_or, refl, ◌∙◌, ap, sym, inl, inr, filter, arith, cons_option, list_any}
+use Rattle.acl_core.proofs.Vocabulary.{partial_lt, IsPartitionedBy, cases_Bool, nat_tests, All-head, All-tail, Tag, UserObj, User, GroupObj, Group, Mask, Other, Entry, same_tag, precedes, IsCanonical}
 use Rattle.acl_core.specs.contracts.entry.TagPartialOrd.TheImpl as tag_ord
 
 -- the order of tags that `<` asks

@@ -1,12 +1,5 @@
 -- Tags by their kinds and qualifiers.
-use Rattle.std.proofs.Common.{◌≡◌, true, eqb, ◌&&◌, List, refl, ◌∙◌, ap, sym}
-use Rattle.std.specs.List.{count_by}
-use Rattle.std.proofs.lemmas.Bool.{and_parts, and_from, eqb-true, eq-eqb}
-use Rattle.acl_core.specs.declared.entry.Tag.{Tag}
-use Rattle.acl_core.specs.declared.entry.Tag.TheVariants.{UserObj, User, GroupObj, Group, Mask, Other}
-use Rattle.acl_core.specs.declared.entry.Entry.{Entry}
-use Rattle.acl_core.specs.Tags.{rank, qualifier, same_tag}
-use Rattle.acl_core.specs.AccessLists.{count_of}
+use Rattle.acl_core.proofs.Vocabulary.{◌≡◌, true, eqb, ◌&&◌, List, refl, ◌∙◌, ap, sym, count_by, and_parts, and_from, eqb-true, eq-eqb, Tag, UserObj, User, GroupObj, Group, Mask, Other, Entry, rank, qualifier, same_tag, count_of}
 
 -- two entries about the same have one kind and one qualifier
 pub same_parts : (a b : Tag) → same_tag a b ≡ true → (rank a ≡ rank b) × (qualifier a ≡ qualifier b)

@@ -1,19 +1,8 @@
 -- What a tally tells of the entries that were taken.
-use Rattle.std.proofs.Common.{◌≡◌, ℕ, ◌+◌, ◌≤◌, Bool, true, false, eqb, ltb, cond, ◌&&◌, ◌||◌, List, [], ◌∷◌, ◌++◌, Option, None, Some, length, take, refl, sym, ap, subst, ◌∙◌, inl, inr, arith, append-nil, length-append, take_all}
-use Rattle.std.specs.List.{find, list_any, cons_option}
-use Rattle.std.proofs.lemmas.Bool.{cases_Bool, ltb-true, ltb-false}
-use Rattle.std.proofs.lemmas.Bool.Decides.{nat_tests}
-use Rattle.std.proofs.lemmas.List.{take-append-le, length-take-le}
-use Rattle.std.proofs.lemmas.List.Elements.{filter_map-append}
-use Rattle.std.proofs.lemmas.List.Sums.{sum_by-append}
-use Rattle.acl_core.specs.declared.entry.Tag.{Tag}
-use Rattle.acl_core.specs.declared.entry.Tag.TheVariants.{UserObj, User, GroupObj, Group, Mask, Other}
-use Rattle.acl_core.specs.declared.entry.Entry.{Entry}
-use Rattle.acl_core.specs.declared.fault.AclFault.{AclFault}
-use Rattle.acl_core.specs.declared.fault.AclFault.TheVariants.{NoUserObj, NoGroupObj, NoOther, TwiceSingle, UserTwice, GroupTwice, MaskMissing, TooMany}
-use Rattle.acl_core.specs.Tags.{same_tag}
-use Rattle.acl_core.specs.AccessLists.{IsAccepted, count_of, faults, first_fault, has_fault, max_entries}
-use Rattle.acl_core.specs.Tallies.{IsTallyOf, IsWhole, Tallied, group_of, is_doubled, up_to_two, user_of}
+use Rattle.acl_core.proofs.Vocabulary.{◌≡◌, ℕ, ◌+◌, ◌≤◌, Bool, true, false, eqb, ltb, cond, ◌&&◌, ◌||◌, List, [], ◌∷◌, ◌++◌, Option, None, Some, length, take, refl, sym, ap, subst, ◌∙◌, inl, inr, arith, append-nil, length-append, take_all}
+use Rattle.acl_core.proofs.Vocabulary.{find, list_any, cons_option, cases_Bool, ltb-true, ltb-false, nat_tests, take-append-le, length-take-le, filter_map-append, sum_by-append, Tag, UserObj, User, GroupObj, Group, Mask, Other, Entry}
+use Rattle.acl_core.proofs.Vocabulary.{AclFault, NoUserObj, NoGroupObj, NoOther, TwiceSingle, UserTwice, GroupTwice, MaskMissing, TooMany, same_tag, IsAccepted, count_of, faults, first_fault, has_fault, max_entries, IsTallyOf, IsWhole}
+use Rattle.acl_core.proofs.Vocabulary.{Tallied, group_of, is_doubled, up_to_two, user_of}
 use Rattle.acl_core.proofs.Faults.{accepted_without_fault}
 use Rattle.acl_core.proofs.ListFacts.{count_by-cons}
 use Rattle.acl_core.proofs.Numbers.{is_some, twice_users, twice_groups, named_some}
