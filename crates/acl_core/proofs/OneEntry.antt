@@ -22,41 +22,17 @@ group_lt_by a b = elim (cases_Bool (ltb a b)) [
 -- it is the canonical one
 pub tag_lt_is : (s t : Tag) → tag_lt s t ≡ precedes s t
 tag_lt_is UserObj UserObj = refl
-tag_lt_is UserObj (User b) = refl
-tag_lt_is UserObj GroupObj = refl
-tag_lt_is UserObj (Group b) = refl
-tag_lt_is UserObj Mask = refl
-tag_lt_is UserObj Other = refl
-tag_lt_is (User a) UserObj = refl
+tag_lt_is UserObj _ = refl
 tag_lt_is (User a) (User b) = lt_by a b
-tag_lt_is (User a) GroupObj = refl
-tag_lt_is (User a) (Group b) = refl
-tag_lt_is (User a) Mask = refl
-tag_lt_is (User a) Other = refl
+tag_lt_is (User a) _ = refl
 tag_lt_is GroupObj UserObj = refl
-tag_lt_is GroupObj (User b) = refl
-tag_lt_is GroupObj GroupObj = refl
-tag_lt_is GroupObj (Group b) = refl
-tag_lt_is GroupObj Mask = refl
-tag_lt_is GroupObj Other = refl
-tag_lt_is (Group a) UserObj = refl
-tag_lt_is (Group a) (User b) = refl
-tag_lt_is (Group a) GroupObj = refl
+tag_lt_is GroupObj _ = refl
 tag_lt_is (Group a) (Group b) = group_lt_by a b
-tag_lt_is (Group a) Mask = refl
-tag_lt_is (Group a) Other = refl
+tag_lt_is (Group a) _ = refl
 tag_lt_is Mask UserObj = refl
-tag_lt_is Mask (User b) = refl
-tag_lt_is Mask GroupObj = refl
-tag_lt_is Mask (Group b) = refl
-tag_lt_is Mask Mask = refl
-tag_lt_is Mask Other = refl
+tag_lt_is Mask _ = refl
 tag_lt_is Other UserObj = refl
-tag_lt_is Other (User b) = refl
-tag_lt_is Other GroupObj = refl
-tag_lt_is Other (Group b) = refl
-tag_lt_is Other Mask = refl
-tag_lt_is Other Other = refl
+tag_lt_is Other _ = refl
 
 chained : (a b tag : Tag) → precedes a b ≡ true → precedes b tag ≡ true → precedes a tag ≡ true
 chained a b tag h k = grind (arith, nat_tests)
