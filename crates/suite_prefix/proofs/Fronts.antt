@@ -1,40 +1,8 @@
 -- Reading more bytes gives the same with more behind it, and a bad tag stays one. So each proper front of a valid copy's bytes ends too early.
-use Rattle.std.proofs.Common.{◌≡◌, ◌≢◌, ℕ, zero, suc, Bool, true, false, cond, ltb, List, [], ◌∷◌, ◌++◌, length, Result, Ok, Err, refl, sym, ap, subst, ◌∙◌, inl, inr, arith}
-use Rattle.std.specs.Int.{Width, w16, w32, w64, byte_len}
-use Rattle.std.proofs.lemmas.Bool.{cases_lt, lt-ltb, le-ltb}
-use Rattle.std.proofs.lemmas.List.{length-append, take-append-le, drop-append-le}
-use Rattle.suite_content.specs.declared.content.Content.TheVariants.{Bytes, Names}
-use Rattle.suite_prefix.specs.declared.copies.PrefixKind.{PrefixKind}
-use Rattle.suite_prefix.specs.declared.copies.PrefixKind.TheVariants.{Absent, File, Folder}
-use Rattle.suite_prefix.specs.declared.forms.Form.{Form}
-use Rattle.suite_prefix.specs.declared.forms.Form.TheVariants.{One, Two}
-use Rattle.suite_prefix.specs.declared.faults.CopyFault.{CopyFault}
-use Rattle.suite_prefix.specs.declared.faults.CopyFault.TheVariants.{Short, BadTag, NotCanonical, Invalid, TrailingBytes}
-use Rattle.suite_prefix.specs.Faults.{IsFaultIn, FrontsAreShort}
-use Rattle.suite_prefix.specs.Reading.{
-  ◌>>=◌,
-  Shape,
-  byte_at,
-  number_at,
-  bytes_at,
-  default_at,
-  form_at,
-  kind_of_code,
-  identity_at,
-  code_at,
-  entry_at,
-  representative_at,
-  name_at,
-  many_at,
-  list_at,
-  lists_at,
-  listed_at,
-  votes_at,
-  file_at,
-  folder_at,
-  content_at,
-  shape_at,
-}
+use Rattle.suite_prefix.proofs.Vocabulary.{◌≡◌, ◌≢◌, ℕ, zero, suc, Bool, true, false, cond, ltb, List, [], ◌∷◌, ◌++◌, length, Result, Ok, Err, refl, sym, ap, subst, ◌∙◌, inl, inr, arith, Width, w16, w32, w64, byte_len, cases_lt, lt-ltb}
+use Rattle.suite_prefix.proofs.Vocabulary.{le-ltb, length-append, take-append-le, drop-append-le, Bytes, Names, PrefixKind, Absent, File, Folder, Form, One, Two, CopyFault, Short, BadTag, NotCanonical, Invalid, TrailingBytes, IsFaultIn}
+use Rattle.suite_prefix.proofs.Vocabulary.{FrontsAreShort, ◌>>=◌, Shape, byte_at, number_at, bytes_at, default_at, form_at, kind_of_code, code_at, content_at}
+use Rattle.suite_prefix.specs.Reading.{identity_at, entry_at, representative_at, name_at, many_at, list_at, lists_at, listed_at, votes_at, file_at, folder_at, shape_at}
 use Rattle.suite_prefix.proofs.Back.{whole_again}
 use Rattle.suite_prefix.proofs.ShapeOf.{shape_of}
 use Rattle.suite_prefix.proofs.Takes.{identity_1, identity_2, identity_3, identity_4, entry_1, entry_2, votes_1, votes_2, shape_0, shape_1, shape_2, shape_3, shape_4, shape_5}
