@@ -44,11 +44,10 @@ spells_shape form copy valid held content_held = record {
 
 -- the shape of a valid copy with nothing behind it has no fault
 no_fault : (form : Form) (copy : Replica) (fault : CopyFault) → IsCopy copy → CanHold form copy.prefix → HoldsContent form copy.content → IsFaultOf (shape_of form copy) [] fault → ⊥
-no_fault form copy Short valid held content_held h = h
-no_fault form copy BadTag valid held content_held h = h
 no_fault form copy NotCanonical valid held content_held h = let yes = canonical_shape form copy valid in absurd cc
 no_fault form copy Invalid valid held content_held h = h.1 (spells_shape form copy valid held content_held)
 no_fault form copy TrailingBytes valid held content_held h = h.1.1 refl
+no_fault form copy _ valid held content_held h = h
 
 -- the bytes of a valid copy are read as its shape, whatever was read of them
 pub read_whole : (bytes : List ℕ) (copy : Replica) → IsCopy copy → (has : AreBytesOf copy bytes) → shape_at bytes ≡ Ok (shape_of has.form copy, [])
@@ -117,8 +116,7 @@ one_of shape rest BadTag other h k = absurd h
 one_of shape rest fault Short h k = absurd k
 one_of shape rest fault BadTag h k = absurd k
 one_of shape rest NotCanonical NotCanonical h k = refl
-one_of shape rest NotCanonical Invalid h k = let yes = k.0 in absurd cc
-one_of shape rest NotCanonical TrailingBytes h k = let yes = k.0 in absurd cc
+one_of shape rest NotCanonical _ h k = let yes = k.0 in absurd cc
 one_of shape rest Invalid NotCanonical h k = let yes = h.0 in absurd cc
 one_of shape rest Invalid Invalid h k = refl
 one_of shape rest Invalid TrailingBytes h k = absurd (h.1 k.1.0)

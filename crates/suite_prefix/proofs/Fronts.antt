@@ -22,10 +22,7 @@ Extends more (Err fault) longer = Fails fault longer
 
 fails_then : {X Y : Type 0} (fault : CopyFault) (longer : Result (X × List ℕ) CopyFault) (f : X × List ℕ → Result (Y × List ℕ) CopyFault) → Fails fault longer → Fails fault (longer >>= f)
 fails_then Short longer f h = tt
-fails_then BadTag longer f h = ap (λ l. l >>= f) h
-fails_then NotCanonical longer f h = ap (λ l. l >>= f) h
-fails_then Invalid longer f h = ap (λ l. l >>= f) h
-fails_then TrailingBytes longer f h = ap (λ l. l >>= f) h
+fails_then _ longer f h = ap (λ l. l >>= f) h
 
 then_extends : {X Y : Type 0} (more : List ℕ) (r longer : Result (X × List ℕ) CopyFault) (f : X × List ℕ → Result (Y × List ℕ) CopyFault)
     → Extends more r longer → ((x : X × List ℕ) → Extends more (f x) (f (x.0, x.1 ++ more))) → Extends more (r >>= f) (longer >>= f)
@@ -34,10 +31,7 @@ then_extends more (Err fault) longer f h each = fails_then fault longer f h
 
 fails_again : (X : Type 0) (fault : CopyFault) → Fails {X = X} fault (Err fault)
 fails_again X Short = tt
-fails_again X BadTag = refl
-fails_again X NotCanonical = refl
-fails_again X Invalid = refl
-fails_again X TrailingBytes = refl
+fails_again X _ = refl
 
 same_then : {A Y : Type 0} (more : List ℕ) (r : Result A CopyFault) (f g : A → Result (Y × List ℕ) CopyFault) → ((a : A) → Extends more (f a) (g a)) → Extends more (r >>= f) (r >>= g)
 same_then more (Ok a) f g each = each a
@@ -154,9 +148,8 @@ folder_extends bytes more =
     then_extends more (many_at name_at count.0 count.1) (many_at name_at count.0 (count.1 ++ more)) (λ names. Ok (Names names.0, names.1)) (many_extend name_at name_extends count.0 count.1 more) (λ names. refl))
 
 content_extends : (kind : PrefixKind) (bytes more : List ℕ) → Extends more (content_at kind bytes) (content_at kind (bytes ++ more))
-content_extends Absent bytes more = file_extends bytes more
-content_extends File bytes more = file_extends bytes more
 content_extends Folder bytes more = folder_extends bytes more
+content_extends _ bytes more = file_extends bytes more
 
 form_extends : (bytes more : List ℕ) → Extends more (form_at bytes) (form_at (bytes ++ more))
 form_extends [] more = tt

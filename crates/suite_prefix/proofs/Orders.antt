@@ -46,8 +46,7 @@ numbers_of_entries (e ∷ es) = and_from (eqb (qualifier e.tag) (qualifier e.tag
 
 less : (o : Ordering) → is_lt o ≡ true → o ≡ Less
 less ord.Less h = refl
-less ord.Equal h = absurd cc
-less ord.Greater h = absurd cc
+less _ h = absurd cc
 
 names_after : (name next : List ℕ) (names : List (List ℕ × ℕ)) → name_cmp name next ≡ Less → rise_above next names ≡ true → AllByRecursion (λ q. name_cmp name q ≡ Less) (keys_of names)
 names_after name next [] h rise = tt

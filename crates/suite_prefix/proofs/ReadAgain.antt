@@ -49,11 +49,7 @@ many_again one write shape Fits again (x ∷ xs) rest fits =
 
 code_again : (tag : Tag) (rest : List ℕ) → code_at (tag_code tag ∷ rest) ≡ Ok (tag_code tag, rest)
 code_again UserObj rest = refl
-code_again (User id) rest = refl
-code_again GroupObj rest = refl
-code_again (Group id) rest = refl
-code_again Mask rest = refl
-code_again Other rest = refl
+code_again _ rest = refl
 
 entry_again : (entry : Entry) (rest : List ℕ) → qualifier entry.tag < 2 ^ 32 → entry_at (entry_bytes entry ++ rest) ≡ Ok (entry_shape entry, rest)
 unfolding entry_at
@@ -130,8 +126,7 @@ votes_again votes rest r_fits w_fits =
 
 kind_again : (kind : PrefixKind) → kind_of_code (kind_code kind) ≡ Ok kind
 kind_again Absent = refl
-kind_again File = refl
-kind_again Folder = refl
+kind_again _ = refl
 
 abbrev pub identity_of : Prefix → Identity
 identity_of prefix = record { pver = prefix.pver; kind = prefix.kind; owner = prefix.owner; group = prefix.group }
@@ -168,8 +163,7 @@ pub content_again : (kind : PrefixKind) (content : Content) (rest : List ℕ) �
 content_again Absent (Bytes bytes) rest agree fits = file_again bytes rest (omega (arith, fits.few))
 content_again File (Bytes bytes) rest agree fits = file_again bytes rest (omega (arith, fits.few))
 content_again Folder (Names names) rest agree fits = folder_again names rest (omega (arith, fits.few)) fits.suites_fit
-content_again Absent (Names names) rest agree fits = absurd cc
-content_again File (Names names) rest agree fits = absurd cc
+content_again _ (Names names) rest agree fits = absurd cc
 content_again Folder (Bytes bytes) rest agree fits = absurd cc
 
 -- ---- a copy

@@ -20,11 +20,7 @@ shape_of form copy = record {
 
 pub tag_back : (tag : Tag) → tag_of (tag_code tag) (qualifier tag) ≡ tag
 tag_back UserObj = refl
-tag_back (User id) = refl
-tag_back GroupObj = refl
-tag_back (Group id) = refl
-tag_back Mask = refl
-tag_back Other = refl
+tag_back _ = refl
 
 perms_of : ℕ → Perms
 perms_of bits = record { 0 = bits }

@@ -128,14 +128,12 @@ record Agrees (dver : ℕ) (kind : PrefixKind) (content : Content) : Type 0 wher
 agrees_if : (dver : ℕ) (kind : PrefixKind) (content : Content) → IsTrue (if nat_lt 0 dver then not (is_absent kind) else is_empty content) → Agrees dver kind content
 agrees_if zero kind content passes = record { absent_holds_version_0 = λ absent. refl; version_0_is_empty = λ none. empty_if content passes }
 agrees_if (suc n) Absent content passes = let above = some_above n in absurd cc
-agrees_if (suc n) File content passes = record { absent_holds_version_0 = λ absent. absurd cc; version_0_is_empty = λ none. absurd cc }
-agrees_if (suc n) Folder content passes = record { absent_holds_version_0 = λ absent. absurd cc; version_0_is_empty = λ none. absurd cc }
+agrees_if (suc n) _ content passes = record { absent_holds_version_0 = λ absent. absurd cc; version_0_is_empty = λ none. absurd cc }
 
 if_agrees : (dver : ℕ) (kind : PrefixKind) (content : Content) → Agrees dver kind content → IsTrue (if nat_lt 0 dver then not (is_absent kind) else is_empty content)
 if_agrees zero kind content agrees = if_empty content (agrees.version_0_is_empty refl)
 if_agrees (suc n) Absent content agrees = let none = agrees.absent_holds_version_0 refl in absurd cc
-if_agrees (suc n) File content agrees = cond-true _ _ _ (some_above n)
-if_agrees (suc n) Folder content agrees = cond-true _ _ _ (some_above n)
+if_agrees (suc n) _ content agrees = cond-true _ _ _ (some_above n)
 
 -- ---- copies
 
