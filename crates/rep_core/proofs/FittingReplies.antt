@@ -1,10 +1,10 @@
 -- What a server answers fits the request.
-use Rattle.rep_core.proofs.Vocabulary.{◌≡◌, ℕ, Bool, true, false, cond, ◌&&◌, not, Option, Some, None, refl, ap, ◌∙◌, ⊎_elim, ◌||◌, cases_Bool, and_parts, and_from, Replica, is_valid_copy, Lock, Exclusive, Request, Reply, in_the_way}
-use Rattle.rep_core.proofs.Vocabulary.{has_lock, IsSound, is_sound, is_used_up, copy_of, State, given, locking_reply, poll_reply, stands_prepared, can_prepare, reply_up, reply_down, reply_of, fits, is_held, is_busy, is_lost, is_given}
-use Rattle.rep_core.proofs.Vocabulary.{is_down}
+use Rattle.rep_core.proofs.Vocabulary.{◌≡◌, ℕ, Bool, true, false, cond, ◌&&◌, not, Option, Some, None, refl, ap, ◌∙◌, ⊎_elim, ◌||◌, cases_Bool, and_parts, and_from, Replica, is_valid_copy, Lock, Exclusive, Request, in_the_way, has_lock}
+use Rattle.rep_core.proofs.Vocabulary.{IsSound, is_sound, is_used_up, copy_of, State, given, locking_reply, poll_reply, stands_prepared, can_prepare, reply_up, reply_down, reply_of, held}
+use Rattle.rep_core.specs.declared.reply.Reply.{Reply}
+use Rattle.rep_core.specs.Fits.{fits, is_held, is_busy, is_lost, is_given, is_down}
 use Rattle.rep_core.specs.declared.request.Request.TheVariants as request
 use Rattle.rep_core.specs.declared.reply.Reply.TheVariants as reply
-use Rattle.rep_core.specs.Service.{held}
 
 -- ---- by the form of the reply
 

@@ -1,14 +1,13 @@
 -- A request that is served again later changes nothing more, and is answered the same.
 use Rattle.rep_core.proofs.Vocabulary.{◌≡◌, inl, inr, ℕ, Bool, true, false, cond, List, [], ◌∷◌, Option, Some, None, Less, Equal, Greater, refl, sym, ap, subst, ◌∙◌, arith, ◌==◌, ◌&&◌, ◌||◌, not, ◌++◌, length, filter, map, list_any}
-use Rattle.rep_core.proofs.Vocabulary.{list_all, nat_cmp, match_ordering, and_parts, or_parts, false≢true, nat_tests, get, insert, Configuration, Content, Replica, Form, LockMode, Exclusive, serves, Intention, Lock, Part, Request}
-use Rattle.rep_core.proofs.Vocabulary.{Verdict, Stamped, is_own, has_lock, has_prepared, has_lock_for, before, raised_lock, raised, with_lock, locked, prepared_lock, Store, copy_of, is_keep, is_sound_part, lists_twice, with_intention}
+use Rattle.rep_core.proofs.Vocabulary.{list_all, nat_cmp, match_ordering, and_parts, or_parts, false≢true, nat_tests, get, insert, Configuration, Content, Replica, Form, LockMode, Exclusive, serves, Intention, Lock, Part, Request, Verdict}
+use Rattle.rep_core.proofs.Vocabulary.{Stamped, is_own, has_lock, has_prepared, has_lock_for, before, raised_lock, raised, with_lock, locked, prepared_lock, Store, copy_of, is_keep, is_sound_part, lists_twice, with_intention}
 use Rattle.rep_core.proofs.Vocabulary.{with_intentions, with_taken, with_copies, with_form, with_forms, left_by, State, record_of, reply_of, after, reply_up, reply_down, after_up, after_down, given, fetch_reply, stands_prepared}
-use Rattle.rep_core.proofs.Vocabulary.{can_prepare, prepares, prepare_reply, after_prepare, recorded, after_record, verdict_of, audit_of, is_answered, after_finish, is_full, served, step, IsConsistent, after_all, finished_by}
-use Rattle.rep_core.proofs.Vocabulary.{asks_record, sent, later_on, StaysLater, is_poll, is_taking, served_by}
+use Rattle.rep_core.proofs.Vocabulary.{can_prepare, prepares, prepare_reply, after_prepare, recorded, after_record, verdict_of, audit_of, is_answered, after_finish, is_full, served, step, IsConsistent, after_all, finished_by, asks_record}
+use Rattle.rep_core.proofs.Vocabulary.{sent, later_on, StaysLater, is_poll, is_taking, served_by, finished}
 use Rattle.rep_core.specs.declared.request.Request.TheVariants as request
 use Rattle.rep_core.specs.declared.reply.Verdict.TheVariants as verdict
 use Rattle.rep_core.specs.declared.reply.Reply.TheVariants as reply
-use Rattle.rep_core.specs.Store.{finished}
 use Rattle.rep_core.proofs.Members.{Has, contains_from, any_has, has_any, map_has, filter_has, between_has}
 use Rattle.rep_core.proofs.Alone.{own_is}
 use Rattle.rep_core.proofs.LockLookups.{new_lock}

@@ -1,7 +1,7 @@
 -- A reply of which nothing is to be remembered comes from a server that stays as it was.
 use Rattle.rep_core.proofs.Vocabulary.{◌≡◌, ℕ, Bool, true, false, cond, List, Option, Some, None, refl, ◌&&◌, ◌||◌, not, false≢true, LockMode, Exclusive, Lock, Part, Request, in_the_way, has_lock, copy_of, State, reply_up, reply_down}
-use Rattle.rep_core.proofs.Vocabulary.{after_up, after_down, locking_reply, after_locking, poll_reply, after_poll, upgrade_reply, after_upgrade, stands_prepared, can_prepare, prepare_reply, after_prepare, is_quiet}
-use Rattle.rep_core.proofs.Vocabulary.{QuietRepliesChangeNothing}
+use Rattle.rep_core.proofs.Vocabulary.{after_up, after_down, locking_reply, after_locking, poll_reply, after_poll, upgrade_reply, after_upgrade, stands_prepared, can_prepare, prepare_reply, after_prepare}
+use Rattle.rep_core.specs.Steps.{is_quiet, QuietRepliesChangeNothing}
 use Rattle.rep_core.specs.declared.request.Request.TheVariants as request
 use Rattle.rep_core.specs.declared.reply.Reply.TheVariants as reply
 use Rattle.rep_core.proofs.Ways.{laid}

@@ -1,15 +1,21 @@
 -- Copies that fit their types stay so; and sound copies that fit are valid.
 use Rattle.rep_core.proofs.Vocabulary.{◌≡◌, ℕ, ◌<◌, ◌^◌, lit<, inl, inr, Bool, true, false, cond, List, [], ◌∷◌, Option, Some, None, refl, sym, ap, subst, ◌∙◌, arith, ◌==◌, ◌&&◌, ◌||◌, not, All, IsTrue, unwrap_or, list_any, is_at}
-use Rattle.rep_core.proofs.Vocabulary.{nat_tests, nat_cmp, and_parts, All-nil, All-cons, All-contains, AllPairs-cons, same_Some, none-some, get, Entry, UserObj, GroupObj, Other, entry_of, IsAcl, IsCanonical, minimal_list, precedes}
-use Rattle.rep_core.proofs.Vocabulary.{qualifier, Configuration, IsValid, Content, IsName, empty_content, PrefixKind, Absent, File, Folder, Replica, absent_copy, AreAcls, NumbersFit, closed_lists, IsCopy, held_by, Opening, is_absent}
-use Rattle.rep_core.proofs.Vocabulary.{is_valid_copy, ContentFits, CopyFits, valid_copy_if_passes, Intention, Part, Take, Request, Lock, Stamped, Store, IsSound, is_sound, is_used_up, copy_of, copy_in, left_by, is_keep, lists_twice}
-use Rattle.rep_core.proofs.Vocabulary.{intended, in_effect, root_copy, opening_store, State, opening, step, after_all, reached, TakeFits, RequestFits, OpeningFits, HasValidCopies, TellsOfValid, CopiesAreValid, IsConsistent, Exclusive}
-use Rattle.rep_core.proofs.Vocabulary.{in_the_way, has_lock, is_answered, given, locking_reply, poll_reply, stands_prepared, can_prepare, reply_up, reply_down, reply_of}
+use Rattle.rep_core.proofs.Vocabulary.{nat_tests, nat_cmp, and_parts, All-nil, All-cons, All-contains, same_Some, none-some, get, Configuration, IsValid, Content, IsName, empty_content, PrefixKind, Absent, File, Folder, Replica}
+use Rattle.rep_core.proofs.Vocabulary.{absent_copy, AreAcls, NumbersFit, closed_lists, IsCopy, held_by, Opening, is_absent, is_valid_copy, ContentFits, CopyFits, Intention, Part, Take, Request, Lock, Stamped, Store, IsSound, is_sound}
+use Rattle.rep_core.proofs.Vocabulary.{is_used_up, copy_of, copy_in, left_by, is_keep, lists_twice, intended, in_effect, root_copy, opening_store, State, opening, step, after_all, reached, TakeFits, RequestFits, OpeningFits, HasValidCopies}
+use Rattle.rep_core.proofs.Vocabulary.{TellsOfValid, CopiesAreValid, IsConsistent, Exclusive, in_the_way, has_lock, is_answered, given, locking_reply, poll_reply, stands_prepared, can_prepare, reply_up, reply_down, reply_of, finished}
+use Rattle.std.proofs.lemmas.List.Kept.{AllPairs-cons}
+use Rattle.acl_core.specs.declared.entry.Entry.{Entry}
+use Rattle.acl_core.specs.declared.entry.Tag.TheVariants.{UserObj, GroupObj, Other}
+use Rattle.acl_core.specs.Entries.{entry_of}
+use Rattle.acl_core.specs.AccessLists.{IsAcl, IsCanonical}
+use Rattle.acl_core.specs.Modes.{minimal_list}
+use Rattle.acl_core.specs.Tags.{precedes, qualifier}
+use Rattle.suite_prefix.proofs.TestsExact.{valid_copy_if_passes}
 use Rattle.std.specs.List.Sorted.{IsStrictlySortedBy}
 use Rattle.rep_core.specs.declared.request.Take.TheVariants as take
 use Rattle.rep_core.specs.declared.request.Request.TheVariants as request
 use Rattle.rep_core.specs.declared.reply.Reply.TheVariants as reply
-use Rattle.rep_core.specs.Store.{finished}
 use Rattle.rep_core.proofs.Reached.{always_consistent}
 use Rattle.rep_core.proofs.Finding.{find_some}
 use Rattle.rep_core.proofs.Members.{Has, contains_from}
