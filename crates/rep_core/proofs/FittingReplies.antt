@@ -43,26 +43,11 @@ fits_up st (request.Poll t suite mode) sound = locking_fits (in_the_way t suite 
 fits_up st (request.Upgrade t suite) sound = upgrade_fits (has_lock t suite st.locks) (poll_reply st t suite Exclusive) (locking_fits (in_the_way t suite Exclusive st.locks) (copy_of st.store suite) (sound.copies suite))
 fits_up st (request.Fetch t suite) sound = fetch_fits (has_lock t suite st.locks) (copy_of st.store suite) (sound.copies suite)
 fits_up st (request.Prepare t parts) sound = prepare_fits t parts (stands_prepared st t parts || can_prepare st t parts)
-fits_up st (request.Decide t decision) sound = refl
-fits_up st (request.Resolve t) sound = refl
-fits_up st (request.Finish t verdict) sound = refl
-fits_up st (request.Break t suite) sound = refl
-fits_up st request.Locks sound = refl
-fits_up st request.Crash sound = refl
-fits_up st request.Return sound = refl
+fits_up st _ sound = refl
 
 fits_down : (asked : Request) → fits asked (reply_down asked) ≡ true
 fits_down (request.Poll t suite mode) = refl
-fits_down (request.Upgrade t suite) = refl
-fits_down (request.Fetch t suite) = refl
-fits_down (request.Prepare t parts) = refl
-fits_down (request.Decide t decision) = refl
-fits_down (request.Resolve t) = refl
-fits_down (request.Finish t verdict) = refl
-fits_down (request.Break t suite) = refl
-fits_down request.Locks = refl
-fits_down request.Crash = refl
-fits_down request.Return = refl
+fits_down _ = refl
 
 pub reply_fits : (st : State) (asked : Request) → IsSound st.store → fits asked (reply_of st asked) ≡ true
 reply_fits st asked sound = ⊎_elim

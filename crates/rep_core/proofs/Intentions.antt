@@ -91,13 +91,11 @@ module _ (c0 : Configuration) where
   -- at the suite of a take, and at another
   copy_in-taken : (what : Take) (copies : List (ℕ × Replica)) (suite : ℕ) → copy_in c0 (with_taken c0 suite what copies) suite ≡ left_by what (copy_in c0 copies suite)
   copy_in-taken take.Keep copies suite = refl
-  copy_in-taken (take.Prefix prefix) copies suite = ap (λ o. unwrap_or o (absent_copy c0)) (get_insert_here copies suite _)
-  copy_in-taken (take.Whole replica) copies suite = ap (λ o. unwrap_or o (absent_copy c0)) (get_insert_here copies suite _)
+  copy_in-taken _ copies suite = ap (λ o. unwrap_or o (absent_copy c0)) (get_insert_here copies suite _)
 
   copy_in-apart : (what : Take) (copies : List (ℕ × Replica)) (suite q : ℕ) → (q ≡ suite → ⊥) → copy_in c0 (with_taken c0 suite what copies) q ≡ copy_in c0 copies q
   copy_in-apart take.Keep copies suite q apart = refl
-  copy_in-apart (take.Prefix prefix) copies suite q apart = ap (λ o. unwrap_or o (absent_copy c0)) (get_insert_apart copies suite _ q apart)
-  copy_in-apart (take.Whole replica) copies suite q apart = ap (λ o. unwrap_or o (absent_copy c0)) (get_insert_apart copies suite _ q apart)
+  copy_in-apart _ copies suite q apart = ap (λ o. unwrap_or o (absent_copy c0)) (get_insert_apart copies suite _ q apart)
 
   -- once the intentions of a transaction have become copies, the copy of a suite is the one that was in effect with the transaction decided
   pub copy_in-with_copies : (t : ℕ) (intentions : List (ℕ × Intention)) (copies : List (ℕ × Replica)) (suite : ℕ) → IsOrdered nat_cmp intentions

@@ -33,16 +33,7 @@ one_of test up full none room is = grind (arith, nat_tests)
 module _ (H : List Lock → Store → Type 0) (test : Request → Bool) where
   kept_down : (st : State) (asked : Request) → H st.locks st.store → H (after_down st asked).locks (after_down st asked).store
   kept_down st (request.Poll u s m) now = now
-  kept_down st (request.Upgrade u s) now = now
-  kept_down st (request.Fetch u s) now = now
-  kept_down st (request.Prepare u parts) now = now
-  kept_down st (request.Decide u decision) now = now
-  kept_down st (request.Resolve u) now = now
-  kept_down st (request.Finish u v) now = now
-  kept_down st (request.Break u s) now = now
-  kept_down st request.Locks now = now
-  kept_down st request.Crash now = now
-  kept_down st request.Return now = now
+  kept_down st _ now = now
 
   pub kept_step : (st : State) (asked : Stamped Request) → H st.locks st.store → Ways st (λ asked new. test asked ≡ false → H new.locks new.store) → (test asked.value && st.up && not (is_full st asked)) ≡ false
       → H (step st asked).locks (step st asked).store
@@ -72,15 +63,7 @@ later_recorded st stamp (request.Resolve u) later t v is said =
     stays_later st new (request.Resolve u)
     (λ _. (ap (λ old. after_record old u verdict.Aborted None new) still, ap (λ old. reply.Verdict (recorded old verdict.Aborted)) still ∙ sym said))
     refl
-later_recorded st stamp (request.Poll u s m) later t v is said = absurd (false≢true is)
-later_recorded st stamp (request.Upgrade u s) later t v is said = absurd (false≢true is)
-later_recorded st stamp (request.Fetch u s) later t v is said = absurd (false≢true is)
-later_recorded st stamp (request.Prepare u parts) later t v is said = absurd (false≢true is)
-later_recorded st stamp (request.Finish u w) later t v is said = absurd (false≢true is)
-later_recorded st stamp (request.Break u s) later t v is said = absurd (false≢true is)
-later_recorded st stamp request.Locks later t v is said = absurd (false≢true is)
-later_recorded st stamp request.Crash later t v is said = absurd (false≢true is)
-later_recorded st stamp request.Return later t v is said = absurd (false≢true is)
+later_recorded st stamp _ later t v is said = absurd (false≢true is)
 
 -- ---- what was prepared
 

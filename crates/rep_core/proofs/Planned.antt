@@ -99,8 +99,7 @@ same_left (take.Whole replica) c0 c1 o changes = refl
 
 take_back : (what : Take) (copy : Replica) → is_keep what ≡ false → take_in (is_whole what) (left_by what copy) ≡ what
 take_back take.Keep copy changes = absurd cc
-take_back (take.Prefix prefix) copy changes = refl
-take_back (take.Whole replica) copy changes = refl
+take_back _ copy changes = refl
 
 pub keeps_nothing : (whole : Bool) (left : Replica) → is_keep (take_in whole left) ≡ false
 keeps_nothing true left = refl

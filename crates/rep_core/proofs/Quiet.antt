@@ -30,26 +30,12 @@ quiet_up st (request.Poll t s m) quiet = quiet_locking st t s m (in_the_way t s 
 quiet_up st (request.Upgrade t s) quiet = quiet_upgrade st t s quiet
 quiet_up st (request.Fetch t s) quiet = refl
 quiet_up st (request.Prepare t parts) quiet = quiet_prepare st t parts quiet
-quiet_up st (request.Decide t decision) quiet = absurd (false≢true quiet)
-quiet_up st (request.Resolve t) quiet = absurd (false≢true quiet)
-quiet_up st (request.Finish t v) quiet = absurd (false≢true quiet)
-quiet_up st (request.Break t s) quiet = absurd (false≢true quiet)
 quiet_up st request.Locks quiet = refl
-quiet_up st request.Crash quiet = absurd (false≢true quiet)
-quiet_up st request.Return quiet = absurd (false≢true quiet)
+quiet_up st _ quiet = absurd (false≢true quiet)
 
 quiet_down : (st : State) (asked : Request) → is_quiet (reply_down asked) ≡ true → after_down st asked ≡ st
-quiet_down st (request.Poll t s m) quiet = refl
-quiet_down st (request.Upgrade t s) quiet = refl
-quiet_down st (request.Fetch t s) quiet = refl
-quiet_down st (request.Prepare t parts) quiet = refl
-quiet_down st (request.Decide t decision) quiet = refl
-quiet_down st (request.Resolve t) quiet = refl
-quiet_down st (request.Finish t v) quiet = refl
-quiet_down st (request.Break t s) quiet = refl
-quiet_down st request.Locks quiet = refl
-quiet_down st request.Crash quiet = refl
 quiet_down st request.Return quiet = absurd (false≢true quiet)
+quiet_down st _ quiet = refl
 
 pub quiet_changes_nothing : QuietRepliesChangeNothing
 quiet_changes_nothing st asked quiet =
