@@ -1,6 +1,6 @@
 -- Which entries stand at the ends of a valid list: the owner's first, the others' last, and the mask right before it.
 use Rattle.acl_core.proofs.Vocabulary.{◌≡◌, ℕ, zero, suc, ◌+◌, ◌<◌, ◌≤◌, Bool, true, false, cond, eqb, List, [], ◌∷◌, length, get_or, refl, ◌∙◌, ap, sym, inl, inr, filter, arith, list_any, cases_Bool, nat_tests, get_or_default, Tag}
-use Rattle.acl_core.proofs.Vocabulary.{UserObj, User, GroupObj, Group, Mask, Other, Entry, same_tag, precedes, is_user, IsAcl, IsCanonical, count_of, Perms, has_all, Identity, answer, check_of, mask_grants, one_grants}
+use Rattle.acl_core.proofs.Vocabulary.{UserObj, User, Mask, Other, Entry, same_tag, precedes, is_user, IsAcl, IsCanonical, count_of, Perms, has_all, Identity, answer, check_of, mask_grants, one_grants}
 use Rattle.acl_core.proofs.TagFacts.{same_tag_is}
 use Rattle.acl_core.proofs.Answering.{answer_named, one_any}
 use Rattle.acl_core.proofs.OneEntry.{any_kept, none_at_end, one_at}

@@ -1,7 +1,7 @@
 -- Users and groups by their numbers: which stand among entries, and whether one stands twice.
 use Rattle.acl_core.proofs.Vocabulary.{◌≡◌, ℕ, ◌+◌, ◌<◌, Bool, true, eqb, ltb, cond, not, ◌&&◌, ◌||◌, List, [], ◌∷◌, length, get_or, drop, map, refl, sym, ap, ◌∙◌, arith, IsPermutation, IsSorted, list_any, count_by, cons_option, filter_map}
-use Rattle.acl_core.proofs.Vocabulary.{zip, IsNonDecreasingBy, nat_cmp, le-ltb, ne_eqb, or_right, get_or-map, length-map, IsNonDecreasingBy-from_sort, IsPermutation-map, Tag, UserObj, User, GroupObj, Group, Mask, Other, Entry, rank}
-use Rattle.acl_core.proofs.Vocabulary.{same_tag, precedes, is_user, is_group, count_of, has_named, has_twice, IsSortedCopy, stands_beside, is_doubled, user_of, group_of}
+use Rattle.acl_core.proofs.Vocabulary.{zip, IsNonDecreasingBy, nat_cmp, le-ltb, ne_eqb, or_right, get_or-map, length-map, IsNonDecreasingBy-from_sort, IsPermutation-map, Tag, User, Group, Entry, rank, same_tag, precedes, is_user, is_group}
+use Rattle.acl_core.proofs.Vocabulary.{count_of, has_named, has_twice, IsSortedCopy, stands_beside, is_doubled, user_of, group_of}
 use Rattle.acl_core.specs.Entries.{entry_of}
 use Rattle.acl_core.proofs.Doubles.{beside-twice}
 use Rattle.acl_core.proofs.ListFacts.{count_by-cons}

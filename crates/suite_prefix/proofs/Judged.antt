@@ -1,4 +1,4 @@
--- A shape spells a valid copy exactly where each of its parts does.
+-- A shape spells a valid copy if each of its parts does.
 use Rattle.suite_prefix.proofs.Vocabulary.{◌≡◌, ◌<◌, ◌≤◌, ◌^◌, true, List, [], ◌∷◌, length, map, None, refl, subst, sym, ap, ◌∙◌, All, IfSome, IsTrue, ◌&&◌, default_of, and_parts, length-map, All-map, mod-eq_of_lt, Tag, Entry, IsAcl}
 use Rattle.suite_prefix.proofs.Vocabulary.{IsCanonical, number_of, qualifier, Content, Bytes, Names, Prefix, Form, One, Two, EntryShape, IsContent, CanHold, most_entries, most_servers, SpellsCopy, is_canonical, is_written, numbers_belong}
 use Rattle.suite_prefix.proofs.Vocabulary.{entries_rise, content_rises, FitsForm, ContentFits, IsWithin, IsSound, MakeLists, MakesDefault, Shape, copy_of, entry_from}
