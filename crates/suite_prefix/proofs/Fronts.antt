@@ -1,7 +1,7 @@
 -- Reading more bytes gives the same with more behind it, and a bad tag stays one. So each proper front of a valid copy's bytes ends too early.
 use Rattle.suite_prefix.proofs.Vocabulary.{◌≡◌, ◌≢◌, ℕ, zero, suc, Bool, true, false, cond, ltb, List, [], ◌∷◌, ◌++◌, length, Result, Ok, Err, refl, sym, ap, subst, ◌∙◌, inl, inr, arith, Width, w16, w32, w64, byte_len, cases_lt, lt-ltb}
-use Rattle.suite_prefix.proofs.Vocabulary.{le-ltb, length-append, take-append-le, drop-append-le, Bytes, Names, PrefixKind, Absent, File, Folder, Form, One, Two, CopyFault, Short, BadTag, NotCanonical, Invalid, TrailingBytes, IsFaultIn}
-use Rattle.suite_prefix.proofs.Vocabulary.{FrontsAreShort, ◌>>=◌, Shape, byte_at, number_at, bytes_at, default_at, form_at, kind_of_code, code_at, content_at}
+use Rattle.suite_prefix.proofs.Vocabulary.{le-ltb, length-append, take-append-le, drop-append-le, Bytes, Names, PrefixKind, Folder, Form, One, Two, CopyFault, Short, BadTag, NotCanonical, Invalid, TrailingBytes, IsFaultIn, FrontsAreShort}
+use Rattle.suite_prefix.proofs.Vocabulary.{◌>>=◌, Shape, byte_at, number_at, bytes_at, default_at, form_at, kind_of_code, code_at, content_at}
 use Rattle.suite_prefix.specs.Reading.{identity_at, entry_at, representative_at, name_at, many_at, list_at, lists_at, listed_at, votes_at, file_at, folder_at, shape_at}
 use Rattle.suite_prefix.proofs.Back.{whole_again}
 use Rattle.suite_prefix.proofs.ShapeOf.{shape_of}

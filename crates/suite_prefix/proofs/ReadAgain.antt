@@ -1,10 +1,10 @@
 -- What was written is read again, whatever follows.
 use Rattle.suite_prefix.proofs.Vocabulary.{◌≡◌, ℕ, suc, ◌^◌, ◌<◌, false, ltb, List, [], ◌∷◌, ◌++◌, length, map, Option, None, Result, Ok, refl, sym, ap, ◌∙◌, append_assoc, arith, All, flat_map, AllByRecursion, Width, w16, w32, w64}
-use Rattle.suite_prefix.proofs.Vocabulary.{byte_len, from_be_bytes, to_be_bytes, le-ltb, take_at, drop_at, length-append, flat_map-cons, recursion_from_All, from_be_bytes-to_be_bytes_2, from_be_bytes-to_be_bytes_4}
-use Rattle.suite_prefix.proofs.Vocabulary.{from_be_bytes-to_be_bytes_8, Entry, Tag, UserObj, User, GroupObj, Group, Mask, Other, Lists, number_of, qualifier, Configuration, Representative, kind_of, Content, Bytes, Names, PrefixKind, Absent}
-use Rattle.suite_prefix.proofs.Vocabulary.{File, Folder, Prefix, Replica, Form, One, Two, kind_code, tag_code, entry_bytes, list_bytes, lists_bytes, representative_bytes, votes_bytes, identity_bytes, name_bytes, content_bytes, bytes_in}
-use Rattle.suite_prefix.proofs.Vocabulary.{NumbersFit, default_entries, IsCopy, PrefixFits, IsContent, held_by, CanHold, form_code, CopyFault, Identity, number_at, bytes_at, form_at, kind_of_code, code_at, content_at}
-use Rattle.suite_prefix.specs.Reading.{identity_at, entry_at, representative_at, name_at, many_at, list_at, lists_at, listed_at, votes_at, file_at, folder_at, shape_at}
+use Rattle.suite_prefix.proofs.Vocabulary.{byte_len, from_be_bytes, to_be_bytes, le-ltb, take_at, drop_at, length-append, flat_map-cons, recursion_from_All, Entry, Tag, UserObj, Lists, number_of, qualifier, Configuration, Representative}
+use Rattle.suite_prefix.proofs.Vocabulary.{kind_of, Content, Bytes, Names, PrefixKind, Absent, File, Folder, Prefix, Replica, Form, One, Two, kind_code, tag_code, entry_bytes, list_bytes, lists_bytes, representative_bytes, votes_bytes}
+use Rattle.suite_prefix.proofs.Vocabulary.{identity_bytes, name_bytes, content_bytes, bytes_in, NumbersFit, default_entries, IsCopy, PrefixFits, IsContent, held_by, CanHold, form_code, CopyFault, Identity}
+use Rattle.std.proofs.lemmas.Nat.{from_be_bytes-to_be_bytes_2, from_be_bytes-to_be_bytes_4, from_be_bytes-to_be_bytes_8}
+use Rattle.suite_prefix.specs.Reading.{identity_at, entry_at, representative_at, name_at, many_at, list_at, lists_at, listed_at, votes_at, file_at, folder_at, shape_at, number_at, bytes_at, form_at, kind_of_code, code_at, content_at}
 use Rattle.suite_prefix.proofs.Joins.{five_pieces}
 use Rattle.suite_prefix.proofs.ShapeOf.{entry_shape, shape_of, tag_back}
 

@@ -1,6 +1,6 @@
 -- The shape in which a copy is written, and that it spells the copy.
-use Rattle.suite_prefix.proofs.Vocabulary.{◌≡◌, ℕ, List, [], ◌∷◌, map, Option, None, Some, refl, ap, ◌∙◌, IfSome, mod-eq_of_lt, Entry, Lists, IsAcl, Tag, UserObj, User, GroupObj, Group, Mask, Other, number_of, qualifier, Replica, Form}
-use Rattle.suite_prefix.proofs.Vocabulary.{EntryShape, default_entries, default_of, tag_code, Shape, tag_of, entry_from, copy_of}
+use Rattle.suite_prefix.proofs.Vocabulary.{◌≡◌, ℕ, List, [], ◌∷◌, map, Option, None, Some, refl, ap, ◌∙◌, IfSome, mod-eq_of_lt, Entry, Lists, IsAcl, Tag, UserObj, number_of, qualifier, Replica, Form, EntryShape, default_entries, default_of}
+use Rattle.suite_prefix.proofs.Vocabulary.{tag_code, Shape, tag_of, entry_from, copy_of}
 use Rattle.acl_core.specs.declared.perms.Perms.{Perms}
 use Rattle.acl_core.proofs.EntryEquality.{same_by_fields}
 

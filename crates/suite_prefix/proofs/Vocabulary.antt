@@ -7,7 +7,6 @@ pub use Rattle.std.proofs.lemmas.Bool.Decides.{Decides-at, nat_tests}
 pub use Rattle.std.proofs.lemmas.List.{append-nil, drop-append-le, drop_at, get_or-drop, get_or-take, get_or_past, length-append, length-map, length-take, nil_from_length, take-append-drop, take-append-le, take_all, take_at, take_more_set}
 pub use Rattle.std.proofs.lemmas.List.Concat.{flat_map-cons}
 pub use Rattle.std.proofs.lemmas.List.Elements.{All-cons, All-from_recursion, All-head, All-map, All-more, All-nil, All-same, All-tail, recursion_from_All}
-pub use Rattle.std.proofs.lemmas.Nat.{be_bytes_2, be_bytes_4, be_bytes_8, from_be_bytes-to_be_bytes_2, from_be_bytes-to_be_bytes_4, from_be_bytes-to_be_bytes_8}
 pub use Rattle.std.proofs.lemmas.Result.{err_from_is_err_and}
 pub use Rattle.std.specs.Int.{Width, byte_len, from_be_bytes, to_be_bytes, w16, w32, w64}
 pub use Rattle.std.specs.List.{AllByRecursion, flat_map, list_any}
@@ -18,7 +17,7 @@ pub use Rattle.acl_core.specs.Permissions.{number_of}
 pub use Rattle.acl_core.specs.Tags.{precedes, qualifier}
 pub use Rattle.acl_core.specs.declared.entry.Entry.{Entry}
 pub use Rattle.acl_core.specs.declared.entry.Tag.{Tag}
-pub use Rattle.acl_core.specs.declared.entry.Tag.TheVariants.{Group, GroupObj, Mask, Other, User, UserObj}
+pub use Rattle.acl_core.specs.declared.entry.Tag.TheVariants.{UserObj}
 pub use Rattle.acl_core.specs.declared.lists.Lists.{Lists}
 pub use Rattle.suite_content.specs.Contents.{empty_content, kind_of}
 pub use Rattle.suite_content.specs.Folders.{IsFolder, name_cmp}
