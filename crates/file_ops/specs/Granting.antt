@@ -4,7 +4,7 @@ use Rattle.acl_core.specs.Identity.{Identity}
 use Rattle.acl_core.specs.declared.perms.Perms.{Perms}
 use Rattle.file_ops.specs.declared.refusal.Why.{Why}
 use Rattle.file_ops.specs.declared.refusal.Why.TheVariants as why
-use Rattle.file_ops.specs.Steps.{◌>>=◌, found_or}
+use Rattle.file_ops.specs.Steps.{◌>>=◌, ◌>>◌, found_or}
 use Rattle.file_ops.specs.Paths.{names_of}
 use Rattle.file_ops.specs.Rows.{Rows}
 use Rattle.file_ops.specs.Walks.{permit, reach}
