@@ -1,18 +1,6 @@
 -- Which entries stand at the ends of a valid list: the owner's first, the others' last, and the mask right before it.
-use Rattle.std.proofs.Common.{◌≡◌, ℕ, zero, suc, ◌+◌, ◌<◌, ◌≤◌, Bool, true, false, cond, eqb, List, [], ◌∷◌, length, get_or, refl, ◌∙◌, ap, sym, inl, inr, filter, arith}
-use Rattle.std.specs.List.{list_any}
-use Rattle.std.proofs.lemmas.Bool.{cases_Bool}
-use Rattle.std.proofs.lemmas.Bool.Decides.{nat_tests}
-use Rattle.std.proofs.lemmas.List.{get_or_default}
-use Rattle.acl_core.specs.declared.entry.Tag.{Tag}
-use Rattle.acl_core.specs.declared.entry.Tag.TheVariants.{UserObj, User, GroupObj, Group, Mask, Other}
-use Rattle.acl_core.specs.declared.entry.Entry.{Entry}
-use Rattle.acl_core.specs.Tags.{same_tag, precedes, is_user}
-use Rattle.acl_core.specs.AccessLists.{IsAcl, IsCanonical, count_of}
-use Rattle.acl_core.specs.declared.perms.Perms.{Perms}
-use Rattle.acl_core.specs.Permissions.{has_all}
-use Rattle.acl_core.specs.Identity.{Identity}
-use Rattle.acl_core.specs.Checks.{answer, check_of, mask_grants, one_grants}
+use Rattle.acl_core.proofs.Vocabulary.{◌≡◌, ℕ, zero, suc, ◌+◌, ◌<◌, ◌≤◌, Bool, true, false, cond, eqb, List, [], ◌∷◌, length, get_or, refl, ◌∙◌, ap, sym, inl, inr, filter, arith, list_any, cases_Bool, nat_tests, get_or_default, Tag}
+use Rattle.acl_core.proofs.Vocabulary.{UserObj, User, Mask, Other, Entry, same_tag, precedes, is_user, IsAcl, IsCanonical, count_of, Perms, has_all, Identity, answer, check_of, mask_grants, one_grants}
 use Rattle.acl_core.proofs.TagFacts.{same_tag_is}
 use Rattle.acl_core.proofs.Answering.{answer_named, one_any}
 use Rattle.acl_core.proofs.OneEntry.{any_kept, none_at_end, one_at}
@@ -20,70 +8,41 @@ use Rattle.acl_core.proofs.OneEntry.{any_kept, none_at_end, one_at}
 -- nothing stands before the owner's tag, nothing after the others', and nothing between the mask's and that one
 none_before : (t : Tag) → precedes t UserObj ≡ false
 none_before UserObj = refl
-none_before (User id) = refl
-none_before GroupObj = refl
-none_before (Group id) = refl
-none_before Mask = refl
-none_before Other = refl
+none_before _ = refl
 
 none_behind : (t : Tag) → precedes Other t ≡ false
 none_behind UserObj = refl
-none_behind (User id) = refl
-none_behind GroupObj = refl
-none_behind (Group id) = refl
-none_behind Mask = refl
-none_behind Other = refl
+none_behind _ = refl
 
 none_between : (t : Tag) → precedes Mask t ≡ true → precedes t Other ≡ false
-none_between UserObj h = cc
-none_between (User id) h = cc
-none_between GroupObj h = cc
-none_between (Group id) h = cc
-none_between Mask h = cc
 none_between Other h = refl
+none_between _ h = cc
 
 -- what has another behind it stands before the others' tag
 before_others : (a b : Tag) → precedes a b ≡ true → precedes a Other ≡ true
-before_others UserObj b h = refl
-before_others (User id) b h = refl
-before_others GroupObj b h = refl
-before_others (Group id) b h = refl
-before_others Mask b h = refl
 before_others Other b h = let bad : true ≡ false = sym h ∙ none_behind b in cc
+before_others _ b h = refl
 
 -- and what has two behind it, before the mask's
 before_mask : (a b c : Tag) → precedes a b ≡ true → precedes b c ≡ true → precedes a Mask ≡ true
-before_mask UserObj b c h k = refl
-before_mask (User id) b c h k = refl
-before_mask GroupObj b c h k = refl
-before_mask (Group id) b c h k = refl
 before_mask Mask b c h k = let bad : true ≡ false = sym (before_others b c k) ∙ none_between b h in cc
 before_mask Other b c h k = let bad : true ≡ false = sym h ∙ none_behind b in cc
+before_mask _ b c h k = refl
 
 before_or_mask : (a : Tag) → precedes a Other ≡ true → same_tag a Mask ≡ false → precedes a Mask ≡ true
-before_or_mask UserObj h other = refl
-before_or_mask (User id) h other = refl
-before_or_mask GroupObj h other = refl
-before_or_mask (Group id) h other = refl
 before_or_mask Mask h other = cc
 before_or_mask Other h other = cc
+before_or_mask _ h other = refl
 
 behind_mask : (a : Tag) → precedes a Other ≡ false → (precedes a Mask ≡ false) × (same_tag a Mask ≡ false)
-behind_mask UserObj h = cc
-behind_mask (User id) h = cc
-behind_mask GroupObj h = cc
-behind_mask (Group id) h = cc
-behind_mask Mask h = cc
 behind_mask Other h = (refl, refl)
+behind_mask _ h = cc
 
 -- what stands behind another and names no user stands behind all users
 behind_users : (a b : Tag) (user : ℕ) → precedes a b ≡ true → is_user b ≡ false → (precedes b (User user) ≡ false) × (same_tag b (User user) ≡ false)
 behind_users a UserObj user h other = let bad : true ≡ false = sym h ∙ none_before a in cc
 behind_users a (User id) user h other = cc
-behind_users a GroupObj user h other = (refl, refl)
-behind_users a (Group id) user h other = (refl, refl)
-behind_users a Mask user h other = (refl, refl)
-behind_users a Other user h other = (refl, refl)
+behind_users a _ user h other = (refl, refl)
 
 -- an entry that is counted is left when those of its tag are
 not_empty : (tag : Tag) (entries : List Entry) → count_of tag entries ≡ 1 → filter (λ e. same_tag e.tag tag) entries ≡ [] → true ≡ false
@@ -155,12 +114,8 @@ last_is_others entries place e acl len =
     ]
 
 is_others : (t : Tag) → precedes t Other ≡ false → same_tag t Other ≡ true
-is_others UserObj h = cc
-is_others (User id) h = cc
-is_others GroupObj h = cc
-is_others (Group id) h = cc
-is_others Mask h = cc
 is_others Other h = refl
+is_others _ h = cc
 
 pub others_last : (entries : List Entry) (place : ℕ) (e : Entry) → IsAcl entries → length entries ≡ place + 1 → e ≡ get_or entries place e → filter (λ x. same_tag x.tag Other) entries ≡ e ∷ []
 others_last entries place e acl len is =

@@ -1,3 +1,4 @@
+mod Vocabulary
 pub mod PermissionTable
 pub mod ListFacts
 pub mod TagFacts

@@ -1,14 +1,9 @@
 -- The two lists of files and folders are the same by what they show.
-use Rattle.std.specs.Prelude.{◌≡◌, List, Option, Some, None}
+use Rattle.acl_core.proofs.Vocabulary.{◌≡◌, List, Option, Some, None, pointwise, ap, refl, and_parts, and_from, Entry, same_entry}
 use Rattle.std.specs.Bool.{Decides}
 use Rattle.std.specs.Option.{option_eq}
-use Rattle.std.specs.Cmp.Lexicographic.{pointwise}
-use Rattle.std.proofs.Common.{ap, refl}
-use Rattle.std.proofs.lemmas.Bool.{and_parts, and_from}
 use Rattle.std.proofs.lemmas.Option.{same_Some}
-use Rattle.acl_core.specs.declared.entry.Entry.{Entry}
 use Rattle.acl_core.specs.declared.lists.Lists.{Lists}
-use Rattle.acl_core.specs.Tags.{same_entry}
 use Rattle.acl_core.specs.Pairs.{same_lists}
 use Rattle.acl_core.proofs.EntryEquality.{same_list_decides}
 

@@ -1,19 +1,8 @@
 -- Users and groups by their numbers: which stand among entries, and whether one stands twice.
-use Rattle.std.proofs.Common.{◌≡◌, ℕ, ◌+◌, ◌<◌, Bool, true, eqb, ltb, cond, not, ◌&&◌, ◌||◌, List, [], ◌∷◌, length, get_or, drop, map, refl, sym, ap, ◌∙◌, arith, IsPermutation, IsSorted}
-use Rattle.std.specs.List.{list_any, count_by, cons_option, filter_map, zip}
-use Rattle.std.specs.List.Sorted.{IsNonDecreasingBy}
-use Rattle.std.specs.Ordering.{nat_cmp}
-use Rattle.std.proofs.lemmas.Bool.{le-ltb, ne_eqb, or_right}
-use Rattle.std.proofs.lemmas.List.{get_or-map, length-map}
-use Rattle.std.proofs.lemmas.List.Sorted.{IsNonDecreasingBy-from_sort, IsPermutation-map}
-use Rattle.acl_core.specs.declared.entry.Tag.{Tag}
-use Rattle.acl_core.specs.declared.entry.Tag.TheVariants.{UserObj, User, GroupObj, Group, Mask, Other}
-use Rattle.acl_core.specs.declared.entry.Entry.{Entry}
+use Rattle.acl_core.proofs.Vocabulary.{◌≡◌, ℕ, ◌+◌, ◌<◌, Bool, true, eqb, ltb, cond, not, ◌&&◌, ◌||◌, List, [], ◌∷◌, length, get_or, drop, map, refl, sym, ap, ◌∙◌, arith, IsPermutation, IsSorted, list_any, count_by, cons_option, filter_map}
+use Rattle.acl_core.proofs.Vocabulary.{zip, IsNonDecreasingBy, nat_cmp, le-ltb, ne_eqb, or_right, get_or-map, length-map, IsNonDecreasingBy-from_sort, IsPermutation-map, Tag, User, Group, Entry, rank, same_tag, precedes, is_user, is_group}
+use Rattle.acl_core.proofs.Vocabulary.{count_of, has_named, has_twice, IsSortedCopy, stands_beside, is_doubled, user_of, group_of}
 use Rattle.acl_core.specs.Entries.{entry_of}
-use Rattle.acl_core.specs.Tags.{rank, same_tag, precedes, is_user, is_group}
-use Rattle.acl_core.specs.AccessLists.{count_of, has_named, has_twice}
-use Rattle.acl_core.specs.code.Sorted.{IsSortedCopy, stands_beside}
-use Rattle.acl_core.specs.Tallies.{is_doubled, user_of, group_of}
 use Rattle.acl_core.proofs.Doubles.{beside-twice}
 use Rattle.acl_core.proofs.ListFacts.{count_by-cons}
 
@@ -33,12 +22,8 @@ groups_in entries = filter_map (λ e. group_of e.tag) entries
 -- ---- how often a user stands
 
 one_user : (id : ℕ) (tag : Tag) (users : List ℕ) → cond (same_tag tag (User id)) 1 0 + count_by (λ other. eqb other id) users ≡ count_by (λ other. eqb other id) (user_before tag users)
-one_user id UserObj users = omega arith
 one_user id (User user) users = sym (count_by-cons (λ (other : ℕ). eqb other id) user users)
-one_user id GroupObj users = omega arith
-one_user id (Group group) users = omega arith
-one_user id Mask users = omega arith
-one_user id Other users = omega arith
+one_user id _ users = omega arith
 
 count_users : (id : ℕ) (entries : List Entry) → count_of (User id) entries ≡ count_by (λ other. eqb other id) (users_in entries)
 count_users id [] = refl
@@ -48,12 +33,8 @@ count_users id (e ∷ es) =
     ∙ one_user id e.tag (users_in es)
 
 any_user : (p : Tag → Bool) (q : ℕ → Bool) → ((id : ℕ) → p (User id) ≡ q id) → (tag : Tag) (users : List ℕ) → ((is_user tag && p tag) || list_any q users) ≡ list_any q (user_before tag users)
-any_user p q same UserObj users = refl
 any_user p q same (User id) users = ap (λ b. b || list_any q users) (same id)
-any_user p q same GroupObj users = refl
-any_user p q same (Group id) users = refl
-any_user p q same Mask users = refl
-any_user p q same Other users = refl
+any_user p q same _ users = refl
 
 any_users : (p : Tag → Bool) (q : ℕ → Bool) → ((id : ℕ) → p (User id) ≡ q id) → (entries : List Entry) → list_any (λ e. is_user e.tag && p e.tag) entries ≡ list_any q (users_in entries)
 any_users p q same [] = refl
@@ -66,12 +47,8 @@ twice_users entries =
 -- ---- how often a group stands
 
 one_group : (id : ℕ) (tag : Tag) (groups : List ℕ) → cond (same_tag tag (Group id)) 1 0 + count_by (λ other. eqb other id) groups ≡ count_by (λ other. eqb other id) (group_before tag groups)
-one_group id UserObj groups = omega arith
-one_group id (User user) groups = omega arith
-one_group id GroupObj groups = omega arith
 one_group id (Group group) groups = sym (count_by-cons (λ (other : ℕ). eqb other id) group groups)
-one_group id Mask groups = omega arith
-one_group id Other groups = omega arith
+one_group id _ groups = omega arith
 
 count_groups : (id : ℕ) (entries : List Entry) → count_of (Group id) entries ≡ count_by (λ other. eqb other id) (groups_in entries)
 count_groups id [] = refl
@@ -81,12 +58,8 @@ count_groups id (e ∷ es) =
     ∙ one_group id e.tag (groups_in es)
 
 any_group : (p : Tag → Bool) (q : ℕ → Bool) → ((id : ℕ) → p (Group id) ≡ q id) → (tag : Tag) (groups : List ℕ) → ((is_group tag && p tag) || list_any q groups) ≡ list_any q (group_before tag groups)
-any_group p q same UserObj groups = refl
-any_group p q same (User id) groups = refl
-any_group p q same GroupObj groups = refl
 any_group p q same (Group id) groups = ap (λ b. b || list_any q groups) (same id)
-any_group p q same Mask groups = refl
-any_group p q same Other groups = refl
+any_group p q same _ groups = refl
 
 any_groups : (p : Tag → Bool) (q : ℕ → Bool) → ((id : ℕ) → p (Group id) ≡ q id) → (entries : List Entry) → list_any (λ e. is_group e.tag && p e.tag) entries ≡ list_any q (groups_in entries)
 any_groups p q same [] = refl
@@ -105,12 +78,9 @@ some_cons : (number : ℕ) (numbers : List ℕ) → is_some (number ∷ numbers)
 some_cons number numbers = ap not (ne_eqb (length (number ∷ numbers)) 0 (λ h. omega (arith, h)))
 
 named_step : (tag : Tag) (users groups : List ℕ) → (is_some (user_before tag users) || is_some (group_before tag groups)) ≡ ((is_user tag || is_group tag) || (is_some users || is_some groups))
-named_step UserObj users groups = refl
 named_step (User id) users groups = ap (λ b. b || is_some groups) (some_cons id users)
-named_step GroupObj users groups = refl
 named_step (Group id) users groups = or_right (is_some users) (is_some (id ∷ groups)) (some_cons id groups)
-named_step Mask users groups = refl
-named_step Other users groups = refl
+named_step _ users groups = refl
 
 pub named_some : (entries : List Entry) → (is_some (users_in entries) || is_some (groups_in entries)) ≡ has_named entries
 named_some [] = refl

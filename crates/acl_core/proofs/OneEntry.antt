@@ -1,16 +1,6 @@
 -- The one entry of a tag in a canonical list, by the place before which all entries stand before the tag.
-use Rattle.std.proofs.Common.{◌≡◌, ℕ, zero, suc, ◌<◌, ◌≤◌, Bool, true, false, cond, eqb, ltb, Less, Equal, Greater, Option, None, Some, is_some, List, [], ◌∷◌, All, length, get_or, refl, ◌∙◌, ap, sym, inl, inr, filter, arith}
-use Rattle.std.specs.List.{cons_option, list_any}
-use Rattle.std.specs.Ordering.{partial_lt}
-use Rattle.std.specs.List.Sorted.{IsPartitionedBy}
-use Rattle.std.proofs.lemmas.Bool.{cases_Bool}
-use Rattle.std.proofs.lemmas.Bool.Decides.{nat_tests}
-use Rattle.std.proofs.lemmas.List.Elements.{All-head, All-tail}
-use Rattle.acl_core.specs.declared.entry.Tag.{Tag}
-use Rattle.acl_core.specs.declared.entry.Tag.TheVariants.{UserObj, User, GroupObj, Group, Mask, Other}
-use Rattle.acl_core.specs.declared.entry.Entry.{Entry}
-use Rattle.acl_core.specs.Tags.{same_tag, precedes}
-use Rattle.acl_core.specs.AccessLists.{IsCanonical}
+use Rattle.acl_core.proofs.Vocabulary.{◌≡◌, ℕ, zero, suc, ◌<◌, Bool, true, false, cond, eqb, ltb, Option, None, Some, is_some, List, [], ◌∷◌, All, length, get_or, refl, ◌∙◌, ap, sym, inl, inr, filter, arith, cons_option, list_any}
+use Rattle.acl_core.proofs.Vocabulary.{partial_lt, IsPartitionedBy, cases_Bool, nat_tests, All-head, All-tail, Tag, UserObj, User, GroupObj, Group, Mask, Other, Entry, same_tag, precedes, IsCanonical}
 use Rattle.acl_core.specs.contracts.entry.TagPartialOrd.TheImpl as tag_ord
 
 -- the order of tags that `<` asks
@@ -32,41 +22,17 @@ group_lt_by a b = elim (cases_Bool (ltb a b)) [
 -- it is the canonical one
 pub tag_lt_is : (s t : Tag) → tag_lt s t ≡ precedes s t
 tag_lt_is UserObj UserObj = refl
-tag_lt_is UserObj (User b) = refl
-tag_lt_is UserObj GroupObj = refl
-tag_lt_is UserObj (Group b) = refl
-tag_lt_is UserObj Mask = refl
-tag_lt_is UserObj Other = refl
-tag_lt_is (User a) UserObj = refl
+tag_lt_is UserObj _ = refl
 tag_lt_is (User a) (User b) = lt_by a b
-tag_lt_is (User a) GroupObj = refl
-tag_lt_is (User a) (Group b) = refl
-tag_lt_is (User a) Mask = refl
-tag_lt_is (User a) Other = refl
+tag_lt_is (User a) _ = refl
 tag_lt_is GroupObj UserObj = refl
-tag_lt_is GroupObj (User b) = refl
-tag_lt_is GroupObj GroupObj = refl
-tag_lt_is GroupObj (Group b) = refl
-tag_lt_is GroupObj Mask = refl
-tag_lt_is GroupObj Other = refl
-tag_lt_is (Group a) UserObj = refl
-tag_lt_is (Group a) (User b) = refl
-tag_lt_is (Group a) GroupObj = refl
+tag_lt_is GroupObj _ = refl
 tag_lt_is (Group a) (Group b) = group_lt_by a b
-tag_lt_is (Group a) Mask = refl
-tag_lt_is (Group a) Other = refl
+tag_lt_is (Group a) _ = refl
 tag_lt_is Mask UserObj = refl
-tag_lt_is Mask (User b) = refl
-tag_lt_is Mask GroupObj = refl
-tag_lt_is Mask (Group b) = refl
-tag_lt_is Mask Mask = refl
-tag_lt_is Mask Other = refl
+tag_lt_is Mask _ = refl
 tag_lt_is Other UserObj = refl
-tag_lt_is Other (User b) = refl
-tag_lt_is Other GroupObj = refl
-tag_lt_is Other (Group b) = refl
-tag_lt_is Other Mask = refl
-tag_lt_is Other Other = refl
+tag_lt_is Other _ = refl
 
 chained : (a b tag : Tag) → precedes a b ≡ true → precedes b tag ≡ true → precedes a tag ≡ true
 chained a b tag h k = grind (arith, nat_tests)

@@ -1,14 +1,6 @@
 -- Entries in another order have the same first fault.
-use Rattle.std.proofs.Common.{◌≡◌, Bool, eqb, ltb, ◌&&◌, ◌||◌, List, [], ◌∷◌, sym, ap, ◌∙◌, IsPermutation}
-use Rattle.std.specs.List.{list_any, find}
-use Rattle.std.proofs.lemmas.List.Sorted.{list_any-IsPermutation, length_permutation}
-use Rattle.acl_core.specs.declared.entry.Tag.{Tag}
-use Rattle.acl_core.specs.declared.entry.Tag.TheVariants.{UserObj, GroupObj, Mask, Other}
-use Rattle.acl_core.specs.declared.entry.Entry.{Entry}
-use Rattle.acl_core.specs.declared.fault.AclFault.{AclFault}
-use Rattle.acl_core.specs.declared.fault.AclFault.TheVariants.{NoUserObj, NoGroupObj, NoOther, TwiceSingle, UserTwice, GroupTwice, MaskMissing, TooMany}
-use Rattle.acl_core.specs.Tags.{is_user, is_group}
-use Rattle.acl_core.specs.AccessLists.{count_of, has_twice, has_fault, has_named, max_entries, faults, first_fault}
+use Rattle.acl_core.proofs.Vocabulary.{◌≡◌, Bool, eqb, ltb, ◌&&◌, ◌||◌, List, [], ◌∷◌, sym, ap, ◌∙◌, IsPermutation, list_any, find, list_any-IsPermutation, length_permutation, Tag, UserObj, GroupObj, Mask, Other, Entry, AclFault, NoUserObj}
+use Rattle.acl_core.proofs.Vocabulary.{NoGroupObj, NoOther, TwiceSingle, UserTwice, GroupTwice, MaskMissing, TooMany, is_user, is_group, count_of, has_twice, has_fault, has_named, max_entries, faults, first_fault}
 use Rattle.acl_core.proofs.Sorting.{count_of_permutation}
 
 twice_permutation : (kind : Tag → Bool) (xs ys : List Entry) → IsPermutation xs ys → has_twice kind ys ≡ has_twice kind xs

@@ -1,12 +1,5 @@
 -- Tags by their kinds and qualifiers.
-use Rattle.std.proofs.Common.{◌≡◌, true, eqb, ◌&&◌, List, refl, ◌∙◌, ap, sym}
-use Rattle.std.specs.List.{count_by}
-use Rattle.std.proofs.lemmas.Bool.{and_parts, and_from, eqb-true, eq-eqb}
-use Rattle.acl_core.specs.declared.entry.Tag.{Tag}
-use Rattle.acl_core.specs.declared.entry.Tag.TheVariants.{UserObj, User, GroupObj, Group, Mask, Other}
-use Rattle.acl_core.specs.declared.entry.Entry.{Entry}
-use Rattle.acl_core.specs.Tags.{rank, qualifier, same_tag}
-use Rattle.acl_core.specs.AccessLists.{count_of}
+use Rattle.acl_core.proofs.Vocabulary.{◌≡◌, true, eqb, ◌&&◌, List, refl, ◌∙◌, ap, sym, count_by, and_parts, and_from, eqb-true, eq-eqb, Tag, UserObj, User, GroupObj, Group, Mask, Other, Entry, rank, qualifier, same_tag, count_of}
 
 -- two entries about the same have one kind and one qualifier
 pub same_parts : (a b : Tag) → same_tag a b ≡ true → (rank a ≡ rank b) × (qualifier a ≡ qualifier b)
@@ -27,41 +20,17 @@ same_tag-refl a = and_from (eqb (rank a) (rank a)) (eqb (qualifier a) (qualifier
 -- entries about the same have one tag
 pub same_tag_is : (s t : Tag) → same_tag s t ≡ true → s ≡ t
 same_tag_is UserObj UserObj h = refl
-same_tag_is UserObj (User b) h = cc
-same_tag_is UserObj GroupObj h = cc
-same_tag_is UserObj (Group b) h = cc
-same_tag_is UserObj Mask h = cc
-same_tag_is UserObj Other h = cc
-same_tag_is (User a) UserObj h = cc
+same_tag_is UserObj _ h = cc
 same_tag_is (User a) (User b) h = ap User (eqb-true a b h)
-same_tag_is (User a) GroupObj h = cc
-same_tag_is (User a) (Group b) h = cc
-same_tag_is (User a) Mask h = cc
-same_tag_is (User a) Other h = cc
-same_tag_is GroupObj UserObj h = cc
-same_tag_is GroupObj (User b) h = cc
+same_tag_is (User a) _ h = cc
 same_tag_is GroupObj GroupObj h = refl
-same_tag_is GroupObj (Group b) h = cc
-same_tag_is GroupObj Mask h = cc
-same_tag_is GroupObj Other h = cc
-same_tag_is (Group a) UserObj h = cc
-same_tag_is (Group a) (User b) h = cc
-same_tag_is (Group a) GroupObj h = cc
+same_tag_is GroupObj _ h = cc
 same_tag_is (Group a) (Group b) h = ap Group (eqb-true a b h)
-same_tag_is (Group a) Mask h = cc
-same_tag_is (Group a) Other h = cc
-same_tag_is Mask UserObj h = cc
-same_tag_is Mask (User b) h = cc
-same_tag_is Mask GroupObj h = cc
-same_tag_is Mask (Group b) h = cc
+same_tag_is (Group a) _ h = cc
 same_tag_is Mask Mask h = refl
-same_tag_is Mask Other h = cc
-same_tag_is Other UserObj h = cc
-same_tag_is Other (User b) h = cc
-same_tag_is Other GroupObj h = cc
-same_tag_is Other (Group b) h = cc
-same_tag_is Other Mask h = cc
+same_tag_is Mask _ h = cc
 same_tag_is Other Other h = refl
+same_tag_is Other _ h = cc
 
 pub same_tag-sym : (a b : Tag) → same_tag a b ≡ true → same_tag b a ≡ true
 same_tag-sym a b h = let parts = same_parts a b h in and_from (eqb (rank b) (rank a)) (eqb (qualifier b) (qualifier a)) (eq-eqb (rank b) (rank a) (sym parts.0)) (eq-eqb (qualifier b) (qualifier a) (sym parts.1))

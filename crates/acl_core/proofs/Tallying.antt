@@ -1,19 +1,8 @@
 -- What a tally tells of the entries that were taken.
-use Rattle.std.proofs.Common.{◌≡◌, ℕ, ◌+◌, ◌≤◌, Bool, true, false, eqb, ltb, cond, ◌&&◌, ◌||◌, List, [], ◌∷◌, ◌++◌, Option, None, Some, length, take, refl, sym, ap, subst, ◌∙◌, inl, inr, arith, append-nil, length-append, take_all}
-use Rattle.std.specs.List.{find, list_any, cons_option}
-use Rattle.std.proofs.lemmas.Bool.{cases_Bool, ltb-true, ltb-false}
-use Rattle.std.proofs.lemmas.Bool.Decides.{nat_tests}
-use Rattle.std.proofs.lemmas.List.{take-append-le, length-take-le}
-use Rattle.std.proofs.lemmas.List.Elements.{filter_map-append}
-use Rattle.std.proofs.lemmas.List.Sums.{sum_by-append}
-use Rattle.acl_core.specs.declared.entry.Tag.{Tag}
-use Rattle.acl_core.specs.declared.entry.Tag.TheVariants.{UserObj, User, GroupObj, Group, Mask, Other}
-use Rattle.acl_core.specs.declared.entry.Entry.{Entry}
-use Rattle.acl_core.specs.declared.fault.AclFault.{AclFault}
-use Rattle.acl_core.specs.declared.fault.AclFault.TheVariants.{NoUserObj, NoGroupObj, NoOther, TwiceSingle, UserTwice, GroupTwice, MaskMissing, TooMany}
-use Rattle.acl_core.specs.Tags.{same_tag}
-use Rattle.acl_core.specs.AccessLists.{IsAccepted, count_of, faults, first_fault, has_fault, max_entries}
-use Rattle.acl_core.specs.Tallies.{IsTallyOf, IsWhole, Tallied, group_of, is_doubled, up_to_two, user_of}
+use Rattle.acl_core.proofs.Vocabulary.{◌≡◌, ℕ, ◌+◌, ◌≤◌, Bool, true, false, eqb, ltb, cond, ◌&&◌, ◌||◌, List, [], ◌∷◌, ◌++◌, Option, None, Some, length, take, refl, sym, ap, subst, ◌∙◌, inl, inr, arith, append-nil, length-append, take_all}
+use Rattle.acl_core.proofs.Vocabulary.{find, list_any, cons_option, cases_Bool, ltb-true, ltb-false, nat_tests, take-append-le, length-take-le, filter_map-append, sum_by-append, Tag, UserObj, User, GroupObj, Group, Mask, Other, Entry}
+use Rattle.acl_core.proofs.Vocabulary.{AclFault, NoUserObj, NoGroupObj, NoOther, TwiceSingle, UserTwice, GroupTwice, MaskMissing, TooMany, same_tag, IsAccepted, count_of, faults, first_fault, has_fault, max_entries, IsTallyOf, IsWhole}
+use Rattle.acl_core.proofs.Vocabulary.{Tallied, group_of, is_doubled, up_to_two, user_of}
 use Rattle.acl_core.proofs.Faults.{accepted_without_fault}
 use Rattle.acl_core.proofs.ListFacts.{count_by-cons}
 use Rattle.acl_core.proofs.Numbers.{is_some, twice_users, twice_groups, named_some}
@@ -40,20 +29,12 @@ tallied_with tally entry = record (counted_as tally entry.tag) { kept = kept_wit
 -- ---- users and groups
 
 users_with : (tally : Tallied) (tag : Tag) → (counted_as tally tag).users ≡ tally.users ++ cons_option (user_of tag) []
-users_with tally UserObj = sym (append-nil tally.users)
 users_with tally (User id) = refl
-users_with tally GroupObj = sym (append-nil tally.users)
-users_with tally (Group id) = sym (append-nil tally.users)
-users_with tally Mask = sym (append-nil tally.users)
-users_with tally Other = sym (append-nil tally.users)
+users_with tally _ = sym (append-nil tally.users)
 
 groups_with : (tally : Tallied) (tag : Tag) → (counted_as tally tag).groups ≡ tally.groups ++ cons_option (group_of tag) []
-groups_with tally UserObj = sym (append-nil tally.groups)
-groups_with tally (User id) = sym (append-nil tally.groups)
-groups_with tally GroupObj = sym (append-nil tally.groups)
 groups_with tally (Group id) = refl
-groups_with tally Mask = sym (append-nil tally.groups)
-groups_with tally Other = sym (append-nil tally.groups)
+groups_with tally _ = sym (append-nil tally.groups)
 
 -- ---- entries that can stand only once
 
@@ -88,35 +69,19 @@ counted_more tag n entries e is =
 
 user_objs_with : (tally : Tallied) (tag : Tag) → (counted_as tally tag).user_objs ≡ cond (same_tag tag UserObj) (counted tally.user_objs) tally.user_objs
 user_objs_with tally UserObj = refl
-user_objs_with tally (User id) = refl
-user_objs_with tally GroupObj = refl
-user_objs_with tally (Group id) = refl
-user_objs_with tally Mask = refl
-user_objs_with tally Other = refl
+user_objs_with tally _ = refl
 
 group_objs_with : (tally : Tallied) (tag : Tag) → (counted_as tally tag).group_objs ≡ cond (same_tag tag GroupObj) (counted tally.group_objs) tally.group_objs
 group_objs_with tally UserObj = refl
-group_objs_with tally (User id) = refl
-group_objs_with tally GroupObj = refl
-group_objs_with tally (Group id) = refl
-group_objs_with tally Mask = refl
-group_objs_with tally Other = refl
+group_objs_with tally _ = refl
 
 masks_with : (tally : Tallied) (tag : Tag) → (counted_as tally tag).masks ≡ cond (same_tag tag Mask) (counted tally.masks) tally.masks
 masks_with tally UserObj = refl
-masks_with tally (User id) = refl
-masks_with tally GroupObj = refl
-masks_with tally (Group id) = refl
-masks_with tally Mask = refl
-masks_with tally Other = refl
+masks_with tally _ = refl
 
 others_with : (tally : Tallied) (tag : Tag) → (counted_as tally tag).others ≡ cond (same_tag tag Other) (counted tally.others) tally.others
 others_with tally UserObj = refl
-others_with tally (User id) = refl
-others_with tally GroupObj = refl
-others_with tally (Group id) = refl
-others_with tally Mask = refl
-others_with tally Other = refl
+others_with tally _ = refl
 
 -- ---- the first entries
 
@@ -221,8 +186,4 @@ kept_all tally entries is none = all_kept tally entries is (accepted_without_fau
 -- what counting leaves
 pub counted_kept : (tally : Tallied) (tag : Tag) → (counted_as tally tag).kept ≡ tally.kept
 counted_kept tally UserObj = refl
-counted_kept tally (User id) = refl
-counted_kept tally GroupObj = refl
-counted_kept tally (Group id) = refl
-counted_kept tally Mask = refl
-counted_kept tally Other = refl
+counted_kept tally _ = refl

@@ -1,9 +1,6 @@
 -- Texts in which some bytes do not stand: where they are cut, and what trimming leaves.
-use Rattle.acl_text.proofs.Vocabulary.{◌≡◌, ℕ, suc, ◌+◌, ◌-◌, Bool, true, false, cond, not, List, [], ◌∷◌, ◌++◌, length, take, drop, get_or, refl, sym, ap}
-use Rattle.acl_text.proofs.Vocabulary.{◌∙◌, arith, list_all, slice_split, onto_first, before_first, prefix_len, suffix_len, position_or_len, and_parts}
-use Rattle.acl_text.proofs.Vocabulary.{and_from, not-true, slice_split-cons_no, slice_split-cons_yes, suffix_len-take_no, AllPass-from_list_all, is_white}
-use Rattle.acl_text.proofs.Vocabulary.{trimmed}
-use Rattle.std.proofs.lemmas.List.{take_all}
+use Rattle.acl_text.proofs.Vocabulary.{◌≡◌, ℕ, suc, ◌+◌, ◌-◌, Bool, true, false, cond, not, List, [], ◌∷◌, ◌++◌, length, take, drop, get_or, refl, sym, ap, ◌∙◌, arith, list_all, slice_split, onto_first, before_first, prefix_len, suffix_len}
+use Rattle.acl_text.proofs.Vocabulary.{position_or_len, and_parts, and_from, not-true, slice_split-cons_no, slice_split-cons_yes, suffix_len-take_no, AllPass-from_list_all, is_white, trimmed, take_all}
 
 -- whether no byte passes a test
 abbrev pub lacks : (ℕ → Bool) → List ℕ → Bool

@@ -1,8 +1,10 @@
 -- Entries of two lists that are taken one at a time.
-use Rattle.acl_text.proofs.Vocabulary.{◌≡◌, ℕ, List, [], ◌∷◌, ◌++◌, Option, None, Some, Result, Ok, Err, option_map, refl, ap, sym, subst, ◌∙◌, append-nil}
-use Rattle.acl_text.proofs.Vocabulary.{IsPermutation, cons_option, option_or, IfErr, IfOk, IsErrAnd, OnOk, Entry, AclError, AclFault, Lists, fault_in}
-use Rattle.acl_text.proofs.Vocabulary.{first_fault, IsTallyOf, Tallied, SidedEntry, Side, Access, Default, Invalid, Memory, Tallies, AreTallied, fault_of_list}
-use Rattle.acl_text.proofs.Vocabulary.{default_entries, entries_of, if_of, Tables, Spells, SpellsLists, default_fault, lists_fault}
+use Rattle.acl_text.proofs.Vocabulary.{◌≡◌, ℕ, List, [], ◌∷◌, ◌++◌, Option, None, Some, Result, Ok, Err, option_map, refl, ap, sym, subst, ◌∙◌, append-nil, IsPermutation, cons_option, option_or, IfErr, IfOk, IsErrAnd, OnOk, Entry, fault_in}
+use Rattle.acl_text.proofs.Vocabulary.{first_fault, SidedEntry, Side, Access, Default, Invalid, Memory, AreTallied, fault_of_list, default_entries, entries_of, if_of, Tables, Spells, SpellsLists, default_fault, lists_fault, Lists}
+use Rattle.acl_core.specs.declared.fault.AclError.{AclError}
+use Rattle.acl_core.specs.declared.fault.AclFault.{AclFault}
+use Rattle.acl_core.specs.Tallies.{IsTallyOf, Tallied}
+use Rattle.acl_text.specs.declared.read.Tallies.{Tallies}
 use Rattle.acl_core.specs.declared.fault.AclError.TheVariants as acl
 
 pub on_ok : {T E P Q : Type 0} (r : Result T E) → OnOk r P → (P → Q) → OnOk r Q

@@ -1,12 +1,11 @@
 -- The text of an entry is read as that entry.
-use Rattle.acl_text.proofs.Vocabulary.{◌≡◌, ℕ, ◌<◌, ◌≤◌, ◌%◌, ◌&&◌, Bool, true, false, not, eqb, List, [], ◌∷◌, ◌++◌, length, map, Some, Ok, codes, decimal}
-use Rattle.acl_text.proofs.Vocabulary.{refl, sym, ap, ◌∙◌, append_assoc, arith, is_ascii_digit, list_all, result_map_both, all_ascii_digits, agree_below_at}
-use Rattle.acl_text.proofs.Vocabulary.{eqb-true, and_from, nat_tests, digits_decimal, decimal_is_IsNumeral, list_all-append, numerals_by_value}
-use Rattle.acl_text.proofs.Vocabulary.{tells_all_ascii_digits, Tag, Entry, Perms, entry_of, may_read, may_write, may_execute, has_permission, digit_of}
-use Rattle.acl_text.proofs.Vocabulary.{qualifier, same_by_fields, Keyword, User, Group, Mask, Other, Side, Access, Default, reading, entry_reading}
-use Rattle.acl_text.proofs.Vocabulary.{fields_reading, sided_reading, fits_keyword, numbered, tag_of, are_permissions, permission_digit, word_of, keyword_of}
-use Rattle.acl_text.proofs.Vocabulary.{is_default, is_white, colon, parts, trimmed, fields_of, is_name_byte, max_id, sided_entry, Tables, entry_text}
-use Rattle.acl_text.proofs.Vocabulary.{sided_text, tag_text}
+use Rattle.acl_text.proofs.Vocabulary.{◌≡◌, ℕ, ◌<◌, ◌≤◌, ◌%◌, ◌&&◌, Bool, true, false, not, eqb, List, [], ◌∷◌, ◌++◌, length, map, Some, Ok, codes, decimal, refl, sym, ap, ◌∙◌, append_assoc, arith, is_ascii_digit, list_all, result_map_both}
+use Rattle.acl_text.proofs.Vocabulary.{all_ascii_digits, agree_below_at, eqb-true, and_from, nat_tests, list_all-append, Tag, Entry, Perms, entry_of, may_read, may_write, may_execute, has_permission, digit_of, qualifier, Keyword, User}
+use Rattle.acl_text.proofs.Vocabulary.{Group, Mask, Other, Side, Access, Default, reading, entry_reading, fields_reading, sided_reading, fits_keyword, numbered, tag_of, are_permissions, permission_digit, word_of, keyword_of, is_default}
+use Rattle.acl_text.proofs.Vocabulary.{is_white, colon, parts, trimmed, fields_of, is_name_byte, max_id, sided_entry, Tables, entry_text, sided_text, tag_text}
+use Rattle.std.proofs.lemmas.Fmt.{digits_decimal, decimal_is_IsNumeral}
+use Rattle.std.proofs.lemmas.Str.Parse.{numerals_by_value, tells_all_ascii_digits}
+use Rattle.acl_core.proofs.EntryEquality.{same_by_fields}
 use Rattle.acl_core.specs.declared.entry.Tag.TheVariants as tag
 use Rattle.acl_text.proofs.CleanText.{lacks, split_at_byte, trimmed_clean, list_all_wider}
 use Rattle.acl_text.proofs.Letters.{three, tail, is_plain, letter_facts}
@@ -34,12 +33,11 @@ no_colon_digit b digit = grind (arith, nat_tests)
 
 -- the keyword of an entry, and its qualifier as it is written
 abbrev keyword_of_tag : Tag → Keyword
-keyword_of_tag tag.UserObj = User
-keyword_of_tag (tag.User id) = User
 keyword_of_tag tag.GroupObj = Group
 keyword_of_tag (tag.Group id) = Group
 keyword_of_tag tag.Mask = Mask
 keyword_of_tag tag.Other = Other
+keyword_of_tag _ = User
 
 abbrev qualifier_text : Tag → List ℕ
 qualifier_text (tag.User id) = decimal id
@@ -48,12 +46,9 @@ qualifier_text _ = []
 
 -- the three fields of an entry's text
 tag_fields : (t : Tag) (rest : List ℕ) → tag_text t ++ rest ≡ word_of (keyword_of_tag t) ++ 58 ∷ (qualifier_text t ++ 58 ∷ rest)
-tag_fields tag.UserObj rest = refl
 tag_fields (tag.User id) rest = ap (λ more. codes "user:" ++ more) (append_assoc (decimal id) (58 ∷ []) rest)
-tag_fields tag.GroupObj rest = refl
 tag_fields (tag.Group id) rest = ap (λ more. codes "group:" ++ more) (append_assoc (decimal id) (58 ∷ []) rest)
-tag_fields tag.Mask rest = refl
-tag_fields tag.Other rest = refl
+tag_fields _ rest = refl
 
 record WordFacts (k : Keyword) : Type 0 where
   no_colon : lacks (λ b. eqb b colon) (word_of k) ≡ true
@@ -65,9 +60,7 @@ record WordFacts (k : Keyword) : Type 0 where
 
 word_facts : (k : Keyword) → WordFacts k
 word_facts User = record { no_colon = refl; trims = refl; known = refl; no_default = refl; no_blank = λ rest. refl; plain = refl }
-word_facts Group = record { no_colon = refl; trims = refl; known = refl; no_default = refl; no_blank = λ rest. refl; plain = refl }
-word_facts Mask = record { no_colon = refl; trims = refl; known = refl; no_default = refl; no_blank = λ rest. refl; plain = refl }
-word_facts Other = record { no_colon = refl; trims = refl; known = refl; no_default = refl; no_blank = λ rest. refl; plain = refl }
+word_facts _ = record { no_colon = refl; trims = refl; known = refl; no_default = refl; no_blank = λ rest. refl; plain = refl }
 
 record QualifierFacts (names : Tables) (t : Tag) : Type 0 where
   no_colon : lacks (λ b. eqb b colon) (qualifier_text t) ≡ true
@@ -102,16 +95,13 @@ decimal_facts id small =
     )
 
 qualifier_facts : (names : Tables) (t : Tag) → qualifier t ≤ max_id → QualifierFacts names t
-qualifier_facts names tag.UserObj small = record { no_colon = refl; trims = refl; fit = refl; whom = refl; plain = refl }
 qualifier_facts names (tag.User id) small =
     let f = decimal_facts id small in
     record { no_colon = f.1; trims = f.2; fit = f.3; whom = user_of names (decimal id) f.0 ∙ ap (result_map_both tag.User (λ fault. fault)) (numbered_decimal names.users id small); plain = f.4 }
-qualifier_facts names tag.GroupObj small = record { no_colon = refl; trims = refl; fit = refl; whom = refl; plain = refl }
 qualifier_facts names (tag.Group id) small =
     let f = decimal_facts id small in
     record { no_colon = f.1; trims = f.2; fit = f.3; whom = group_of names (decimal id) f.0 ∙ ap (result_map_both tag.Group (λ fault. fault)) (numbered_decimal names.groups id small); plain = f.4 }
-qualifier_facts names tag.Mask small = record { no_colon = refl; trims = refl; fit = refl; whom = refl; plain = refl }
-qualifier_facts names tag.Other small = record { no_colon = refl; trims = refl; fit = refl; whom = refl; plain = refl }
+qualifier_facts names _ small = record { no_colon = refl; trims = refl; fit = refl; whom = refl; plain = refl }
 
 -- an item of three fields
 reading_fields : (names : Tables) (text word q permissions : List ℕ) (e : Entry) → list_all is_white text ≡ false → fields_of text ≡ word ∷ q ∷ permissions ∷ [] → is_default word ≡ false

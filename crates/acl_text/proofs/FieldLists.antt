@@ -1,6 +1,5 @@
 -- Items of more fields than an entry has.
-use Rattle.acl_text.proofs.Vocabulary.{◌≡◌, ℕ, true, eqb, List, ◌∷◌, Option, None, Some, is_some, Err, map, refl, Syntax, colon, trimmed, parts_left, Tables}
-use Rattle.acl_text.proofs.Vocabulary.{fields_reading}
+use Rattle.acl_text.proofs.Vocabulary.{◌≡◌, ℕ, true, eqb, List, ◌∷◌, Option, None, Some, is_some, Err, map, refl, Syntax, colon, trimmed, parts_left, Tables, fields_reading}
 use denote.Ref.{Bor}
 use Rattle.acl_text.proofs.Splits.{some_part}
 

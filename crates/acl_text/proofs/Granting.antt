@@ -1,9 +1,8 @@
 -- What is granted by the letters of a field, and the entry that it makes.
-use Rattle.acl_text.proofs.Vocabulary.{◌≡◌, ℕ, ◌+◌, ◌≤◌, Bool, true, false, cond, eqb, List, [], ◌∷◌, ◌++◌, Some, Err, refl, sym, ap, subst, ◌∙◌, inl, inr}
-use Rattle.acl_text.proofs.Vocabulary.{arith, is_ascii_digit, list_all, list_any, result_map_both, and_parts, and_from, and_right, or_cases, cases_Bool}
-use Rattle.acl_text.proofs.Vocabulary.{eqb-true, eq-eqb, false_from_ne_true, nat_tests, list_all-append, sum_by-append, count_by-cons, entry_of, digit_of}
-use Rattle.acl_text.proofs.Vocabulary.{Syntax, Letters, Keyword, are_permissions, entry_reading, fits_keyword, hyphen, is_permission_byte, letter_r, letter_w}
-use Rattle.acl_text.proofs.Vocabulary.{letter_x, permission_bytes, permission_digit, stands_in, tag_of, times_in, IsReadOf, Grants, is_name_byte, Tables}
+use Rattle.acl_text.proofs.Vocabulary.{◌≡◌, ℕ, ◌+◌, ◌≤◌, Bool, true, false, cond, eqb, List, [], ◌∷◌, ◌++◌, Some, Err, refl, sym, ap, subst, ◌∙◌, inl, inr, arith, is_ascii_digit, list_all, list_any, result_map_both, and_parts, and_from}
+use Rattle.acl_text.proofs.Vocabulary.{or_cases, cases_Bool, eqb-true, eq-eqb, false_from_ne_true, nat_tests, list_all-append, sum_by-append, count_by-cons, entry_of, digit_of, Syntax, Keyword, are_permissions, entry_reading, fits_keyword}
+use Rattle.acl_text.proofs.Vocabulary.{hyphen, is_permission_byte, letter_r, letter_w, letter_x, permission_bytes, permission_digit, stands_in, tag_of, times_in, IsReadOf, Grants, is_name_byte, Tables}
+use Rattle.acl_text.specs.declared.item.Letters.{Letters}
 use Rattle.acl_text.proofs.CleanText.{list_all_wider}
 use Rattle.acl_text.proofs.ItemGrammar.{few_if_once, grants_from_test, once_if_there, test_from_grants, there_if_once}
 
@@ -148,9 +147,6 @@ entry_by names keyword qualifier field letters is =
       | inl fits ↦ rw (fits, is.known) (ap (λ d. result_map_both (λ tag. entry_of tag d) (λ fault. fault) (tag_of names keyword qualifier)) digit)
       | inr other ↦ rw other refl
     ]
-
-pub no_entry : (names : Tables) (keyword : Keyword) (qualifier field : List ℕ) → are_permissions field ≡ false → entry_reading names (Some keyword) qualifier field ≡ Err Syntax
-no_entry names keyword qualifier field spoilt = rw (and_right (fits_keyword keyword qualifier) (are_permissions field) spoilt) refl
 
 -- digits may stand in a name
 pub digits_name : (qualifier : List ℕ) → list_all is_ascii_digit qualifier ≡ true → list_all is_name_byte qualifier ≡ true

@@ -1,6 +1,5 @@
 -- The numbers of a caller's groups, read one after the other.
-use Rattle.acl_text.proofs.Vocabulary.{◌≡◌, ℕ, ◌⊎◌, inl, inr, List, [], ◌∷◌, ◌++◌, map, Option, Some, None, option_map, refl, ◌∙◌, ap, number_up_to, ids_in}
-use Rattle.acl_text.proofs.Vocabulary.{max_id}
+use Rattle.acl_text.proofs.Vocabulary.{◌≡◌, ℕ, ◌⊎◌, inl, inr, List, [], ◌∷◌, ◌++◌, map, Option, Some, None, option_map, refl, ◌∙◌, ap, number_up_to, ids_in, max_id}
 
 -- the numbers, where each is one
 abbrev pub all_numbers : List (Option ℕ) → Option (List ℕ)

@@ -1,7 +1,6 @@
 -- A text has no more items than bytes, and one.
-use Rattle.acl_text.proofs.Vocabulary.{◌≡◌, ℕ, ◌+◌, ◌≤◌, Bool, eqb, List, [], ◌∷◌, length, refl, ap, sym, ◌∙◌, inl, inr, arith, length-append, slice_split}
-use Rattle.acl_text.proofs.Vocabulary.{flat_map, position_or_len, cases_Bool, length-take, slice_split-cons_no, items_of, items_of_line, parts, line_feed}
-use Rattle.acl_text.proofs.Vocabulary.{comma, uncommented}
+use Rattle.acl_text.proofs.Vocabulary.{◌≡◌, ℕ, ◌+◌, ◌≤◌, Bool, eqb, List, [], ◌∷◌, length, refl, ap, sym, ◌∙◌, inl, inr, arith, length-append, slice_split, flat_map, position_or_len, cases_Bool, length-take, slice_split-cons_no, items_of}
+use Rattle.acl_text.proofs.Vocabulary.{items_of_line, parts, line_feed, comma, uncommented}
 use Rattle.acl_text.proofs.Splits.{some_part}
 
 -- the bytes of some lines, each counted with an end of its own

@@ -1,33 +1,13 @@
 -- An item reads as an entry exactly when it is written as one.
-use Rattle.acl_text.proofs.Vocabulary.{◌≡◌, ℕ, ◌<◌, ◌≤◌, Bool, true, false, cond, leb, eqb, not, ◌&&◌, ◌||◌, List, [], ◌∷◌, ◌++◌, length, map, Option, Some}
-use Rattle.acl_text.proofs.Vocabulary.{None, Result, Ok, Err, codes, refl, sym, ap, subst, ◌∙◌, inl, inr, arith, is_ascii_digit, list_all, list_any, find}
-use Rattle.acl_text.proofs.Vocabulary.{count_by, join_with_byte, ok_or, result_map_both, bytes_eq, digits_value, and_parts, and_from, or_cases, and_right}
-use Rattle.acl_text.proofs.Vocabulary.{cases_Bool, eqb-true, leb-true, le-leb, nat_tests, list_all-append, join_with_byte-slice_split, bytes_eq-Decides}
-use Rattle.acl_text.proofs.Vocabulary.{count_by-cons, Tag, Entry, entry_of, digit_of, ItemFault, SidedEntry, Side, Access, Default, Keyword, User, Group, Mask}
-use Rattle.acl_text.proofs.Vocabulary.{Other, IsSpaced, Denotes, Says, Grants, IsLong, IsShort, IsLaidOut, IsItemOf, IsDefaultItemOf, SaysItem, is_single}
-use Rattle.acl_text.proofs.Vocabulary.{word_of, letter_of, keyword_among, keyword_of, single_keyword_of, is_default, colon, is_white, parts, trimmed}
-use Rattle.acl_text.proofs.Vocabulary.{fields_of, is_name_byte, max_id, id_of, sided_entry, Tables, number_in}
+use Rattle.acl_text.proofs.Vocabulary.{◌≡◌, ℕ, ◌<◌, ◌≤◌, Bool, true, false, cond, leb, eqb, not, ◌&&◌, ◌||◌, List, [], ◌∷◌, ◌++◌, length, map, Option, Some, None, Result, Ok, Err, codes, refl, sym, ap, subst, ◌∙◌, inl, inr, arith}
+use Rattle.acl_text.proofs.Vocabulary.{is_ascii_digit, list_all, list_any, find, count_by, join_with_byte, ok_or, result_map_both, bytes_eq, digits_value, and_parts, and_from, or_cases, and_right, cases_Bool, eqb-true, leb-true, le-leb}
+use Rattle.acl_text.proofs.Vocabulary.{nat_tests, list_all-append, join_with_byte-slice_split, count_by-cons, Tag, Entry, entry_of, digit_of, ItemFault, SidedEntry, Side, Access, Default, Keyword, User, Group, Mask, Other, IsSpaced}
+use Rattle.acl_text.proofs.Vocabulary.{Denotes, Says, Grants, IsLong, IsShort, IsLaidOut, IsItemOf, IsDefaultItemOf, SaysItem, is_single, word_of, letter_of, keyword_among, keyword_of, single_keyword_of, is_default, colon, is_white, parts}
+use Rattle.acl_text.proofs.Vocabulary.{trimmed, fields_of, is_name_byte, max_id, id_of, sided_entry, Tables, number_in, letter_r, letter_w, letter_x, hyphen, times_in, stands_in, are_permissions, permission_bytes, permission_digit}
+use Rattle.acl_text.proofs.Vocabulary.{is_permission_byte, numbered, tag_of, fits_keyword, entry_reading, fields_reading, sided_reading, reading}
+use Rattle.std.proofs.lemmas.Slice.Eq.{bytes_eq-Decides}
 use Rattle.acl_core.specs.declared.entry.Tag.TheVariants as tag
 use Rattle.acl_text.specs.declared.item.ItemFault.TheVariants as item
-use Rattle.acl_text.specs.Grammar.{
-  letter_r,
-  letter_w,
-  letter_x,
-  hyphen,
-  times_in,
-  stands_in,
-  are_permissions,
-  permission_bytes,
-  permission_digit,
-  is_permission_byte,
-  numbered,
-  tag_of,
-  fits_keyword,
-  entry_reading,
-  fields_reading,
-  sided_reading,
-  reading,
-}
 use Rattle.acl_text.proofs.CleanText.{lacks, split_lacking, split_at_byte, list_all_wider}
 use Rattle.acl_text.proofs.Trimming.{trimmed_spaced, spaced_by_trimming}
 
@@ -173,12 +153,9 @@ group_of names [] some = absurd (omega arith)
 group_of names (b ∷ q) some = refl
 
 pub tagged_from : (names : Tables) (t : Tag) (k : Keyword) (q : List ℕ) → Says names t k q → Tagged names k q t
-tagged_from names tag.UserObj k q says = rw (says.0, says.1) (record { fits = refl; is = refl })
 tagged_from names (tag.User id) k q says = rw says.0 (record { fits = says.1.bytes; is = user_of names q says.1.some ∙ ap (result_map_both tag.User (λ fault. fault)) (numbered_from names.users q id says.1) })
-tagged_from names tag.GroupObj k q says = rw (says.0, says.1) (record { fits = refl; is = refl })
 tagged_from names (tag.Group id) k q says = rw says.0 (record { fits = says.1.bytes; is = group_of names q says.1.some ∙ ap (result_map_both tag.Group (λ fault. fault)) (numbered_from names.groups q id says.1) })
-tagged_from names tag.Mask k q says = rw (says.0, says.1) (record { fits = refl; is = refl })
-tagged_from names tag.Other k q says = rw (says.0, says.1) (record { fits = refl; is = refl })
+tagged_from names _ k q says = rw (says.0, says.1) (record { fits = refl; is = refl })
 
 -- bytes that neither end a field nor are trimmed
 abbrev is_kept : ℕ → Bool
@@ -200,12 +177,9 @@ white_colon : (b : ℕ) → is_white b ≡ true → not (eqb b colon) ≡ true
 white_colon b h = grind (arith, nat_tests)
 
 qualifier_kept : (names : Tables) (t : Tag) (k : Keyword) (q : List ℕ) → Says names t k q → list_all is_kept q ≡ true
-qualifier_kept names tag.UserObj k q says = ap (list_all is_kept) says.1
 qualifier_kept names (tag.User id) k q says = list_all_wider is_name_byte is_kept name_kept q says.1.bytes
-qualifier_kept names tag.GroupObj k q says = ap (list_all is_kept) says.1
 qualifier_kept names (tag.Group id) k q says = list_all_wider is_name_byte is_kept name_kept q says.1.bytes
-qualifier_kept names tag.Mask k q says = ap (list_all is_kept) says.1
-qualifier_kept names tag.Other k q says = ap (list_all is_kept) says.1
+qualifier_kept names _ k q says = ap (list_all is_kept) says.1
 
 record WordFacts (k : Keyword) (word : List ℕ) : Type 0 where
   kept : list_all is_kept word ≡ true
@@ -270,12 +244,9 @@ entry_from names t k q p reads writes executes says granted =
     ∙ ap (λ digit. Ok (entry_of t digit)) (digit_from_grants p reads writes executes granted)
 
 single_empty : (names : Tables) (t : Tag) (k : Keyword) (q : List ℕ) → is_single k ≡ true → Says names t k q → q ≡ []
-single_empty names tag.UserObj k q single says = says.1
 single_empty names (tag.User id) k q single says = let other : is_single k ≡ false = ap is_single says.0 in cc
-single_empty names tag.GroupObj k q single says = says.1
 single_empty names (tag.Group id) k q single says = let other : is_single k ≡ false = ap is_single says.0 in cc
-single_empty names tag.Mask k q single says = says.1
-single_empty names tag.Other k q single says = says.1
+single_empty names _ k q single says = says.1
 
 -- an item that is written as an entry: its first field is no word of a default list, and what is read of its fields
 record IsRead (names : Tables) (e : Entry) (bytes : List ℕ) : Type 0 where

@@ -1,6 +1,5 @@
 -- Places of parts, one part after another.
-use Rattle.acl_text.proofs.Vocabulary.{◌≡◌, ℕ, ◌+◌, ◌-◌, ◌<◌, ◌≤◌, zero, suc, List, ◌∷◌, ◌++◌, length, ap, refl, ◌∙◌, arith, slice_get, line_feed, parts}
-use Rattle.acl_text.proofs.Vocabulary.{begins, begins_of_lines, item_place, item_places}
+use Rattle.acl_text.proofs.Vocabulary.{◌≡◌, ℕ, ◌+◌, ◌-◌, ◌<◌, ◌≤◌, zero, suc, List, ◌∷◌, ◌++◌, length, ap, refl, ◌∙◌, arith, slice_get, line_feed, parts, begins, begins_of_lines, item_place, item_places}
 use Rattle.acl_text.proofs.ItemCounts.{cut_length}
 
 one_less : (n : ℕ) → n ≡ suc n - 1

@@ -1,6 +1,5 @@
 -- The three characters of permissions, over all eight sets, with or without white space after them.
-use Rattle.acl_text.proofs.Vocabulary.{◌≡◌, ℕ, ◌&&◌, Bool, true, false, not, if◌then◌else◌, List, [], ◌∷◌, ◌++◌, refl, eqb, list_all, digit_of, trimmed, colon}
-use Rattle.acl_text.proofs.Vocabulary.{parts, are_permissions, permission_digit}
+use Rattle.acl_text.proofs.Vocabulary.{◌≡◌, ℕ, ◌&&◌, Bool, true, false, not, if◌then◌else◌, List, [], ◌∷◌, ◌++◌, refl, eqb, list_all, digit_of, trimmed, colon, parts, are_permissions, permission_digit}
 
 -- the characters of r, w and x
 abbrev pub three : Bool → Bool → Bool → List ℕ

@@ -1,6 +1,8 @@
 -- A map whose keys show names, seen as pairs of a name and a number.
-use Rattle.acl_text.proofs.Vocabulary.{◌≡◌, ℕ, Bool, true, false, cond, List, [], ◌∷◌, ◌++◌, Option, None, Some, is_some, not, map, refl, ap, inl, inr}
-use Rattle.acl_text.proofs.Vocabulary.{bytes_eq, lookup, cases_Bool, insert_entry, BadName, NameTwice, number_in, is_name, name_fault}
+use Rattle.acl_text.proofs.Vocabulary.{◌≡◌, ℕ, Bool, true, false, cond, List, [], ◌∷◌, ◌++◌, Option, None, Some, is_some, not, map, refl, ap, inl, inr, bytes_eq, cases_Bool, number_in, is_name, name_fault}
+use Rattle.std.specs.Map.{lookup}
+use Rattle.indexmap.specs.IndexMap.{insert_entry}
+use Rattle.acl_text.specs.declared.names.NameError.TheVariants.{BadName, NameTwice}
 
 module _ {K : Type 0} (bytes : K → List ℕ) where
   -- a pair as it is shown

@@ -1,6 +1,7 @@
 -- The number that decimal digits write, digit by digit.
-use Rattle.acl_text.proofs.Vocabulary.{◌≡◌, ℕ, ◌+◌, ◌-◌, ◌*◌, ◌<◌, ◌≤◌, true, false, cond, List, length, get_or, take, leb, Some, None, sym, ◌∙◌, ap, arith}
-use Rattle.acl_text.proofs.Vocabulary.{is_ascii_digit, digit_value, digits_value, nat_tests, digits_value_more, digits_value-take-le, id_of, max_id}
+use Rattle.acl_text.proofs.Vocabulary.{◌≡◌, ℕ, ◌+◌, ◌-◌, ◌*◌, ◌<◌, ◌≤◌, true, false, cond, List, length, get_or, take, leb, Some, None, sym, ◌∙◌, ap, arith, is_ascii_digit, digit_value, digits_value, nat_tests, id_of, max_id}
+use Rattle.std.proofs.lemmas.Int.Digits.{digits_value_more}
+use Rattle.std.proofs.lemmas.Str.Parse.{digits_value-take-le}
 
 -- what a digit adds
 pub value_of_digit : (d : ℕ) → is_ascii_digit d ≡ true → digit_value d ≡ d - 48

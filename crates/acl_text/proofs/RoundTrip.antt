@@ -1,10 +1,8 @@
 -- The texts that are written of two lists spell these lists.
-use Rattle.acl_text.proofs.Vocabulary.{◌≡◌, ℕ, ◌≤◌, ◌&&◌, Bool, true, false, not, eqb, List, [], ◌∷◌, ◌++◌, map, Option, None, Some, Ok, codes, refl, sym, ap}
-use Rattle.acl_text.proofs.Vocabulary.{◌∙◌, ◌⊎◌, inl, inr, append_assoc, append-nil, list_all, filter_map, flat_map, join_by, cases_Bool, and_parts, and_from}
-use Rattle.acl_text.proofs.Vocabulary.{list_all-append, Entry, Perms, may_read, may_write, may_execute, has_permission, has_all, qualifier, SidedEntry, Side}
-use Rattle.acl_text.proofs.Vocabulary.{Access, Default, reading, LongTextSpells, ShortTextSpells, NumbersFit, items_of, items_of_line, uncommented, parts}
-use Rattle.acl_text.proofs.Vocabulary.{comma, line_feed, max_id, default_entries, entries_of, sided_entry, Tables, Spells, readings, canonical, entry_text}
-use Rattle.acl_text.proofs.Vocabulary.{remark, is_limited, common_text, line_text, long_lines, mask_of, next_text, sided_text}
+use Rattle.acl_text.proofs.Vocabulary.{◌≡◌, ℕ, ◌≤◌, ◌&&◌, Bool, true, false, not, eqb, List, [], ◌∷◌, ◌++◌, map, Option, None, Some, Ok, codes, refl, sym, ap, ◌∙◌, ◌⊎◌, inl, inr, append_assoc, append-nil, list_all, filter_map, flat_map}
+use Rattle.acl_text.proofs.Vocabulary.{join_by, cases_Bool, and_parts, and_from, list_all-append, Entry, Perms, may_read, may_write, may_execute, has_permission, has_all, qualifier, SidedEntry, Side, Access, Default, reading}
+use Rattle.acl_text.proofs.Vocabulary.{LongTextSpells, ShortTextSpells, NumbersFit, items_of, items_of_line, uncommented, parts, comma, line_feed, max_id, default_entries, entries_of, sided_entry, Tables, Spells, readings, canonical}
+use Rattle.acl_text.proofs.Vocabulary.{entry_text, remark, is_limited, common_text, line_text, long_lines, mask_of, next_text, sided_text}
 use Rattle.acl_text.proofs.CleanText.{lacks, split_lacking, split_at_byte, before_lacking, before_at_byte, list_all_wider}
 use Rattle.acl_text.proofs.Letters.{tail, is_plain, letter_facts}
 use Rattle.acl_text.proofs.EntryTexts.{sided_text_read, sided_text_plain}

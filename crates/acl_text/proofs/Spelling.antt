@@ -1,7 +1,6 @@
 -- A text whose items are all read spells what they say.
-use Rattle.acl_text.proofs.Vocabulary.{◌≡◌, ℕ, ◌+◌, List, [], ◌∷◌, Option, None, Result, Ok, Err, map, option_map, refl, ap, ◌∙◌, filter_map, cons_option}
-use Rattle.acl_text.proofs.Vocabulary.{option_or, first_fault, ItemFault, SidedEntry, Access, Default, Invalid, SpelledIsRead, entries_of, Tables, Spells}
-use Rattle.acl_text.proofs.Vocabulary.{default_fault, readings, first_item_fault, entry_said, lists_fault, said_in}
+use Rattle.acl_text.proofs.Vocabulary.{◌≡◌, ℕ, ◌+◌, List, [], ◌∷◌, Option, None, Result, Ok, Err, map, option_map, refl, ap, ◌∙◌, filter_map, cons_option, option_or, first_fault, ItemFault, SidedEntry, Access, Default, Invalid}
+use Rattle.acl_text.proofs.Vocabulary.{SpelledIsRead, entries_of, Tables, Spells, default_fault, readings, first_item_fault, entry_said, lists_fault, said_in}
 
 abbrev Reading : Type 0
 Reading = Result (Option SidedEntry) ItemFault

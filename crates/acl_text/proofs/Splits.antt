@@ -1,7 +1,7 @@
 -- Parts between separators, by the place of the first one.
-use Rattle.acl_text.proofs.Vocabulary.{◌≡◌, ℕ, ◌+◌, ◌-◌, ◌<◌, ◌≤◌, ◌==◌, Bool, List, [], ◌∷◌, Some, None, get_or, length, take, drop, refl, sym, inl, inr}
-use Rattle.acl_text.proofs.Vocabulary.{arith, slice_split, position_or_len, cases_Bool, false_from_ne_true, take_rest, position_or_len_is, slice_split_first}
-use Rattle.acl_text.proofs.Vocabulary.{slice_split-cons_no, parts, IsFirstByte, is_byte}
+use Rattle.acl_text.proofs.Vocabulary.{◌≡◌, ℕ, ◌+◌, ◌-◌, ◌<◌, ◌≤◌, ◌==◌, Bool, List, [], ◌∷◌, Some, None, get_or, length, take, drop, refl, sym, inl, inr, arith, slice_split, position_or_len, cases_Bool, false_from_ne_true, take_rest}
+use Rattle.acl_text.proofs.Vocabulary.{position_or_len_is, slice_split_first, slice_split-cons_no, parts}
+use Rattle.memchr.specs.Find.{IsFirstByte, is_byte}
 
 -- where no separator is found, all is one part
 pub split_whole : (p : ℕ → Bool) (bytes : List ℕ) → length bytes ≤ position_or_len p bytes → slice_split p bytes ≡ bytes ∷ []

@@ -1,8 +1,7 @@
 -- What trimming leaves, and that what it takes away is white space.
-use Rattle.acl_text.proofs.Vocabulary.{◌≡◌, ℕ, suc, ◌+◌, ◌-◌, Bool, true, false, cond, not, ◌&&◌, List, [], ◌∷◌, ◌++◌, length, take, drop, reverse, refl, sym}
-use Rattle.acl_text.proofs.Vocabulary.{ap, ◌∙◌, append-nil, length-append, inl, inr, arith, list_all, prefix_len, suffix_len, and_parts, and_from, not-true}
-use Rattle.acl_text.proofs.Vocabulary.{cases_Bool, take-append-drop, reverse-append, reverse-reverse, length-reverse, list_all-append, length-prefix_len}
-use Rattle.acl_text.proofs.Vocabulary.{drop-append_seam, take-append_seam, IsSpaced, is_white, trimmed}
+use Rattle.acl_text.proofs.Vocabulary.{◌≡◌, ℕ, suc, ◌+◌, ◌-◌, Bool, true, false, cond, not, ◌&&◌, List, [], ◌∷◌, ◌++◌, length, take, drop, reverse, refl, sym, ap, ◌∙◌, append-nil, length-append, inl, inr, arith, list_all, prefix_len}
+use Rattle.acl_text.proofs.Vocabulary.{suffix_len, and_parts, and_from, not-true, cases_Bool, take-append-drop, reverse-append, reverse-reverse, length-reverse, list_all-append, length-prefix_len, IsSpaced, is_white, trimmed}
+use Rattle.std.proofs.Math.Seq.{drop-append_seam, take-append_seam}
 use Rattle.acl_text.proofs.CleanText.{lacks}
 
 prefix_none : (p : ℕ → Bool) (ys : List ℕ) → lacks p ys ≡ true → prefix_len p ys ≡ 0

@@ -1,18 +1,8 @@
 -- Where the capacity of folders is kept: wherever names come and go.
-use Rattle.std.proofs.Common.{◌≡◌, ◌≢◌, ℕ, ◌+◌, ◌≤◌, true, false, List, length, Option, Some, ap, ◌∙◌, ⊎_elim, arith}
-use Rattle.std.specs.Prelude.{◌==◌, if◌then◌else◌, is_some, Bool}
-use Rattle.std.specs.Option.{option_map}
-use Rattle.std.specs.Ordering.{nat_cmp}
-use Rattle.std.proofs.lemmas.Bool.{cases_Bool, eqb-true, eqb-false}
-use Rattle.sorted_map.specs.SortedMap.{IsOrdered, get, insert, replace, remove}
-use Rattle.sorted_map.specs.Roomy.{Roomy}
-use Rattle.sorted_map.specs.Numbers.{get_insert_apart, get_replace_here, get_replace_apart, get_remove_here, get_remove_apart}
-use Rattle.suite_content.specs.Folders.{IsFolder, number_of, with_name, without_name}
-use Rattle.suite_content.specs.FolderLaws.{length-with_name, length-without_name}
+use Rattle.file_ops.proofs.Vocabulary.{◌≡◌, ◌≢◌, ℕ, ◌+◌, ◌≤◌, true, false, List, length, Option, Some, ap, ◌∙◌, ⊎_elim, arith, ◌==◌, if◌then◌else◌, is_some, Bool, option_map, nat_cmp, cases_Bool, eqb-true, eqb-false, IsOrdered, get, insert}
+use Rattle.file_ops.proofs.Vocabulary.{replace, remove, Roomy, IsFolder, number_of, with_name, without_name, length-with_name, length-without_name, StoredRow, StoredRows, capacity_in, capacity_of, capacity_at, KeepsCapacity}
+use Rattle.sorted_map.specs.Numbers.{get_insert_apart, get_replace_here, get_replace_apart, get_remove_apart}
 use Rattle.file_ops.specs.declared.stored.StoredContent.TheVariants.{Names}
-use Rattle.file_ops.specs.declared.stored.StoredRow.{StoredRow}
-use Rattle.file_ops.specs.code.Stored.{StoredRows}
-use Rattle.file_ops.specs.code.Capacity.{capacity_in, capacity_of, capacity_at, KeepsCapacity}
 
 -- the same number, or another one
 pub each : {P : Type 0} (q s : ℕ) → (q ≡ s → P) → (q ≢ s → P) → P
@@ -26,9 +16,6 @@ capacity_at-replace_apart rows s row q apart = ap capacity_of (get_replace_apart
 
 pub capacity_at-insert_apart : (rows : StoredRows) (s : ℕ) (row : StoredRow) (q : ℕ) → q ≢ s → capacity_at (insert nat_cmp rows s row) q ≡ capacity_at rows q
 capacity_at-insert_apart rows s row q apart = ap capacity_of (get_insert_apart rows s row q apart)
-
-pub capacity_at-remove_here : (rows : StoredRows) (s : ℕ) → IsOrdered nat_cmp rows → capacity_at (remove nat_cmp rows s) s ≡ 0
-capacity_at-remove_here rows s ordered = ap capacity_of (get_remove_here rows s ordered)
 
 pub capacity_at-remove_apart : (rows : StoredRows) (s q : ℕ) → IsOrdered nat_cmp rows → q ≢ s → capacity_at (remove nat_cmp rows s) q ≡ capacity_at rows q
 capacity_at-remove_apart rows s q ordered apart = ap capacity_of (get_remove_apart rows s q ordered apart)

@@ -1,19 +1,7 @@
 -- Edits of one row: one after another, and taken back.
-use Rattle.std.proofs.Common.{◌≡◌, ℕ, List, Option, Some, None, refl, sym, ap, ◌∙◌, subst}
-use Rattle.std.specs.Option.{option_map_or}
-use Rattle.std.specs.Ordering.{nat_cmp, is_eq}
-use Rattle.std.proofs.lemmas.Bool.{cond-true}
-use Rattle.std.proofs.lemmas.Cmp.{nat_cmp_total, tied_itself}
-use Rattle.std.proofs.lemmas.Option.{same_Some}
-use Rattle.sorted_map.specs.SortedMap.{IsOrdered}
-use Rattle.sorted_map.specs.Laws.{get-insert, IsOrdered-insert}
-use Rattle.sorted_map.specs.Edits.{insert-insert, insert_same}
-use Rattle.suite_content.specs.declared.content.Content.{Content}
+use Rattle.file_ops.proofs.Vocabulary.{◌≡◌, ℕ, List, Option, Some, None, refl, sym, ap, ◌∙◌, subst, option_map_or, nat_cmp, is_eq, cond-true, nat_cmp_total, tied_itself, same_Some, IsOrdered, get-insert, IsOrdered-insert, insert-insert}
+use Rattle.file_ops.proofs.Vocabulary.{insert_same, Content, with_name, without_name, without-with_name, Row, Rows, row_of, with_row, with_content, edited, number_in, number_at, in_names, put_name, drop_name}
 use Rattle.suite_content.specs.declared.content.Content.TheVariants.{Bytes, Names}
-use Rattle.suite_content.specs.Folders.{with_name, without_name}
-use Rattle.suite_content.specs.FolderLaws.{without-with_name}
-use Rattle.file_ops.specs.Rows.{Row, Rows, row_of, with_row, with_content}
-use Rattle.file_ops.specs.code.Edits.{edited, number_in, number_at, in_names, put_name, drop_name}
 
 -- the row that was put is there
 pub row_of-with_same : (rows : Rows) (suite : ℕ) (row : Row) → row_of (with_row rows suite row) suite ≡ Some row

@@ -1,12 +1,7 @@
 -- The last name of a path.
-use Rattle.std.proofs.Common.{◌≡◌, ℕ, ◌-◌, Bor, List, [], ◌∷◌, ◌++◌, length, length-append, Option, Some, None, Ok, Err, refl, sym, ap, ◌∙◌, arith}
-use Rattle.std.specs.Prelude.{slice_get, MatchOption, ok_or}
-use Rattle.std.specs.List.{IsLastAndRest}
+use Rattle.file_ops.proofs.Vocabulary.{◌≡◌, ℕ, ◌-◌, Bor, List, [], ◌∷◌, ◌++◌, length, length-append, Option, Some, None, Ok, Err, refl, sym, ap, ◌∙◌, arith, slice_get, MatchOption, ok_or, IsLastAndRest, ok_map, last_name, plain_named}
 use Rattle.std.proofs.Math.Seq.{take-append_seam}
 use Rattle.file_ops.specs.declared.refusal.Why.TheVariants as why
-use Rattle.file_ops.specs.Steps.{ok_map}
-use Rattle.file_ops.specs.Operations.{last_name}
-use Rattle.file_ops.specs.Operations.{plain_named}
 
 no_last : (names : List (List ℕ)) → length names ≡ 0 → last_name names ≡ Err why.BadPath
 no_last [] none = refl

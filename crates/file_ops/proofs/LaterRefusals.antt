@@ -1,20 +1,12 @@
 -- Operations from a place on are refused by a number above that place, so a refusal of the first operation is that of the first one played.
-use Rattle.std.proofs.Common.{◌≡◌, ℕ, ◌+◌, ◌<◌, false, List, [], ◌∷◌, ◌++◌, Result, Ok, Err, arith}
-use Rattle.std.specs.Prelude.{IfErr, IsOk}
-use Rattle.std.proofs.lemmas.Bool.{false≢true}
+use Rattle.file_ops.proofs.Vocabulary.{◌≡◌, ℕ, ◌+◌, ◌<◌, false, List, [], ◌∷◌, ◌++◌, Result, Ok, Err, arith, IfErr, IsOk, false≢true, Identity, Why, ◌>>=◌, Rows, Performed, operation, AnswersFirst}
 use Rattle.std.proofs.lemmas.Grind.{common_steps}
-use Rattle.acl_core.specs.Identity.{Identity}
 use Rattle.file_ops.specs.declared.answer.Answer.{Answer}
 use Rattle.file_ops.specs.declared.operation.Op.{Op}
 use Rattle.file_ops.specs.declared.refusal.ApplyError.{ApplyError}
 use Rattle.file_ops.specs.declared.refusal.Refusal.{Refusal}
-use Rattle.file_ops.specs.declared.refusal.Why.{Why}
 use Rattle.file_ops.specs.declared.service.Service.{Service}
-use Rattle.file_ops.specs.Steps.{◌>>=◌}
-use Rattle.file_ops.specs.Rows.{Rows}
-use Rattle.file_ops.specs.Operations.{Performed, operation}
 use Rattle.file_ops.specs.Transactions.{Played, after, play, transaction, is_miscounted, RefusesFirst}
-use Rattle.file_ops.specs.code.Performed.{AnswersFirst}
 
 abbrev IsAbove : ℕ → Result Played Refusal → Type 0
 IsAbove at outcome = IfErr outcome (λ refusal. at < refusal.op)

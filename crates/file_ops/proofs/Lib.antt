@@ -1,3 +1,4 @@
+mod Vocabulary
 pub mod Plain
 pub mod PathFacts
 pub mod PathTexts

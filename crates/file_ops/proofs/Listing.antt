@@ -1,17 +1,10 @@
 -- What a listing finds.
-use Rattle.std.proofs.Common.{◌≡◌, ℕ, List, Option, None, Some, Result, Ok, Err, IfOk, refl, ap, sym, ◌∙◌}
-use Rattle.acl_core.specs.Identity.{Identity}
-use Rattle.suite_content.specs.declared.content.Content.{Content}
+use Rattle.file_ops.proofs.Vocabulary.{◌≡◌, ℕ, List, Option, None, Some, Result, Ok, Err, IfOk, refl, ap, sym, ◌∙◌, Identity, Content, Why, Row, Rows, row_of, root, ◌>>=◌, found_or, listed_in, names_listed, Object, names_in, permit}
+use Rattle.file_ops.proofs.Vocabulary.{place_of, reach, to_read, walk}
 use Rattle.suite_content.specs.declared.content.Content.TheVariants.{Bytes, Names}
 use Rattle.suite_content.specs.Folders as folders
 use Rattle.file_ops.specs.declared.answer.Answer.TheVariants as answer
-use Rattle.file_ops.specs.declared.refusal.Why.{Why}
 use Rattle.file_ops.specs.declared.refusal.Why.TheVariants as why
-use Rattle.file_ops.specs.Rows.{Row, Rows, row_of, root}
-use Rattle.file_ops.specs.Steps.{◌>>=◌, found_or}
-use Rattle.file_ops.specs.code.Stored.{listed_in}
-use Rattle.file_ops.specs.Operations.{names_listed}
-use Rattle.file_ops.specs.Walks.{Object, names_in, permit, place_of, reach, to_read, walk}
 
 -- the names of a folder are those that are listed
 pub listed : (content : Content) (entries : List (List ℕ × ℕ)) → names_in content ≡ Ok entries → listed_in content ≡ folders.names_in entries

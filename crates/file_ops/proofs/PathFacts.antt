@@ -1,21 +1,15 @@
 -- Texts cut at their slashes: which are paths.
-use Rattle.std.proofs.Common.{◌≡◌, ◌≢◌, ℕ, ◌<◌, ◌≤◌, Bool, true, false, not, ◌&&◌, cond, nat_eq, List, [], ◌∷◌, ◌++◌, length, take, drop, Some, None, refl, sym, ap, ◌∙◌, arith}
-use Rattle.std.specs.Prelude.{nat_le, codes}
-use Rattle.std.specs.List.{list_all, slice_split, onto_first}
+use Rattle.file_ops.proofs.Vocabulary.{◌≡◌, ◌≢◌, ℕ, ◌<◌, ◌≤◌, Bool, true, false, not, ◌&&◌, cond, nat_eq, List, [], ◌∷◌, ◌++◌, length, take, drop, Some, None, refl, sym, ap, ◌∙◌, arith, nat_le, codes, list_all, slice_split, onto_first}
+use Rattle.file_ops.proofs.Vocabulary.{false≢true, true≢false, not_from_false, not-true, false_from_ne_true, eqb-true, list_all-append, length-slice_split, max_path_names, is_slash, is_name, some_names, names_between, names_of}
 use Rattle.std.specs.Cmp.Lexicographic.{pointwise}
 use Rattle.std.proofs.lemmas.Bool.Decides.{nat_tests}
 use Rattle.std.specs.Str.{bytes_eq}
 use Rattle.std.specs.Cmp.Derive.{both_true}
 use Rattle.std.proofs.Math.Bool.{and-true}
-use Rattle.std.proofs.lemmas.Bool.{false≢true, true≢false, not_from_false, not-true, false_from_ne_true, eqb-true}
 use Rattle.std.proofs.lemmas.List.Sums.{AllPass-from_list_all, list_all-from_AllPass}
-use Rattle.std.proofs.lemmas.List.Folds.{list_all-append}
-use Rattle.std.proofs.lemmas.List.Splits.{length-slice_split}
 use Rattle.std.proofs.lemmas.Slice.Eq.{bytes_eq-Decides}
 use Rattle.suite_content.specs.Limits.{max_name}
 use Rattle.suite_content.specs.Names.{IsName, is_name_byte}
-use Rattle.file_ops.specs.Limits.{max_path_names}
-use Rattle.file_ops.specs.Paths.{is_slash, is_name, some_names, names_between, names_of}
 
 pub too_many : (parts : List (List ℕ)) → max_path_names < length parts → some_names parts ≡ None
 too_many parts long = grind (arith, nat_tests)
@@ -96,14 +90,6 @@ behind false byte (part ∷ parts) some = refl
 pub other_first : (byte : ℕ) (rest : List ℕ) → is_slash byte ≡ false → names_of (byte ∷ rest) ≡ None
 other_first byte rest other = front (is_slash byte) byte (slice_split is_slash rest) other
 
--- a path begins with a slash, and what follows the slash decides
-pub no_slash : (text : List ℕ) → pointwise nat_eq (take 1 text) (47 ∷ []) ≡ false → names_of text ≡ None
-no_slash [] other = refl
-no_slash (byte ∷ rest) other = other_first byte rest (sym (and-true (is_slash byte)) ∙ other)
-
-pub root_path : names_of (47 ∷ []) ≡ Some []
-root_path = refl
-
 pub after_slash : (byte : ℕ) (rest : List ℕ) → names_of (47 ∷ byte ∷ rest) ≡ some_names (slice_split is_slash (byte ∷ rest))
 after_slash byte rest = behind (is_slash byte) byte (slice_split is_slash rest) (some_part rest)
 
@@ -118,11 +104,3 @@ longer_path text rest same follows long = ap names_of (with_slash text same) ∙
     behind_slash : (rest : List ℕ) → length rest ≢ 0 → names_of (47 ∷ rest) ≡ some_names (slice_split is_slash rest)
     behind_slash [] long = absurd (long refl)
     behind_slash (byte ∷ rest) long = after_slash byte rest
-
--- a slash alone
-pub short_path : (text rest : List ℕ) → pointwise nat_eq (take 1 text) (47 ∷ []) ≡ true → rest ≡ drop 1 text → length rest ≡ 0 → names_of text ≡ Some []
-short_path text rest same follows short = ap names_of (with_slash text same) ∙ ap (λ r. names_of (47 ∷ r)) (sym follows) ∙ alone rest short
-  where
-    alone : (rest : List ℕ) → length rest ≡ 0 → names_of (47 ∷ rest) ≡ Some []
-    alone [] short = refl
-    alone (byte ∷ rest) short = absurd (omega arith)

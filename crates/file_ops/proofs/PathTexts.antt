@@ -1,11 +1,5 @@
 -- The names of a path, written, are its text again.
-use Rattle.std.proofs.Common.{◌≡◌, ℕ, Bool, true, false, List, [], ◌∷◌, Some, refl, sym, ap, ◌∙◌}
-use Rattle.std.specs.List.{slice_split}
-use Rattle.std.proofs.lemmas.Bool.{eqb-true}
-use Rattle.std.proofs.lemmas.Option.{none-some, same_Some, cond_some}
-use Rattle.std.proofs.lemmas.List.Splits.{join_with_byte-slice_split}
-use Rattle.file_ops.specs.Paths.{is_slash, names_of}
-use Rattle.file_ops.specs.code.PathTexts.{written}
+use Rattle.file_ops.proofs.Vocabulary.{◌≡◌, ℕ, Bool, true, false, List, [], ◌∷◌, Some, refl, sym, ap, ◌∙◌, slice_split, eqb-true, none-some, same_Some, cond_some, join_with_byte-slice_split, is_slash, names_of, written}
 use Rattle.file_ops.proofs.PathFacts.{other_first, after_slash}
 
 pub written_back : (text : List ℕ) (names : List (List ℕ)) → names_of text ≡ Some names → written names ≡ text

@@ -1,10 +1,8 @@
 -- The rules of permission look at nothing but what is handed to them.
-use Rattle.std.proofs.Common.{◌≡◌, ℕ, List, cond, eqb, Ok, refl, ap, ◌∙◌}
-use Rattle.acl_core.specs.Identity.{Identity}
+use Rattle.file_ops.proofs.Vocabulary.{◌≡◌, ℕ, List, cond, eqb, Ok, refl, ap, ◌∙◌, Identity, unless_denied}
 use Rattle.acl_core.specs.Checks.{check_of}
 use Rattle.acl_core.specs.declared.entry.Entry.{Entry}
 use Rattle.acl_core.specs.declared.perms.Perms.{Perms}
-use Rattle.file_ops.specs.Walks.{unless_denied}
 
 pub same_permit : (caller : Identity) (wanted : Perms) {s s' o o' g g' : ℕ} {a a' : List Entry} → s ≡ s' → o ≡ o' → g ≡ g' → a ≡ a'
     → unless_denied s wanted (check_of a o g caller wanted) ≡ unless_denied s' wanted (check_of a' o' g' caller wanted)

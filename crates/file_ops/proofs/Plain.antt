@@ -1,22 +1,8 @@
 -- Stored rows as the rows that are seen of them: an edit of the ones is an edit of the others.
-use Rattle.std.proofs.Common.{◌≡◌, ℕ, List, [], ◌∷◌, Some, None, refl, sym, ap, ◌∙◌, ⊎_elim, subst}
-use Rattle.std.specs.Prelude.{is_some}
-use Rattle.std.specs.Option.{option_map, option_map_or}
-use Rattle.std.specs.Ordering.{nat_cmp}
-use Rattle.std.specs.BTreeMap.{is_at}
+use Rattle.file_ops.proofs.Vocabulary.{◌≡◌, ℕ, List, [], ◌∷◌, Some, None, refl, sym, ap, ◌∙◌, ⊎_elim, subst, is_some, option_map, option_map_or, nat_cmp, is_at, cases_Bool, nat_cmp_total, none-some, IsOrdered, get, insert, replace, remove}
+use Rattle.file_ops.proofs.Vocabulary.{by_answer, insert_present, replace_same, StoredContent, StoredRow, StoredRows, plain, plain_content, plain_row, Row, row_of, with_row, with_content, edited, in_names, number_in, number_at}
 use Rattle.std.specs.List.Sorted.{IsStrictlySortedBy}
-use Rattle.std.proofs.lemmas.Bool.{cases_Bool}
 use Rattle.std.proofs.lemmas.Map.Made.{lookup-map_values, keys_of-map_values}
-use Rattle.std.proofs.lemmas.Cmp.{nat_cmp_total}
-use Rattle.std.proofs.lemmas.Option.{none-some}
-use Rattle.sorted_map.specs.SortedMap.{IsOrdered, get, insert, replace, remove}
-use Rattle.sorted_map.specs.Comparisons.{by_answer}
-use Rattle.sorted_map.specs.Edits.{insert_present, replace_same}
-use Rattle.file_ops.specs.declared.stored.StoredContent.{StoredContent}
-use Rattle.file_ops.specs.declared.stored.StoredRow.{StoredRow}
-use Rattle.file_ops.specs.code.Stored.{StoredRows, plain, plain_content, plain_row}
-use Rattle.file_ops.specs.Rows.{Row, row_of, with_row, with_content}
-use Rattle.file_ops.specs.code.Edits.{edited, in_names, number_in, number_at}
 
 -- what is seen of a stored row is the row
 pub row_of-plain : (rows : StoredRows) (suite : ℕ) → row_of (plain rows) suite ≡ option_map plain_row (get nat_cmp rows suite)

@@ -1,33 +1,16 @@
 -- Each undo takes its change back.
-use Rattle.std.proofs.Common.{◌≡◌, ◌≢◌, ℕ, ◌+◌, ◌<◌, ◌≤◌, true, List, [], ◌∷◌, length, Option, Some, None, refl, sym, ap, ◌∙◌, subst, ⊎_elim, arith, Less, Greater}
-use Rattle.std.specs.Prelude.{◌==◌, if◌then◌else◌, is_some, IfSome}
-use Rattle.std.specs.Option.{option_map, option_map_or}
-use Rattle.std.specs.Ordering.{nat_cmp, is_eq}
-use Rattle.std.specs.BTreeMap.{is_at}
-use Rattle.std.proofs.lemmas.Bool.{cases_Bool, eqb-true, eqb-false, false≢true}
-use Rattle.std.proofs.lemmas.Cmp.{nat_cmp_total}
-use Rattle.std.proofs.lemmas.Option.{none-some, same_Some}
+use Rattle.file_ops.proofs.Vocabulary.{◌≡◌, ◌≢◌, ℕ, ◌+◌, ◌<◌, ◌≤◌, true, List, [], ◌∷◌, length, Option, Some, None, refl, sym, ap, ◌∙◌, subst, ⊎_elim, arith, Less, Greater, ◌==◌, if◌then◌else◌, is_some, IfSome, option_map, option_map_or}
+use Rattle.file_ops.proofs.Vocabulary.{nat_cmp, is_eq, is_at, cases_Bool, eqb-true, eqb-false, false≢true, nat_cmp_total, none-some, same_Some, IsOrdered, get, replace, Roomy, by_answer, insert_step, remove-insert, insert-insert}
+use Rattle.file_ops.proofs.Vocabulary.{insert_same, name_cmp, number_of, with_name, Content, StoredContent, StoredRow, Row, Rows, row_of, with_row, with_acl, with_votes, with_content, StoredRows, plain, plain_content, plain_row, exchanged}
+use Rattle.file_ops.proofs.Vocabulary.{restored_row, with_stored_content, with_stored_acl, with_stored_votes, edited, number_at, in_names, put_acl, put_votes, put_content, put_row, put_name, drop_name, capacity_in, capacity_of, capacity_at}
+use Rattle.file_ops.proofs.Vocabulary.{KeepsCapacity, has_room_for, HasRoom, restored, TakesBack}
 use Rattle.std.proofs.lemmas.Map.Entries.{lookup_head, lookup_tail}
 use Rattle.acl_core.specs.declared.lists.Lists.{Lists}
 use Rattle.vote_core.specs.Quorums.{Configuration}
-use Rattle.sorted_map.specs.SortedMap.{IsOrdered, get, replace}
-use Rattle.sorted_map.specs.Roomy.{Roomy}
-use Rattle.sorted_map.specs.Comparisons.{by_answer}
-use Rattle.sorted_map.specs.Laws.{insert_step}
-use Rattle.sorted_map.specs.Edits.{remove-insert, insert-insert, insert_same}
-use Rattle.suite_content.specs.Folders.{name_cmp, number_of, with_name}
-use Rattle.suite_content.specs.declared.content.Content.{Content}
-use Rattle.suite_content.specs.declared.content.Content.TheVariants as content
-use Rattle.file_ops.specs.declared.stored.StoredContent.{StoredContent}
 use Rattle.file_ops.specs.declared.stored.StoredContent.TheVariants.{Bytes, Names}
-use Rattle.file_ops.specs.declared.stored.StoredRow.{StoredRow}
 use Rattle.file_ops.specs.declared.undo.Undo.TheVariants.{Held, Listed, Voted, Made, Dropped}
-use Rattle.file_ops.specs.Rows.{Row, Rows, row_of, with_row, with_acl, with_votes, with_content}
-use Rattle.file_ops.specs.code.Stored.{StoredRows, plain, plain_content, plain_row, exchanged, restored_row, with_stored_content, with_stored_acl, with_stored_votes}
-use Rattle.file_ops.specs.code.Edits.{edited, number_at, in_names, put_acl, put_votes, put_content, put_row, put_name, drop_name}
-use Rattle.file_ops.specs.code.Capacity.{capacity_in, capacity_of, capacity_at, KeepsCapacity, has_room_for, HasRoom}
 use Rattle.file_ops.specs.code.Restored.{Restores, Makes}
-use Rattle.file_ops.specs.code.Undo.{restored, TakesBack}
+use Rattle.suite_content.specs.declared.content.Content.TheVariants as content
 use Rattle.file_ops.proofs.Plain.{row_of-plain, ordered-plain, plain-remove, edited-there, edited-absent}
 use Rattle.file_ops.proofs.EditLaws.{row_of-with_same, edited-some, edited-back-at, ordered-edited, drop-put_name}
 use Rattle.file_ops.proofs.CapacityLaws.{each, capacity_at-replace_here, capacity_at-replace_apart, capacity_at-remove_apart}

@@ -1,6 +1,6 @@
 -- All responses of a job: whom it asked, whom it asks, and how many responses it took.
-use Rattle.law_agents.proofs.Vocabulary.{◌≡◌, ℕ, ◌+◌, ◌*◌, Bool, true, false, cond, List, [], ◌∷◌, ◌++◌, length, Option, Some, None, refl, sym, ap, subst, ◌∙◌, arith, ◌==◌, ◌&&◌, nat_lt, false≢true, none-some, Configuration, Service}
-use Rattle.law_agents.proofs.Vocabulary.{Lock, Request, Reply, forgotten_has, Response, Replied, Lacked, Job, Transaction, Sweep, home_of, Fixed, TransactionRun, Sweeping, Listing, Resolving, Telling, Breaking, SweepRun, Doing, Running}
+use Rattle.law_agents.proofs.Vocabulary.{◌≡◌, ℕ, ◌+◌, ◌*◌, Bool, true, false, cond, List, [], ◌∷◌, ◌++◌, length, Option, Some, None, refl, sym, ap, subst, ◌∙◌, arith, ◌==◌, ◌&&◌, nat_lt, false≢true, none-some, Configuration, Service, Lock}
+use Rattle.law_agents.proofs.Vocabulary.{Request, Reply, forgotten_has, Response, Replied, Lacked, Job, Transaction, Sweep, home_of, Fixed, TransactionRun, Sweeping, Listing, Resolving, Telling, Breaking, SweepRun, Doing, Running}
 use Rattle.law_agents.proofs.Vocabulary.{RunningSweep, After, GoesOn, Ends, Agent, Event, Take, Forget, next_in, next_of, take_in, take, begin, started, forget, is_idle, has_sense, max_jobs, after_all, Exchange, exchange_of, exchanges}
 use Rattle.law_agents.proofs.Vocabulary.{steps_in}
 use Rattle.rep_core.specs.declared.reply.Reply.TheVariants as reply

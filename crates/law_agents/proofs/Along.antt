@@ -1,7 +1,6 @@
 -- What holds of a job's exchanges and of what its agent does: so at the begin and after each event, so always.
-use Rattle.law_agents.proofs.Vocabulary.{◌≡◌, ℕ, List, [], ◌∷◌, ◌++◌, Option, Some, None, refl, sym, subst, append-nil, Request, Response, Job, Fixed, Doing, RunningSweep, Agent, Event, Take, Forget, next_in, next_of, take_in}
-use Rattle.law_agents.proofs.Vocabulary.{begin, after_all, Exchange, exchange_of, of_job, after-append, exchanges-take, exchanges-forget}
-use Rattle.std.proofs.lemmas.List.{append_assoc}
+use Rattle.law_agents.proofs.Vocabulary.{◌≡◌, ℕ, List, [], ◌∷◌, ◌++◌, Option, Some, None, refl, sym, subst, append-nil, Request, Response, Job, Fixed, Doing, RunningSweep, Agent, Event, Take, Forget, next_in, next_of, take_in, begin}
+use Rattle.law_agents.proofs.Vocabulary.{after_all, Exchange, exchange_of, of_job, after-append, exchanges-take, exchanges-forget, append_assoc}
 
 module _ (fixed : Fixed) (agent : Agent) (job : Job) (Holds : List Exchange → Option Doing → Type 0) where
   abbrev at : List Event → Agent

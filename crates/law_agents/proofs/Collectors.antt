@@ -1,7 +1,9 @@
 -- What a collector asks, and when it has a quorum of nothing.
-use Rattle.law_agents.proofs.Vocabulary.{◌≡◌, ℕ, ◌≤◌, ◌<◌, Bool, true, false, cond, List, [], ◌∷◌, ◌++◌, Option, Some, None, refl, sym, ap, subst, ◌∙◌, arith, ◌==◌, ◌&&◌, ◌||◌, not, nat_lt, nat_le, find, filter, map, list_any}
-use Rattle.law_agents.proofs.Vocabulary.{nat_tests, Representative, Configuration, votes_in, Prefix, LockMode, Shared, Exclusive, serves, Said, Held, Told, is_held, holds, newer, newest, shown, Collector, all_told, counted}
-use Rattle.law_agents.proofs.Vocabulary.{wanted, mode_or, needed, got, is_member, is_left, members_of, version, ask_or_short, asked_of, mode_asked, Ask, Current, Asked, Poll, Upgrade, next, find_some, source_of}
+use Rattle.law_agents.proofs.Vocabulary.{◌≡◌, ℕ, ◌≤◌, ◌<◌, Bool, true, false, cond, List, [], ◌∷◌, ◌++◌, Option, Some, None, refl, sym, ap, subst, ◌∙◌, arith, ◌==◌, ◌&&◌, ◌||◌, not, nat_lt, nat_le, find, filter, map, list_any, nat_tests}
+use Rattle.law_agents.proofs.Vocabulary.{Representative, Configuration, votes_in, Prefix, LockMode, Shared, Exclusive, serves, Said, Told, is_held, holds, newer, newest, shown, Collector, all_told, counted, wanted, mode_or, needed, got}
+use Rattle.law_agents.proofs.Vocabulary.{is_member, is_left, members_of, version, ask_or_short, asked_of, mode_asked, Ask, Current, Asked, Poll, Upgrade, next, source_of}
+use Rattle.suite_collect.specs.declared.told.Said.TheVariants.{Held}
+use Rattle.rep_core.proofs.Finding.{find_some}
 
 -- ---- its answers
 

@@ -1,7 +1,9 @@
 -- The votes that a transaction sets are those that it may.
-use Rattle.law_agents.proofs.Vocabulary.{◌≡◌, ℕ, Bool, true, false, cond, List, [], ◌∷◌, Option, Some, None, Ok, Err, refl, subst, Configuration, Identity, Answer, Action, Op, Service, lists_unknown, known_votes, votes_of_new, Row}
-use Rattle.law_agents.proofs.Vocabulary.{Edit, SetVotes, Make, Edits, Ended, Known, known_rows, Done, exec_of, votes_given, Licensed, writes_bytes, changes_lists, changes_votes, adds_name, makes_row, drops_name}
-use Rattle.law_agents.proofs.Vocabulary.{AllLicensed, known_licensed}
+use Rattle.law_agents.proofs.Vocabulary.{◌≡◌, ℕ, Bool, true, false, cond, List, [], ◌∷◌, Option, Some, None, Ok, Err, refl, subst, Configuration, Identity, Answer, Op, Service, lists_unknown, known_votes, votes_of_new, Row, Edit, SetVotes}
+use Rattle.law_agents.proofs.Vocabulary.{Make, Known, known_rows, Done, exec_of, known_licensed}
+use Rattle.file_ops.specs.declared.operation.Action.{Action}
+use Rattle.file_exec.specs.Following.{Edits, Ended}
+use Rattle.file_exec.specs.Licensed.{votes_given, Licensed, writes_bytes, changes_lists, changes_votes, adds_name, makes_row, drops_name, AllLicensed}
 use Rattle.file_ops.specs.declared.refusal.Why.TheVariants as why
 
 -- an edit sets no votes but such

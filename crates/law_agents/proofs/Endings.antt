@@ -1,9 +1,10 @@
 -- A transaction ends as its home told.
-use Rattle.law_agents.proofs.Vocabulary.{◌≡◌, ℕ, ◌+◌, true, false, cond, List, [], ◌∷◌, ◌++◌, Option, Some, None, refl, sym, ap, subst, nat_lt, ◌&&◌, same_Some, Identity, Op, is_prepared, Request, Verdict, Reply, Cache, Suites}
-use Rattle.law_agents.proofs.Vocabulary.{suite_of, parts_at, Response, Replied, Lacked, Cause, Lost, Ending, Undecided, Job, Transaction, Fixed, Task, home_of, Proposal, Phase, Gathering, Fetching, Widening, Preparing, Deciding}
-use Rattle.law_agents.proofs.Vocabulary.{Finishing, TransactionRun, Doing, Running, RunningSweep, After, GoesOn, Ends, lack_cause, tell_end, give_up, prepare, locked_at, prepared, after_response, request_in, changes_of, decision_of}
-use Rattle.law_agents.proofs.Vocabulary.{verdict_in, ending_by, cause_of_abort, Agent, Event, next_in, next_of, end_of, take_in, begin, started, is_idle, has_sense, max_jobs, after_all, Exchange, exchange_of, of_job, is_decide}
-use Rattle.law_agents.proofs.Vocabulary.{said_by, told_verdict, task_of, asks_same, asked_as, fetched_as, exchanges-take, IsEarly, goes_response, goes_execute, EndsBy, EndsAsTold}
+use Rattle.law_agents.proofs.Vocabulary.{◌≡◌, ℕ, ◌+◌, true, false, cond, List, [], ◌∷◌, ◌++◌, Option, Some, None, refl, sym, ap, subst, nat_lt, ◌&&◌, same_Some, Identity, Op, is_prepared, Request, Verdict, Reply, Cache, Suites, suite_of}
+use Rattle.law_agents.proofs.Vocabulary.{parts_at, Response, Replied, Lacked, Cause, Lost, Ending, Undecided, Job, Transaction, Fixed, Task, home_of, Proposal, Phase, Gathering, Fetching, Widening, Preparing, Deciding, Finishing}
+use Rattle.law_agents.proofs.Vocabulary.{TransactionRun, Doing, Running, RunningSweep, After, GoesOn, Ends, lack_cause, tell_end, give_up, prepare, locked_at, prepared, after_response, request_in, changes_of, decision_of, verdict_in}
+use Rattle.law_agents.proofs.Vocabulary.{ending_by, cause_of_abort, Agent, Event, next_in, next_of, end_of, take_in, begin, started, is_idle, has_sense, max_jobs, after_all, Exchange, exchange_of, of_job, is_decide, said_by, told_verdict}
+use Rattle.law_agents.proofs.Vocabulary.{task_of, asks_same, asked_as, fetched_as, exchanges-take, IsEarly, goes_response, goes_execute}
+use Rattle.law_agents.specs.Endings.{EndsBy, EndsAsTold}
 use Rattle.rep_core.specs.declared.request.Request.TheVariants as request
 use Rattle.rep_core.specs.declared.reply.Verdict.TheVariants as verdict
 use Rattle.txn_core.specs.Agents as agents

@@ -1,11 +1,12 @@
 -- A content is fetched at the source that the suite's first quorum gave.
-use Rattle.law_agents.proofs.Vocabulary.{◌≡◌, ℕ, true, false, List, ◌∷◌, Option, Some, None, refl, sym, ap, subst, ◌∙◌, eqb-true, false≢true, same_Some, Request, ReadPoint, GatheredSuite, Suites, suite_of, parts_at, Job}
-use Rattle.law_agents.proofs.Vocabulary.{home_of, Fixed, Task, Phase, Gathering, Fetching, Widening, Preparing, Deciding, Finishing, Sweeping, Listing, Resolving, Telling, Breaking, SweepRun, Doing, Running, RunningSweep, fetched_at}
-use Rattle.law_agents.proofs.Vocabulary.{fetched_for, request_in, changes_of, decision_of, Agent, Event, next_in, begin, after_all, Exchange, of_job, asks_same, asked_as, StandsOn, self, Kept, Base_of, Started, Begins, DoingStands}
-use Rattle.law_agents.proofs.Vocabulary.{stands_after, started_is, IsFetching, FetchesInOrder}
+use Rattle.law_agents.proofs.Vocabulary.{◌≡◌, ℕ, true, false, List, ◌∷◌, Option, Some, None, refl, sym, ap, subst, ◌∙◌, eqb-true, false≢true, same_Some, Request, ReadPoint, GatheredSuite, Suites, suite_of, parts_at, Job, home_of, Fixed}
+use Rattle.law_agents.proofs.Vocabulary.{Task, Phase, Gathering, Fetching, Widening, Preparing, Deciding, Finishing, Sweeping, Listing, Resolving, Telling, Breaking, SweepRun, Doing, Running, RunningSweep, fetched_at, fetched_for}
+use Rattle.law_agents.proofs.Vocabulary.{request_in, changes_of, decision_of, Agent, Event, next_in, begin, after_all, Exchange, of_job, asks_same, asked_as, StandsOn, self, Kept, Base_of, Started, Begins, DoingStands, stands_after}
+use Rattle.law_agents.proofs.Vocabulary.{started_is}
+use Rattle.law_agents.specs.Fetches.{IsFetching, FetchesInOrder}
+use Rattle.txn_core.proofs.Fetches.{fetches}
 use Rattle.rep_core.specs.declared.request.Request.TheVariants as request
 use Rattle.txn_core.specs.Sweeps as sweep
-use Rattle.txn_core.proofs.Fetches.{fetches}
 
 module _ (fixed : Fixed) (agent : Agent) (job : Job) (events : List Event) where
   abbrev past : List Exchange

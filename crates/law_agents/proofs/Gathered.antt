@@ -1,10 +1,13 @@
 -- A lock is asked for of the first server that is left.
-use Rattle.law_agents.proofs.Vocabulary.{◌≡◌, ℕ, ◌<◌, Bool, true, false, cond, inl, inr, List, [], ◌∷◌, ◌++◌, Option, Some, None, refl, sym, ap, subst, ◌∙◌, arith, ◌&&◌, not, nat_lt, nat_le, find, eqb-true, false≢true, nat_tests}
-use Rattle.law_agents.proofs.Vocabulary.{same_Some, Representative, LockMode, Shared, Request, Said, newest, has_told, Collector, told_since, votes_or, mode_or, all_told, counted, wanted, needed, got, is_member, is_left, asked_of}
-use Rattle.law_agents.proofs.Vocabulary.{ask_or_short, version, members_of, request_for, Asked, Poll, Upgrade, Next, Ask, Current, next, GatheredSuite, Suites, suite_of, told_in, parts_at, Job, home_of, Fixed, Task, Phase}
-use Rattle.law_agents.proofs.Vocabulary.{Gathering, Fetching, Widening, Preparing, Deciding, Finishing, Sweeping, Listing, Resolving, Telling, Breaking, SweepRun, Doing, Running, RunningSweep, asked_by, asked_for, request_in}
-use Rattle.law_agents.proofs.Vocabulary.{changes_of, decision_of, Agent, Event, next_in, begin, after_all, Exchange, of_job, locks, told_of, has_said, holding, refusing, SetsVotes, asks_same, fetched_as, StandsOn, Wants, Sets, Are}
-use Rattle.law_agents.proofs.Vocabulary.{asks_lock, kind_of, told_said, votes_same, IsOf, is_wanted, sets, Base_of, Started, Begins, DoingStands, stands_after, started_is, number_of, CountsBy, IsGathering, GathersInOrder}
+use Rattle.law_agents.proofs.Vocabulary.{◌≡◌, ℕ, ◌<◌, Bool, true, false, cond, inl, inr, List, [], ◌∷◌, ◌++◌, Option, Some, None, refl, sym, ap, subst, ◌∙◌, arith, ◌&&◌, not, nat_lt, nat_le, find, eqb-true, false≢true, nat_tests, same_Some}
+use Rattle.law_agents.proofs.Vocabulary.{Representative, LockMode, Shared, Request, Said, newest, has_told, Collector, told_since, votes_or, mode_or, all_told, counted, wanted, needed, got, is_member, is_left, asked_of, ask_or_short}
+use Rattle.law_agents.proofs.Vocabulary.{version, members_of, request_for, Asked, Poll, Upgrade, Next, Ask, Current, next, GatheredSuite, Suites, suite_of, told_in, parts_at, Job, home_of, Fixed, Task, Phase, Gathering, Fetching, Widening}
+use Rattle.law_agents.proofs.Vocabulary.{Preparing, Deciding, Finishing, Sweeping, Listing, Resolving, Telling, Breaking, SweepRun, Doing, Running, RunningSweep, asked_by, asked_for, request_in, changes_of, decision_of, Agent, Event}
+use Rattle.law_agents.proofs.Vocabulary.{next_in, begin, after_all, Exchange, of_job, locks, told_of, has_said, holding, refusing, SetsVotes, asks_same, fetched_as, StandsOn, Wants, Sets, Are, asks_lock, kind_of, told_said, votes_same}
+use Rattle.law_agents.proofs.Vocabulary.{Base_of, Started, Begins, DoingStands, stands_after, started_is}
+use Rattle.txn_core.proofs.Undecided.{IsOf, is_wanted, sets}
+use Rattle.law_agents.specs.Orders.{number_of}
+use Rattle.law_agents.specs.Gathers.{CountsBy, IsGathering, GathersInOrder}
 use Rattle.rep_core.specs.declared.request.Request.TheVariants as request
 use Rattle.suite_collect.specs.Collecting as collecting
 use Rattle.txn_core.specs.Sweeps as sweep

@@ -1,10 +1,9 @@
 -- One walk through what a transaction does with what it is told while it gathers, with what was told of each suite.
-use Rattle.law_agents.proofs.Vocabulary.{◌≡◌, ℕ, Bool, true, false, cond, List, [], ◌∷◌, ◌++◌, Option, Some, None, Ok, Err, refl, sym, ap, subst, ◌∙◌, ◌==◌, length, eqb-true, Content, Request, Reply, Hold, Know, Said, Told, all_told}
-use Rattle.law_agents.proofs.Vocabulary.{tell, mode_of, Next, Ask, Current, Short, next, Cache, ReadPoint, GatheredSuite, Suites, suite_of, with_suite, told_in, settled, Response, Replied, Lacked, Cause, Lost, Granted, Fixed, Task}
-use Rattle.law_agents.proofs.Vocabulary.{Proposal, Phase, Gathering, Fetching, Widening, Preparing, Deciding, Finishing, TransactionRun, After, GoesOn, Step, Gathered, give_up, prepare, locked_at, short_cause, gather_by, widen_by}
-use Rattle.law_agents.proofs.Vocabulary.{widen_one, widened, widen_all, opened, heard_on, raised_or_new, keep_content, heard_of, said_to, proceed, execute, collected, hear, fetched, after_response, asked_for, request_in, given_in}
-use Rattle.law_agents.proofs.Vocabulary.{lack_cause, Exchange, locks, told_of, told_by, more_told, fetched_as, Are, are_with, are_same, are_opened, told_raised, all_told-tell, asks_lock, IsEarly}
-use Rattle.file_exec.specs.declared.executor.Outcome.{Outcome as Executed}
+use Rattle.law_agents.proofs.Vocabulary.{◌≡◌, ℕ, Bool, true, false, cond, List, [], ◌∷◌, ◌++◌, Option, Some, None, Ok, Err, refl, sym, ap, subst, ◌∙◌, ◌==◌, length, eqb-true, Content, Request, Reply, Hold, Know, Said, Told, all_told, tell}
+use Rattle.law_agents.proofs.Vocabulary.{mode_of, Next, Ask, Current, Short, next, Cache, ReadPoint, GatheredSuite, Suites, suite_of, with_suite, told_in, settled, Response, Replied, Lacked, Cause, Lost, Granted, Fixed, Task, Proposal}
+use Rattle.law_agents.proofs.Vocabulary.{Phase, Gathering, Fetching, Widening, Preparing, Deciding, Finishing, TransactionRun, After, GoesOn, Step, Gathered, give_up, prepare, locked_at, short_cause, gather_by, widen_by, widen_one, widened}
+use Rattle.law_agents.proofs.Vocabulary.{widen_all, opened, heard_on, raised_or_new, keep_content, heard_of, said_to, proceed, execute, collected, hear, fetched, after_response, asked_for, request_in, given_in, lack_cause, Exchange, locks}
+use Rattle.law_agents.proofs.Vocabulary.{told_of, told_by, more_told, fetched_as, Are, are_with, are_same, are_opened, told_raised, all_told-tell, asks_lock, IsEarly, Outcome as Executed}
 use Rattle.file_exec.specs.declared.executor.Outcome.TheVariants as exec
 
 -- ---- what was told of each suite, with one exchange more

@@ -1,11 +1,19 @@
 -- The servers that hold locks for a transaction are those that were heard to hold one.
-use Rattle.law_agents.proofs.Vocabulary.{◌≡◌, ℕ, Bool, true, false, cond, List, [], ◌∷◌, ◌++◌, Some, None, refl, sym, ap, ◌∙◌, ◌==◌, ◌&&◌, ◌||◌, filter, nat_cmp, is_at, unsigned_tied, keys_of, false≢true, nat_cmp_total, eq_by_cmp_equiv}
-use Rattle.law_agents.proofs.Vocabulary.{list_any-append, lookup-none, none_past_head, IsDistinct-from_sorted, sorted_tail, IsOrdered, Shared, max_servers, Request, Reply, Told, holds, mode_of, Response, Replied, Lacked, Suites}
-use Rattle.law_agents.proofs.Vocabulary.{suite_of, told_in, holds_lock, has_locks, numbers_from, is_poll, said_to, locked_at, Exchange, locks, says_held, was_held, told_of, told_by, more_told, self, serves_shared, Are, or_true, has_one}
-use Rattle.law_agents.proofs.Vocabulary.{wants_lock, was_locked, locked}
+use Rattle.law_agents.proofs.Vocabulary.{◌≡◌, ℕ, Bool, true, false, cond, List, [], ◌∷◌, ◌++◌, Some, None, refl, sym, ap, ◌∙◌, ◌==◌, ◌&&◌, ◌||◌, filter, nat_cmp, is_at, false≢true, IsOrdered, Shared, max_servers, Request, Reply, Told}
+use Rattle.law_agents.proofs.Vocabulary.{holds, mode_of, Response, Replied, Lacked, numbers_from, is_poll, said_to, locked_at, Exchange, locks, says_held, was_held, told_of, told_by, more_told, self, serves_shared, Are}
+use Rattle.std.specs.Cmp.{unsigned_tied}
+use Rattle.std.specs.Map.{keys_of}
+use Rattle.std.proofs.lemmas.Cmp.{nat_cmp_total, eq_by_cmp_equiv}
+use Rattle.std.proofs.lemmas.List.Folds.{list_any-append}
+use Rattle.std.proofs.lemmas.Map.{lookup-none}
+use Rattle.std.proofs.lemmas.Map.Entries.{none_past_head}
+use Rattle.std.proofs.lemmas.Map.Keys.{IsDistinct-from_sorted, sorted_tail}
+use Rattle.txn_core.proofs.SuiteQuorums.{or_true}
+use Rattle.txn_core.proofs.Ready.{has_one}
+use Rattle.law_agents.specs.Orders.{wants_lock, was_locked, locked}
+use Rattle.txn_core.specs.Suites.{told_at, Suites, suite_of, told_in, holds_lock, has_locks}
 use Rattle.rep_core.specs.declared.request.Request.TheVariants as request
 use Rattle.rep_core.specs.declared.reply.Reply.TheVariants as reply
-use Rattle.txn_core.specs.Suites.{told_at}
 
 -- ---- what was told of a suite is what was heard of it
 

@@ -1,13 +1,12 @@
 -- A transaction asks in order.
-use Rattle.law_agents.proofs.Vocabulary.{◌≡◌, ℕ, ◌+◌, ◌≤◌, ◌<◌, Bool, true, false, cond, inl, inr, List, [], ◌∷◌, ◌++◌, Option, Some, None, refl, sym, ap, subst, ◌∙◌, arith, ◌==◌, ◌&&◌, nat_lt, map, filter, Contains, eqb-true}
-use Rattle.law_agents.proofs.Vocabulary.{false≢true, append-nil, map-append, Contains-push_cases, Contains-append_right, filter-append, same_Some, Identity, Op, has_from, contains_from, is_prepared, Request, Verdict, Cache, Suites}
-use Rattle.law_agents.proofs.Vocabulary.{suite_of, parts_at, Response, Replied, Lacked, Cause, Lost, Ending, Undecided, Job, Transaction, home_of, Fixed, Task, Proposal, Phase, Gathering, Fetching, Widening, Preparing, Deciding}
-use Rattle.law_agents.proofs.Vocabulary.{Finishing, TransactionRun, Doing, Running, RunningSweep, After, GoesOn, tell_end, give_up, prepare, locked_at, after_response, request_in, request_of, changes_of, decision_of, verdict_in}
-use Rattle.law_agents.proofs.Vocabulary.{ending_by, cause_of_abort, lack_cause, Agent, Event, next_in, next_of, take_in, begin, started, is_idle, has_sense, max_jobs, after_all, Exchange, of_job, is_decide, is_prepare, says_prepared}
-use Rattle.law_agents.proofs.Vocabulary.{told_verdict, task_of, is_finish, asks_same, asked_as, fetched_as, StandsOn, self, Base, Keeps, plus_all, nothing_held, all_keep, begin_keeps, Are, are_nil, finish_carries_the_verdict, Base_of}
-use Rattle.law_agents.proofs.Vocabulary.{Started, Begins, DoingStands, stands_after, IsEarly, stage, number_of, locked, sent_to, IsInOrder, StagesRise, AllPrepared, IsPreparing, PreparesInOrder, IsDeciding, DecidesInOrder, IsFinishing}
-use Rattle.law_agents.proofs.Vocabulary.{FinishesInOrder, AllFinish}
-use Rattle.std.proofs.lemmas.List.{append_assoc}
+use Rattle.law_agents.proofs.Vocabulary.{◌≡◌, ℕ, ◌+◌, ◌≤◌, ◌<◌, Bool, true, false, cond, inl, inr, List, [], ◌∷◌, ◌++◌, Option, Some, None, refl, sym, ap, subst, ◌∙◌, arith, ◌==◌, ◌&&◌, nat_lt, map, filter, Contains, eqb-true, false≢true}
+use Rattle.law_agents.proofs.Vocabulary.{append-nil, map-append, Contains-push_cases, Contains-append_right, filter-append, same_Some, Identity, Op, has_from, contains_from, is_prepared, Request, Verdict, Cache, Suites, suite_of, parts_at}
+use Rattle.law_agents.proofs.Vocabulary.{Response, Replied, Lacked, Cause, Lost, Ending, Undecided, Job, Transaction, home_of, Fixed, Task, Proposal, Phase, Gathering, Fetching, Widening, Preparing, Deciding, Finishing, TransactionRun}
+use Rattle.law_agents.proofs.Vocabulary.{Doing, Running, RunningSweep, After, GoesOn, tell_end, give_up, prepare, locked_at, after_response, request_in, request_of, changes_of, decision_of, verdict_in, ending_by, cause_of_abort, lack_cause}
+use Rattle.law_agents.proofs.Vocabulary.{Agent, Event, next_in, next_of, take_in, begin, started, is_idle, has_sense, max_jobs, after_all, Exchange, of_job, is_decide, is_prepare, says_prepared, told_verdict, task_of, is_finish, asks_same}
+use Rattle.law_agents.proofs.Vocabulary.{asked_as, fetched_as, StandsOn, self, Base, Keeps, plus_all, nothing_held, all_keep, begin_keeps, Are, are_nil, Base_of, Started, Begins, DoingStands, stands_after, IsEarly, append_assoc}
+use Rattle.txn_core.proofs.Mild.{finish_carries_the_verdict}
+use Rattle.law_agents.specs.Orders.{stage, number_of, locked, sent_to, IsInOrder, StagesRise, AllPrepared, IsPreparing, PreparesInOrder, IsDeciding, DecidesInOrder, IsFinishing, FinishesInOrder, AllFinish}
 use Rattle.rep_core.specs.declared.request.Request.TheVariants as request
 use Rattle.rep_core.specs.declared.reply.Verdict.TheVariants as verdict
 use Rattle.txn_core.specs.Agents as agents

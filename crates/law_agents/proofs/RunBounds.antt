@@ -1,18 +1,19 @@
 -- Each job that ends in a run took few steps.
 use Rattle.law_agents.proofs.Vocabulary.{◌≡◌, inl, inr, ℕ, zero, suc, ◌+◌, Bool, true, false, cond, List, [], ◌∷◌, ◌++◌, append_assoc, Option, Some, None, refl, sym, ap, subst, ◌∙◌, arith, ◌≢◌, ◌&&◌, ◌==◌, is_some, slice_get, slice_set}
-use Rattle.law_agents.proofs.Vocabulary.{cons_option, eqb-true, nat_tests, none-some, same_Some, Opening, Has, has_from, Request, State, Response, Replied, Lacked, Ending, Agent, Take, next_of, take, begin, forget, fixed_of}
-use Rattle.law_agents.proofs.Vocabulary.{Begin, Crash, Return, Lack, EndedJob, Served, World, Actor, Stepped, server_at, actor_at, actors_from, outcome_of, serve, asks_at, asks, steps_once, lacks_for, lacks, operated}
-use Rattle.law_agents.proofs.Vocabulary.{operates, becomes, opening, step, dones, outcomes, run, asks_now, told_at, EndsInItsTime, RunsEndInTime}
+use Rattle.law_agents.proofs.Vocabulary.{cons_option, eqb-true, nat_tests, none-some, same_Some, Has, has_from, Request, Response, Replied, Lacked, Ending, Agent, Take, next_of, take, begin, forget, fixed_of, EndedJob, dones, outcomes, run}
+use Rattle.suite_prefix.specs.SettingsRules.{Opening}
+use Rattle.rep_core.specs.State.{State}
+use Rattle.run_core.specs.declared.event.Event.TheVariants.{Begin, Crash, Return, Lack, Step, Forget}
+use Rattle.run_core.specs.declared.done.Served.{Served}
+use Rattle.run_core.specs.Worlds.{World, Actor, Stepped, server_at, actor_at, actors_from, outcome_of, serve, asks_at, asks, steps_once, lacks_for, lacks, operated, operates, becomes, opening, step, answered}
+use Rattle.law_agents.specs.RunBounds.{asks_now, told_at, EndsInItsTime, RunsEndInTime, told_by, told_of}
+use Rattle.run_core.specs.declared.event.Event.{Event}
 use Rattle.rep_core.specs.declared.request.Request.TheVariants as request
 use Rattle.rep_core.specs.declared.stamped.Lack as lacking
 use Rattle.rep_core.specs.declared.stamped.Lack.TheVariants as lack
 use Rattle.txn_core.specs.Agents as agents
-use Rattle.run_core.specs.declared.event.Event.{Event}
-use Rattle.run_core.specs.declared.event.Event.TheVariants.{Step, Forget}
 use Rattle.run_core.specs.Worlds as worlds
-use Rattle.run_core.specs.Worlds.{answered}
 use Rattle.run_core.proofs.Appending as going
-use Rattle.law_agents.specs.RunBounds.{told_by, told_of}
 use Rattle.law_agents.proofs.RunJobs.{Fits, stays, begun_index, begins_job, same_number, forgets, told_so, takes, ends_now}
 
 -- ---- every agent of a run, event by event

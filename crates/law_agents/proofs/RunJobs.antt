@@ -1,17 +1,20 @@
 -- A job of an agent in a run: what it was told there since its begin, and how many steps it took.
 use Rattle.law_agents.proofs.Vocabulary.{◌≡◌, ◌⊎◌, inl, inr, ℕ, ◌+◌, ◌≤◌, Bool, true, false, cond, List, [], ◌∷◌, ◌++◌, append_assoc, length, Option, Some, None, refl, sym, ap, subst, ◌∙◌, arith, ◌&&◌, ◌*◌, ◌-◌, ◌==◌, min, nat_lt}
-use Rattle.law_agents.proofs.Vocabulary.{min-le_left, nat_tests, append-nil, none-some, same_Some, Identity, Opening, Op, Request, last_number, Response, Ending, Job, Transaction, Sweep, Fixed, Doing, Running, RunningSweep, After}
-use Rattle.law_agents.proofs.Vocabulary.{GoesOn, Ends, Agent, Taken, Take, next_in, next_of, left, end_of, take_in, take, begin, begins, started, forget, is_idle, has_sense, max_jobs, fixed_of, Exchange, exchange_of, of_job, among}
-use Rattle.law_agents.proofs.Vocabulary.{asks_only, names_only, listed, ends_in_time, sweep_ends_in_time, after-append, exchanges-take, exchanges-forget, Begin, EndedJob, World, Actor, actor_at, one_more, steps_after, outcome_of}
-use Rattle.law_agents.proofs.Vocabulary.{opening, step, after, run, agent_after, VotesAreValid, is_known, told_at, EndsInItsTime}
+use Rattle.law_agents.proofs.Vocabulary.{nat_tests, append-nil, none-some, same_Some, Identity, Op, Request, Response, Ending, Job, Transaction, Sweep, Fixed, Doing, Running, RunningSweep, After, GoesOn, Ends, Agent, Taken, Take, next_in}
+use Rattle.law_agents.proofs.Vocabulary.{next_of, left, end_of, take_in, take, begin, begins, started, forget, is_idle, has_sense, max_jobs, fixed_of, Exchange, exchange_of, of_job, among, asks_only, names_only, listed, ends_in_time}
+use Rattle.law_agents.proofs.Vocabulary.{sweep_ends_in_time, after-append, exchanges-take, exchanges-forget, EndedJob, after, run, agent_after, VotesAreValid, is_known}
+use Rattle.std.proofs.Math.Nat.{min-le_left}
+use Rattle.suite_prefix.specs.SettingsRules.{Opening}
+use Rattle.rep_core.specs.Store.{last_number}
+use Rattle.run_core.specs.declared.event.Event.TheVariants.{Begin, Forget}
+use Rattle.run_core.specs.Worlds.{World, Actor, actor_at, one_more, steps_after, outcome_of, opening, step}
+use Rattle.law_agents.specs.RunBounds.{told_at, EndsInItsTime, told_in}
+use Rattle.run_core.specs.declared.event.Event.{Event}
 use Rattle.txn_core.specs.Transactions as transactions
 use Rattle.txn_core.specs.Sweeps as sweep
 use Rattle.txn_core.specs.Agents as agents
-use Rattle.run_core.specs.declared.event.Event.{Event}
-use Rattle.run_core.specs.declared.event.Event.TheVariants.{Forget}
 use Rattle.run_core.specs.Worlds as worlds
 use Rattle.run_core.proofs.Appending as going
-use Rattle.law_agents.specs.RunBounds.{told_in}
 use Rattle.law_agents.proofs.Ends.{asked_are_known}
 use Rattle.law_agents.proofs.AllResponses.{length_append}
 

@@ -1,5 +1,6 @@
 -- Agents that were told the same ask the same.
-use Rattle.law_agents.proofs.Vocabulary.{◌≡◌, true, Option, Some, None, refl, sym, ap, ◌∙◌, Doing, Agent, next_of, take, begin, is_idle, after_all, of_job, SameToldSameAsked}
+use Rattle.law_agents.proofs.Vocabulary.{◌≡◌, true, Option, Some, None, refl, sym, ap, ◌∙◌, Doing, Agent, next_of, take, begin, is_idle, after_all, of_job}
+use Rattle.law_agents.specs.Same.{SameToldSameAsked}
 
 idle_none : (doing : Option Doing) → is_idle doing ≡ true → doing ≡ None
 idle_none None idle = refl

@@ -1,109 +1,67 @@
 -- The names that the proofs of this crate take from elsewhere, each with one meaning here.
 pub use Rattle.std.proofs.Common.{Bool, Contains, Equal, Err, Greater, IsSome, Less, List, None, Ok, Option, Some, [], ap, append_assoc, arith, cond, false, filter, find, inl, inr, is_some, length, map, min, nat_le, nat_lt, not, option_map}
 pub use Rattle.std.proofs.Common.{refl, slice_get, slice_set, subst, suc, sym, true, zero, ℕ, ⊎_elim, ◌%◌, ◌&&◌, ◌*◌, ◌++◌, ◌+◌, ◌-◌, ◌/◌, ◌<◌, ◌==◌, ◌||◌, ◌∙◌, ◌∷◌, ◌≡◌, ◌≢◌, ◌≤◌, ◌⊎◌}
-pub use Rattle.std.proofs.Math.Nat.{min-le_left}
 pub use Rattle.std.proofs.lemmas.Bool.{and_parts, eq-eqb, eqb-true, false≢true}
 pub use Rattle.std.proofs.lemmas.Bool.Decides.{nat_tests}
-pub use Rattle.std.proofs.lemmas.Cmp.{eq_by_cmp_equiv, nat_cmp_total}
 pub use Rattle.std.proofs.lemmas.List.{append-nil, map-append}
 pub use Rattle.std.proofs.lemmas.List.Elements.{All-contains, Contains-append_left, Contains-append_right, Contains-push_cases, filter-append}
-pub use Rattle.std.proofs.lemmas.List.Folds.{list_any-append}
-pub use Rattle.std.proofs.lemmas.Map.{lookup-none}
-pub use Rattle.std.proofs.lemmas.Map.Entries.{none_past_head}
-pub use Rattle.std.proofs.lemmas.Map.Keys.{IsDistinct-from_sorted, sorted_tail}
 pub use Rattle.std.proofs.lemmas.Option.{none-some, same_Some}
 pub use Rattle.std.specs.BTreeMap.{is_at}
-pub use Rattle.std.specs.Cmp.{unsigned_tied}
 pub use Rattle.std.specs.List.{cons_option, list_all, list_any}
-pub use Rattle.std.specs.Map.{keys_of}
 pub use Rattle.std.specs.Ordering.{match_ordering, nat_cmp}
 pub use Rattle.std.specs.Prelude.{unwrap_or}
-pub use Rattle.std.specs.declared.cmp.Ordering.{Ordering}
 pub use Rattle.acl_core.specs.Identity.{Identity}
-pub use Rattle.file_exec.proofs.Leading.{changes_by_suite}
 pub use Rattle.file_exec.proofs.Licensing.{known_licensed, reads_known}
-pub use Rattle.file_exec.proofs.Unmet.{needs_what_is_unmet}
-pub use Rattle.file_exec.proofs.Unset.{changes_are_held}
-pub use Rattle.file_exec.specs.Changes.{answered, makes, sets_acl, sets_votes, some, touches}
-pub use Rattle.file_exec.specs.Following.{Edits, Ended, changed, is_set, seen}
 pub use Rattle.file_exec.specs.Known.{Done, Heard, Known, Needs, exec_of, known_rows}
-pub use Rattle.file_exec.specs.KnownSuites.{KnownSuite}
-pub use Rattle.file_exec.specs.Licensed.{AllLicensed, Licensed, adds_name, changes_lists, changes_votes, drops_name, makes_row, votes_given, writes_bytes}
 pub use Rattle.file_exec.specs.declared.changes.Change.{Change}
 pub use Rattle.file_exec.specs.declared.edit_log.Edit.{Edit}
 pub use Rattle.file_exec.specs.declared.edit_log.Edit.TheVariants.{Make, SetAcl, SetContent, SetVotes}
-pub use Rattle.file_exec.specs.declared.need.Need.{Need}
+pub use Rattle.file_exec.specs.declared.executor.Outcome.{Outcome}
 pub use Rattle.file_exec.specs.declared.need.Need.TheVariants.{Hold, Know}
 pub use Rattle.file_ops.specs.KnownVotes.{known_votes, lists_unknown, votes_of_new}
 pub use Rattle.file_ops.specs.Rows.{Row}
 pub use Rattle.file_ops.specs.declared.answer.Answer.{Answer}
-pub use Rattle.file_ops.specs.declared.operation.Action.{Action}
 pub use Rattle.file_ops.specs.declared.operation.Op.{Op}
-pub use Rattle.file_ops.specs.declared.refusal.Refusal.{Refusal}
 pub use Rattle.file_ops.specs.declared.service.Service.{Service}
-pub use Rattle.rep_core.proofs.Finding.{find_some}
 pub use Rattle.rep_core.proofs.Members.{Has, any_has, contains_from, has_from}
 pub use Rattle.rep_core.specs.Fits.{is_prepared}
-pub use Rattle.rep_core.specs.Locks.{has_prepared, is_own}
-pub use Rattle.rep_core.specs.State.{State}
-pub use Rattle.rep_core.specs.Store.{last_number}
 pub use Rattle.rep_core.specs.declared.lock.Lock.{Lock}
 pub use Rattle.rep_core.specs.declared.reply.Reply.{Reply}
 pub use Rattle.rep_core.specs.declared.reply.Verdict.{Verdict}
-pub use Rattle.rep_core.specs.declared.request.Part.{Part}
 pub use Rattle.rep_core.specs.declared.request.Request.{Request}
-pub use Rattle.run_core.proofs.EachAgent.{OfEach}
 pub use Rattle.run_core.specs.Runs.{after, dones, outcomes, run}
-pub use Rattle.run_core.specs.Worlds.{Actor, Stepped, World, actor_at, actors_from, asks, asks_at, becomes, lacks, lacks_for, one_more, opening, operated, operates, outcome_of, serve, server_at, step, steps_after, steps_once}
 pub use Rattle.run_core.specs.declared.done.EndedJob.{EndedJob}
-pub use Rattle.run_core.specs.declared.done.Served.{Served}
-pub use Rattle.run_core.specs.declared.event.Event.TheVariants.{Begin, Crash, Lack, Return}
-pub use Rattle.sorted_map.specs.Laws.{insert_step}
 pub use Rattle.sorted_map.specs.SortedMap.{IsOrdered, insert}
-pub use Rattle.suite_collect.proofs.Sources.{some_needed}
-pub use Rattle.suite_collect.specs.Collecting.{Ask, Asked, Collector, Current, Next, Poll, Short, Upgrade, all_told, ask_or_short, asked_of, collect, counted, got, is_left, is_member, members_of, mode_asked, mode_of, mode_or, needed}
-pub use Rattle.suite_collect.specs.Collecting.{needed_of, next, raise, request_for, tell, tell_at, told_since, version, votes_or, wanted, widen}
+pub use Rattle.suite_collect.specs.Collecting.{Ask, Asked, Collector, Current, Next, Poll, Short, Upgrade, all_told, ask_or_short, asked_of, counted, got, is_left, is_member, members_of, mode_asked, mode_of, mode_or, needed, next}
+pub use Rattle.suite_collect.specs.Collecting.{request_for, tell, told_since, version, votes_or, wanted}
 pub use Rattle.suite_collect.specs.Telling.{has_told, holds, is_held, newer, newest, shown}
 pub use Rattle.suite_collect.specs.declared.told.Said.{Said}
-pub use Rattle.suite_collect.specs.declared.told.Said.TheVariants.{Busy, Down, Held}
 pub use Rattle.suite_collect.specs.declared.told.Told.{Told}
 pub use Rattle.suite_content.specs.declared.content.Content.{Content}
 pub use Rattle.suite_prefix.specs.Absent.{absent_prefix}
 pub use Rattle.suite_prefix.specs.LockModes.{serves}
-pub use Rattle.suite_prefix.specs.SettingsRules.{Opening}
 pub use Rattle.suite_prefix.specs.declared.copies.Prefix.{Prefix}
-pub use Rattle.suite_prefix.specs.declared.copies.PrefixKind.{PrefixKind}
 pub use Rattle.suite_prefix.specs.declared.lock_mode.LockMode.{LockMode}
 pub use Rattle.suite_prefix.specs.declared.lock_mode.LockMode.TheVariants.{Exclusive, Shared}
 pub use Rattle.txn_core.proofs.Asks.{asked_as, asks_same, fetched_as}
 pub use Rattle.txn_core.proofs.Bound.{ends_in_time}
-pub use Rattle.txn_core.proofs.Caching.{caches_what_was_fetched}
 pub use Rattle.txn_core.proofs.Causes.{StandsOn}
 pub use Rattle.txn_core.proofs.Gathers.{Base, Each, EachBut, Kept, Sets, Wants, but_with, each_but, each_with, self, untold_before, with_at}
 pub use Rattle.txn_core.proofs.Locks.{Keeps, all_keep, begin_keeps, nothing_held, plus_all, serves_shared}
-pub use Rattle.txn_core.proofs.Mild.{finish_carries_the_verdict}
-pub use Rattle.txn_core.proofs.Quorums.{decides_on_quorums}
-pub use Rattle.txn_core.proofs.Ready.{has_one}
-pub use Rattle.txn_core.proofs.Setting.{known_at}
 pub use Rattle.txn_core.proofs.Shown.{kind_of, told_said, votes_same}
-pub use Rattle.txn_core.proofs.SuiteQuorums.{or_true}
 pub use Rattle.txn_core.proofs.Swept.{IsNoCourse, no_course, sweep_ends_in_time}
 pub use Rattle.txn_core.proofs.ToldLists.{Are, all_told-tell, are_nil, are_opened, are_same, are_with, asks_lock, told_raised}
-pub use Rattle.txn_core.proofs.Undecided.{IsOf, is_wanted, sets}
 pub use Rattle.txn_core.proofs.Upheld.{Base_of, Begins, DoingStands, Started, after-append, exchanges-forget, exchanges-take, stands_after, started_is}
 pub use Rattle.txn_core.proofs.Walk.{IsEarly, goes_execute, goes_response}
 pub use Rattle.txn_core.specs.Agents.{Agent, Event, Forget, Take, Taken, after_all, begin, begins, end_of, fixed_of, forget, has_sense, is_idle, left, max_jobs, max_sites, next_in, next_of, started, take, take_in}
-pub use Rattle.txn_core.specs.Caching.{IsFetched}
 pub use Rattle.txn_core.specs.Doing.{After, Breaking, Changes, Deciding, Doing, Ends, Fetching, Finishing, Fixed, Gathering, GoesOn, Granted, Listing, Phase, Preparing, Proposal, Resolving, Running, RunningSweep, SweepRun, Sweeping, Task}
 pub use Rattle.txn_core.specs.Doing.{Telling, TransactionRun, Widening, home_of}
 pub use Rattle.txn_core.specs.Laws.{Exchange, IsReady, IsStart, among, asks_only, count_of, exchange_of, exchanges, has_said, holding, is_decide, is_prepare, listed, listed_in, locks, more_told, names_of, names_only, of_job, refusing}
 pub use Rattle.txn_core.specs.Laws.{said_by, says_held, says_prepared, task_of, told_by, told_of, told_verdict, was_held}
 pub use Rattle.txn_core.specs.Suites.{GatheredSuite, ReadPoint, Suites, first_or, has_locks, holds_lock, known_if, known_of, known_row, row_with, settled, source_of, suite_of, told_in, with_suite}
-pub use Rattle.txn_core.specs.Sweeps.{asked_now, others, rising, sweep_on}
-pub use Rattle.txn_core.specs.Transactions.{Gathered, Step, after_lack, after_response, after_search, asked_by, asked_for, cause_of_abort, changes_of, collected, decision_of, ending_by, execute, fetched, fetched_at, fetched_for}
-pub use Rattle.txn_core.specs.Transactions.{free_content, gather_by, give_up, given_in, hear, heard_of, heard_on, is_poll, keep_content, lack_cause, locked_at, numbers_from, open_first, open_needed, open_suite, opened, opened_with, or_all}
-pub use Rattle.txn_core.specs.Transactions.{prepare, prepared, proceed, raised_or_new, request_in, request_of, said_to, short_cause, start_from, tell_end, to_widen, verdict_in, votes_after, votes_then, widen_all, widen_by, widen_one}
-pub use Rattle.txn_core.specs.Transactions.{widened}
+pub use Rattle.txn_core.specs.Transactions.{Gathered, Step, after_response, after_search, asked_by, asked_for, cause_of_abort, changes_of, collected, decision_of, ending_by, execute, fetched, fetched_at, fetched_for, free_content}
+pub use Rattle.txn_core.specs.Transactions.{gather_by, give_up, given_in, hear, heard_of, heard_on, is_poll, keep_content, lack_cause, locked_at, numbers_from, open_first, open_needed, open_suite, opened, opened_with, or_all, prepare}
+pub use Rattle.txn_core.specs.Transactions.{prepared, proceed, raised_or_new, request_in, request_of, said_to, short_cause, start_from, tell_end, to_widen, verdict_in, votes_after, votes_then, widen_all, widen_by, widen_one, widened}
 pub use Rattle.txn_core.specs.Undecided.{IsShort, SetsVotes, WasGathered, is_finish}
 pub use Rattle.txn_core.specs.Writing.{change_of, parts_at}
 pub use Rattle.txn_core.specs.declared.ending.Cause.{Cause}
@@ -119,14 +77,4 @@ pub use Rattle.vote_core.specs.Validity.{IsValid, max_servers}
 pub use Rattle.weak_cache.proofs.Origins.{forgotten_has, has_to, hint_has, put_has, searched_has}
 pub use Rattle.weak_cache.specs.Cache.{hint, put}
 pub use Rattle.weak_cache.specs.Entries.{Cache, Entry}
-pub use Rattle.law_agents.specs.Endings.{EndsAsTold, EndsBy}
-pub use Rattle.law_agents.specs.Fetches.{FetchesInOrder, IsFetching}
-pub use Rattle.law_agents.specs.Gathers.{CountsBy, GathersInOrder, IsGathering}
-pub use Rattle.law_agents.specs.Orders.{AllFinish, AllPrepared, DecidesInOrder, FinishesInOrder, IsDeciding, IsFinishing, IsInOrder, IsPreparing, PreparesInOrder, StagesRise, locked, number_of, sent_to, stage, wants_lock, was_locked}
-pub use Rattle.law_agents.specs.Quorate.{IsWritten, PreparesOnQuorums}
-pub use Rattle.law_agents.specs.RunBounds.{EndsInItsTime, RunsEndInTime, asks_now, told_at}
-pub use Rattle.law_agents.specs.Same.{SameToldSameAsked}
-pub use Rattle.law_agents.specs.Sites.{AgentsStaySo, KeepsToSites, RunsKeepTo}
-pub use Rattle.law_agents.specs.Starts.{IsAsked, StartsAreAsked}
 pub use Rattle.law_agents.specs.Steps.{AsksUntilItEnds, AsksWhomItKnows, CachesStayValid, EndsWithin, JobsEnd, SweepEndsWithin, VotesAreValid, agent_after, is_known, names, names_in, names_next, steps_in}
-pub use Rattle.law_agents.specs.SweepOrders.{IsSwept, SweepsAskSo, SweepsCount, after_last, after_told, for_first, is_break, is_resolve, last_or, left_by, left_from, left_then, says_done, says_verdict, to_sweep, without}

@@ -1,22 +1,28 @@
 -- What a transaction keeps: it asks somebody, and whomever it asks, votes or the service name.
 use Rattle.law_agents.proofs.Vocabulary.{◌≡◌, ℕ, zero, suc, ◌<◌, Bool, true, false, cond, List, [], ◌∷◌, ◌++◌, Option, Some, None, Ok, Err, refl, sym, ap, subst, ◌∙◌, Less, Equal, Greater, ◌==◌, ◌&&◌, ◌||◌, length, filter, option_map}
-use Rattle.law_agents.proofs.Vocabulary.{unwrap_or, is_some, nat_cmp, match_ordering, is_at, Ordering, none-some, same_Some, insert_step, insert, Configuration, max_servers, Content, absent_prefix, Prefix, PrefixKind, LockMode, Shared}
-use Rattle.law_agents.proofs.Vocabulary.{Exclusive, serves, Row, lists_unknown, Answer, Refusal, Change, Edit, SetAcl, SetVotes, SetContent, Make, Need, Hold, Know, touches, some, makes, sets_acl, sets_votes, answered, Edits, changed}
-use Rattle.law_agents.proofs.Vocabulary.{seen, is_set, Known, Heard, Needs, Done, known_rows, exec_of, changes_by_suite, needs_what_is_unmet, Verdict, is_held, holds, newest, Collector, told_since, all_told, needed, needed_of}
-use Rattle.law_agents.proofs.Vocabulary.{votes_or, mode_or, collect, raise, Asked, Next, Ask, Current, Short, next, Entry, Cache, hint}
-use Rattle.law_agents.proofs.Vocabulary.{searched_has, hint_has, ReadPoint, GatheredSuite, Suites, suite_of, with_suite, row_with, known_row, known_if, known_of, holds_lock, has_locks, change_of, Cause, Ending, Undecided}
-use Rattle.law_agents.proofs.Vocabulary.{Changes, Granted, home_of, Fixed, Task, Proposal, Phase, Gathering, Fetching, Preparing, Deciding, Finishing, TransactionRun, After, GoesOn, Ends, Step, Gathered, tell_end, give_up, prepare}
-use Rattle.law_agents.proofs.Vocabulary.{locked_at, numbers_from, short_cause, gather_by, start_from, widen_by, widen_one, widened, widen_all, to_widen, votes_then, votes_after, opened, or_all, open_needed, open_suite, open_first}
-use Rattle.law_agents.proofs.Vocabulary.{opened_with, after_search, free_content, heard_on, raised_or_new, proceed, execute, Each, EachBut, each_but, each_with, with_at, self, known_at, reads_known}
+use Rattle.law_agents.proofs.Vocabulary.{unwrap_or, is_some, nat_cmp, match_ordering, is_at, none-some, same_Some, insert, Configuration, max_servers, Content, absent_prefix, Prefix, LockMode, Shared, Exclusive, serves, Row, lists_unknown}
+use Rattle.law_agents.proofs.Vocabulary.{Answer, Change, Edit, SetAcl, SetVotes, SetContent, Make, Hold, Know, Known, Heard, Needs, Done, known_rows, exec_of, Verdict, is_held, holds, newest, Entry, Cache, hint, searched_has, hint_has}
+use Rattle.law_agents.proofs.Vocabulary.{ReadPoint, GatheredSuite, Suites, suite_of, with_suite, row_with, known_row, known_if, known_of, holds_lock, has_locks, change_of, Cause, Ending, Undecided, Changes, Granted, home_of, Fixed, Task}
+use Rattle.law_agents.proofs.Vocabulary.{Proposal, Phase, Gathering, Fetching, Preparing, Deciding, Finishing, TransactionRun, After, GoesOn, Ends, Step, Gathered, tell_end, give_up, prepare, locked_at, numbers_from, short_cause, gather_by}
+use Rattle.law_agents.proofs.Vocabulary.{start_from, widen_by, widen_one, widened, widen_all, to_widen, votes_then, votes_after, opened, or_all, open_needed, open_suite, open_first, opened_with, after_search, free_content, heard_on}
+use Rattle.law_agents.proofs.Vocabulary.{raised_or_new, proceed, execute, Each, EachBut, each_but, each_with, with_at, self, reads_known, Outcome as Executed, Widening as Widens}
+use Rattle.std.specs.declared.cmp.Ordering.{Ordering}
+use Rattle.sorted_map.specs.Laws.{insert_step}
+use Rattle.suite_prefix.specs.declared.copies.PrefixKind.{PrefixKind}
+use Rattle.file_ops.specs.declared.refusal.Refusal.{Refusal}
+use Rattle.file_exec.specs.declared.need.Need.{Need}
+use Rattle.file_exec.specs.Changes.{touches, some, makes, sets_acl, sets_votes, answered}
+use Rattle.file_exec.specs.Following.{Edits, changed, seen, is_set}
+use Rattle.file_exec.proofs.Leading.{changes_by_suite}
+use Rattle.file_exec.proofs.Unmet.{needs_what_is_unmet}
+use Rattle.txn_core.proofs.Setting.{known_at}
+use Rattle.suite_collect.specs.Collecting.{Widening, Collector, told_since, all_told, needed, needed_of, votes_or, mode_or, collect, raise, Asked, Next, Ask, Current, Short, next}
 use Rattle.suite_prefix.specs.declared.copies.PrefixKind.TheVariants as kind
-use Rattle.file_exec.specs.declared.executor.Outcome.{Outcome as Executed}
 use Rattle.file_exec.specs.declared.executor.Outcome.TheVariants as exec
 use Rattle.file_exec.specs.Changes as changes
 use Rattle.file_exec.specs.Known as known
 use Rattle.rep_core.specs.declared.reply.Verdict.TheVariants as verdict
-use Rattle.suite_collect.specs.Collecting.{Widening}
 use Rattle.weak_cache.proofs.Origins as origins
-use Rattle.txn_core.specs.Doing.{Widening as Widens}
 use Rattle.law_agents.proofs.Courses.{Sets, AllSet, edits_set}
 use Rattle.law_agents.proofs.Collectors.{IsPlain, none_exclusive, not_current, AllReps, AllTold, AllIn, newest_so, all_append, teller}
 

@@ -2,15 +2,17 @@
 use Rattle.law_headline.proofs.Vocabulary.{◌≡◌, ⊎_elim, ℕ, ◌+◌, true, false, cond, List, [], ◌∷◌, ◌++◌, append_assoc, Option, Some, None, refl, sym, ap, subst, ◌∙◌, ◌*◌, ◌&&◌, nat_lt, Contains, cons_option, append-nil}
 use Rattle.law_headline.proofs.Vocabulary.{Contains-append_cases, none-some, same_Some, Opening, IsAccepted, Identity, Op, Request, Reply, Verdict, is_prepared, has_from, Cache, Cause, Lost, Ending, Undecided, Job, Transaction, Sweep}
 use Rattle.law_headline.proofs.Vocabulary.{Response, Replied, Lacked, Suites, Fixed, Task, Proposal, Phase, Gathering, Fetching, Widening, Preparing, Deciding, Finishing, TransactionRun, SweepRun, Doing, Running, RunningSweep, After}
-use Rattle.law_headline.proofs.Vocabulary.{GoesOn, Ends, execute, tell_end, give_up, prepare, prepared, locked_at, lack_cause, after_response, verdict_in, ending_by, cause_of_abort, Agent, fixed_of, next_of, take_in, begin, started}
-use Rattle.law_headline.proofs.Vocabulary.{is_idle, has_sense, max_jobs, IsEarly, goes_response, goes_execute, Event, Begin, Actor, actor_at, becomes, opening, step, Decided, task_of, decided, decisions, decisions_from, after-append}
-use Rattle.law_headline.proofs.Vocabulary.{decisions_from-append, OfEach, each_becomes, begins_now, agent_of, holds_of, answers_follow_knowledge, actor_opens, WasBegun, AreAsBegun}
-use Rattle.rep_core.specs.declared.reply.Verdict.TheVariants as verdict
-use Rattle.txn_core.specs.Sweeps as sweep
-use Rattle.txn_core.specs.Agents.{left as left_doing, take}
+use Rattle.law_headline.proofs.Vocabulary.{GoesOn, Ends, execute, tell_end, give_up, prepare, prepared, locked_at, lack_cause, after_response, verdict_in, ending_by, cause_of_abort, Event, Begin, Actor, actor_at, becomes, opening, step}
+use Rattle.law_headline.proofs.Vocabulary.{Decided, task_of, decided, decisions, decisions_from, begins_now, holds_of, answers_follow_knowledge, actor_opens, after-append, decisions_from-append}
+use Rattle.run_core.proofs.EachAgent.{OfEach, each_becomes, after_event as each_after}
+use Rattle.txn_core.proofs.Walk.{IsEarly, goes_response, goes_execute}
+use Rattle.law_runs.proofs.Worlds.{agent_of}
+use Rattle.law_headline.specs.Promises.{WasBegun, AreAsBegun}
+use Rattle.txn_core.specs.Agents.{take, Agent, fixed_of, next_of, take_in, begin, started, is_idle, has_sense, max_jobs, left as left_doing}
 use Rattle.run_core.specs.Worlds.{World}
 use Rattle.run_core.specs.Runs.{run}
-use Rattle.run_core.proofs.EachAgent.{after_event as each_after}
+use Rattle.rep_core.specs.declared.reply.Verdict.TheVariants as verdict
+use Rattle.txn_core.specs.Sweeps as sweep
 
 -- ---- a transaction stays with its task
 

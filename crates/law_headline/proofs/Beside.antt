@@ -1,15 +1,20 @@
 -- What holds beside the rest, event by event: jobs set valid votes, the register's row holds a content of its kind, and what is prepared is what was sent. It gives what is owed at a decision.
 use Rattle.law_headline.proofs.Vocabulary.{◌≡◌, ℕ, ◌≤◌, zero, suc, Bool, true, false, cond, List, [], Option, Some, None, is_some, Ok, Err, refl, sym, ap, subst, ◌∙◌, arith, ◌==◌, nat_le, ◌&&◌, ◌||◌, unwrap_or, false≢true, nat_tests}
-use Rattle.law_headline.proofs.Vocabulary.{IsValid, Content, kind_of, Opening, absent_copy, Prefix, Replica, root_copy, ReadPoint, GatheredSuite, suite_of, change_of, new_prefix, Proposal, Deciding, Phase}
-use Rattle.law_headline.proofs.Vocabulary.{TransactionRun, Doing, Running, RunningSweep, changes_of, Agent, fixed_of, Step, Actor, actor_at, Decided, Beginning, Known, Entry}
-use Rattle.law_headline.proofs.Vocabulary.{IsKnown, IsPlain, row, Told, World, happens, IsReady, Inv, all_known, beginning, showed, showed_to, known_by, change_to, written_from, first_of, decides_with, decides_without, decides_first}
-use Rattle.law_headline.proofs.Vocabulary.{decides_on, decision_in, decision_by, OwesKnown, Stage, ReadyIn, IsReadying, InCourse, IsDoing, LogIs, decision_of_actor, decision_at, FitsAs, fits_kind}
+use Rattle.law_headline.proofs.Vocabulary.{IsValid, Content, kind_of, Opening, Prefix, ReadPoint, GatheredSuite, suite_of, change_of, new_prefix, Proposal, Deciding, Phase, TransactionRun, Doing, Running, RunningSweep, changes_of, Agent}
+use Rattle.law_headline.proofs.Vocabulary.{fixed_of, Step, Actor, actor_at, Decided, Beginning, Known, Entry, IsKnown, IsPlain, row, Told, World, IsReady, Inv, all_known, beginning, showed, showed_to, known_by, change_to, written_from}
+use Rattle.law_headline.proofs.Vocabulary.{first_of, decides_with, decides_without, decides_first, decides_on, decision_in, decision_by, OwesKnown, InCourse, IsDoing, FitsAs, fits_kind}
+use Rattle.suite_prefix.specs.Absent.{absent_copy}
+use Rattle.suite_prefix.specs.declared.copies.Replica.{Replica}
+use Rattle.rep_core.specs.Store.{root_copy}
+use Rattle.law_suite_machine.specs.Events.{happens, Event}
+use Rattle.law_run_machine.proofs.Stages.{Stage}
+use Rattle.law_run_machine.proofs.Readying.{ReadyIn, IsReadying}
+use Rattle.law_one_table.proofs.Logs.{LogIs, decision_of_actor, decision_at}
+use Rattle.law_suite_machine.specs.Registers.{changed}
+use Rattle.law_suite_machine.specs.Conditions.{Knows}
 use Rattle.file_exec.specs.declared.changes.Change as executor
 use Rattle.run_core.specs.declared.event.Event as happening
 use Rattle.run_core.specs.Worlds as worlds
-use Rattle.law_suite_machine.specs.Registers.{changed}
-use Rattle.law_suite_machine.specs.Events.{Event}
-use Rattle.law_suite_machine.specs.Conditions.{Knows}
 use Rattle.law_headline.proofs.Carried.{AllValid, ValidOr, CameWell, came_well}
 use Rattle.law_headline.proofs.Fair.{Leaves, came_fair}
 use Rattle.law_headline.proofs.Together.{Together}

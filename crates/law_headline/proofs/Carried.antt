@@ -1,11 +1,13 @@
 -- Agents of jobs that set no votes but valid ones, event by event; and what they came to where they decide.
 use Rattle.law_headline.proofs.Vocabulary.{◌≡◌, ◌⊎◌, inl, inr, ℕ, ◌+◌, true, false, cond, List, [], ◌∷◌, ◌++◌, Option, Some, None, refl, sym, ap, subst, ◌∙◌, ◌*◌, ◌&&◌, nat_lt, false≢true, Response, Job, Transaction, Sweep, Fixed, Task}
-use Rattle.law_headline.proofs.Vocabulary.{Proposal, Phase, Preparing, Deciding, TransactionRun, Doing, Running, Agent, Take, next_of, begin, started, forget, is_idle, has_sense, max_jobs, after_event, after_all, DoingStands}
-use Rattle.law_headline.proofs.Vocabulary.{stands_after, Event, step, OfEach, none_fit, Came, Keeps, left_execute, Knows, knows_left, take_knows, one_more, taken_idle, AllGiveValidVotes, JobGivesValidVotes, EventGivesValidVotes}
-use Rattle.txn_core.specs.Agents as agents
-use Rattle.txn_core.specs.Agents.{Forget, take}
+use Rattle.law_headline.proofs.Vocabulary.{Proposal, Phase, Preparing, Deciding, TransactionRun, Doing, Running, Event, step, Knows, knows_left, take_knows, one_more, taken_idle, AllGiveValidVotes, JobGivesValidVotes, EventGivesValidVotes}
+use Rattle.run_core.proofs.EachAgent.{OfEach, after_event as each_after}
+use Rattle.law_runs.proofs.Executed.{Came, Keeps, left_execute}
+use Rattle.txn_core.specs.Agents.{after_event, Forget, take, Agent, Take, next_of, begin, started, forget, is_idle, has_sense, max_jobs, after_all}
+use Rattle.txn_core.proofs.Upheld.{DoingStands, stands_after}
+use Rattle.law_runs.proofs.Knowing.{none_fit}
 use Rattle.run_core.specs.Worlds.{World}
-use Rattle.run_core.proofs.EachAgent.{after_event as each_after}
+use Rattle.txn_core.specs.Agents as agents
 
 -- ---- what is so of an agent of a valid job
 

@@ -1,7 +1,9 @@
 -- A change that was answered is met by every request that begins later: the laws of runs, joined.
-use Rattle.law_headline.proofs.Vocabulary.{◌≡◌, ⊎_elim, List, [], ◌∷◌, ◌++◌, sym, ap, subst, Contains, Ok, Has, has_from, PlainTable, replies, Decided, decisions, played_on, table_with, table_after_all, number_of, StandsBefore, IsMet}
-use Rattle.law_headline.proofs.Vocabulary.{changes_are_met, answers_are_one_tables, audit_is_one_tables, AnswersAreTheTables, AuditIsTheDenials, AnsweredBefore, RevocationsAreMet, RowsHaveVersions, RowsAreTheRegisters, KnowledgeWas}
-use Rattle.law_headline.proofs.Vocabulary.{AgentsKeepSides}
+use Rattle.law_headline.proofs.Vocabulary.{◌≡◌, ⊎_elim, List, [], ◌∷◌, ◌++◌, sym, ap, subst, Contains, Ok, Has, has_from, PlainTable, Decided, decisions, number_of, StandsBefore, IsMet, answers_are_one_tables, audit_is_one_tables}
+use Rattle.file_ops.specs.Transactions.{replies}
+use Rattle.run_core.specs.TableOfRun.{played_on, table_with, table_after_all}
+use Rattle.law_runs.proofs.Begun.{changes_are_met}
+use Rattle.law_headline.specs.Laws.{AnswersAreTheTables, AuditIsTheDenials, AnsweredBefore, RevocationsAreMet, RowsHaveVersions, RowsAreTheRegisters, KnowledgeWas, AgentsKeepSides}
 use Rattle.file_ops.specs.Rows as rows
 use Rattle.run_core.specs.TableOfRun as table
 use Rattle.law_runs.proofs.Conclusions as of_runs

@@ -1,12 +1,17 @@
 -- What the edits of a transaction set: contents of the kind that was there, and valid votes where its operations set such.
-use Rattle.law_headline.proofs.Vocabulary.{◌≡◌, ℕ, Bool, true, false, cond, List, [], ◌∷◌, Option, Some, None, Ok, Err, refl, sym, ap, subst, ◌∙◌, same_Some, Configuration, IsValid, Identity, Content, Bytes, Names, kind_of, Answer}
-use Rattle.law_headline.proofs.Vocabulary.{Action, Op, Service, lists_unknown, known_votes, votes_of_new, Parent, Row, Object, bytes_in, names_in, Edit, SetAcl, SetVotes, SetContent, Make, Edits, seen, emptied, head, content_in, Ended}
-use Rattle.law_headline.proofs.Vocabulary.{known_rows, Done, exec_of, votes_given, IsShown, MayChange, Licensed, writes_bytes, changes_lists, changes_votes, adds_name, makes_row, drops_name, AllLicensed, holds_there, known_licensed}
-use Rattle.law_headline.proofs.Vocabulary.{kind_empty, AreValid, GivesValidVotes, AllGiveValidVotes}
+use Rattle.law_headline.proofs.Vocabulary.{◌≡◌, ℕ, Bool, true, false, cond, List, [], ◌∷◌, Option, Some, None, Ok, Err, refl, sym, ap, subst, ◌∙◌, same_Some, Configuration, IsValid, Identity, Content, Bytes, Names, kind_of, Action, Op, Row}
+use Rattle.law_headline.proofs.Vocabulary.{Edit, SetAcl, SetVotes, SetContent, Make, Edits, seen, emptied, head, content_in, Ended, kind_empty, AreValid, GivesValidVotes, AllGiveValidVotes}
+use Rattle.file_ops.specs.declared.answer.Answer.{Answer}
+use Rattle.file_ops.specs.declared.service.Service.{Service}
+use Rattle.file_ops.specs.KnownVotes.{lists_unknown, known_votes, votes_of_new}
+use Rattle.file_ops.specs.Operations.{Parent}
+use Rattle.file_ops.specs.Walks.{Object, bytes_in, names_in}
+use Rattle.file_exec.specs.Known.{known_rows, Done, exec_of, Known}
+use Rattle.file_exec.specs.Licensed.{votes_given, IsShown, MayChange, Licensed, writes_bytes, changes_lists, changes_votes, adds_name, makes_row, drops_name, AllLicensed}
+use Rattle.file_exec.proofs.Licensing.{holds_there, known_licensed}
 use Rattle.suite_content.specs.declared.content.Kind.TheVariants as holds
 use Rattle.file_ops.specs.declared.operation.Action.TheVariants as action
 use Rattle.file_ops.specs.declared.refusal.Why.TheVariants as why
-use Rattle.file_exec.specs.Known.{Known}
 
 -- an edit fits the row of its suite
 abbrev pub FitsRow : Edit → Option Row → Type 0

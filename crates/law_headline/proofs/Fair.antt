@@ -1,8 +1,15 @@
 -- What a transaction is to write leaves what its operations do not set.
 use Rattle.law_headline.proofs.Vocabulary.{◌≡◌, ℕ, Bool, true, false, cond, List, [], ◌∷◌, Option, Some, None, Ok, Err, refl, sym, ap, subst, ◌∙◌, arith, ◌==◌, ◌||◌, is_some, option_map, Result, nat_cmp, false≢true, eqb-true, nat_tests}
-use Rattle.law_headline.proofs.Vocabulary.{none-some, same_Some, get, IsValid, Content, Bytes, Names, kind_of, Prefix, PrefixKind, Exclusive, Answer, Refusal, Row, KnownSuite, touches, Edits, Ended, seen, head, content_in, IsSo, IsSoAt}
-use Rattle.law_headline.proofs.Vocabulary.{AgreesWith, is_held, is_opened, known_rows, Done, exec_of, changes_by_suite, changes_are_held, knows_whose_votes, ReadPoint, GatheredSuite, Suites, suite_of, row_with, known_row, known_of}
-use Rattle.law_headline.proofs.Vocabulary.{change_of, prefix_kind, Fixed, Task, Proposal, changes_of, known_at, set_by, Came, IsFair, FitsAs, is_so, told_as, AllGiveValidVotes}
+use Rattle.law_headline.proofs.Vocabulary.{none-some, same_Some, get, IsValid, Content, Bytes, Names, kind_of, Prefix, PrefixKind, Exclusive, Row, touches, Edits, Ended, seen, head, content_in, changes_by_suite, ReadPoint, GatheredSuite}
+use Rattle.law_headline.proofs.Vocabulary.{Suites, suite_of, row_with, known_row, known_of, change_of, prefix_kind, Fixed, Task, Proposal, changes_of, IsFair, FitsAs, is_so, told_as, AllGiveValidVotes}
+use Rattle.file_ops.specs.declared.answer.Answer.{Answer}
+use Rattle.law_runs.proofs.Executed.{set_by, Came}
+use Rattle.file_ops.specs.declared.refusal.Refusal.{Refusal}
+use Rattle.file_exec.specs.KnownSuites.{KnownSuite}
+use Rattle.file_exec.specs.Known.{IsSo, IsSoAt, AgreesWith, is_held, is_opened, known_rows, Done, exec_of}
+use Rattle.file_exec.proofs.Unset.{changes_are_held}
+use Rattle.file_exec.proofs.VotesRead.{knows_whose_votes}
+use Rattle.txn_core.proofs.Setting.{known_at}
 use Rattle.suite_prefix.specs.declared.copies.PrefixKind.TheVariants as kind
 use Rattle.file_exec.specs.declared.changes.Change as executor
 use Rattle.file_exec.specs.Changes as changes
@@ -48,9 +55,8 @@ head_before suite first (Some it) held goes = (goes (shown suite first) (record 
 
 -- two contents of a kind, so that a row shows which one it has
 abbrev one_content : PrefixKind → Content
-one_content kind.Absent = Bytes []
-one_content kind.File = Bytes []
 one_content kind.Folder = Names []
+one_content _ = Bytes []
 
 abbrev other_content : PrefixKind → Content
 other_content kind.Absent = Bytes []
@@ -59,13 +65,11 @@ other_content kind.Folder = Names (([], 0) ∷ [])
 
 one_fits : (k : PrefixKind) → FitsAs k (one_content k)
 one_fits kind.Absent = tt
-one_fits kind.File = refl
-one_fits kind.Folder = refl
+one_fits _ = refl
 
 other_fits : (k : PrefixKind) → FitsAs k (other_content k)
 other_fits kind.Absent = tt
-other_fits kind.File = refl
-other_fits kind.Folder = refl
+other_fits _ = refl
 
 files_apart : Bytes [] ≡ Bytes (0 ∷ []) → ⊥
 files_apart is = cc

@@ -1,23 +1,25 @@
 -- Each first Current of a suite that a transaction gathers was given by its collector.
 use Rattle.law_headline.proofs.Vocabulary.{◌≡◌, ◌+◌, ◌++◌, append_assoc, ℕ, zero, suc, Bool, true, false, cond, inl, inr, List, [], ◌∷◌, Option, Some, None, Ok, Err, refl, sym, ap, subst, ◌∙◌, append-nil, ◌&&◌, ◌*◌, nat_lt, length}
-use Rattle.law_headline.proofs.Vocabulary.{false≢true, same_Some, Content, Prefix, LockMode, Request, Reply, Verdict, is_prepared, Know, Said, Collector, all_told, told_since, tell_at, tell, mode_of, Next, Ask, Current, Short, Cache}
-use Rattle.law_headline.proofs.Vocabulary.{ReadPoint, GatheredSuite, Suites, suite_of, with_suite, first_or, settled, source_of, Response, Replied, Lacked, Cause, Lost, Ending, Granted, Fixed, Task, Proposal, Phase, Gathering, Fetching}
-use Rattle.law_headline.proofs.Vocabulary.{Widening, Preparing, Deciding, Finishing, Changes, TransactionRun, SweepRun, Doing, Running, RunningSweep, After, GoesOn, Ends, Gathered, tell_end, give_up, prepare, locked_at, short_cause}
-use Rattle.law_headline.proofs.Vocabulary.{gather_by, widen_by, widen_one, widened, widen_all, opened, or_all, open_needed, open_suite, open_first, opened_with, free_content, heard_on, raised_or_new, keep_content, heard_of, said_to}
-use Rattle.law_headline.proofs.Vocabulary.{proceed, execute, collected, hear, fetched, after_lack, after_response, given_in, lack_cause, verdict_in, ending_by, cause_of_abort, Each, each_but, each_with, tell_start, Job, Transaction}
-use Rattle.law_headline.proofs.Vocabulary.{Sweep, Agent, Take, next_in, next_of, take_in, begin, started, is_idle, has_sense, max_jobs, after_all, left, IdleOr, IsNarrow, Hears, narrow_of, FirstFrom, early_collector}
-use Rattle.rep_core.specs.declared.reply.Verdict.TheVariants as verdict
+use Rattle.law_headline.proofs.Vocabulary.{false≢true, same_Some, Content, Prefix, LockMode, Request, Reply, Verdict, is_prepared, Cache, ReadPoint, GatheredSuite, Suites, suite_of, with_suite, first_or, settled, source_of, Response}
+use Rattle.law_headline.proofs.Vocabulary.{Replied, Lacked, Cause, Lost, Ending, Granted, Fixed, Task, Proposal, Phase, Gathering, Fetching, Widening, Preparing, Deciding, Finishing, Changes, TransactionRun, SweepRun, Doing, Running}
+use Rattle.law_headline.proofs.Vocabulary.{RunningSweep, After, GoesOn, Ends, Job, Transaction, Sweep, Agent, Take, next_in, next_of, take_in, begin, started, is_idle, has_sense, max_jobs, after_all, left, IdleOr, Hears, narrow_of}
+use Rattle.file_exec.specs.declared.need.Need.TheVariants.{Know, Hold}
+use Rattle.suite_collect.specs.declared.told.Said.{Said}
+use Rattle.suite_collect.specs.Collecting.{Collector, all_told, told_since, tell_at, tell, mode_of, Next, Ask, Current, Short, Widening as Wider, next}
+use Rattle.txn_core.proofs.Gathers.{Each, each_but, each_with, tell_start}
+use Rattle.law_run_knowledge.proofs.Walk.{IsNarrow}
+use Rattle.law_run_quorums.specs.Firsts.{FirstFrom, early_collector}
 use Rattle.rep_core.specs.declared.stamped.Lack.{Lack}
-use Rattle.file_exec.specs.declared.need.Need.TheVariants.{Hold}
 use Rattle.file_exec.specs.declared.executor.Outcome.{Outcome as Executed}
-use Rattle.file_exec.specs.declared.executor.Outcome.TheVariants as exec
-use Rattle.suite_collect.specs.declared.told.Told as collect
-use Rattle.suite_collect.specs.Collecting.{Widening as Wider, next}
-use Rattle.txn_core.specs.Transactions.{Step}
--- a suite whose content is fetched has one of a version above 0
-use Rattle.txn_core.specs.Sweeps as sweep
+use Rattle.txn_core.specs.Transactions.{Step, Gathered, tell_end, give_up, prepare, locked_at, short_cause, gather_by, widen_by, widen_one, widened, widen_all, opened, or_all, open_needed, open_suite, open_first, opened_with, free_content}
+use Rattle.txn_core.specs.Transactions.{heard_on, raised_or_new, keep_content, heard_of, said_to, proceed, execute, collected, hear, fetched, after_lack, after_response, given_in, lack_cause, verdict_in, ending_by, cause_of_abort}
 use Rattle.txn_core.specs.Agents.{Event, Forget}
 use Rattle.txn_core.proofs.Upheld.{after-append}
+use Rattle.rep_core.specs.declared.reply.Verdict.TheVariants as verdict
+use Rattle.file_exec.specs.declared.executor.Outcome.TheVariants as exec
+use Rattle.suite_collect.specs.declared.told.Told as collect
+-- a suite whose content is fetched has one of a version above 0
+use Rattle.txn_core.specs.Sweeps as sweep
 
 abbrev pub FirstIs : GatheredSuite → Type 0
 FirstIs suite = (first : ReadPoint) → suite.first ≡ Some first → FirstFrom suite first
@@ -102,8 +104,7 @@ module _ (fixed : Fixed) (task : Task) where
 
   first_gather : (cache : Cache) (suites : Suites) (number : ℕ) (next : Next) → AllFirst suites → Firsts (gather_by task cache suites number next)
   first_gather cache suites number (Short got needed busy) all = first_give_up cache suites (short_cause number got needed busy) all
-  first_gather cache suites number (Ask server asked) all = all
-  first_gather cache suites number (Current prefix dver members) all = all
+  first_gather cache suites number _ all = all
 
   first_widen_by : (cache : Cache) (suites : Suites) (left : List ℕ) (granted : Granted) (number : ℕ) (next : Next) (go_on : Suites → Step) → AllFirst suites
       → ((suites : Suites) → AllFirst suites → Firsts (go_on suites)) → Firsts (widen_by task cache suites (Widening left granted) number next go_on)

@@ -1,6 +1,8 @@
 -- In every run that there can be agents give what they owe, and keep to their side.
-use Rattle.law_headline.proofs.Vocabulary.{ℕ, inl, List, [], ◌∷◌, refl, sym, subst, AllByRecursion, IsValid, Opening, Agent, fixed_of, step, decided, row, World, begun, beginning, moved, machine_from, machine_of, AreOwed, AgentsOwe}
-use Rattle.law_headline.proofs.Vocabulary.{actor_opens, AllKeepSides, event_log, owed_is_enough, EventGivesValidVotes, CanBe}
+use Rattle.law_headline.proofs.Vocabulary.{ℕ, inl, List, [], ◌∷◌, refl, sym, subst, AllByRecursion, IsValid, Opening, Agent, fixed_of, step, decided, row, World, begun, beginning, AreOwed, AgentsOwe, actor_opens, owed_is_enough}
+use Rattle.law_headline.proofs.Vocabulary.{EventGivesValidVotes, CanBe, moved, machine_from, machine_of}
+use Rattle.law_one_table.specs.Tables.{AllKeepSides}
+use Rattle.law_one_table.proofs.Logs.{event_log}
 use Rattle.run_core.specs.declared.event.Event as happening
 use Rattle.run_core.specs.Worlds as worlds
 use Rattle.run_core.specs.Runs as runs

@@ -1,12 +1,19 @@
 -- What is not decided changed nothing.
 use Rattle.law_headline.proofs.Vocabulary.{◌≡◌, ◌≢◌, inl, inr, ℕ, ◌==◌, false, cond, List, [], ◌∷◌, ◌++◌, Option, Some, None, refl, sym, ap, subst, ◌∙◌, arith, not, unwrap_or, nat_tests, append-nil, Opening, Content, Prefix, PlainTable}
-use Rattle.law_headline.proofs.Vocabulary.{Row, row_of, Verdict, State, record_of, Has, contains_from, finish_keeps_effect, Event, server_at, Decided, decisions, table_after_all, table_of, number_of, IsNotDecided, AreTheRecords}
-use Rattle.law_headline.proofs.Vocabulary.{record_by, append_has_left, decided_once, decisions_are_the_records, decisions_go_on, later_decisions, servers_of, home_in, servers_are_consistent, was_answered, answered_in, copy_at}
-use Rattle.law_headline.proofs.Vocabulary.{RowVersions, HadRow, PrefixWas, ContentWas, HoldAt, of_others, table_without, OthersHad, AreOfOthers, ChangedNothing, NotDecidedChangeNothing, UndecidedChangeNothing}
+use Rattle.law_headline.proofs.Vocabulary.{Row, row_of, Verdict, State, record_of, Has, contains_from, Event, server_at, Decided, decisions, number_of, IsNotDecided, AreTheRecords, record_by, decided_once, decisions_are_the_records}
+use Rattle.law_headline.proofs.Vocabulary.{decisions_go_on, later_decisions, was_answered, servers_of, home_in}
+use Rattle.law_run_machine.proofs.Consistent.{servers_are_consistent}
+use Rattle.rep_core.proofs.Effects.{finish_keeps_effect}
+use Rattle.run_core.specs.TableOfRun.{table_after_all, table_of}
+use Rattle.law_runs.proofs.Standing.{append_has_left}
+use Rattle.law_one_table.specs.Effects.{answered_in, copy_at}
+use Rattle.law_one_table.specs.Versions.{RowVersions, HadRow, PrefixWas, ContentWas, HoldAt}
+use Rattle.law_headline.specs.Nothing.{of_others, table_without, OthersHad, AreOfOthers, ChangedNothing}
+use Rattle.law_headline.specs.Laws.{NotDecidedChangeNothing, UndecidedChangeNothing}
+use Rattle.run_core.specs.Runs.{run}
 use Rattle.file_ops.specs.Rows as rows
 use Rattle.rep_core.specs.declared.reply.Verdict.TheVariants as verdict
 use Rattle.rep_core.specs.State as state
-use Rattle.run_core.specs.Runs.{run}
 
 -- ---- the table
 

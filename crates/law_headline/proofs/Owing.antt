@@ -1,10 +1,15 @@
 -- What is owed where a transaction decides holds, from what holds together and what holds beside it.
-use Rattle.law_headline.proofs.Vocabulary.{◌≡◌, inl, inr, ℕ, IsTrue, Option, Some, None, Ok, Err, refl, sym, ap, subst, ◌∙◌, false≢true, Opening, all_told, ReadPoint, GatheredSuite, suite_of, told_in, change_of, part_of, Fixed}
-use Rattle.law_headline.proofs.Vocabulary.{Proposal, Deciding, TransactionRun, Running, changes_of, Agent, fixed_of, is_idle, decides_on_quorums, Actor, actor_at, Beginning, World, holds_exclusively, beginning, known_by, change_to}
-use Rattle.law_headline.proofs.Vocabulary.{written_from, first_of, OwesKnown, OwesWritten, OwesWith, OwesFirst, Owes, Owed, IdleOr, suite_was, known_prefix, known_content, newest_prefix, told_to, Agrees, DoingAgrees, IsFair}
-use Rattle.law_headline.proofs.Vocabulary.{PreparedPart, valid_was, knows_from_a_quorum, writes_to_quorums}
-use Rattle.file_exec.specs.declared.changes.Change as executor
+use Rattle.law_headline.proofs.Vocabulary.{◌≡◌, inl, inr, ℕ, IsTrue, Option, Some, None, Ok, Err, refl, sym, ap, subst, ◌∙◌, false≢true, Opening, ReadPoint, GatheredSuite, suite_of, told_in, change_of, part_of, Fixed, Proposal, Deciding}
+use Rattle.law_headline.proofs.Vocabulary.{TransactionRun, Running, changes_of, Agent, fixed_of, is_idle, Actor, actor_at, Beginning, World, holds_exclusively, beginning, known_by, change_to, written_from, first_of, OwesKnown, OwesWritten}
+use Rattle.law_headline.proofs.Vocabulary.{OwesWith, OwesFirst, Owes, Owed, IdleOr, Agrees, DoingAgrees, IsFair, PreparedPart}
+use Rattle.suite_collect.specs.Collecting.{all_told}
+use Rattle.txn_core.proofs.Quorums.{decides_on_quorums}
+use Rattle.law_run_knowledge.proofs.Decided.{suite_was, known_prefix, known_content, newest_prefix}
+use Rattle.law_run_machine.specs.Telling.{told_to}
+use Rattle.law_run_quorums.proofs.Known.{valid_was, knows_from_a_quorum}
+use Rattle.law_run_quorums.proofs.Written.{writes_to_quorums}
 use Rattle.txn_core.specs.Laws.{IsReady}
+use Rattle.file_exec.specs.declared.changes.Change as executor
 use Rattle.run_core.specs.Worlds as worlds
 use Rattle.law_headline.proofs.Firsts.{firsts_given}
 use Rattle.law_headline.proofs.Together.{Together}

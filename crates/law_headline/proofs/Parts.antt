@@ -1,9 +1,10 @@
 -- What is prepared of a suite at a server is the part that was sent: what a request makes of it, and what an agent's own step does.
-use Rattle.law_headline.proofs.Vocabulary.{◌≡◌, ◌⊎◌, inl, inr, ℕ, ◌<◌, Bool, true, false, cond, List, [], ◌∷◌, Option, Some, None, refl, sym, ap, subst, ◌∙◌, arith, ◌==◌, filter, map, nat_cmp, is_at, false≢true, nat_tests, same_Some}
-use Rattle.law_headline.proofs.Vocabulary.{max_servers, get, Shared, Part, Request, Reply, Verdict, is_prepared, Has, holds, Cache, GatheredSuite, Suites, suite_of, holds_lock, told_in, told_at, part_of, parts_at, Response, Replied}
-use Rattle.law_headline.proofs.Vocabulary.{Lacked, Cause, Lost, Ending, Undecided, Changes, Fixed, Task, Proposal, Phase, Gathering, Fetching, Widening, Preparing, Deciding, Finishing, TransactionRun, SweepRun, Doing, Running}
-use Rattle.law_headline.proofs.Vocabulary.{RunningSweep, After, GoesOn, Ends, execute, tell_end, give_up, prepare, locked_at, changes_of, lack_cause, verdict_in, ending_by, cause_of_abort, Agent, next_in, take_in, left, World, itself}
-use Rattle.law_headline.proofs.Vocabulary.{ReadyIn, IsReadying, ready_begin, readying_left, take_readying, same_or, PreparedPart}
+use Rattle.law_headline.proofs.Vocabulary.{◌≡◌, ◌⊎◌, inl, inr, ℕ, ◌<◌, Bool, true, false, cond, List, [], ◌∷◌, Option, Some, None, refl, sym, ap, subst, ◌∙◌, arith, ◌==◌, filter, map, nat_cmp, false≢true, nat_tests, same_Some, max_servers}
+use Rattle.law_headline.proofs.Vocabulary.{get, Shared, Part, Request, Reply, Verdict, is_prepared, Has, holds, Cache, GatheredSuite, Suites, suite_of, holds_lock, told_in, told_at, part_of, parts_at, Response, Replied, Lacked, Cause, Lost}
+use Rattle.law_headline.proofs.Vocabulary.{Ending, Undecided, Changes, Fixed, Task, Proposal, Phase, Gathering, Fetching, Widening, Preparing, Deciding, Finishing, TransactionRun, SweepRun, Doing, Running, RunningSweep, After, GoesOn, Ends}
+use Rattle.law_headline.proofs.Vocabulary.{execute, tell_end, give_up, prepare, locked_at, changes_of, lack_cause, verdict_in, ending_by, cause_of_abort, Agent, next_in, take_in, left, World, itself, PreparedPart, same_or}
+use Rattle.std.specs.BTreeMap.{is_at}
+use Rattle.law_run_machine.proofs.Readying.{ReadyIn, IsReadying, ready_begin, readying_left, take_readying}
 use Rattle.rep_core.specs.declared.reply.Reply.TheVariants as reply
 use Rattle.rep_core.specs.declared.reply.Verdict.TheVariants as verdict
 use Rattle.txn_core.specs.Sweeps as sweep

@@ -1,22 +1,25 @@
 -- In every run what is prepared at a decision is the part that the transaction sent: event by event.
 use Rattle.law_headline.proofs.Vocabulary.{◌≡◌, ℕ, ◌+◌, ◌<◌, Bool, IsTrue, true, false, cond, List, [], ◌∷◌, Option, Some, None, is_some, Ok, Err, refl, sym, ap, subst, ◌∙◌, ◌*◌, ◌==◌, ◌&&◌, nat_lt, slice_get, slice_set, false≢true}
-use Rattle.law_headline.proofs.Vocabulary.{same_Some, max_servers, Opening, is_exclusive, Part, Request, Reply, State, reply_of, answer_of, is_full, holds, Shared, ReadPoint, GatheredSuite, suite_of, told_at, part_of, parts_at}
-use Rattle.law_headline.proofs.Vocabulary.{Response, Replied, Lacked, Job, Transaction, Sweep, Proposal, Phase, Preparing, Deciding, TransactionRun, Doing, Running, RunningSweep, request_in}
-use Rattle.law_headline.proofs.Vocabulary.{changes_of, Agent, fixed_of, next_in, next_of, take_in, begin, started, forget, is_idle, has_sense, max_jobs, asks_same, Begin, Step, Crash, Return, Forget, Lack, Actor, server_at, actor_at}
-use Rattle.law_headline.proofs.Vocabulary.{answered, asks_at, asks, steps_once, lacks_for, lacks, operated, operates, becomes, step, Beginning, Known, Change, Told, World, begun, Held, Upgrade, GiveUp, Overrule, happens, run}
-use Rattle.law_headline.proofs.Vocabulary.{holds_exclusively, at2, one_is, prepare_of, first_verdict, moves, beginning, names, may_sweep, asks_in_its_name, asks_to_sweep, to_write, decides_with, decides_without, decides_first}
-use Rattle.law_headline.proofs.Vocabulary.{decides_on, decision_by, fixed_in, aim_of, aims_once, aims, is_finishing, is_at_an_end, gives_up, tells_aborted, begun_events, own_events, known_by, home_in, begin_events, answered_events}
-use Rattle.law_headline.proofs.Vocabulary.{asked_at_events, asked_events, step_events, lacks_for_events, lack_events, operated_events, operator_events, moved, run-append, AllLinked, IsDoing, numbered_at, apart, set_here, set_apart}
-use Rattle.law_headline.proofs.Vocabulary.{same_or, numbered_of, asks_there, ToldBelow, actor_opens, DoingAgrees, AllAgree, PreparedPart}
+use Rattle.law_headline.proofs.Vocabulary.{same_Some, max_servers, Opening, is_exclusive, Part, Request, Reply, State, answer_of, is_full, holds, Shared, ReadPoint, GatheredSuite, suite_of, told_at, part_of, parts_at, Response, Replied}
+use Rattle.law_headline.proofs.Vocabulary.{Lacked, Job, Transaction, Sweep, Proposal, Phase, Preparing, Deciding, TransactionRun, Doing, Running, RunningSweep, request_in, changes_of, Begin, Step, Crash, Return, Forget, Lack, Actor}
+use Rattle.law_headline.proofs.Vocabulary.{server_at, actor_at, answered, asks_at, asks, steps_once, lacks_for, lacks, operated, operates, becomes, step, Beginning, Known, Change, Told, World, begun, holds_exclusively, at2, one_is}
+use Rattle.law_headline.proofs.Vocabulary.{prepare_of, first_verdict, moves, beginning, to_write, decides_with, decides_without, decides_first, decides_on, decision_by, fixed_in, aim_of, aims_once, aims, is_finishing, is_at_an_end}
+use Rattle.law_headline.proofs.Vocabulary.{gives_up, tells_aborted, begun_events, own_events, known_by, run-append, AllLinked, IsDoing, numbered_at, apart, ToldBelow, actor_opens, DoingAgrees, AllAgree, PreparedPart, home_in, begin_events}
+use Rattle.law_headline.proofs.Vocabulary.{answered_events, asked_at_events, asked_events, step_events, lacks_for_events, lack_events, operated_events, operator_events, moved, set_here, set_apart, same_or, numbered_of}
+use Rattle.rep_core.specs.Service.{reply_of}
+use Rattle.txn_core.proofs.Asks.{asks_same}
+use Rattle.law_suite_machine.specs.Events.{Held, Upgrade, GiveUp, Overrule, happens, run, Event}
+use Rattle.law_runs.specs.Naming.{names, may_sweep}
+use Rattle.law_runs.proofs.Asking.{asks_in_its_name, asks_to_sweep}
+use Rattle.law_run_machine.proofs.Sending.{asks_there}
+use Rattle.txn_core.specs.Agents.{take, Agent, fixed_of, next_in, next_of, take_in, begin, started, forget, is_idle, has_sense, max_jobs}
+use Rattle.law_suite_machine.specs.Machine.{Verdict}
 use Rattle.rep_core.specs.declared.request.Request.TheVariants as request
 use Rattle.rep_core.specs.declared.reply.Reply.TheVariants as reply
 use Rattle.rep_core.specs.declared.stamped.Lack.TheVariants as lack
-use Rattle.txn_core.specs.Agents.{take}
 use Rattle.txn_core.specs.Agents as agents
 use Rattle.run_core.specs.declared.event.Event as happening
 use Rattle.run_core.specs.Worlds as worlds
-use Rattle.law_suite_machine.specs.Machine.{Verdict}
-use Rattle.law_suite_machine.specs.Events.{Event}
 use Rattle.law_suite_machine.specs.Conditions as conditions
 use Rattle.law_server_moves.specs.Preparing as preparing
 use Rattle.law_headline.proofs.Parts.{PartsIn, DoingPrepared, Prepares, PreparesPart, part_found, lock_held, doing_same, prepared_begin, take_prepared}

@@ -1,6 +1,8 @@
 -- What a world promises, from the laws of its run.
-use Rattle.law_headline.proofs.Vocabulary.{List, [], ◌∷◌, ◌++◌, sym, ap, ◌∙◌, Opening, fixed_of, Event, opening, after, Opened, after-append, decided_once, decisions_are_the_records, CanBe, VotesAreValid, IsPromised, OpensARun, PlaysOn}
-use Rattle.law_headline.proofs.Vocabulary.{Promises}
+use Rattle.law_headline.proofs.Vocabulary.{List, [], ◌∷◌, ◌++◌, sym, ap, ◌∙◌, Opening, fixed_of, Event, opening, decided_once, decisions_are_the_records, CanBe, VotesAreValid, after-append}
+use Rattle.run_core.specs.Runs.{after}
+use Rattle.run_core.specs.Opened.{Opened}
+use Rattle.law_headline.specs.Promises.{IsPromised, OpensARun, PlaysOn, Promises}
 use Rattle.law_headline.proofs.Asked.{are_as_begun}
 use Rattle.law_headline.proofs.Nothing.{not_decided_change_nothing}
 use Rattle.law_headline.proofs.Conclusions.{answers_are_the_tables, audit_is_the_denials, answered_before, revocations_are_met, rows_have_versions}

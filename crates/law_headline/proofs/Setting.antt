@@ -1,7 +1,9 @@
 -- What edits leave of a row that they do not set.
-use Rattle.law_headline.proofs.Vocabulary.{◌≡◌, ℕ, ◌+◌, Bool, true, false, cond, [], ◌∷◌, Option, Some, None, refl, sym, ap, subst, ◌∙◌, arith, ◌==◌, ◌&&◌, ◌||◌, option_map, unwrap_or, false≢true, eqb-true, none-some, same_Some, Lists}
-use Rattle.law_headline.proofs.Vocabulary.{Configuration, IsValid, Content, Kind, kind_of, empty_content, Prefix, PrefixKind, Row, Edit, SetAcl, SetVotes, SetContent, Make, makes, sets_acl, sets_votes, some, Edits, changed, seen}
-use Rattle.law_headline.proofs.Vocabulary.{sets_content, emptied, head, neither, part_stays, keeps_acl, keeps_votes, ReadPoint, GatheredSuite, row_with, sets_prefix, new_prefix, prefix_kind, one_if, IsFair, FitsAs, told_as, kind_empty}
+use Rattle.law_headline.proofs.Vocabulary.{◌≡◌, ℕ, ◌+◌, Bool, true, false, cond, [], ◌∷◌, Option, Some, None, refl, sym, ap, subst, ◌∙◌, arith, ◌==◌, ◌&&◌, ◌||◌, option_map, unwrap_or, false≢true, eqb-true, none-some, same_Some}
+use Rattle.law_headline.proofs.Vocabulary.{Configuration, IsValid, Content, kind_of, empty_content, Prefix, PrefixKind, Row, Edit, SetAcl, SetVotes, SetContent, Make, makes, sets_acl, sets_votes, some, Edits, changed, seen, sets_content}
+use Rattle.law_headline.proofs.Vocabulary.{emptied, head, neither, part_stays, keeps_acl, keeps_votes, ReadPoint, GatheredSuite, row_with, sets_prefix, new_prefix, prefix_kind, one_if, IsFair, FitsAs, told_as, kind_empty}
+use Rattle.acl_core.specs.declared.lists.Lists.{Lists}
+use Rattle.suite_content.specs.declared.content.Kind.{Kind}
 use Rattle.suite_content.specs.declared.content.Kind.TheVariants as holds
 use Rattle.suite_prefix.specs.declared.copies.PrefixKind.TheVariants as kind
 use Rattle.file_exec.specs.declared.changes.Change as executor
@@ -43,22 +45,19 @@ makes_all kind all (e ∷ edits) suite none =
     of false is none rest = rest
 
 made_acl : (edit : Edit) → makes edit ≡ true → sets_acl edit ≡ true
-made_acl (SetAcl acl) is = refl
 made_acl (SetVotes votes) is = cc
 made_acl (SetContent content) is = cc
-made_acl (Make made) is = refl
+made_acl _ is = refl
 
 made_votes : (edit : Edit) → makes edit ≡ true → sets_votes edit ≡ true
-made_votes (SetAcl acl) is = cc
 made_votes (SetVotes votes) is = refl
-made_votes (SetContent content) is = cc
 made_votes (Make made) is = refl
+made_votes _ is = cc
 
 made_content : (edit : Edit) → makes edit ≡ true → sets_content edit ≡ true
-made_content (SetAcl acl) is = cc
-made_content (SetVotes votes) is = cc
 made_content (SetContent content) is = refl
 made_content (Make made) is = refl
+made_content _ is = cc
 
 -- ---- edits that fit
 

@@ -1,17 +1,24 @@
 -- Where a transaction is decided, the locks that it was told of have stood ever since.
-use Rattle.law_headline.proofs.Vocabulary.{◌≡◌, inl, inr, ℕ, Bool, true, false, cond, List, [], ◌∷◌, ◌++◌, append_assoc, Option, Some, None, is_some, refl, sym, ap, subst, ◌∙◌, arith, ◌==◌, ◌&&◌, ◌||◌, find, list_any, false≢true}
-use Rattle.law_headline.proofs.Vocabulary.{nat_tests, none-some, same_Some, Opening, is_exclusive, serves, LockMode, Shared, Exclusive, Prefix, Lock, Request, Reply, Verdict, is_own, State, record_of, is_full, answer_of, Replied}
-use Rattle.law_headline.proofs.Vocabulary.{Lacked, Task, Doing, decision_of, request_in, Agent, fixed_of, next_in, next_of, Begin, Step, Crash, Return, Forget, Lack, Served, Actor, server_at, actor_at, serve, becomes, answered, asks_at}
-use Rattle.law_headline.proofs.Vocabulary.{asks, steps_once, lacks_for, lacks, operated, operates, step, Decided, answer_in, decided_as, decided_at, decided_by, decided, task_of, task_at, IsAnsweredAsKnown, answers_follow_knowledge}
-use Rattle.law_headline.proofs.Vocabulary.{Beginning, Hold, Told, World, begun, Held, Upgrade, upgraded_told, happens, run, Obeys, Sound, Inv, still_locked, at2, all_steps, Shows, hold_of, verdict_of, moves, beginning, decision_by}
-use Rattle.law_headline.proofs.Vocabulary.{servers_of, home_in, response_events, served_events, answered_events, asked_at_events, asked_events, step_events, operated_events, operator_events, events_of, moved, machine_from, machine_of}
-use Rattle.law_headline.proofs.Vocabulary.{KeepSides, AllConsistent, event_comes, run-append, server_there, some_of, CanBe, AsksForLock, TellsOfLock, LocksStand}
+use Rattle.law_headline.proofs.Vocabulary.{◌≡◌, inl, inr, ℕ, Bool, true, false, cond, List, [], ◌∷◌, ◌++◌, append_assoc, Option, Some, None, is_some, refl, sym, ap, subst, ◌∙◌, arith, ◌==◌, ◌&&◌, ◌||◌, find, list_any, false≢true, nat_tests}
+use Rattle.law_headline.proofs.Vocabulary.{none-some, same_Some, Opening, is_exclusive, serves, LockMode, Shared, Exclusive, Prefix, Request, Reply, Verdict, State, record_of, is_full, answer_of, Replied, Lacked, Task, Doing, decision_of}
+use Rattle.law_headline.proofs.Vocabulary.{request_in, Agent, fixed_of, next_in, next_of, Begin, Step, Crash, Return, Forget, Lack, Actor, server_at, actor_at, serve, becomes, answered, asks_at, asks, steps_once, lacks_for, lacks, operated}
+use Rattle.law_headline.proofs.Vocabulary.{operates, step, Decided, answer_in, decided_as, decided_at, decided_by, decided, task_of, task_at, answers_follow_knowledge, Beginning, Hold, Told, World, begun, Obeys, Inv, still_locked, at2}
+use Rattle.law_headline.proofs.Vocabulary.{all_steps, Shows, hold_of, verdict_of, moves, beginning, decision_by, KeepSides, event_comes, run-append, server_there, CanBe, servers_of, home_in, response_events, served_events, answered_events}
+use Rattle.law_headline.proofs.Vocabulary.{asked_at_events, asked_events, step_events, operated_events, operator_events, events_of, moved, machine_from, machine_of}
+use Rattle.law_run_machine.proofs.Consistent.{AllConsistent}
+use Rattle.rep_core.specs.declared.lock.Lock.{Lock}
+use Rattle.rep_core.specs.Locks.{is_own}
+use Rattle.run_core.specs.declared.done.Served.{Served}
+use Rattle.law_runs.specs.Answers.{IsAnsweredAsKnown}
+use Rattle.law_suite_machine.specs.Events.{Held, Upgrade, upgraded_told, happens, run, Event}
+use Rattle.law_suite_machine.proofs.Sound.{Sound}
+use Rattle.law_run_machine.proofs.Decided.{some_of}
+use Rattle.law_headline.specs.Laws.{AsksForLock, TellsOfLock, LocksStand}
 use Rattle.rep_core.specs.declared.request.Request.TheVariants as request
 use Rattle.rep_core.specs.declared.reply.Reply.TheVariants as reply
 use Rattle.run_core.specs.declared.event.Event as happening
 use Rattle.run_core.specs.Worlds as worlds
 use Rattle.run_core.specs.Runs as runs
-use Rattle.law_suite_machine.specs.Events.{Event}
 use Rattle.law_headline.proofs.Unbroken.{told_stays, stood, ToldMode, HoldsMode, mode_some, mode_stays, AllAsTold, as_told, holds_mode}
 use Rattle.law_headline.proofs.Beside.{is_ready_now}
 use Rattle.law_headline.proofs.Keeping.{holds_after, all_keep}

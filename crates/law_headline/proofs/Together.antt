@@ -1,10 +1,15 @@
 -- What holds together of a world and of the machine of a suite, as long as agents give what they owe: at the opening, and event by event.
-use Rattle.law_headline.proofs.Vocabulary.{ℕ, ◌≤◌, sym, subst, Opening, IsValid, max_servers, fixed_of, step, World, begun, Inv, all_steps, begins, Shows, beginning, opening_shows, servers_of, home_in, events_of, moved, KeepsSide, Owed}
-use Rattle.law_headline.proofs.Vocabulary.{servers_open, AllConsistent, opening_consistent, event_comes, AllLinked, AllWaiting, waits_next, Readied, ready_next, event_all, next, opens_linked, opens_waiting, opens_readied, AllFit}
-use Rattle.law_headline.proofs.Vocabulary.{event_fits, opens_fit, AllAgree, event_agrees, opens_agree}
+use Rattle.law_headline.proofs.Vocabulary.{ℕ, ◌≤◌, sym, subst, Opening, IsValid, max_servers, fixed_of, step, World, begun, Inv, all_steps, Shows, beginning, KeepsSide, Owed, servers_open, event_comes, AllLinked, Readied, ready_next}
+use Rattle.law_headline.proofs.Vocabulary.{event_all, next, opens_linked, opens_waiting, opens_readied, AllFit, event_fits, opens_fit, AllAgree, opens as jobs_open, servers_of, home_in, events_of, moved}
+use Rattle.law_run_machine.proofs.Consistent.{AllConsistent, opening_consistent}
+use Rattle.law_suite_machine.proofs.Starting.{begins}
+use Rattle.law_server_moves.proofs.Opening.{opening_shows}
+use Rattle.law_run_machine.proofs.Waited.{AllWaiting, waits_next}
+use Rattle.law_run_quorums.proofs.Events.{event_agrees}
+use Rattle.law_run_quorums.proofs.Runs.{opens_agree}
+use Rattle.law_run_machine.proofs.Jobs.{All}
 use Rattle.run_core.specs.declared.event.Event as happening
 use Rattle.run_core.specs.Worlds as worlds
-use Rattle.law_run_machine.proofs.Jobs.{All, opens as jobs_open}
 
 pub record Together (given : Opening) (z : ℕ) (w : World) (world : worlds.World) : Type 0 where
   pub inv : Inv (beginning z given) w

@@ -1,7 +1,6 @@
 -- A lock that a transaction was told of and that is gone never comes back; so one that stands at last stood all the while. It is exclusive where the transaction was told so.
-use Rattle.law_headline.proofs.Vocabulary.{◌≡◌, ℕ, Bool, true, false, List, [], ◌∷◌, Option, Some, None, is_some, refl, sym, ap, subst, ◌∙◌, false≢true, Beginning, Hold, Told, World, Held, Upgrade, Prepare}
-use Rattle.law_headline.proofs.Vocabulary.{Finish, Lose, upgraded_hold, upgraded_told, prepared_hold, kept, happens, run, May, Obeys, at2, at2_both}
-use Rattle.law_suite_machine.specs.Events.{Event}
+use Rattle.law_headline.proofs.Vocabulary.{◌≡◌, ℕ, Bool, true, false, List, [], ◌∷◌, Option, Some, None, is_some, refl, sym, ap, subst, ◌∙◌, false≢true, Beginning, Hold, Told, World, May, Obeys, at2, at2_both}
+use Rattle.law_suite_machine.specs.Events.{Held, Upgrade, Prepare, Finish, Lose, upgraded_hold, upgraded_told, prepared_hold, kept, happens, run, Event}
 use Rattle.law_suite_machine.specs.Conditions.{is_exclusive}
 
 -- what was told stays told

@@ -6,151 +6,79 @@ pub use Rattle.std.proofs.lemmas.Bool.Decides.{nat_tests}
 pub use Rattle.std.proofs.lemmas.List.{append-nil, take_all}
 pub use Rattle.std.proofs.lemmas.List.Elements.{All-from_recursion, All-more, All-same, Contains-append_cases, recursion_from_All}
 pub use Rattle.std.proofs.lemmas.Option.{none-some, same_Some}
-pub use Rattle.std.specs.BTreeMap.{is_at}
-pub use Rattle.std.specs.FinSet.{contains-empty}
 pub use Rattle.std.specs.List.{AllByRecursion, cons_option, list_all, list_any}
 pub use Rattle.std.specs.Ordering.{nat_cmp}
 pub use Rattle.std.specs.Prelude.{unwrap_or}
 pub use Rattle.acl_core.specs.Identity.{Identity}
-pub use Rattle.acl_core.specs.declared.lists.Lists.{Lists}
 pub use Rattle.file_exec.proofs.Leading.{changes_by_suite, keeps_acl, keeps_votes, neither, part_stays}
-pub use Rattle.file_exec.proofs.Licensing.{holds_there, known_licensed}
-pub use Rattle.file_exec.proofs.Unset.{changes_are_held}
-pub use Rattle.file_exec.proofs.VotesRead.{knows_whose_votes}
 pub use Rattle.file_exec.specs.Changes.{makes, sets_acl, sets_votes, some, touches}
 pub use Rattle.file_exec.specs.Following.{Edits, Ended, changed, content_in, emptied, head, seen, sets_content}
-pub use Rattle.file_exec.specs.Known.{AgreesWith, Done, IsSo, IsSoAt, exec_of, is_held, is_opened, known_rows}
-pub use Rattle.file_exec.specs.KnownSuites.{KnownSuite}
-pub use Rattle.file_exec.specs.Licensed.{AllLicensed, IsShown, Licensed, MayChange, adds_name, changes_lists, changes_votes, drops_name, makes_row, votes_given, writes_bytes}
 pub use Rattle.file_exec.specs.declared.edit_log.Edit.{Edit}
 pub use Rattle.file_exec.specs.declared.edit_log.Edit.TheVariants.{Make, SetAcl, SetContent, SetVotes}
-pub use Rattle.file_exec.specs.declared.need.Need.TheVariants.{Know}
-pub use Rattle.file_ops.specs.KnownVotes.{known_votes, lists_unknown, votes_of_new}
-pub use Rattle.file_ops.specs.Operations.{Parent}
 pub use Rattle.file_ops.specs.Rows.{PlainTable, Row, row_of}
-pub use Rattle.file_ops.specs.Transactions.{replies}
-pub use Rattle.file_ops.specs.Walks.{Object, bytes_in, names_in}
-pub use Rattle.file_ops.specs.declared.answer.Answer.{Answer}
 pub use Rattle.file_ops.specs.declared.operation.Action.{Action}
 pub use Rattle.file_ops.specs.declared.operation.Op.{Op}
-pub use Rattle.file_ops.specs.declared.refusal.Refusal.{Refusal}
-pub use Rattle.file_ops.specs.declared.service.Service.{Service}
-pub use Rattle.law_one_table.proofs.Logs.{LogIs, decision_at, decision_of_actor, event_log}
 pub use Rattle.law_one_table.proofs.Running.{answers_are_one_tables, audit_is_one_tables, owed_is_enough}
 pub use Rattle.law_one_table.proofs.Shown.{FitsAs, fits_kind, is_so, kind_empty, told_as}
-pub use Rattle.law_one_table.specs.Effects.{answered_in, copy_at}
-pub use Rattle.law_one_table.specs.Tables.{AllKeepSides}
-pub use Rattle.law_one_table.specs.Versions.{ContentWas, HadRow, HoldAt, PrefixWas, RowVersions}
-pub use Rattle.law_run_knowledge.proofs.Decided.{known_content, known_prefix, newest_prefix, suite_was}
 pub use Rattle.law_run_knowledge.proofs.Events.{AllFit, Hears, event_fits, narrow_of, opens_fit}
-pub use Rattle.law_run_knowledge.proofs.Walk.{IsNarrow}
-pub use Rattle.law_run_machine.proofs.Consistent.{AllConsistent, opening_consistent, servers_are_consistent}
-pub use Rattle.law_run_machine.proofs.Decided.{some_of}
 pub use Rattle.law_run_machine.proofs.Following.{event_comes}
-pub use Rattle.law_run_machine.proofs.Jobs.{IdleOr, event_all, one_more, taken_idle}
+pub use Rattle.law_run_machine.proofs.Jobs.{IdleOr, event_all, one_more, opens, taken_idle}
 pub use Rattle.law_run_machine.proofs.Joining.{run-append}
 pub use Rattle.law_run_machine.proofs.Kept.{actor_opens, next, opens_linked, opens_readied, opens_waiting}
 pub use Rattle.law_run_machine.proofs.Linked.{AllLinked, InCourse, IsDoing, apart, numbered_at}
 pub use Rattle.law_run_machine.proofs.Readied.{Readied, ToldBelow, ready_next}
-pub use Rattle.law_run_machine.proofs.Readying.{IsReadying, ReadyIn, ready_begin, readying_left, take_readying}
-pub use Rattle.law_run_machine.proofs.Sending.{asks_there}
 pub use Rattle.law_run_machine.proofs.Servers.{server_there, servers_open}
-pub use Rattle.law_run_machine.proofs.Stages.{Stage}
 pub use Rattle.law_run_machine.proofs.Turned.{numbered_of, same_or, set_apart, set_here}
-pub use Rattle.law_run_machine.proofs.Waited.{AllWaiting, waits_next}
 pub use Rattle.law_run_machine.specs.Deciding.{aim_of, aims, aims_once, begun_events, change_to, decides_first, decides_on, decides_with, decides_without, decision_by, decision_in, first_of, fixed_in, gives_up, is_at_an_end, is_finishing}
 pub use Rattle.law_run_machine.specs.Deciding.{known_by, own_events, showed, showed_to, tells_aborted, to_write, written_from}
 pub use Rattle.law_run_machine.specs.Machines.{answered_events, asked_at_events, asked_events, begin_events, events_of, home_in, lack_events, lacks_for_events, machine_from, machine_of, moved, operated_events, operator_events}
 pub use Rattle.law_run_machine.specs.Machines.{response_events, served_events, servers_of, step_events}
 pub use Rattle.law_run_machine.specs.Owed.{AgentsOwe, AreOwed, Owed, Owes, OwesFirst, OwesKnown, OwesWith, OwesWritten}
 pub use Rattle.law_run_machine.specs.Sides.{KeepSides, KeepsSide}
-pub use Rattle.law_run_machine.specs.Telling.{told_to}
-pub use Rattle.law_run_quorums.proofs.Events.{event_agrees}
-pub use Rattle.law_run_quorums.proofs.Known.{knows_from_a_quorum, valid_was}
-pub use Rattle.law_run_quorums.proofs.Runs.{opens_agree}
-pub use Rattle.law_run_quorums.proofs.Written.{writes_to_quorums}
 pub use Rattle.law_run_quorums.specs.Fairness.{IsFair, PreparedPart}
-pub use Rattle.law_run_quorums.specs.Firsts.{FirstFrom, early_collector}
 pub use Rattle.law_run_quorums.specs.Telling.{Agrees, AllAgree, DoingAgrees}
 pub use Rattle.law_runs.proofs.Answering.{Knows, answers_follow_knowledge, knows_left, take_knows}
-pub use Rattle.law_runs.proofs.Asking.{asks_in_its_name, asks_to_sweep}
-pub use Rattle.law_runs.proofs.Begun.{changes_are_met}
 pub use Rattle.law_runs.proofs.Conclusions.{decided_once, decisions_are_the_records, decisions_go_on, holds_of, later_decisions}
-pub use Rattle.law_runs.proofs.Executed.{Came, Keeps, left_execute, set_by}
-pub use Rattle.law_runs.proofs.Knowing.{none_fit}
-pub use Rattle.law_runs.proofs.Standing.{append_has_left}
-pub use Rattle.law_runs.proofs.Worlds.{agent_of}
-pub use Rattle.law_runs.specs.Answers.{IsAnsweredAsKnown}
 pub use Rattle.law_runs.specs.Claims.{AreTheRecords, IsMet, IsNotDecided, StandsBefore, record_by}
-pub use Rattle.law_runs.specs.Naming.{may_sweep, names}
 pub use Rattle.law_runs.specs.Numbers.{begins_now, number_of}
-pub use Rattle.law_server_moves.proofs.Opening.{opening_shows}
 pub use Rattle.law_server_moves.specs.Laws.{beginning}
 pub use Rattle.law_server_moves.specs.Moves.{first_verdict, moves, prepare_of}
 pub use Rattle.law_server_moves.specs.Views.{Shows, hold_of, verdict_of}
 pub use Rattle.law_suite_machine.proofs.Invariant.{Inv}
 pub use Rattle.law_suite_machine.proofs.Knowing.{all_known, still_locked}
 pub use Rattle.law_suite_machine.proofs.Places.{at2, at2_both, itself, one_is}
-pub use Rattle.law_suite_machine.proofs.Sound.{Sound}
-pub use Rattle.law_suite_machine.proofs.Starting.{begins}
 pub use Rattle.law_suite_machine.proofs.Steps.{all_steps}
 pub use Rattle.law_suite_machine.specs.Conditions.{IsReady, May, Obeys, holds_exclusively}
-pub use Rattle.law_suite_machine.specs.Events.{Aim, DecideElsewhere, DecideRead, DecideRefused, DecideWrite, Finish, GiveUp, Held, Lose, Overrule, Prepare, Upgrade, happens, kept, prepared_hold, run, upgraded_hold, upgraded_told}
 pub use Rattle.law_suite_machine.specs.Machine.{Hold, Told, World, begun}
 pub use Rattle.law_suite_machine.specs.Registers.{Beginning, Change, Entry, IsKnown, IsPlain, Known, row}
-pub use Rattle.rep_core.proofs.Effects.{finish_keeps_effect}
 pub use Rattle.rep_core.proofs.Members.{Has, contains_from, has_from}
 pub use Rattle.rep_core.specs.Fits.{is_prepared}
-pub use Rattle.rep_core.specs.Locks.{is_own}
-pub use Rattle.rep_core.specs.Service.{reply_of}
 pub use Rattle.rep_core.specs.Serving.{answer_of, is_full}
 pub use Rattle.rep_core.specs.State.{State, record_of, was_answered}
-pub use Rattle.rep_core.specs.Store.{root_copy}
-pub use Rattle.rep_core.specs.declared.lock.Lock.{Lock}
 pub use Rattle.rep_core.specs.declared.reply.Reply.{Reply}
 pub use Rattle.rep_core.specs.declared.reply.Verdict.{Verdict}
 pub use Rattle.rep_core.specs.declared.request.Part.{Part}
 pub use Rattle.rep_core.specs.declared.request.Request.{Request}
 pub use Rattle.run_core.proofs.Appending.{after-append, decisions_from-append}
-pub use Rattle.run_core.proofs.EachAgent.{OfEach, each_becomes}
 pub use Rattle.run_core.specs.Decisions.{Decided, answer_in, decided, decided_as, decided_at, decided_by, decisions, decisions_from, task_at, task_of}
-pub use Rattle.run_core.specs.Opened.{Opened}
-pub use Rattle.run_core.specs.Runs.{after}
-pub use Rattle.run_core.specs.TableOfRun.{played_on, table_after_all, table_of, table_with}
 pub use Rattle.run_core.specs.Worlds.{Actor, actor_at, answered, asks, asks_at, becomes, lacks, lacks_for, opening, operated, operates, serve, server_at, step, steps_once}
-pub use Rattle.run_core.specs.declared.done.Served.{Served}
 pub use Rattle.run_core.specs.declared.event.Event.{Event}
 pub use Rattle.run_core.specs.declared.event.Event.TheVariants.{Begin, Crash, Forget, Lack, Return, Step}
 pub use Rattle.sorted_map.specs.SortedMap.{get}
-pub use Rattle.suite_collect.specs.Collecting.{Ask, Collector, Current, Next, Short, all_told, mode_of, tell, tell_at, told_since}
 pub use Rattle.suite_collect.specs.Telling.{holds}
-pub use Rattle.suite_collect.specs.declared.told.Said.{Said}
 pub use Rattle.suite_content.specs.Contents.{empty_content, kind_of}
 pub use Rattle.suite_content.specs.declared.content.Content.{Content}
 pub use Rattle.suite_content.specs.declared.content.Content.TheVariants.{Bytes, Names}
-pub use Rattle.suite_content.specs.declared.content.Kind.{Kind}
-pub use Rattle.suite_prefix.specs.Absent.{absent_copy}
 pub use Rattle.suite_prefix.specs.LockModes.{is_exclusive, serves}
 pub use Rattle.suite_prefix.specs.SettingsRules.{IsAccepted, Opening}
 pub use Rattle.suite_prefix.specs.declared.copies.Prefix.{Prefix}
 pub use Rattle.suite_prefix.specs.declared.copies.PrefixKind.{PrefixKind}
-pub use Rattle.suite_prefix.specs.declared.copies.PrefixKind.TheVariants.{File}
-pub use Rattle.suite_prefix.specs.declared.copies.Replica.{Replica}
 pub use Rattle.suite_prefix.specs.declared.lock_mode.LockMode.{LockMode}
 pub use Rattle.suite_prefix.specs.declared.lock_mode.LockMode.TheVariants.{Exclusive, Shared}
-pub use Rattle.txn_core.proofs.Asks.{asks_same}
-pub use Rattle.txn_core.proofs.Gathers.{Each, each_but, each_with, tell_start}
-pub use Rattle.txn_core.proofs.Quorums.{decides_on_quorums}
-pub use Rattle.txn_core.proofs.Setting.{known_at}
-pub use Rattle.txn_core.proofs.Upheld.{DoingStands, stands_after}
-pub use Rattle.txn_core.proofs.Walk.{IsEarly, goes_execute, goes_response}
-pub use Rattle.txn_core.specs.Agents.{Agent, Take, after_all, after_event, begin, fixed_of, forget, has_sense, is_idle, left, max_jobs, next_in, next_of, started, take_in}
+pub use Rattle.txn_core.specs.Agents.{Agent, Take, after_all, begin, fixed_of, has_sense, is_idle, left, max_jobs, next_in, next_of, started, take_in}
 pub use Rattle.txn_core.specs.Doing.{After, Changes, Deciding, Doing, Ends, Fetching, Finishing, Fixed, Gathering, GoesOn, Granted, Phase, Preparing, Proposal, Running, RunningSweep, SweepRun, Task, TransactionRun, Widening}
-pub use Rattle.txn_core.specs.Runs.{mode_lists}
 pub use Rattle.txn_core.specs.Suites.{GatheredSuite, ReadPoint, Suites, first_or, holds_lock, known_of, known_row, row_with, settled, source_of, suite_of, told_at, told_in, with_suite}
-pub use Rattle.txn_core.specs.Transactions.{Gathered, after_lack, after_response, cause_of_abort, changes_of, collected, decision_of, ending_by, execute, fetched, free_content, gather_by, give_up, given_in, hear, heard_of, heard_on}
-pub use Rattle.txn_core.specs.Transactions.{keep_content, lack_cause, locked_at, open_first, open_needed, open_suite, opened, opened_with, or_all, prepare, prepared, proceed, raised_or_new, request_in, said_to, short_cause, tell_end}
-pub use Rattle.txn_core.specs.Transactions.{verdict_in, widen_all, widen_by, widen_one, widened}
+pub use Rattle.txn_core.specs.Transactions.{after_response, cause_of_abort, changes_of, decision_of, ending_by, execute, give_up, lack_cause, locked_at, prepare, prepared, request_in, tell_end, verdict_in}
 pub use Rattle.txn_core.specs.Writing.{change_of, new_prefix, one_if, part_of, parts_at, prefix_kind, sets_prefix}
 pub use Rattle.txn_core.specs.declared.ending.Cause.{Cause}
 pub use Rattle.txn_core.specs.declared.ending.Cause.TheVariants.{Lost}
@@ -160,14 +88,7 @@ pub use Rattle.txn_core.specs.declared.job.Job.{Job}
 pub use Rattle.txn_core.specs.declared.job.Job.TheVariants.{Sweep, Transaction}
 pub use Rattle.txn_core.specs.declared.response.Response.{Response}
 pub use Rattle.txn_core.specs.declared.response.Response.TheVariants.{Lacked, Replied}
-pub use Rattle.vote_core.proofs.Faults.{accepted_without_fault}
 pub use Rattle.vote_core.specs.Quorums.{Configuration, Representative}
 pub use Rattle.vote_core.specs.Validity.{IsValid, first_fault, max_servers}
-pub use Rattle.vote_core.specs.declared.fault.VotesFault.{VotesFault}
 pub use Rattle.weak_cache.specs.Entries.{Cache}
-pub use Rattle.law_headline.specs.Laws.{AgentsKeepSides, AnsweredBefore, AnswersAreTheTables, AsksForLock, AuditIsTheDenials, KnowledgeWas, LocksStand, NotDecidedChangeNothing, RevocationsAreMet, RowsAreTheRegisters, RowsHaveVersions}
-pub use Rattle.law_headline.specs.Laws.{TellsOfLock, UndecidedChangeNothing}
-pub use Rattle.law_headline.specs.Nothing.{AreOfOthers, ChangedNothing, OthersHad, of_others, table_without}
 pub use Rattle.law_headline.specs.Premises.{AllGiveValidVotes, AreValid, CanBe, EventGivesValidVotes, GivesValidVotes, JobGivesValidVotes, VotesAreValid}
-pub use Rattle.law_headline.specs.Promises.{AreAsBegun, IsPromised, OpensARun, PlaysOn, Promises, WasBegun}
-pub use Rattle.law_headline.specs.Worked.{SomeRunHoldsLocks, SomeRunMovesVotes, SomeRunRevokes, moved_decisions, revoked, revoked_decisions, six_servers, upgraded, with_caches}

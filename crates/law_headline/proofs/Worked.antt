@@ -1,14 +1,18 @@
 -- They can be, and the rest holds by computation.
-use Rattle.law_headline.proofs.Vocabulary.{◌≡◌, inl, inr, ℕ, ◌<◌, Bool, true, List, [], ◌∷◌, Option, Some, None, is_some, refl, sym, ap, ◌∙◌, subst, arith, lit<, nat_lt, ◌&&◌, not, AllByRecursion, list_all, nat_cmp, contains-empty}
-use Rattle.law_headline.proofs.Vocabulary.{and_parts, false≢true, nat_tests, All-from_recursion, VotesFault, Configuration, Representative, IsValid, first_fault, max_servers, accepted_without_fault, IsAccepted, Shared, Prefix, File}
-use Rattle.law_headline.proofs.Vocabulary.{Action, Op, row_of, Transaction, mode_lists, Event, Begin, decisions, table_after_all, GivesValidVotes, EventGivesValidVotes, VotesAreValid}
-use Rattle.law_headline.proofs.Vocabulary.{with_caches, revoked, revoked_decisions, SomeRunRevokes, six_servers, moved_decisions, SomeRunMovesVotes, upgraded, SomeRunHoldsLocks}
+use Rattle.law_headline.proofs.Vocabulary.{◌≡◌, inl, inr, ℕ, ◌<◌, Bool, true, List, [], ◌∷◌, Option, Some, None, is_some, refl, sym, ap, ◌∙◌, subst, arith, lit<, nat_lt, ◌&&◌, not, AllByRecursion, list_all, nat_cmp, and_parts, false≢true}
+use Rattle.law_headline.proofs.Vocabulary.{nat_tests, All-from_recursion, Configuration, Representative, IsValid, first_fault, max_servers, IsAccepted, Shared, Prefix, Action, Op, row_of, Transaction, Event, Begin, decisions}
+use Rattle.law_headline.proofs.Vocabulary.{GivesValidVotes, EventGivesValidVotes, VotesAreValid}
+use Rattle.std.specs.FinSet.{contains-empty}
+use Rattle.vote_core.specs.declared.fault.VotesFault.{VotesFault}
+use Rattle.vote_core.proofs.Faults.{accepted_without_fault}
+use Rattle.suite_prefix.specs.declared.copies.PrefixKind.TheVariants.{File}
+use Rattle.txn_core.specs.Runs.{mode_lists}
+use Rattle.run_core.specs.TableOfRun.{table_after_all, AnswersAreTheTables}
+use Rattle.law_headline.specs.Worked.{with_caches, revoked, revoked_decisions, SomeRunRevokes, six_servers, moved_decisions, SomeRunMovesVotes, upgraded, SomeRunHoldsLocks, moved}
 use Rattle.rep_core.specs.declared.request.Request.TheVariants as request
 use Rattle.rep_core.specs.declared.reply.Reply.TheVariants as reply
 use Rattle.file_ops.specs.declared.operation.Action.TheVariants as action
 use Rattle.file_ops.specs.Rows as rows
-use Rattle.run_core.specs.TableOfRun.{AnswersAreTheTables}
-use Rattle.law_headline.specs.Worked.{moved}
 
 -- ---- valid votes, by a test
 

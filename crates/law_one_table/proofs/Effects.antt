@@ -1,10 +1,17 @@
 -- What is in effect at the servers is what the machines of the suites have in effect.
-use Rattle.law_one_table.proofs.Vocabulary.{◌≡◌, ℕ, ◌<◌, ◌≤◌, Bool, cond, List, [], ◌∷◌, ◌++◌, append_assoc, Option, Some, None, refl, sym, ap, subst, ◌∙◌, nat_cmp, none-some, same_Some, get, Configuration, Content, kind_of, Opening}
-use Rattle.law_one_table.proofs.Vocabulary.{Prefix, PrefixKind, Replica, Row, Intention, copy_of, left_by, record_of, row_with, prefix_kind, fixed_of, opening, step, Beginning, prefix_at, World, IsQuorum, effect, is_answered, begun}
-use Rattle.law_one_table.proofs.Vocabulary.{Event, happens, run, Obeys, QuorumsShowRow, Stays, Inv, begins, all_steps, quorums_show, superseded, what_was_stays, Shows, plan_of, verdict_of, beginning, servers_of, home_in, events_of}
-use Rattle.law_one_table.proofs.Vocabulary.{moved, machine_from, history_from, machine_of, history_of, Follows, run-append, machines_follow, register, AllKeepSides, was_answered, answered_in, copy_at, HasOne, HasHead, IsInEffect}
-use Rattle.suite_prefix.specs.declared.copies.PrefixKind.TheVariants as kind
+use Rattle.law_one_table.proofs.Vocabulary.{nat_cmp, none-some, same_Some, get, Configuration, Content, kind_of, Opening, Prefix, PrefixKind, Replica, Row, copy_of, left_by, record_of, row_with, prefix_kind, fixed_of, opening, step}
+use Rattle.law_one_table.proofs.Vocabulary.{Beginning, prefix_at, World, IsQuorum, effect, is_answered, begun, Event, happens, run, quorums_show, superseded, what_was_stays, Shows, plan_of, verdict_of, beginning, servers_of, home_in}
+use Rattle.law_one_table.proofs.Vocabulary.{events_of, moved, machine_from, history_from, machine_of, history_of, run-append, machines_follow, register, AllKeepSides, was_answered, answered_in, copy_at, HasOne, HasHead, IsInEffect}
+use Rattle.std.proofs.Common.{◌≡◌, ℕ, ◌<◌, ◌≤◌, Bool, cond, List, [], ◌∷◌, ◌++◌, append_assoc, Option, Some, None, refl, sym, ap, subst, ◌∙◌}
+use Rattle.rep_core.specs.Intentions.{Intention}
+use Rattle.law_suite_machine.specs.Conditions.{Obeys}
+use Rattle.law_suite_machine.specs.Laws.{QuorumsShowRow, Stays}
+use Rattle.law_suite_machine.proofs.Invariant.{Inv}
+use Rattle.law_suite_machine.proofs.Starting.{begins}
+use Rattle.law_suite_machine.proofs.Steps.{all_steps}
+use Rattle.law_run_machine.specs.Laws.{Follows}
 use Rattle.rep_core.specs.declared.reply.Verdict.{Verdict}
+use Rattle.suite_prefix.specs.declared.copies.PrefixKind.TheVariants as kind
 use Rattle.rep_core.specs.declared.reply.Verdict.TheVariants as verdict
 use Rattle.rep_core.specs.Store as store
 use Rattle.run_core.specs.declared.event.Event as happening

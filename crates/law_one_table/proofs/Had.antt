@@ -1,7 +1,9 @@
 -- Each prefix and each content that a register had is the register's own after some beginning of the run.
-use Rattle.law_one_table.proofs.Vocabulary.{◌≡◌, inl, inr, ℕ, ◌<◌, ◌≤◌, true, false, List, [], ◌∷◌, ◌++◌, append_assoc, Option, Some, None, refl, sym, ap, subst, ◌∙◌, arith, ◌==◌, nat_tests, Content, Opening, Prefix, Replica, fixed_of}
-use Rattle.law_one_table.proofs.Vocabulary.{Decided, decided, one_more, Beginning, IsBeginning, Known, Entry, Wrote, IsNext, IsPlain, changed, row, prefix_at, content_at, World, Event, DecideRead}
-use Rattle.law_one_table.proofs.Vocabulary.{DecideRefused, DecideWrite, happens, at1, one_is, beginning, machine_of, register, AllKeepSides}
+use Rattle.law_one_table.proofs.Vocabulary.{nat_tests, Content, Opening, Prefix, Replica, fixed_of, Decided, decided, Beginning, IsBeginning, Known, Entry, Wrote, IsNext, IsPlain, changed, row, prefix_at, content_at, World, Event}
+use Rattle.law_one_table.proofs.Vocabulary.{DecideRead, DecideRefused, DecideWrite, happens, beginning, machine_of, register, AllKeepSides}
+use Rattle.std.proofs.Common.{◌≡◌, inl, inr, ℕ, ◌<◌, ◌≤◌, true, false, List, [], ◌∷◌, ◌++◌, append_assoc, Option, Some, None, refl, sym, ap, subst, ◌∙◌, arith, ◌==◌}
+use Rattle.law_runs.proofs.Table.{one_more}
+use Rattle.law_suite_machine.proofs.Places.{at1, one_is}
 use Rattle.run_core.specs.declared.event.Event as happening
 use Rattle.run_core.specs.Runs as runs
 use Rattle.law_one_table.proofs.Logs.{LogIs, decision_at, event_log}

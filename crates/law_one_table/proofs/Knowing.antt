@@ -1,7 +1,7 @@
 -- What an agent knows where its transaction is decided is what the registers hold.
-use Rattle.law_one_table.proofs.Vocabulary.{◌≡◌, ℕ, Option, Some, None, refl, sym, ap, subst, ◌∙◌, is_some, Ok, Err, nat_cmp, IsOrdered, Prefix, Replica, Row, Rows, row_of, KnownSuite, IsSo, IsSoAt, AgreesWith, ReadPoint, GatheredSuite}
-use Rattle.law_one_table.proofs.Vocabulary.{Suites, suite_of, row_with, known_row, known_of, Task, Proposal, known_from, Beginning, Known, Change, IsKnown, IsPlain, row, World, happens, to_write, known_by, decides_with, decides_first}
-use Rattle.law_one_table.proofs.Vocabulary.{decides_on, decision_with, row_shown}
+use Rattle.law_one_table.proofs.Vocabulary.{nat_cmp, IsOrdered, Prefix, Replica, Row, Rows, row_of, KnownSuite, IsSo, IsSoAt, AgreesWith, ReadPoint, GatheredSuite, Suites, suite_of, row_with, known_row, known_of, Task, Proposal, known_from}
+use Rattle.law_one_table.proofs.Vocabulary.{Beginning, Known, Change, IsKnown, IsPlain, row, World, happens, to_write, known_by, decides_with, decides_first, decides_on, decision_with, row_shown}
+use Rattle.std.proofs.Common.{◌≡◌, ℕ, Option, Some, None, refl, sym, ap, subst, ◌∙◌, is_some, Ok, Err}
 use Rattle.file_exec.specs.Known as known
 use Rattle.law_one_table.proofs.Shown.{IsShown, is_so}
 

@@ -1,16 +1,32 @@
 -- What an event of a world does to the log of a suite's machine: what its decision does, if it decides, and else nothing.
-use Rattle.law_one_table.proofs.Vocabulary.{◌≡◌, ℕ, Bool, true, false, cond, List, [], ◌∷◌, ◌++◌, Option, Some, None, refl, sym, ap, subst, ◌∙◌, arith, ◌==◌, is_some, Ok, Err, false≢true, nat_tests, none-some, Opening, is_exclusive}
-use Rattle.law_one_table.proofs.Vocabulary.{Part, Request, Reply, State, record_of, reply_of, recorded, is_full, answer_of, Job, Response, Replied, Lacked, Suites, Task, Proposal, Doing, Running, RunningSweep, decision_of, asked_now}
-use Rattle.law_one_table.proofs.Vocabulary.{is_decide, Taken, fixed_of, next_in, next_of, take, begin, Begin, Step, Crash, Return, Forget, Lack, Served, Actor, server_at, actor_at, answered, asks_at, asks, steps_once, step, Decided}
-use Rattle.law_one_table.proofs.Vocabulary.{to_decide, answer_in, decided_as, decided_at, decided_by, decided, task_of, task_at, decides, sweep_decides_none, decides_at, no_decide, none_at, Beginning, Change, Entry, Verdict, World}
-use Rattle.law_one_table.proofs.Vocabulary.{Event, Held, Upgrade, Overrule, GiveUp, Lose, happens, run, aimed, Shows, part_of, moves, first_verdict, prepare_of, left_by_break, beginning, to_write, decision_in, decision_by, fixed_in}
-use Rattle.law_one_table.proofs.Vocabulary.{aim_of, aims_once, aims, is_finishing, is_at_an_end, gives_up, tells_aborted, begun_events, own_events, servers_of, home_in, begin_events, answered_events, asked_at_events, asked_events}
-use Rattle.law_one_table.proofs.Vocabulary.{step_events, lacks_for_events, lack_events, operated_events, operator_events, moved, server_there, run-append}
+use Rattle.law_one_table.proofs.Vocabulary.{false≢true, nat_tests, none-some, Opening, State, record_of, Suites, Task, Proposal, Doing, Running, RunningSweep, Taken, fixed_of, next_in, next_of, take, begin, Begin, Step, Crash, Return}
+use Rattle.law_one_table.proofs.Vocabulary.{Forget, Lack, Actor, server_at, actor_at, answered, asks_at, asks, steps_once, step, Decided, to_decide, answer_in, decided_as, decided_at, decided_by, decided, task_of, task_at, none_at}
+use Rattle.law_one_table.proofs.Vocabulary.{Beginning, Change, Entry, Verdict, World, Event, Held, Upgrade, Overrule, GiveUp, Lose, happens, run, aimed, Shows, beginning, to_write, decision_in, decision_by, fixed_in, aim_of, aims_once}
+use Rattle.law_one_table.proofs.Vocabulary.{aims, is_finishing, is_at_an_end, gives_up, tells_aborted, begun_events, own_events, servers_of, home_in, begin_events, answered_events, asked_at_events, asked_events, step_events}
+use Rattle.law_one_table.proofs.Vocabulary.{lacks_for_events, lack_events, operated_events, operator_events, moved, run-append}
+use Rattle.std.proofs.Common.{◌≡◌, ℕ, Bool, true, false, cond, List, [], ◌∷◌, ◌++◌, Option, Some, None, refl, sym, ap, subst, ◌∙◌, arith, ◌==◌, is_some, Ok, Err}
+use Rattle.suite_prefix.specs.LockModes.{is_exclusive}
+use Rattle.rep_core.specs.declared.request.Part.{Part}
+use Rattle.rep_core.specs.declared.request.Request.{Request}
+use Rattle.rep_core.specs.declared.reply.Reply.{Reply}
+use Rattle.rep_core.specs.Service.{reply_of, recorded, verdict_of}
+use Rattle.rep_core.specs.Serving.{is_full, answer_of}
+use Rattle.txn_core.specs.declared.job.Job.{Job}
+use Rattle.txn_core.specs.declared.response.Response.{Response}
+use Rattle.txn_core.specs.declared.response.Response.TheVariants.{Replied, Lacked}
+use Rattle.txn_core.specs.Transactions.{decision_of}
+use Rattle.txn_core.specs.Sweeps.{asked_now}
+use Rattle.txn_core.specs.Laws.{is_decide}
+use Rattle.run_core.specs.declared.done.Served.{Served}
+use Rattle.law_runs.proofs.Asking.{decides, sweep_decides_none}
+use Rattle.law_runs.proofs.Turns.{decides_at, no_decide}
+use Rattle.law_server_moves.specs.Preparing.{part_of}
+use Rattle.law_server_moves.specs.Moves.{moves, first_verdict, prepare_of, left_by_break}
+use Rattle.law_run_machine.proofs.Servers.{server_there}
 use Rattle.rep_core.specs.declared.request.Request.TheVariants as request
 use Rattle.rep_core.specs.declared.reply.Reply.TheVariants as reply
 use Rattle.rep_core.specs.declared.reply.Verdict as replied
 use Rattle.rep_core.specs.declared.stamped.Lack.TheVariants as lack
-use Rattle.rep_core.specs.Service.{verdict_of}
 use Rattle.run_core.specs.declared.event.Event as happening
 use Rattle.run_core.specs.Worlds as worlds
 use Rattle.run_core.specs.Decisions as decisions

@@ -1,10 +1,20 @@
 -- Each row of the table of a run is what the register of its suite holds, event by event.
-use Rattle.law_one_table.proofs.Vocabulary.{◌≡◌, ℕ, zero, suc, false, cond, Less, Equal, Greater, List, [], ◌∷◌, ◌++◌, Option, Some, None, refl, sym, ap, subst, ◌∙◌, arith, ◌==◌, option_to_list, Result, Ok, Err, cons_option, Ordering}
-use Rattle.law_one_table.proofs.Vocabulary.{nat_cmp, is_eq, nat_tests, exact_unsigned, absent_copy, root_copy, Opening, Answer, Refusal, PlainTable, row_of, transaction, replies, table_after, Ended, AgreesWith, on_table}
-use Rattle.law_one_table.proofs.Vocabulary.{done_is_the_tables, ReadPoint, GatheredSuite, suite_of, known_of, TransactionRun, Doing, Running, fixed_of, Step, actor_at, opening, step, Decided, decided, decisions, decisions_from}
-use Rattle.law_one_table.proofs.Vocabulary.{played_on, table_after_all, table_of, AnswersAreTheTables, IsAnsweredAsKnown, agent_of, Came, Keeps, answers_follow_knowledge, always_knows, Knows, service_stays, run_one, table_one, one_more}
-use Rattle.law_one_table.proofs.Vocabulary.{tables_audit, IsPlain, IsKnown, row, World, begun, happens, one_register, beginning, known_by, to_write, decision_in, decision_by, decision_with, moved, machine_from, machine_of, history_of}
-use Rattle.law_one_table.proofs.Vocabulary.{KeepSides, machines_follow, sides_are_kept, register, AllKeepSides, RowsAreTheRegisters, AgentsKnowTheTable, AnswersAreOneTables, AuditIsOneTables, OwedIsEnough}
+use Rattle.law_one_table.proofs.Vocabulary.{nat_cmp, is_eq, nat_tests, absent_copy, root_copy, Opening, Answer, Refusal, PlainTable, row_of, Ended, AgreesWith, on_table, ReadPoint, GatheredSuite, suite_of, known_of, TransactionRun, Doing}
+use Rattle.law_one_table.proofs.Vocabulary.{Running, fixed_of, Step, actor_at, opening, step, Decided, decided, decisions, decisions_from, Came, Keeps, answers_follow_knowledge, always_knows, Knows, IsPlain, IsKnown, row, World, begun}
+use Rattle.law_one_table.proofs.Vocabulary.{happens, one_register, beginning, known_by, to_write, decision_in, decision_by, decision_with, moved, machine_from, machine_of, history_of, machines_follow, register, AllKeepSides}
+use Rattle.law_one_table.proofs.Vocabulary.{RowsAreTheRegisters, AgentsKnowTheTable, AnswersAreOneTables, AuditIsOneTables, OwedIsEnough}
+use Rattle.std.proofs.Common.{◌≡◌, ℕ, zero, suc, false, cond, Less, Equal, Greater, List, [], ◌∷◌, ◌++◌, Option, Some, None, refl, sym, ap, subst, ◌∙◌, arith, ◌==◌, option_to_list, Result, Ok, Err}
+use Rattle.std.specs.List.{cons_option}
+use Rattle.std.specs.declared.cmp.Ordering.{Ordering}
+use Rattle.std.proofs.lemmas.Map.Lookups.{exact_unsigned}
+use Rattle.file_ops.specs.Transactions.{transaction, replies, table_after}
+use Rattle.file_exec.proofs.More.{done_is_the_tables}
+use Rattle.run_core.specs.TableOfRun.{played_on, table_after_all, table_of, AnswersAreTheTables}
+use Rattle.law_runs.specs.Answers.{IsAnsweredAsKnown}
+use Rattle.law_runs.proofs.Worlds.{agent_of}
+use Rattle.law_runs.proofs.Table.{service_stays, run_one, table_one, one_more, tables_audit}
+use Rattle.law_run_machine.specs.Sides.{KeepSides}
+use Rattle.law_run_machine.proofs.Kept.{sides_are_kept}
 use Rattle.file_ops.specs.Rows as rows
 use Rattle.run_core.specs.declared.event.Event as happening
 use Rattle.run_core.specs.Worlds as worlds

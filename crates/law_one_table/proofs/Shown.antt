@@ -1,12 +1,17 @@
 -- The row that a register shows: what is known of it is so, and a change leads on.
-use Rattle.law_one_table.proofs.Vocabulary.{◌≡◌, inl, inr, ℕ, Bool, true, false, cond, [], ◌∷◌, Option, Some, None, refl, sym, ap, subst, ◌∙◌, ◌==◌, ◌&&◌, ◌||◌, is_some, option_map, nat_cmp, get, false≢true, none-some, same_Some}
-use Rattle.law_one_table.proofs.Vocabulary.{Content, Kind, kind_of, empty_content, LockMode, Prefix, PrefixKind, Replica, Row, with_content, Edit, SetAcl, SetVotes, SetContent, Make, makes, some, touches, Edits, seen, is_set}
-use Rattle.law_one_table.proofs.Vocabulary.{sets_content, emptied, head, content_in, known_rows, IsSo, Tells, changes_by_suite, ReadPoint, row_with, new_prefix, prefix_kind, changed, change_to, row_shown}
+use Rattle.law_one_table.proofs.Vocabulary.{nat_cmp, get, false≢true, none-some, same_Some, Content, kind_of, empty_content, Prefix, PrefixKind, Replica, Row, with_content, Edits, seen, is_set, sets_content, emptied, head, content_in}
+use Rattle.law_one_table.proofs.Vocabulary.{known_rows, IsSo, Tells, ReadPoint, row_with, new_prefix, prefix_kind, changed, change_to, row_shown, changes_by_suite}
+use Rattle.std.proofs.Common.{◌≡◌, inl, inr, ℕ, Bool, true, false, cond, [], ◌∷◌, Option, Some, None, refl, sym, ap, subst, ◌∙◌, ◌==◌, ◌&&◌, ◌||◌, is_some, option_map}
+use Rattle.suite_content.specs.declared.content.Kind.{Kind}
+use Rattle.suite_prefix.specs.declared.lock_mode.LockMode.{LockMode}
+use Rattle.file_exec.specs.declared.edit_log.Edit.{Edit}
+use Rattle.file_exec.specs.declared.edit_log.Edit.TheVariants.{SetContent, Make}
+use Rattle.file_exec.specs.Changes.{makes, some, touches}
+use Rattle.file_exec.specs.Known.{Known}
 use Rattle.suite_content.specs.declared.content.Kind.TheVariants as holds
 use Rattle.suite_prefix.specs.declared.copies.PrefixKind.TheVariants as kind
 use Rattle.file_exec.specs.declared.changes.Change as executor
 use Rattle.file_exec.specs.Changes as changes
-use Rattle.file_exec.specs.Known.{Known}
 
 -- a content is of the kind that a prefix says
 abbrev pub FitsAs : PrefixKind → Content → Type 0
@@ -17,8 +22,7 @@ FitsAs kind.Folder content = kind_of content ≡ holds.Folder
 -- what was never made is at version 0
 abbrev pub NeverAs : PrefixKind → ℕ → ℕ → Type 0
 NeverAs kind.Absent pver dver = (pver ≡ 0) × (dver ≡ 0)
-NeverAs kind.File pver dver = Unit {0}
-NeverAs kind.Folder pver dver = Unit {0}
+NeverAs _ pver dver = Unit {0}
 
 -- a register shows a row
 pub record IsShown (held : Replica) (row : Option Row) : Type 0 where
@@ -55,10 +59,9 @@ is_so mode kind.Folder prefix (Some x) content fits same =
 
 made_if : (here : Bool) (edit : Edit) (rest rest' : Bool) → (rest ≡ true → rest' ≡ true) → ((here && makes edit) || rest) ≡ true → ((here && sets_content edit) || rest') ≡ true
 made_if false edit rest rest' goes is = goes is
-made_if true (SetAcl acl) rest rest' goes is = goes is
-made_if true (SetVotes votes) rest rest' goes is = goes is
 made_if true (SetContent content) rest rest' goes is = refl
 made_if true (Make made) rest rest' goes is = refl
+made_if true _ rest rest' goes is = goes is
 
 made_is_set : (edits : Edits) (suite : ℕ) → some makes edits suite ≡ true → is_set edits suite ≡ true
 made_is_set [] suite is = is
@@ -101,8 +104,7 @@ kind_empty holds.Folder = refl
 
 shown_content : (k : PrefixKind) (prefix : Prefix) (content : Content) → is_some (row_with k prefix (Some content)) ≡ true → content_in (row_with k prefix (Some content)) ≡ content
 shown_content kind.Absent prefix content is = absurd (false≢true is)
-shown_content kind.File prefix content is = refl
-shown_content kind.Folder prefix content is = refl
+shown_content _ prefix content is = refl
 
 -- a row that is the same but for its content, and has this content
 same_row : (a b : Row) (content : Content) → emptied a ≡ emptied b → b.content ≡ content → with_content a content ≡ b

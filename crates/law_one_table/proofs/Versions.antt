@@ -1,11 +1,14 @@
 -- The versions of the table's rows are those of the registers: what follows of copies in effect and of caches.
-use Rattle.law_one_table.proofs.Vocabulary.{◌≡◌, inl, inr, ℕ, ◌<◌, ◌≤◌, Bool, List, ◌++◌, Some, None, refl, sym, ap, subst, ◌∙◌, arith, Contains, Configuration, Content, empty_content, Opening, absent_prefix, Prefix, PrefixKind}
-use Rattle.law_one_table.proofs.Vocabulary.{Replica, Row, head, row_with, Actor, actor_at, Beginning, row, prefix_at, content_at, WasPrefix, WasContent, GoesWith, WasCopy, World, IsQuorum, effect, Logged, none_or_some, beginning}
-use Rattle.law_one_table.proofs.Vocabulary.{machine_of, knowledge_was, register, AllKeepSides, copy_at, HasOne, HasHead, row_at, RowVersions, content_of, Rise, HadRow, PrefixWas, ContentWas, CopyWas, EntryWas, HoldAt, RowsHaveVersions}
-use Rattle.suite_prefix.specs.declared.copies.PrefixKind.TheVariants as kind
+use Rattle.law_one_table.proofs.Vocabulary.{Configuration, Content, empty_content, Opening, absent_prefix, Prefix, PrefixKind, Replica, Row, head, row_with, Actor, actor_at, Beginning, row, prefix_at, content_at, WasPrefix, WasContent}
+use Rattle.law_one_table.proofs.Vocabulary.{GoesWith, WasCopy, World, IsQuorum, effect, beginning, machine_of, register, AllKeepSides, copy_at, HasOne, HasHead}
+use Rattle.std.proofs.Common.{◌≡◌, inl, inr, ℕ, ◌<◌, ◌≤◌, Bool, List, ◌++◌, Some, None, refl, sym, ap, subst, ◌∙◌, arith, Contains}
+use Rattle.law_suite_machine.proofs.Rows.{Logged, none_or_some}
+use Rattle.law_run_knowledge.proofs.Events.{knowledge_was}
+use Rattle.law_one_table.specs.Versions.{row_at, RowVersions, content_of, Rise, HadRow, PrefixWas, ContentWas, CopyWas, EntryWas, HoldAt, RowsHaveVersions}
 use Rattle.weak_cache.specs.Entries.{Entry}
 use Rattle.run_core.specs.declared.event.Event.{Event}
 use Rattle.run_core.specs.Runs.{run}
+use Rattle.suite_prefix.specs.declared.copies.PrefixKind.TheVariants as kind
 use Rattle.law_suite_machine.specs.Registers as registers
 use Rattle.law_run_knowledge.specs.Knowledge as knowledge
 use Rattle.law_one_table.proofs.Shown.{FitsAs, NeverAs, IsShown}
@@ -18,36 +21,30 @@ use Rattle.law_one_table.proofs.Had.{Found, strict, had_all}
 -- all of a row but the content is a prefix's
 head_of : (k : PrefixKind) (prefix : Prefix) (content : Content) → FitsAs k content → head (row_with k prefix (Some content)) ≡ row_with k prefix None
 head_of kind.Absent prefix content fits = refl
-head_of kind.File prefix content fits = ap (λ k. Some (record { owner = prefix.owner; group = prefix.group; acl = prefix.acl; votes = prefix.votes; content = empty_content k })) fits
-head_of kind.Folder prefix content fits = ap (λ k. Some (record { owner = prefix.owner; group = prefix.group; acl = prefix.acl; votes = prefix.votes; content = empty_content k })) fits
+head_of _ prefix content fits = ap (λ k. Some (record { owner = prefix.owner; group = prefix.group; acl = prefix.acl; votes = prefix.votes; content = empty_content k })) fits
 
 -- a row that is there has its content
 content_is : (k : PrefixKind) (prefix : Prefix) (content : Content) → (k ≡ kind.Absent → ⊥) → content_of (row_with k prefix (Some content)) ≡ Some content
 content_is kind.Absent prefix content there = absurd (there refl)
-content_is kind.File prefix content there = refl
-content_is kind.Folder prefix content there = refl
+content_is _ prefix content there = refl
 
 is_there : (k : PrefixKind) (prefix : Prefix) (content : Content) → (k ≡ kind.Absent → ⊥) → (row : Row) × (row_with k prefix (Some content) ≡ Some row)
 is_there kind.Absent prefix content there = absurd (there refl)
-is_there kind.File prefix content there = (record { owner = prefix.owner; group = prefix.group; acl = prefix.acl; votes = prefix.votes; content = content }, refl)
-is_there kind.Folder prefix content there = (record { owner = prefix.owner; group = prefix.group; acl = prefix.acl; votes = prefix.votes; content = content }, refl)
+is_there _ prefix content there = (record { owner = prefix.owner; group = prefix.group; acl = prefix.acl; votes = prefix.votes; content = content }, refl)
 
 no_row : (k : PrefixKind) (prefix : Prefix) (content : Content) (pver dver : ℕ) → NeverAs k pver dver → row_with k prefix (Some content) ≡ None → (pver ≡ 0) × (dver ≡ 0)
 no_row kind.Absent prefix content pver dver never is = never
-no_row kind.File prefix content pver dver never is = absurd cc
-no_row kind.Folder prefix content pver dver never is = absurd cc
+no_row _ prefix content pver dver never is = absurd cc
 
 -- what is at a version above 0 was made
 made_at : (k : PrefixKind) (pver dver : ℕ) → NeverAs k pver dver → k ≡ kind.Absent → (pver ≡ 0) × (dver ≡ 0)
 made_at kind.Absent pver dver never is = never
-made_at kind.File pver dver never is = absurd cc
-made_at kind.Folder pver dver never is = absurd cc
+made_at _ pver dver never is = absurd cc
 
 -- what is at content version 0 was not
 never_made : (k : PrefixKind) (prefix : Prefix) (content : Content) → k ≡ kind.Absent → content_of (row_with k prefix (Some content)) ≡ None
 never_made kind.Absent prefix content is = refl
-never_made kind.File prefix content is = absurd cc
-never_made kind.Folder prefix content is = absurd cc
+never_made _ prefix content is = absurd cc
 
 -- ---- the versions
 

@@ -1,97 +1,48 @@
 -- The names that the proofs of this crate take from elsewhere, each with one meaning here.
-pub use Rattle.std.proofs.Common.{Bool, Contains, Equal, Err, Greater, Less, List, None, Ok, Option, Result, Some, [], ap, append_assoc, arith, cond, false, inl, inr, is_some, option_map, option_to_list, refl, subst, suc, sym, true, zero}
-pub use Rattle.std.proofs.Common.{ℕ, ◌&&◌, ◌++◌, ◌<◌, ◌==◌, ◌||◌, ◌∙◌, ◌∷◌, ◌≡◌, ◌≤◌}
 pub use Rattle.std.proofs.lemmas.Bool.{false≢true}
 pub use Rattle.std.proofs.lemmas.Bool.Decides.{nat_tests}
-pub use Rattle.std.proofs.lemmas.Map.Lookups.{exact_unsigned}
 pub use Rattle.std.proofs.lemmas.Option.{none-some, same_Some}
-pub use Rattle.std.specs.List.{cons_option}
 pub use Rattle.std.specs.Ordering.{is_eq, nat_cmp}
-pub use Rattle.std.specs.declared.cmp.Ordering.{Ordering}
 pub use Rattle.file_exec.proofs.Leading.{changes_by_suite, changes_lead_on}
-pub use Rattle.file_exec.proofs.More.{done_is_the_tables}
-pub use Rattle.file_exec.proofs.Unset.{changes_are_held}
-pub use Rattle.file_exec.specs.Changes.{makes, some, touches}
 pub use Rattle.file_exec.specs.Following.{Edits, Ended, content_in, emptied, head, is_set, seen, sets_content, with_edits}
 pub use Rattle.file_exec.specs.Known.{AgreesWith, Done, IsSo, IsSoAt, exec_of, is_held, known_rows, on_table}
 pub use Rattle.file_exec.specs.KnownSuites.{KnownSuite}
 pub use Rattle.file_exec.specs.Laws.{Tells, TellsAt}
-pub use Rattle.file_exec.specs.declared.edit_log.Edit.{Edit}
-pub use Rattle.file_exec.specs.declared.edit_log.Edit.TheVariants.{Make, SetAcl, SetContent, SetVotes}
 pub use Rattle.file_ops.specs.Rows.{PlainTable, Row, Rows, row_of, with_content}
-pub use Rattle.file_ops.specs.Transactions.{replies, table_after, transaction}
 pub use Rattle.file_ops.specs.declared.answer.Answer.{Answer}
 pub use Rattle.file_ops.specs.declared.refusal.Refusal.{Refusal}
-pub use Rattle.law_run_knowledge.proofs.Events.{knowledge_was}
 pub use Rattle.law_run_machine.proofs.Following.{machines_follow}
 pub use Rattle.law_run_machine.proofs.Joining.{run-append}
-pub use Rattle.law_run_machine.proofs.Kept.{sides_are_kept}
-pub use Rattle.law_run_machine.proofs.Servers.{server_there}
 pub use Rattle.law_run_machine.specs.Deciding.{aim_of, aims, aims_once, begun_events, change_to, decides_first, decides_on, decides_with, decision_by, decision_in, decision_with, first_of, fixed_in, gives_up, is_at_an_end, is_finishing}
 pub use Rattle.law_run_machine.specs.Deciding.{known_by, own_events, tells_aborted, to_write, written_from}
-pub use Rattle.law_run_machine.specs.Laws.{Follows}
 pub use Rattle.law_run_machine.specs.Machines.{answered_events, asked_at_events, asked_events, begin_events, events_of, history_from, history_of, home_in, lack_events, lacks_for_events, machine_from, machine_of, moved, operated_events}
 pub use Rattle.law_run_machine.specs.Machines.{operator_events, servers_of, step_events}
-pub use Rattle.law_run_machine.specs.Sides.{KeepSides}
 pub use Rattle.law_runs.proofs.Answering.{Knows, always_knows, answers_follow_knowledge, none_at}
-pub use Rattle.law_runs.proofs.Asking.{decides, sweep_decides_none}
 pub use Rattle.law_runs.proofs.Executed.{Came, Keeps, answer_as, given_by, set_by}
-pub use Rattle.law_runs.proofs.Table.{one_more, run_one, service_stays, table_one, tables_audit}
-pub use Rattle.law_runs.proofs.Turns.{decides_at, no_decide}
-pub use Rattle.law_runs.proofs.Worlds.{agent_of}
-pub use Rattle.law_runs.specs.Answers.{IsAnsweredAsKnown}
 pub use Rattle.law_server_moves.specs.Laws.{beginning}
-pub use Rattle.law_server_moves.specs.Moves.{first_verdict, left_by_break, moves, prepare_of}
-pub use Rattle.law_server_moves.specs.Preparing.{part_of}
 pub use Rattle.law_server_moves.specs.Views.{Shows, plan_of, verdict_of}
 pub use Rattle.law_suite_machine.proofs.Conclusions.{one_register, quorums_show, superseded, what_was_stays}
-pub use Rattle.law_suite_machine.proofs.Invariant.{Inv}
-pub use Rattle.law_suite_machine.proofs.Places.{at1, one_is}
-pub use Rattle.law_suite_machine.proofs.Rows.{Logged, none_or_some}
-pub use Rattle.law_suite_machine.proofs.Starting.{begins}
-pub use Rattle.law_suite_machine.proofs.Steps.{all_steps}
-pub use Rattle.law_suite_machine.specs.Conditions.{Obeys}
-pub use Rattle.law_suite_machine.specs.Events.{Aim, DecideElsewhere, DecideRead, DecideRefused, DecideWrite, Event, Finish, GiveUp, Held, Lose, Overrule, Prepare, Upgrade, aimed, happens, run}
-pub use Rattle.law_suite_machine.specs.Laws.{QuorumsShowRow, Stays}
+pub use Rattle.law_suite_machine.specs.Events.{DecideRead, DecideRefused, DecideWrite, Event, GiveUp, Held, Lose, Overrule, Upgrade, aimed, happens, run}
 pub use Rattle.law_suite_machine.specs.Machine.{IsQuorum, Verdict, World, begun, effect, is_answered}
 pub use Rattle.law_suite_machine.specs.Registers.{Beginning, Change, Entry, GoesWith, IsBeginning, IsKnown, IsNext, IsPlain, Known, WasContent, WasCopy, WasPrefix, Wrote, changed, content_at, prefix_at, row}
-pub use Rattle.rep_core.specs.Intentions.{Intention}
-pub use Rattle.rep_core.specs.Service.{recorded, reply_of}
-pub use Rattle.rep_core.specs.Serving.{answer_of, is_full}
 pub use Rattle.rep_core.specs.State.{State, record_of, was_answered}
 pub use Rattle.rep_core.specs.Store.{copy_of, left_by, root_copy}
-pub use Rattle.rep_core.specs.declared.reply.Reply.{Reply}
-pub use Rattle.rep_core.specs.declared.request.Part.{Part}
-pub use Rattle.rep_core.specs.declared.request.Request.{Request}
 pub use Rattle.run_core.specs.Decisions.{Decided, answer_in, decided, decided_as, decided_at, decided_by, decisions, decisions_from, task_at, task_of, to_decide}
-pub use Rattle.run_core.specs.TableOfRun.{AnswersAreTheTables, played_on, table_after_all, table_of}
 pub use Rattle.run_core.specs.Worlds.{Actor, actor_at, answered, asks, asks_at, opening, server_at, step, steps_once}
-pub use Rattle.run_core.specs.declared.done.Served.{Served}
 pub use Rattle.run_core.specs.declared.event.Event.TheVariants.{Begin, Crash, Forget, Lack, Return, Step}
 pub use Rattle.sorted_map.specs.SortedMap.{IsOrdered, get}
 pub use Rattle.suite_content.specs.Contents.{empty_content, kind_of}
 pub use Rattle.suite_content.specs.declared.content.Content.{Content}
-pub use Rattle.suite_content.specs.declared.content.Kind.{Kind}
 pub use Rattle.suite_prefix.specs.Absent.{absent_copy, absent_prefix}
-pub use Rattle.suite_prefix.specs.LockModes.{is_exclusive}
 pub use Rattle.suite_prefix.specs.SettingsRules.{Opening}
 pub use Rattle.suite_prefix.specs.declared.copies.Prefix.{Prefix}
 pub use Rattle.suite_prefix.specs.declared.copies.PrefixKind.{PrefixKind}
 pub use Rattle.suite_prefix.specs.declared.copies.Replica.{Replica}
-pub use Rattle.suite_prefix.specs.declared.lock_mode.LockMode.{LockMode}
-pub use Rattle.suite_prefix.specs.declared.lock_mode.LockMode.TheVariants.{Exclusive}
 pub use Rattle.txn_core.proofs.Growing.{IsOfSuite, known_from}
 pub use Rattle.txn_core.specs.Agents.{Taken, begin, fixed_of, next_in, next_of, take}
 pub use Rattle.txn_core.specs.Doing.{Doing, Fixed, Granted, Proposal, Running, RunningSweep, Task, TransactionRun}
-pub use Rattle.txn_core.specs.Laws.{is_decide}
 pub use Rattle.txn_core.specs.Suites.{GatheredSuite, ReadPoint, Suites, known_of, known_row, row_with, suite_of}
-pub use Rattle.txn_core.specs.Sweeps.{asked_now}
-pub use Rattle.txn_core.specs.Transactions.{decision_of}
 pub use Rattle.txn_core.specs.Writing.{change_of, new_prefix, prefix_kind}
-pub use Rattle.txn_core.specs.declared.job.Job.{Job}
-pub use Rattle.txn_core.specs.declared.response.Response.{Response}
-pub use Rattle.txn_core.specs.declared.response.Response.TheVariants.{Lacked, Replied}
 pub use Rattle.vote_core.specs.Quorums.{Configuration}
 pub use Rattle.law_one_table.specs.Effects.{HasHead, HasOne, IsInEffect, answered_in, copy_at}
 pub use Rattle.law_one_table.specs.Tables.{AgentsKnowTheTable, AllKeepSides, AnswersAreOneTables, AuditIsOneTables, OwedIsEnough, RowsAreTheRegisters, register, row_shown}
-pub use Rattle.law_one_table.specs.Versions.{ContentWas, CopyWas, EntryWas, HadRow, HoldAt, PrefixWas, Rise, RowVersions, RowsHaveVersions, content_of, row_at}

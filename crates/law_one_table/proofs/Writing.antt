@@ -1,8 +1,10 @@
 -- A decision leads the table and the registers on to the same rows.
-use Rattle.law_one_table.proofs.Vocabulary.{◌≡◌, ℕ, true, List, Option, Some, None, refl, sym, ap, subst, ◌∙◌, is_some, Result, Ok, Err, nat_cmp, false≢true, get, IsOrdered, Answer, Refusal, Row, Rows, row_of, Exclusive, KnownSuite}
-use Rattle.law_one_table.proofs.Vocabulary.{Ended, with_edits, AgreesWith, is_held, Done, exec_of, TellsAt, changes_lead_on, changes_are_held, ReadPoint, GatheredSuite, Suites, suite_of, known_of, change_of, Granted, Fixed, Task}
-use Rattle.law_one_table.proofs.Vocabulary.{Proposal, known_from, IsOfSuite, given_by, set_by, answer_as, Came, Beginning, Change, changed, row, World, happens, change_to, written_from, first_of, to_write, known_by, decides_with}
-use Rattle.law_one_table.proofs.Vocabulary.{decides_first, decides_on, decision_with}
+use Rattle.law_one_table.proofs.Vocabulary.{nat_cmp, false≢true, get, IsOrdered, Answer, Refusal, Row, Rows, row_of, KnownSuite, Ended, with_edits, AgreesWith, is_held, Done, exec_of, TellsAt, ReadPoint, GatheredSuite, Suites, suite_of}
+use Rattle.law_one_table.proofs.Vocabulary.{known_of, change_of, Granted, Fixed, Task, Proposal, known_from, IsOfSuite, given_by, set_by, answer_as, Came, Beginning, Change, changed, row, World, happens, change_to, written_from, first_of}
+use Rattle.law_one_table.proofs.Vocabulary.{to_write, known_by, decides_with, decides_first, decides_on, decision_with, changes_lead_on}
+use Rattle.std.proofs.Common.{◌≡◌, ℕ, true, List, Option, Some, None, refl, sym, ap, subst, ◌∙◌, is_some, Result, Ok, Err}
+use Rattle.suite_prefix.specs.declared.lock_mode.LockMode.TheVariants.{Exclusive}
+use Rattle.file_exec.proofs.Unset.{changes_are_held}
 use Rattle.file_exec.specs.declared.changes.Change as executor
 use Rattle.file_exec.specs.Changes as changes
 use Rattle.file_exec.specs.Known as known

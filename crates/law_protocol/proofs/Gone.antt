@@ -1,9 +1,10 @@
 -- Moves from a point on come to the step that the function takes, and to no other.
-use Rattle.law_protocol.proofs.Vocabulary.{◌≡◌, ℕ, zero, suc, ◌≤◌, false, List, [], ◌∷◌, Option, Some, None, refl, sym, ap, subst, ◌∙◌, arith, length, nat_cmp_total, IsOrdered-insert, LockMode, Hold, Know, Next, Ask, Current, Short}
-use Rattle.law_protocol.proofs.Vocabulary.{next, Cache, GatheredSuite, Suites, suite_of, with_suite, Granted, Fixed, Task, Gathering, Fetching, Widening, Step, Gathered, on_with, gather, gather_by, widen_by, widen_one, widened}
-use Rattle.law_protocol.proofs.Vocabulary.{widen_all, open_needed, open_suite, or_all, opened, heard_on, raised_or_new, proceed, execute, Stage, Executes, Widens, Asks, Prepares, PreparesAt, GivesUp, Tells, TellsAt, Point, point}
-use Rattle.law_protocol.proofs.Vocabulary.{EndsIn, is_short, Move, opens, fetches, gathers, lacks_lock, refuses, grants, prepares, passes, widens, widens_by, lacks_wide, Moves, stays, goes, step_at, step_from, IsEager, Rises, GoesTo}
-use Rattle.file_exec.specs.declared.executor.Outcome.{Outcome as Executed}
+use Rattle.law_protocol.proofs.Vocabulary.{nat_cmp_total, IsOrdered-insert, Hold, Know, Next, Ask, Current, Short, next, Cache, GatheredSuite, Suites, suite_of, with_suite, step_at, step_from, IsEager, Rises, GoesTo, Outcome as Executed}
+use Rattle.law_protocol.proofs.Vocabulary.{◌≡◌, ℕ, zero, suc, ◌≤◌, false, List, [], ◌∷◌, Option, Some, None, refl, sym, ap, subst, ◌∙◌, arith, length, Granted, Fixed, Task, Gathering, Fetching, Widening}
+use Rattle.suite_prefix.specs.declared.lock_mode.LockMode.{LockMode}
+use Rattle.txn_core.specs.Transactions.{Step, Gathered, on_with, gather, gather_by, widen_by, widen_one, widened, widen_all, open_needed, open_suite, or_all, opened, heard_on, raised_or_new, proceed, execute}
+use Rattle.txn_core.specs.Moves.{Stage, Executes, Widens, Asks, Prepares, PreparesAt, GivesUp, Tells, TellsAt, Point, point, EndsIn, is_short, Move, opens, fetches, gathers, lacks_lock, refuses, grants, prepares, passes, widens, widens_by}
+use Rattle.txn_core.specs.Moves.{lacks_wide, Moves, stays, goes}
 use Rattle.file_exec.specs.declared.executor.Outcome.TheVariants as exec
 use Rattle.law_protocol.proofs.Opened.{missing, missing_few, with_content, next_round, opens_by, round_opens, grows, nothing_opens, one_more}
 
@@ -33,8 +34,7 @@ module _ (fixed : Fixed) (task : Task) where
 
   gathers_on : (cache : Cache) (suites : Suites) (number : ℕ) (coming : Next) → is_short coming ≡ false → gather_by task cache suites number coming ≡ on_with task cache suites (Gathering number)
   gathers_on cache suites number (Short got wanting busy) more = cc
-  gathers_on cache suites number (Ask server asked) more = refl
-  gathers_on cache suites number (Current prefix dver members) more = refl
+  gathers_on cache suites number _ more = refl
 
   widens_on : (cache : Cache) (suites : Suites) (number : ℕ) (left : List ℕ) (granted : Granted) (suite : GatheredSuite) (coming : Next) → suite_of suites number ≡ Some suite → next (widened granted.changes number suite).collector ≡ coming
       → widen_all task cache suites granted (number ∷ left)
@@ -121,8 +121,7 @@ module _ (fixed : Fixed) (task : Task) where
       → raised_or_new fixed task cache number mode (suite_of suites number) ≡ suite
       → (coming : Next) → next suite.collector ≡ coming → GoesTo fixed task (point Executes cache suites) (gather_by task cache (with_suite number suite suites) number coming)
   goes_gather cache suites number mode suite needs new (Short got wanting busy) is = ends_with _ (lacks_lock needs new is) refl (λ number is. cc)
-  goes_gather cache suites number mode suite needs new (Ask server asked) is = ends_with _ (gathers needs new (ap is_short is)) refl (λ number is. cc)
-  goes_gather cache suites number mode suite needs new (Current prefix dver members) is = ends_with _ (gathers needs new (ap is_short is)) refl (λ number is. cc)
+  goes_gather cache suites number mode suite needs new _ is = ends_with _ (gathers needs new (ap is_short is)) refl (λ number is. cc)
 
   goes_proceed : (cache : Cache) (suites : Suites) (heard : Executed) → heard_on fixed task suites ≡ heard → open_needed task (all_at cache suites) heard ≡ None
       → GoesTo fixed task (point Executes cache suites) (proceed fixed task cache suites heard)

@@ -1,10 +1,21 @@
 -- Contents that are to be had without asking are opened until none is left that is needed: each takes one suite from those that have none, so
 -- that as many rounds as there are suites are enough.
-use Rattle.law_protocol.proofs.Vocabulary.{◌≡◌, ℕ, zero, suc, ◌+◌, ◌≤◌, Bool, true, false, cond, List, [], ◌∷◌, Option, Some, None, refl, sym, ap, subst, ◌∙◌, arith, length, is_some, Ok, Err, nat_cmp, is_at, nat_cmp_total}
-use Rattle.law_protocol.proofs.Vocabulary.{length-set_value, same_Some, replace, IsOrdered-insert, insert_present, Content, Answer, Refusal, Need, Know, answered, Known, Heard, Needs, Done, needs_what_is_unmet, ReadPoint}
-use Rattle.law_protocol.proofs.Vocabulary.{GatheredSuite, Suites, suite_of, with_suite, known_of, Fixed, Task, Gathered, free_content, after_search, opened_with, open_first, open_suite, open_needed, or_all, opened, heard_on, known_at}
-use Rattle.law_protocol.proofs.Vocabulary.{Rises}
-use Rattle.file_exec.specs.declared.executor.Outcome.{Outcome as Executed}
+use Rattle.law_protocol.proofs.Vocabulary.{nat_cmp_total, IsOrdered-insert, Content, Know, ReadPoint, GatheredSuite, Suites, suite_of, with_suite, known_of, Rises, Outcome as Executed, ◌≡◌, ℕ, zero, suc, ◌+◌, ◌≤◌, Bool, true, false, cond}
+use Rattle.law_protocol.proofs.Vocabulary.{List, [], ◌∷◌, Option, Some, None, refl, sym, ap, subst, ◌∙◌, arith, length, is_some, Ok, Err, Fixed, Task}
+use Rattle.std.specs.Ordering.{nat_cmp}
+use Rattle.std.specs.BTreeMap.{is_at}
+use Rattle.std.proofs.lemmas.Map.{length-set_value}
+use Rattle.std.proofs.lemmas.Option.{same_Some}
+use Rattle.sorted_map.specs.SortedMap.{replace}
+use Rattle.sorted_map.specs.Edits.{insert_present}
+use Rattle.file_ops.specs.declared.answer.Answer.{Answer}
+use Rattle.file_ops.specs.declared.refusal.Refusal.{Refusal}
+use Rattle.file_exec.specs.declared.need.Need.{Need}
+use Rattle.file_exec.specs.Changes.{answered}
+use Rattle.file_exec.specs.Known.{Known, Heard, Needs, Done}
+use Rattle.file_exec.proofs.Unmet.{needs_what_is_unmet}
+use Rattle.txn_core.specs.Transactions.{Gathered, free_content, after_search, opened_with, open_first, open_suite, open_needed, or_all, opened, heard_on}
+use Rattle.txn_core.proofs.Setting.{known_at}
 use Rattle.file_exec.specs.declared.executor.Outcome.TheVariants as exec
 use Rattle.file_exec.specs.Known as known
 
@@ -54,8 +65,7 @@ module _ (fixed : Fixed) (task : Task) where
 
   need_in : Executed → Option Need
   need_in (exec.Need need) = Some need
-  need_in (exec.Done answers changes) = None
-  need_in (exec.Refused refusal) = None
+  need_in _ = None
 
   needed_first : (known' : Known) (heard : Heard (List Answer) Refusal) (need : Need) → answered known' heard ≡ exec.Need need → heard ≡ Needs need
   unfolding need_in

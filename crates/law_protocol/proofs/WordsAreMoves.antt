@@ -1,9 +1,19 @@
 -- A word, and then moves, come to what the function makes of the word, and to nothing else.
-use Rattle.law_protocol.proofs.Vocabulary.{◌≡◌, ℕ, cond, List, [], ◌∷◌, Option, Some, None, refl, sym, ap, subst, ◌∙◌, nat_cmp_total, IsOrdered-insert, Content, Request, Reply, Verdict, Lack, Said, Next, next, Cache, GatheredSuite}
-use Rattle.law_protocol.proofs.Vocabulary.{Suites, suite_of, with_suite, Response, Replied, Lacked, Lost, Ending, Fixed, Task, Phase, Gathering, Fetching, Widening, Preparing, Finishing, Step, tell_end, give_up, prepare}
-use Rattle.law_protocol.proofs.Vocabulary.{said_to, collected, hear, keep_content, given_in, fetched, heard_of, after_reply, after_lack, after_response, lack_cause, Stage, Executes, Widens, Asks, Point, point, IsOpen, Collects}
-use Rattle.law_protocol.proofs.Vocabulary.{gathering, widening, now_told, AsksNothing, Hears, asks_on, falls_short, settles, loses, gets, misses, prepared_by, unprepared, decides, tells_next, told_all, is_lacked, strays, response_moves}
-use Rattle.law_protocol.proofs.Vocabulary.{step_at, step_from, IsEager, Rises, GoesTo, MovesAreTheProtocol}
+use Rattle.law_protocol.proofs.Vocabulary.{nat_cmp_total, IsOrdered-insert, Content, Next, next, Cache, GatheredSuite, Suites, suite_of, with_suite, step_at, step_from, IsEager, Rises, GoesTo, MovesAreTheProtocol, ◌≡◌, ℕ, cond, List, []}
+use Rattle.law_protocol.proofs.Vocabulary.{◌∷◌, Option, Some, None, refl, sym, ap, subst, ◌∙◌, Fixed, Task, Phase, Gathering, Fetching, Widening, Preparing, Finishing}
+use Rattle.rep_core.specs.declared.request.Request.{Request}
+use Rattle.rep_core.specs.declared.reply.Reply.{Reply}
+use Rattle.rep_core.specs.declared.reply.Verdict.{Verdict}
+use Rattle.rep_core.specs.declared.stamped.Lack.{Lack}
+use Rattle.suite_collect.specs.declared.told.Said.{Said}
+use Rattle.txn_core.specs.declared.response.Response.{Response}
+use Rattle.txn_core.specs.declared.response.Response.TheVariants.{Replied, Lacked}
+use Rattle.txn_core.specs.declared.ending.Cause.TheVariants.{Lost}
+use Rattle.txn_core.specs.declared.ending.Ending.{Ending}
+use Rattle.txn_core.specs.Transactions.{Step, tell_end, give_up, prepare, said_to, collected, hear, keep_content, given_in, fetched, heard_of, after_reply, after_lack, after_response, lack_cause}
+use Rattle.txn_core.specs.Moves.{Stage, Executes, Widens, Asks, Point, point, IsOpen, Collects, gathering, widening, now_told, AsksNothing, Hears, asks_on, falls_short, settles, loses, gets, misses, prepared_by, unprepared, decides}
+use Rattle.txn_core.specs.Moves.{tells_next, told_all, is_lacked, strays}
+use Rattle.txn_core.proofs.Moving.{response_moves}
 use Rattle.law_protocol.proofs.Gone.{comes_to, goes_from}
 
 module _ (fixed : Fixed) (task : Task) (cache : Cache) (suites : Suites) (server : ℕ) (asked : Request) where

@@ -1,10 +1,9 @@
 -- In a run in which nothing disturbs any transaction all of them are decided, but for one that still runs.
-use Rattle.law_run_alone.proofs.Vocabulary.{◌≡◌, ◌⊎◌, inl, inr, ⊎_elim, ℕ, Bool, true, false, List, [], ◌∷◌, ◌++◌, append_assoc, Option, Some, None, refl, sym, ap, subst, ◌∙◌, ◌&&◌, ◌||◌, not, is_some, cons_option, false≢true}
-use Rattle.law_run_alone.proofs.Vocabulary.{and_parts, none-some, same_Some, Identity, Opening, IsAccepted, Op, Has, has_from, contains_from, has_any, Ending, Refused, Job, Transaction, Doing, Running, RunningSweep}
-use Rattle.law_run_alone.proofs.Vocabulary.{fixed_of, is_idle, Event, Begin, EndedJob, Actor, World, opening, actor_at, step, dones, outcomes, run, done_in, decisions, task_of, task_at, dones-append}
-use Rattle.law_run_alone.proofs.Vocabulary.{outcomes-append, number_of, begins_now, ended, append_has_left, append_has_right, EndStands, ends_as, later_decisions, decisions_go_on, CanBe, all_idle, begins_job, begins_alone, jobs_from}
-use Rattle.law_run_alone.proofs.Vocabulary.{jobs_of, one_at_a_time_from, one_at_a_time, IsDecided, IsRunning, AllAreDecided, UndisturbedEndingsAreOne, all_up, no_locks, disturbs, is_decided, begins_clear, some_runs}
-use Rattle.law_run_alone.proofs.Vocabulary.{all_undisturbed_from, all_undisturbed, not-true, append-nil}
+use Rattle.law_run_alone.proofs.Vocabulary.{◌≡◌, ◌⊎◌, inl, inr, ⊎_elim, ℕ, Bool, true, false, List, [], ◌∷◌, ◌++◌, append_assoc, Option, Some, None, refl, sym, ap, subst, ◌∙◌, ◌&&◌, ◌||◌, not, is_some, cons_option, false≢true, and_parts}
+use Rattle.law_run_alone.proofs.Vocabulary.{none-some, same_Some, Identity, Opening, IsAccepted, Op, Has, has_from, contains_from, has_any, Ending, Refused, Job, Transaction, Doing, Running, RunningSweep, fixed_of, is_idle, Event, Begin}
+use Rattle.law_run_alone.proofs.Vocabulary.{EndedJob, Actor, World, opening, actor_at, step, dones, outcomes, run, done_in, decisions, task_of, task_at, dones-append, outcomes-append, number_of, begins_now, ended, append_has_left}
+use Rattle.law_run_alone.proofs.Vocabulary.{append_has_right, EndStands, ends_as, later_decisions, decisions_go_on, CanBe, all_idle, begins_job, begins_alone, jobs_from, jobs_of, one_at_a_time_from, one_at_a_time, IsDecided, IsRunning}
+use Rattle.law_run_alone.proofs.Vocabulary.{AllAreDecided, UndisturbedEndingsAreOne, all_up, no_locks, disturbs, is_decided, begins_clear, some_runs, all_undisturbed_from, all_undisturbed, not-true, append-nil}
 use Rattle.txn_core.specs.declared.ending.Ending.TheVariants.{Answered}
 use Rattle.law_run_alone.proofs.Turns.{with_job, doing_of, doing_at, all_none}
 use Rattle.law_run_alone.proofs.Owns.{IsMine}

@@ -1,7 +1,9 @@
 -- What holds of every run in which jobs go one at a time.
-use Rattle.law_run_alone.proofs.Vocabulary.{◌≡◌, ◌≢◌, ⊎_elim, ℕ, true, List, [], ◌∷◌, ◌++◌, append_assoc, Option, Some, None, refl, sym, ap, subst, ◌∙◌, map, option_to_list, cons_option, and_parts, map-append, filter_map-append}
-use Rattle.law_run_alone.proofs.Vocabulary.{Opening, IsAccepted, Job, Doing, Agent, fixed_of, Event, EndedJob, Actor, World, opening, actor_at, step, after, dones, outcomes, run, Decided, decided, decisions, decisions_from, ended}
-use Rattle.law_run_alone.proofs.Vocabulary.{Holds, agent_of, event_holds, cons_is, holds_at_first, fresh_agents, begins_job, begins_alone, jobs_from, jobs_of, one_at_a_time_from, one_at_a_time, decided_ending, decided_endings, append-nil}
+use Rattle.law_run_alone.proofs.Vocabulary.{◌≡◌, ◌≢◌, ⊎_elim, ℕ, true, List, [], ◌∷◌, ◌++◌, append_assoc, Option, Some, None, refl, sym, ap, subst, ◌∙◌, map, option_to_list, cons_option, and_parts, Opening, IsAccepted, Job, Doing, Agent}
+use Rattle.law_run_alone.proofs.Vocabulary.{fixed_of, Event, EndedJob, Actor, World, opening, actor_at, step, after, dones, outcomes, run, Decided, decided, decisions, decisions_from, ended, Holds, agent_of, event_holds, cons_is}
+use Rattle.law_run_alone.proofs.Vocabulary.{holds_at_first, fresh_agents, begins_job, begins_alone, jobs_from, jobs_of, one_at_a_time_from, one_at_a_time, decided_ending, decided_endings, append-nil}
+use Rattle.std.proofs.lemmas.List.{map-append}
+use Rattle.std.proofs.lemmas.List.Elements.{filter_map-append}
 use Rattle.law_run_alone.proofs.Verdicts.{Asked, asked_of, answer_to, answered, undecided}
 use Rattle.law_run_alone.proofs.Along.{Along, along_more, along_less}
 use Rattle.law_run_alone.proofs.Turns.{doing_of, doing_at, transactions_of, transaction_in, Goes, event_goes}

@@ -1,8 +1,8 @@
 -- As long as one transaction alone has a job and all servers are up, nothing is in its way.
-use Rattle.law_run_alone.proofs.Vocabulary.{◌≡◌, ◌≢◌, inl, inr, ⊎_elim, ℕ, zero, suc, true, false, cond, List, [], ◌∷◌, Option, Some, None, refl, sym, ap, subst, ◌∙◌, arith, ◌==◌, not, length, slice_get, cons_option, and_parts}
-use Rattle.law_run_alone.proofs.Vocabulary.{eqb-true, none-some, same_Some, Identity, Opening, Op, Lock, Request, Stamped, is_busy, is_down, State, is_full, answer_of, Has, all_at, Job, Transaction, Fixed, fixed_of, next_in, next_of}
-use Rattle.law_run_alone.proofs.Vocabulary.{begin, Event, Begin, Step, Crash, Return, Served, EndedJob, Actor, World, server_at, actor_at, serve, answered, becomes, asks_at, asks, steps_once, step, after, run, Decided}
-use Rattle.law_run_alone.proofs.Vocabulary.{decisions, begins_now, ended, same_or, Holds, event_holds, puts_in, holds_of, all_idle, begins_job, jobs_from, all_up, no_locks, is_crash, none_crashes, NothingIsInTheWay}
+use Rattle.law_run_alone.proofs.Vocabulary.{◌≡◌, ◌≢◌, inl, inr, ⊎_elim, ℕ, zero, suc, true, false, cond, List, [], ◌∷◌, Option, Some, None, refl, sym, ap, subst, ◌∙◌, arith, ◌==◌, not, length, slice_get, cons_option, and_parts, eqb-true}
+use Rattle.law_run_alone.proofs.Vocabulary.{none-some, same_Some, Identity, Opening, Op, Lock, Request, Stamped, is_busy, is_down, State, is_full, answer_of, Has, all_at, Job, Transaction, Fixed, fixed_of, next_in, next_of, begin, Event}
+use Rattle.law_run_alone.proofs.Vocabulary.{Begin, Step, Crash, Return, Served, EndedJob, Actor, World, server_at, actor_at, serve, answered, becomes, asks_at, asks, steps_once, step, after, run, Decided, decisions, begins_now, ended}
+use Rattle.law_run_alone.proofs.Vocabulary.{same_or, Holds, event_holds, puts_in, holds_of, all_idle, begins_job, jobs_from, all_up, no_locks, is_crash, none_crashes, NothingIsInTheWay}
 use Rattle.law_run_alone.proofs.Own.{AreOwn, not_busy, not_down}
 use Rattle.law_run_alone.proofs.Turns.{doing_of, doing_at, with_job, all_none}
 use Rattle.law_run_alone.proofs.Owns.{IsMine, Owns, IsCalm, polls_named, names_mine, event_owns, begun_owns}

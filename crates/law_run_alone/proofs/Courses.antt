@@ -1,10 +1,15 @@
 -- What the edits of a transaction are: rows are made at its own numbers alone, lists fit the rows that they are set of, and contents are within
 -- limits where those are that it meets.
-use Rattle.law_run_alone.proofs.Vocabulary.{◌≡◌, ℕ, suc, ◌+◌, ◌≤◌, ◌<◌, true, false, cond, List, [], ◌∷◌, Option, Some, None, Ok, refl, sym, ap, subst, ◌∙◌, arith, ◌==◌, ◌&&◌, ◌||◌, nat_lt, nat_le, length, is_some, Less, match_ordering}
-use Rattle.law_run_alone.proofs.Vocabulary.{false≢true, nat_tests, none-some, same_Some, Identity, Content, Bytes, Names, Kind, empty_content, max_names, length-without_name, is_within_limits, Answer, Action, Op, Service}
-use Rattle.law_run_alone.proofs.Vocabulary.{max_operations, names_in, Row, made_number, Edit, SetAcl, SetVotes, SetContent, Make, makes, Edits, changed, seen, sets_content, is_set, content_in, content_read, Ended, Known, AgreesWith}
-use Rattle.law_run_alone.proofs.Vocabulary.{Done, exec_of, Licensed, writes_bytes, changes_lists, changes_votes, adds_name, makes_row, drops_name, AllLicensed, edits_are_licensed}
-use Rattle.std.specs.declared.cmp.Ordering.TheVariants.{Equal, Greater}
+use Rattle.law_run_alone.proofs.Vocabulary.{◌≡◌, ℕ, suc, ◌+◌, ◌≤◌, ◌<◌, true, false, cond, List, [], ◌∷◌, Option, Some, None, Ok, refl, sym, ap, subst, ◌∙◌, arith, ◌==◌, ◌&&◌, ◌||◌, nat_lt, nat_le, length, is_some, match_ordering}
+use Rattle.law_run_alone.proofs.Vocabulary.{false≢true, nat_tests, none-some, same_Some, Identity, Content, Bytes, Names, Kind, empty_content, is_within_limits, Answer, Op, Service, Row, made_number, Edit, SetAcl, SetVotes, SetContent}
+use Rattle.law_run_alone.proofs.Vocabulary.{Make, makes, Edits, changed, seen, sets_content, is_set, content_in, content_read, Ended, Known, AgreesWith, Done, exec_of, edits_are_licensed}
+use Rattle.std.specs.declared.cmp.Ordering.TheVariants.{Less, Equal, Greater}
+use Rattle.suite_content.specs.Limits.{max_names}
+use Rattle.suite_content.specs.FolderLaws.{length-without_name}
+use Rattle.file_ops.specs.declared.operation.Action.{Action}
+use Rattle.file_ops.specs.Limits.{max_operations}
+use Rattle.file_ops.specs.Walks.{names_in}
+use Rattle.file_exec.specs.Licensed.{Licensed, writes_bytes, changes_lists, changes_votes, adds_name, makes_row, drops_name, AllLicensed}
 use Rattle.suite_content.specs.declared.content.Kind.TheVariants as holds
 use Rattle.suite_content.specs.Folders as folders
 use Rattle.law_run_alone.proofs.FittingLists.{SetsFitting, AllSetFitting, looked_fit, made_fit}

@@ -1,6 +1,6 @@
 -- The endings are the table's.
-use Rattle.law_run_alone.proofs.Vocabulary.{◌≡◌, ◌≤◌, List, [], ◌∷◌, Option, Some, refl, sym, ap, ◌∙◌, arith, map, length, PlainTable, Verdict, Doing, Running, run, Decided, decisions, table_with}
-use Rattle.law_run_alone.proofs.Vocabulary.{AnswersAreTheTables, tables_endings, EndingsAreTheTables, answers_are_the_tables}
+use Rattle.law_run_alone.proofs.Vocabulary.{◌≡◌, ◌≤◌, List, [], ◌∷◌, Option, Some, refl, sym, ap, ◌∙◌, arith, map, length, PlainTable, Verdict, Doing, Running, run, Decided, decisions, table_with, AnswersAreTheTables, tables_endings}
+use Rattle.law_run_alone.proofs.Vocabulary.{EndingsAreTheTables, answers_are_the_tables}
 use Rattle.file_ops.specs.Rows as rows
 use Rattle.rep_core.specs.declared.reply.Verdict.TheVariants as verdict
 use Rattle.law_run_alone.proofs.Verdicts.{answer_to, answers_of, said_in, answered}

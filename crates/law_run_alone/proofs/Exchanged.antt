@@ -1,21 +1,20 @@
 -- What the agent of a transaction was told since it began, where nothing was in its way: it ends decided, or for want of votes, or since its home is down.
 use Rattle.law_run_alone.proofs.Vocabulary.{◌≡◌, ◌⊎◌, inl, inr, ⊎_elim, ℕ, zero, suc, ◌+◌, ◌<◌, ◌≤◌, Bool, true, false, cond, List, [], ◌∷◌, ◌++◌, Option, Some, None, refl, sym, ap, subst, ◌∙◌, arith, ◌==◌, ◌&&◌, ◌||◌, not, and_parts}
 use Rattle.law_run_alone.proofs.Vocabulary.{false≢true, nat_tests, none-some, same_Some, Identity, Op, Representative, Configuration, votes_in, total_votes, IsValid, Request, Reply, fits, is_busy, is_down, is_lost, Has, has_from}
-use Rattle.law_run_alone.proofs.Vocabulary.{contains_from, Said, Prefix, LockMode, Shared, Exclusive, mode_of, needed_of, Cause, Undecided, Job, Transaction, Response, Replied, Lacked, Fixed, said_to, is_poll, Exchange, exchange_of}
-use Rattle.law_run_alone.proofs.Vocabulary.{of_job, all_fit, fits_response, locks, heard_in, busy_at, first_busy_in, has_said, is_said, refusing, holding, is_decide, told_of, told_by, more_told, IsStart, stands_on_locks, says_down}
-use Rattle.law_run_alone.proofs.Vocabulary.{says_aborted, is_lack, is_finish, loses, stops, Was, DidNotServe, IsShort, IsCaused, Agent, Take, next_of, take, begin, forget, is_idle, after_all, after_event, exchanges-take}
-use Rattle.law_run_alone.proofs.Vocabulary.{exchanges-forget, ends_are_caused, has_append, JobGivesValidVotes}
+use Rattle.law_run_alone.proofs.Vocabulary.{contains_from, Said, Prefix, LockMode, Shared, Exclusive, mode_of, needed_of, Cause, Undecided, Job, Transaction, Response, Replied, Lacked, Fixed, said_to, is_poll, Exchange, exchange_of, of_job}
+use Rattle.law_run_alone.proofs.Vocabulary.{all_fit, fits_response, locks, heard_in, busy_at, first_busy_in, has_said, is_said, refusing, holding, is_decide, told_of, told_by, more_told, IsStart, stands_on_locks, says_down, says_aborted}
+use Rattle.law_run_alone.proofs.Vocabulary.{is_lack, is_finish, loses, stops, Was, DidNotServe, IsShort, IsCaused, Agent, Take, next_of, take, begin, forget, is_idle, after_all, after_event, has_append, JobGivesValidVotes, Lack as Why}
+use Rattle.txn_core.proofs.Upheld.{exchanges-take, exchanges-forget, after-append}
+use Rattle.txn_core.proofs.Undecided.{ends_are_caused}
+use Rattle.suite_collect.specs.declared.told.Told.{Told}
+use Rattle.txn_core.specs.Laws.{first_of, task_of}
+use Rattle.txn_core.specs.Agents.{Forget}
 use Rattle.rep_core.specs.declared.reply.Reply.TheVariants as reply
 use Rattle.rep_core.specs.declared.reply.Verdict.TheVariants as verdict
-use Rattle.rep_core.specs.declared.stamped.Lack.{Lack as Why}
 use Rattle.rep_core.specs.declared.stamped.Lack.TheVariants as lack
 use Rattle.suite_collect.specs.declared.told.Said.TheVariants as told
-use Rattle.suite_collect.specs.declared.told.Told.{Told}
 use Rattle.txn_core.specs.declared.ending.Cause.TheVariants as cause
-use Rattle.txn_core.specs.Laws.{first_of, task_of}
 use Rattle.txn_core.specs.Agents as agents
-use Rattle.txn_core.specs.Agents.{Forget}
-use Rattle.txn_core.proofs.Upheld.{after-append}
 use Rattle.law_run_alone.proofs.Votes.{HasValidVotes, start_valid, AllSayValid, newest_valid, set_votes_valid}
 
 -- ---- replies in which nothing is in the way

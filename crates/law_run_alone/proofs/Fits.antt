@@ -1,14 +1,15 @@
 -- A part of a Prepare fits the copy that a server has, where its locks stand and the register is known.
 use Rattle.law_run_alone.proofs.Vocabulary.{◌≡◌, inl, inr, ℕ, ◌+◌, ◌<◌, Bool, true, false, cond, List, map, Option, Some, None, refl, sym, ap, ◌∙◌, arith, ◌&&◌, ◌||◌, not, nat_lt, is_some, and_parts, and_from, false≢true, nat_tests}
-use Rattle.law_run_alone.proofs.Vocabulary.{Content, Bytes, Names, Kind, kind_of, empty_content, held_by, keeps_rules, is_valid_prefix, is_valid_copy, is_absent, is_within_limits, is_empty, version_agrees, is_exclusive, Shared}
-use Rattle.law_run_alone.proofs.Vocabulary.{Exclusive, Prefix, PrefixKind, Replica, is_keep, may_become, goes_with, Has, is_misplaced, known_rows, ReadPoint, GatheredSuite, Suites, holds_exclusively, lock_mode, known_of, prefix_kind}
-use Rattle.law_run_alone.proofs.Vocabulary.{sets_prefix, one_if, new_prefix, new_copy, has_vote, takes_whole, take_of_changed, take_from, Beginning, Entry, transaction, IsKnown, row, WasPrefix, GoesWith, known_by}
+use Rattle.law_run_alone.proofs.Vocabulary.{Content, Bytes, Names, Kind, kind_of, empty_content, keeps_rules, is_valid_prefix, is_valid_copy, is_absent, is_within_limits, is_empty, version_agrees, is_exclusive, Shared, Exclusive, Prefix}
+use Rattle.law_run_alone.proofs.Vocabulary.{PrefixKind, Replica, is_keep, may_become, goes_with, Has, is_misplaced, known_rows, ReadPoint, GatheredSuite, Suites, holds_exclusively, lock_mode, known_of, prefix_kind, sets_prefix, one_if}
+use Rattle.law_run_alone.proofs.Vocabulary.{new_prefix, new_copy, has_vote, takes_whole, take_of_changed, take_from, Beginning, Entry, transaction, IsKnown, row, WasPrefix, GoesWith, known_by}
+use Rattle.suite_prefix.specs.Copies.{held_by}
+use Rattle.law_headline.proofs.Fair.{Leaves}
 use Rattle.suite_content.specs.declared.content.Kind.TheVariants as holds
 use Rattle.suite_prefix.specs.Tests as tests
 use Rattle.suite_prefix.specs.declared.copies.PrefixKind.TheVariants as kind
 use Rattle.rep_core.specs.declared.request.Take.TheVariants as take
 use Rattle.file_exec.specs.declared.changes.Change as executor
-use Rattle.law_headline.proofs.Fair.{Leaves}
 use Rattle.law_run_alone.proofs.Courses.{AreSmall}
 use Rattle.law_run_alone.proofs.Sets.{IsOwn}
 use Rattle.law_run_alone.proofs.Grown.{Grown, is_fresh}

@@ -1,7 +1,8 @@
 -- A file has no default list: so it is of each row that a transaction sets, where it is of the row that was there.
-use Rattle.law_run_alone.proofs.Vocabulary.{◌≡◌, ℕ, true, false, cond, List, [], ◌∷◌, Option, Some, None, refl, sym, ap, subst, ◌∙◌, ◌==◌, nat_lt, not, is_some, and_parts, eqb-true, none-some, same_Some, Identity, Lists}
-use Rattle.law_run_alone.proofs.Vocabulary.{Configuration, Content, Kind, kind_of, keeps_rules, is_valid_prefix, Prefix, Init, gives_default, is_misplaced, lists_of, Row, new_row, Edit, SetAcl, SetVotes, SetContent, Make}
-use Rattle.law_run_alone.proofs.Vocabulary.{Edits, changed, seen, emptied, head, looked, ReadPoint, GatheredSuite, row_with, prefix_kind, FitsAs, FitsRow, AllFit, head_of, not-true, kind_empty}
+use Rattle.law_run_alone.proofs.Vocabulary.{◌≡◌, ℕ, true, false, cond, List, [], ◌∷◌, Option, Some, None, refl, sym, ap, subst, ◌∙◌, ◌==◌, nat_lt, not, is_some, and_parts, eqb-true, none-some, same_Some, Identity, Lists, Configuration}
+use Rattle.law_run_alone.proofs.Vocabulary.{Content, Kind, kind_of, keeps_rules, is_valid_prefix, Prefix, gives_default, is_misplaced, lists_of, Row, new_row, Edit, SetAcl, SetVotes, SetContent, Make, Edits, changed, seen, emptied, head}
+use Rattle.law_run_alone.proofs.Vocabulary.{looked, ReadPoint, GatheredSuite, row_with, prefix_kind, FitsAs, FitsRow, AllFit, head_of, not-true, kind_empty}
+use Rattle.file_ops.specs.declared.operation.Init.{Init}
 use Rattle.acl_core.specs.declared.entry.Entry.{Entry}
 use Rattle.suite_content.specs.declared.content.Kind.TheVariants as holds
 use Rattle.file_ops.specs.declared.operation.Init.TheVariants as init

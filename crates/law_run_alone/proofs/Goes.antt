@@ -1,11 +1,12 @@
 -- A transaction whose agent alone asks servers, with the machine of each suite, at any moment: what it asks finds the locks that it stands on, and what it is replied is free.
-use Rattle.law_run_alone.proofs.Vocabulary.{◌≡◌, ℕ, Bool, true, false, List, [], ◌∷◌, ◌++◌, append_assoc, Option, Some, None, refl, sym, ap, subst, ◌∙◌, none-some, Identity, IsValid, Opening, Op, Request, is_lost, copy_of, State}
-use Rattle.law_run_alone.proofs.Vocabulary.{reply_of, Transaction, Fixed, TransactionRun, Doing, Running, RunningSweep, stands_on_locks, fixed_of, next_in, next_of, Event, Begin, Step, Crash, Return}
-use Rattle.law_run_alone.proofs.Vocabulary.{Actor, server_at, actor_at, step, run, decisions, names, ended, Holds, holds_of, machine_of, machine_one, CanBe, begins_job}
-use Rattle.rep_core.specs.declared.reply.Verdict.TheVariants as verdict
-use Rattle.run_core.specs.Worlds as worlds
+use Rattle.law_run_alone.proofs.Vocabulary.{◌≡◌, ℕ, Bool, true, false, List, [], ◌∷◌, ◌++◌, append_assoc, Option, Some, None, refl, sym, ap, subst, ◌∙◌, none-some, Identity, IsValid, Opening, Op, Request, is_lost, copy_of, State, reply_of}
+use Rattle.law_run_alone.proofs.Vocabulary.{Transaction, Fixed, TransactionRun, Doing, Running, RunningSweep, stands_on_locks, fixed_of, next_in, next_of, Event, Begin, Step, Crash, Return, Actor, server_at, actor_at, step, run, decisions}
+use Rattle.law_run_alone.proofs.Vocabulary.{names, ended, Holds, holds_of, machine_of, CanBe, begins_job}
+use Rattle.law_one_table.proofs.Running.{machine_one}
 use Rattle.law_suite_machine.specs.Machine.{World}
 use Rattle.law_run_machine.specs.Machines.{moved}
+use Rattle.rep_core.specs.declared.reply.Verdict.TheVariants as verdict
+use Rattle.run_core.specs.Worlds as worlds
 use Rattle.law_run_alone.proofs.Own.{IsOwnAt, up_where}
 use Rattle.law_run_alone.proofs.Turns.{doing_of, doing_at}
 use Rattle.law_run_alone.proofs.Owns.{IsMine, Owns, IsCalm, names_mine, event_owns, begun_owns}

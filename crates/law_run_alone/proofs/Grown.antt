@@ -1,16 +1,17 @@
 -- What the register of a suite has been: all its prefixes are of one kind, but for what was never made; and only the transaction whose number it has made it.
-use Rattle.law_run_alone.proofs.Vocabulary.{◌≡◌, ◌⊎◌, inl, inr, ℕ, zero, suc, ◌≤◌, ◌<◌, Bool, true, false, cond, List, [], ◌∷◌, map, Option, Some, None, Ok, Err, refl, sym, ap, subst, ◌∙◌, arith, ◌==◌, nat_eq, AllByRecursion}
-use Rattle.law_run_alone.proofs.Vocabulary.{false≢true, nat_tests, kind_of, Opening, absent_copy, Prefix, Absent, Replica, IsValid, root_copy, Has, max_operations, made_number, ReadPoint, GatheredSuite, suite_of, change_of, prefix_kind}
-use Rattle.law_run_alone.proofs.Vocabulary.{Proposal, Deciding, Phase, TransactionRun, Doing, Running, changes_of, Agent, fixed_of, Step}
-use Rattle.law_run_alone.proofs.Vocabulary.{Actor, actor_at, Decided, Beginning, Entry, Read, Wrote, transaction, IsKnown, IsNext, IsPlain, row, prefix_at, happens, at1, Inv, beginning, known_by, change_to, written_from, first_of}
-use Rattle.law_run_alone.proofs.Vocabulary.{decides_with, decides_without, decides_first, decides_on, decision_in, decision_by, LogIs, decision_of_actor, decision_at, AllValid, ValidOr, CameWell, came_well, HoldsItsKind, known_fits}
+use Rattle.law_run_alone.proofs.Vocabulary.{◌≡◌, ◌⊎◌, inl, inr, ℕ, zero, suc, ◌≤◌, ◌<◌, Bool, true, false, cond, List, [], ◌∷◌, map, Option, Some, None, Ok, Err, refl, sym, ap, subst, ◌∙◌, arith, ◌==◌, nat_eq, AllByRecursion, false≢true}
+use Rattle.law_run_alone.proofs.Vocabulary.{nat_tests, kind_of, Opening, absent_copy, Prefix, Replica, IsValid, root_copy, Has, made_number, ReadPoint, GatheredSuite, suite_of, change_of, prefix_kind, Proposal, Deciding, Phase}
+use Rattle.law_run_alone.proofs.Vocabulary.{TransactionRun, Doing, Running, changes_of, Agent, fixed_of, Step, Actor, actor_at, Decided, at1, Inv, beginning, known_by, change_to, written_from, first_of, decides_with, decides_without}
+use Rattle.law_run_alone.proofs.Vocabulary.{decides_first, decides_on, decision_in, decision_by, LogIs, decision_of_actor, decision_at, AllValid, ValidOr, CameWell, came_well, HoldsItsKind, known_fits}
+use Rattle.suite_prefix.specs.declared.copies.PrefixKind.TheVariants.{Absent}
+use Rattle.file_ops.specs.Limits.{max_operations}
+use Rattle.law_suite_machine.specs.Events.{happens, Event}
 use Rattle.std.specs.List.{IsDistinct}
+use Rattle.law_suite_machine.specs.Registers.{Known, changed, Beginning, Entry, Read, Wrote, transaction, IsKnown, IsNext, IsPlain, row, prefix_at}
+use Rattle.law_suite_machine.specs.Machine.{World}
 use Rattle.file_exec.specs.declared.changes.Change as executor
 use Rattle.run_core.specs.declared.event.Event as happening
 use Rattle.run_core.specs.Worlds as worlds
-use Rattle.law_suite_machine.specs.Registers.{Known, changed}
-use Rattle.law_suite_machine.specs.Machine.{World}
-use Rattle.law_suite_machine.specs.Events.{Event}
 use Rattle.law_run_alone.proofs.Courses.{IsNumber}
 use Rattle.law_run_alone.proofs.Sets.{IsOwn, came_own}
 

@@ -1,20 +1,19 @@
 -- As long as one transaction alone asks servers and none crashes, the locks that it was told of stand, until it tells how it ended.
-use Rattle.law_run_alone.proofs.Vocabulary.{◌≡◌, inl, inr, ℕ, Bool, true, false, cond, List, [], ◌∷◌, ◌++◌, Option, Some, None, refl, sym, ap, subst, ◌∙◌, slice_get, slice_set, Opening, Request, Stamped, State, reply_of, is_full}
-use Rattle.law_run_alone.proofs.Vocabulary.{answer_of, Job, Response, Replied, Lacked, Ending, Reply, Cache, Suites, suite_of, parts_at, Fixed, Task, home_of, Phase, Gathering, Fetching, Widening, Preparing, Deciding, Finishing}
-use Rattle.law_run_alone.proofs.Vocabulary.{SweepRun, Doing, Running, RunningSweep, After, GoesOn, Ends, tell_end, after_response, request_in, changes_of, decision_of, Agent, fixed_of, next_in, next_of, left, take_in, take, begin}
-use Rattle.law_run_alone.proofs.Vocabulary.{forget, asks_same, asked_as, fetched_as, Event, Begin, Step, Crash, Return, Forget, Lack, Actor, server_at, actor_at, serve, answered, becomes, asks_at, asks, steps_once, lacks_for, lacks}
-use Rattle.law_run_alone.proofs.Vocabulary.{operated, operates, step, begins_now, at_puts, puts_in, moves, beginning, decision_by, own_events, home_in, response_events, begin_events, answered_events, asked_at_events, asked_events}
-use Rattle.law_run_alone.proofs.Vocabulary.{step_events, lacks_for_events, lack_events, operated_events, operator_events}
+use Rattle.law_run_alone.proofs.Vocabulary.{◌≡◌, inl, inr, ℕ, Bool, true, false, cond, List, [], ◌∷◌, ◌++◌, Option, Some, None, refl, sym, ap, subst, ◌∙◌, slice_get, slice_set, Opening, Request, Stamped, State, reply_of, is_full, answer_of}
+use Rattle.law_run_alone.proofs.Vocabulary.{Job, Response, Replied, Lacked, Ending, Reply, Cache, Suites, suite_of, parts_at, Fixed, Task, home_of, Phase, Gathering, Fetching, Widening, Preparing, Deciding, Finishing, SweepRun, Doing}
+use Rattle.law_run_alone.proofs.Vocabulary.{Running, RunningSweep, After, GoesOn, Ends, tell_end, after_response, request_in, changes_of, decision_of, Agent, fixed_of, next_in, next_of, left, take_in, take, begin, forget, asks_same}
+use Rattle.law_run_alone.proofs.Vocabulary.{asked_as, fetched_as, Event, Begin, Step, Crash, Return, Forget, Actor, server_at, actor_at, serve, answered, becomes, asks_at, asks, steps_once, lacks_for, lacks, operated, operates, step}
+use Rattle.law_run_alone.proofs.Vocabulary.{begins_now, at_puts, puts_in, moves, beginning, decision_by, own_events, Lack as Why}
+use Rattle.run_core.specs.declared.event.Event.TheVariants.{Lack}
+use Rattle.law_suite_machine.specs.Machine.{World}
+use Rattle.law_suite_machine.specs.Events.{run}
+use Rattle.law_run_machine.specs.Machines.{moved, home_in, response_events, begin_events, answered_events, asked_at_events, asked_events, step_events, lacks_for_events, lack_events, operated_events, operator_events}
 use Rattle.rep_core.specs.declared.request.Request.TheVariants as request
-use Rattle.rep_core.specs.declared.stamped.Lack.{Lack as Why}
 use Rattle.rep_core.specs.declared.stamped.Lack.TheVariants as lack
 use Rattle.rep_core.specs.declared.reply.Verdict as replied
 use Rattle.txn_core.specs.Sweeps as sweep
 use Rattle.run_core.specs.Worlds as worlds
-use Rattle.law_suite_machine.specs.Machine.{World}
 use Rattle.law_suite_machine.specs.Events as machine
-use Rattle.law_suite_machine.specs.Events.{run}
-use Rattle.law_run_machine.specs.Machines.{moved}
 use Rattle.law_run_alone.proofs.Turns.{with_job}
 use Rattle.law_run_alone.proofs.Walks.{begun_same}
 use Rattle.law_run_alone.proofs.Owns.{IsCalm}

@@ -1,14 +1,17 @@
 -- Where the locks of a transaction stand, what it knows of a suite is what the suite's register holds; and the register holds what some copy does.
 use Rattle.law_run_alone.proofs.Vocabulary.{◌≡◌, ◌≢◌, inl, inr, ℕ, ◌≤◌, IsTrue, true, false, cond, List, Option, Some, None, refl, sym, ap, subst, ◌∙◌, arith, ◌&&◌, nat_le, not, nat_cmp, and_parts, false≢true, nat_tests, get, votes_in}
 use Rattle.law_run_alone.proofs.Vocabulary.{IsValid, Content, Opening, is_valid_prefix, is_valid_copy, is_within_limits, version_agrees, Prefix, Replica, Store, IsSound, is_sound, is_used_up, copy_of, left_by, all_told, ReadPoint}
-use Rattle.law_run_alone.proofs.Vocabulary.{GatheredSuite, suite_of, told_in, TransactionRun, Running, fixed_of, Actor, actor_at, Beginning, Entry, row, prefix_at, content_at, empty_of, GoesWith, IsKnown, Told, Answered, IsQuorum}
-use Rattle.law_run_alone.proofs.Vocabulary.{is_answered, in_effect, effect, effect_held, Logged, within_row, Inv, quorums_show, plan_of, beginning, showed, showed_to, known_by, servers_of, OwesKnown, suite_was, known_prefix}
-use Rattle.law_run_alone.proofs.Vocabulary.{known_content, told_to, Agrees, DoingAgrees, valid_was, knows_from_a_quorum, firsts_given, Together}
+use Rattle.law_run_alone.proofs.Vocabulary.{GatheredSuite, suite_of, told_in, TransactionRun, Running, fixed_of, Actor, actor_at, Beginning, Entry, row, prefix_at, content_at, empty_of, GoesWith, IsKnown, effect_held, Inv, plan_of}
+use Rattle.law_run_alone.proofs.Vocabulary.{beginning, showed, showed_to, known_by, servers_of, OwesKnown, suite_was, known_prefix, known_content, told_to, Agrees, DoingAgrees, valid_was, knows_from_a_quorum, Together}
+use Rattle.law_suite_machine.specs.Machine.{Told, Answered, IsQuorum, is_answered, in_effect, effect, World, Verdict}
+use Rattle.law_suite_machine.proofs.Rows.{Logged}
+use Rattle.law_suite_machine.proofs.Knowing.{within_row}
+use Rattle.law_suite_machine.proofs.Conclusions.{quorums_show}
+use Rattle.law_headline.proofs.Firsts.{firsts_given}
 use Rattle.suite_prefix.specs.Tests.{holds}
+use Rattle.law_suite_machine.specs.Registers.{Known}
 use Rattle.rep_core.specs.Intentions as server
 use Rattle.run_core.specs.Worlds as worlds
-use Rattle.law_suite_machine.specs.Registers.{Known}
-use Rattle.law_suite_machine.specs.Machine.{World, Verdict}
 use Rattle.law_run_alone.proofs.Standing.{Stands}
 
 -- ---- what is known

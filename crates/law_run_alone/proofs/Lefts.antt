@@ -1,11 +1,13 @@
 -- A transaction prepares at servers that told it of a lock alone.
-use Rattle.law_run_alone.proofs.Vocabulary.{◌≡◌, inr, ℕ, true, false, cond, List, [], ◌∷◌, Option, Some, None, refl, sym, subst, ◌*◌, ◌+◌, ◌&&◌, nat_lt, false≢true, max_servers, is_prepared, Request, Verdict, Has, has_filter, Cache}
-use Rattle.law_run_alone.proofs.Vocabulary.{Suites, has_locks, Response, Replied, Lacked, Job, Transaction, Sweep, Cause, Lost, Ending, Undecided, Fixed, Task, Proposal, Phase, Gathering, Fetching, Widening, Preparing, Deciding}
-use Rattle.law_run_alone.proofs.Vocabulary.{Finishing, TransactionRun, SweepRun, Doing, Running, RunningSweep, After, GoesOn, Ends, execute, tell_end, give_up, prepare, locked_at, numbers_from, lack_cause, after_response, verdict_in}
-use Rattle.law_run_alone.proofs.Vocabulary.{ending_by, cause_of_abort, Agent, Take, next_of, take_in, take, begin, started, forget, is_idle, has_sense, max_jobs, left, after_all, IsEarly, goes_response, goes_execute}
+use Rattle.law_run_alone.proofs.Vocabulary.{◌≡◌, inr, ℕ, true, false, cond, List, [], ◌∷◌, Option, Some, None, refl, sym, subst, ◌*◌, ◌+◌, ◌&&◌, nat_lt, false≢true, max_servers, is_prepared, Request, Verdict, Has, has_filter, Cache, Suites}
+use Rattle.law_run_alone.proofs.Vocabulary.{has_locks, Response, Replied, Lacked, Job, Transaction, Sweep, Cause, Ending, Undecided, Fixed, Task, Proposal, Phase, Gathering, Fetching, Widening, Preparing, Deciding, Finishing}
+use Rattle.law_run_alone.proofs.Vocabulary.{TransactionRun, SweepRun, Doing, Running, RunningSweep, After, GoesOn, Ends, execute, tell_end, give_up, prepare, locked_at, numbers_from, lack_cause, after_response, verdict_in, ending_by}
+use Rattle.law_run_alone.proofs.Vocabulary.{cause_of_abort, Agent, Take, next_of, take_in, take, begin, started, forget, is_idle, has_sense, max_jobs, left, after_all}
+use Rattle.txn_core.specs.declared.ending.Cause.TheVariants.{Lost}
+use Rattle.txn_core.proofs.Walk.{IsEarly, goes_response, goes_execute}
+use Rattle.txn_core.specs.Agents.{Event, Forget}
 use Rattle.rep_core.specs.declared.reply.Verdict.TheVariants as verdict
 use Rattle.txn_core.specs.Sweeps as sweep
-use Rattle.txn_core.specs.Agents.{Event, Forget}
 
 -- where it is to prepare it holds a lock
 abbrev pub LeftHold : Suites → Phase → Type 0

@@ -1,16 +1,18 @@
 -- What servers and sweeps name was begun: no server has a lock or a record of a transaction that is still to begin.
 use Rattle.law_run_alone.proofs.Vocabulary.{◌≡◌, inl, inr, ⊎_elim, ℕ, zero, suc, ◌+◌, ◌≤◌, Bool, true, false, cond, List, [], ◌∷◌, Option, Some, None, refl, sym, ap, subst, ◌∙◌, arith, ◌*◌, ◌==◌, ◌&&◌, ◌||◌, not, nat_lt, map, filter}
-use Rattle.law_run_alone.proofs.Vocabulary.{slice_get, slice_set, eqb-true, nat_tests, none-some, same_Some, Opening, IsAccepted, LockMode, Exclusive, Replica, Lock, Request, Reply, Verdict, Stamped, in_the_way, has_lock, locked}
-use Rattle.law_run_alone.proofs.Vocabulary.{raised, raised_lock, with_lock, before, prepared_lock, is_own, has_prepared, copy_of, State, record_of, reply_of, reply_up, reply_down, locking_reply, stands_prepared, can_prepare, verdict_of}
-use Rattle.law_run_alone.proofs.Vocabulary.{audit_of, is_full, served, answer_of, Has, has_filter, has_between, has_map, any_has, record_apart, Ways, recording, by_step, AuditItem, Service, Job, Transaction, Sweep, Response, Replied}
-use Rattle.law_run_alone.proofs.Vocabulary.{Lacked, home_of, Fixed, TransactionRun, SweepRun, Sweeping, Listing, Resolving, Telling, Breaking, Doing, Running, RunningSweep, After, GoesOn, Ends, after_response, execute, Agent, fixed_of}
-use Rattle.law_run_alone.proofs.Vocabulary.{is_idle, has_sense, max_jobs, next_in, next_of, left, take_in, take, begin, started, forget, asks_same, Event, Begin, Step, Crash, Return, Forget, Lack, Actor, World, opening, servers_from}
-use Rattle.law_run_alone.proofs.Vocabulary.{server_at, actor_at, with_actor, serve, moved, answered, becomes, asks_at, asks, steps_once, lacks_for, lacks, operated, operates, step, after, run, Decided, decisions, EndedJob, names, ended}
-use Rattle.law_run_alone.proofs.Vocabulary.{begins_now, asks_in_its_name, same_place, IsAt, Begun, counts_rise, at_puts, same_or, agent_of, agent_at, Holds, event_holds, puts_in, holds_at_first, holds_of, fresh_agents, begins_job}
+use Rattle.law_run_alone.proofs.Vocabulary.{slice_get, slice_set, eqb-true, nat_tests, none-some, same_Some, Opening, IsAccepted, LockMode, Exclusive, Replica, Lock, Request, Reply, Verdict, Stamped, in_the_way, has_lock, locked, raised}
+use Rattle.law_run_alone.proofs.Vocabulary.{raised_lock, with_lock, before, prepared_lock, is_own, has_prepared, copy_of, State, record_of, reply_of, reply_up, reply_down, locking_reply, stands_prepared, can_prepare, verdict_of, audit_of}
+use Rattle.law_run_alone.proofs.Vocabulary.{is_full, served, answer_of, Has, has_filter, has_between, has_map, any_has, record_apart, Ways, recording, by_step, Service, Job, Transaction, Sweep, Response, Replied, Lacked, home_of, Fixed}
+use Rattle.law_run_alone.proofs.Vocabulary.{TransactionRun, SweepRun, Sweeping, Listing, Resolving, Telling, Breaking, Doing, Running, RunningSweep, After, GoesOn, Ends, after_response, execute, Agent, fixed_of, is_idle, has_sense}
+use Rattle.law_run_alone.proofs.Vocabulary.{max_jobs, next_in, next_of, left, take_in, take, begin, started, forget, asks_same, Event, Begin, Step, Crash, Return, Forget, Actor, World, opening, servers_from, server_at, actor_at, with_actor}
+use Rattle.law_run_alone.proofs.Vocabulary.{serve, moved, answered, becomes, asks_at, asks, steps_once, lacks_for, lacks, operated, operates, step, after, run, Decided, decisions, EndedJob, names, ended, begins_now, asks_in_its_name}
+use Rattle.law_run_alone.proofs.Vocabulary.{same_place, IsAt, Begun, at_puts, same_or, agent_of, agent_at, Holds, event_holds, puts_in, holds_at_first, holds_of, fresh_agents, begins_job, Lack as Why}
+use Rattle.file_ops.specs.declared.audit.AuditItem.{AuditItem}
+use Rattle.run_core.specs.declared.event.Event.TheVariants.{Lack}
+use Rattle.law_runs.proofs.Begun.{counts_rise}
 use Rattle.rep_core.specs.declared.request.Request.TheVariants as request
 use Rattle.rep_core.specs.declared.reply.Reply.TheVariants as reply
 use Rattle.rep_core.specs.declared.reply.Verdict.TheVariants as verdict
-use Rattle.rep_core.specs.declared.stamped.Lack.{Lack as Why}
 use Rattle.rep_core.specs.declared.stamped.Lack.TheVariants as lack
 use Rattle.rep_core.specs.State as state
 use Rattle.rep_core.specs.Serving as serving

@@ -1,11 +1,11 @@
 -- A server at which one transaction alone has locks, and that is up; or that is down and has none of it.
-use Rattle.law_run_alone.proofs.Vocabulary.{◌≡◌, ⊎_elim, inl, inr, ℕ, Bool, true, false, cond, List, [], ◌∷◌, Option, Some, None, refl, sym, ap, subst, ◌∙◌, arith, ◌==◌, ◌&&◌, ◌||◌, not, find, filter, map, false≢true, nat_tests}
-use Rattle.law_run_alone.proofs.Vocabulary.{LockMode, Exclusive, Lock, Request, Stamped, is_busy, is_down, conflicts, in_the_way, has_lock, locked, raised, raised_lock, with_lock, before, prepared_lock, is_own, copy_of, State, reply_of}
-use Rattle.law_run_alone.proofs.Vocabulary.{reply_up, reply_down, after_up, after_down, locking_reply, stands_prepared, can_prepare, is_full, served, Has, has_filter, has_between, has_map, any_has, Ways, by_step}
-use Rattle.rep_core.specs.declared.request.Request.TheVariants as request
-use Rattle.rep_core.specs.declared.reply.Reply.TheVariants as reply
+use Rattle.law_run_alone.proofs.Vocabulary.{◌≡◌, ⊎_elim, inl, inr, ℕ, Bool, true, false, cond, List, [], ◌∷◌, Option, Some, None, refl, sym, ap, subst, ◌∙◌, arith, ◌==◌, ◌&&◌, ◌||◌, not, find, filter, map, false≢true, nat_tests, LockMode}
+use Rattle.law_run_alone.proofs.Vocabulary.{Exclusive, Lock, Request, Stamped, is_busy, is_down, conflicts, in_the_way, has_lock, locked, raised, raised_lock, with_lock, before, prepared_lock, is_own, copy_of, State, reply_of, reply_up}
+use Rattle.law_run_alone.proofs.Vocabulary.{reply_down, after_up, after_down, locking_reply, stands_prepared, can_prepare, is_full, served, Has, has_filter, has_between, has_map, any_has, Ways, by_step}
 use Rattle.rep_core.specs.Service.{after}
 use Rattle.rep_core.specs.Serving.{step}
+use Rattle.rep_core.specs.declared.request.Request.TheVariants as request
+use Rattle.rep_core.specs.declared.reply.Reply.TheVariants as reply
 
 -- all locks are of this transaction
 abbrev pub AreOwn : ℕ → List Lock → Type 0

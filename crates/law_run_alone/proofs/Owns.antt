@@ -1,8 +1,8 @@
 -- A transaction that has all locks at the servers that are up: what others do beside it, and its own steps, leave it so.
-use Rattle.law_run_alone.proofs.Vocabulary.{◌≡◌, ℕ, ◌+◌, Bool, true, false, cond, List, [], Option, Some, None, refl, sym, ap, subst, ◌∙◌, arith, ◌*◌, ◌==◌, ◌&&◌, nat_lt, false≢true, nat_tests, none-some, same_Some, Identity, Opening}
-use Rattle.law_run_alone.proofs.Vocabulary.{Op, Request, Verdict, State, Job, Transaction, Response, Fixed, Task, TransactionRun, Doing, Running, RunningSweep, After, GoesOn, Ends, after_response, execute, is_decide, said_by, Agent}
-use Rattle.law_run_alone.proofs.Vocabulary.{fixed_of, is_idle, has_sense, max_jobs, next_in, next_of, left, take_in, begin, started, Event, Begin, Step, Crash, Return, EndedJob, Actor, World, server_at, actor_at}
-use Rattle.law_run_alone.proofs.Vocabulary.{with_actor, becomes, step, Decided, names, begins_now, Leaves, leaves_begin, leaves_response, asks_in_its_name, IsAt, agent_of, Holds, puts_in, begins_job}
+use Rattle.law_run_alone.proofs.Vocabulary.{◌≡◌, ℕ, ◌+◌, Bool, true, false, cond, List, [], Option, Some, None, refl, sym, ap, subst, ◌∙◌, arith, ◌*◌, ◌==◌, ◌&&◌, nat_lt, false≢true, nat_tests, none-some, same_Some, Identity, Opening, Op}
+use Rattle.law_run_alone.proofs.Vocabulary.{Request, Verdict, State, Job, Transaction, Response, Fixed, Task, TransactionRun, Doing, Running, RunningSweep, After, GoesOn, Ends, after_response, execute, is_decide, said_by, Agent, fixed_of}
+use Rattle.law_run_alone.proofs.Vocabulary.{is_idle, has_sense, max_jobs, next_in, next_of, left, take_in, begin, started, Event, Begin, Step, Crash, Return, EndedJob, Actor, World, server_at, actor_at, with_actor, becomes, step, Decided}
+use Rattle.law_run_alone.proofs.Vocabulary.{names, begins_now, Leaves, leaves_begin, leaves_response, asks_in_its_name, IsAt, agent_of, Holds, puts_in, begins_job}
 use Rattle.rep_core.specs.declared.request.Request.TheVariants as request
 use Rattle.rep_core.specs.declared.reply.Verdict.TheVariants as verdict
 use Rattle.law_run_alone.proofs.Own as own

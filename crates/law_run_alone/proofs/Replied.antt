@@ -1,13 +1,13 @@
 -- What a server does not reply where a lock stands and a Prepare can be, and what is not in a register's log.
 use Rattle.law_run_alone.proofs.Vocabulary.{◌≡◌, inl, inr, ℕ, Bool, true, false, cond, List, [], ◌∷◌, map, Option, Some, None, is_some, refl, sym, ap, subst, ◌∙◌, arith, ◌==◌, ◌||◌, ◌⊎◌, list_all, list_any, AllByRecursion, nat_cmp}
-use Rattle.law_run_alone.proofs.Vocabulary.{Less, and_from, false≢true, nat_tests, none-some, same_Some, is_exclusive, serves, LockMode, Shared, Exclusive, Replica, Lock, Part, Decision, is_lost, is_own, lock_at, in_the_way, has_lock}
-use Rattle.law_run_alone.proofs.Vocabulary.{copy_of, lists_twice, State, locking_reply, stands_prepared, can_prepare, reply_up, reply_down, reply_of, Has, any_find, Beginning, Entry, transaction, Hold, Answered, Aborted, Inv}
-use Rattle.law_run_alone.proofs.Vocabulary.{IsRecorded, hold_of, Going}
+use Rattle.law_run_alone.proofs.Vocabulary.{and_from, false≢true, nat_tests, none-some, same_Some, is_exclusive, serves, LockMode, Shared, Exclusive, Replica, Lock, Part, Decision, is_lost, is_own, lock_at, in_the_way, has_lock, copy_of}
+use Rattle.law_run_alone.proofs.Vocabulary.{lists_twice, State, locking_reply, stands_prepared, can_prepare, reply_up, reply_down, reply_of, Has, any_find, Beginning, Entry, transaction, Inv, IsRecorded, hold_of, Going}
+use Rattle.std.specs.declared.cmp.Ordering.TheVariants.{Less}
+use Rattle.law_suite_machine.specs.Machine.{Hold, Answered, Aborted, Verdict, Refused, World}
 use Rattle.std.specs.List.Sorted.{IsStrictlySortedBy}
 use Rattle.rep_core.specs.declared.request.Request.TheVariants as request
 use Rattle.rep_core.specs.declared.reply.Verdict as replied
 use Rattle.rep_core.specs.declared.reply.Reply.TheVariants as reply
-use Rattle.law_suite_machine.specs.Machine.{Verdict, Refused, World}
 
 -- ---- what a server replies
 

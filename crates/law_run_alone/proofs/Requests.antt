@@ -1,19 +1,25 @@
 -- What a transaction asks finds the lock that it stands on, where the locks that it was told of stand: so it is not answered Lost.
-use Rattle.law_run_alone.proofs.Vocabulary.{◌≡◌, inl, inr, ℕ, true, false, cond, List, ◌∷◌, map, Option, Some, None, is_some, refl, sym, ap, subst, ◌∙◌, arith, ◌==◌, ◌&&◌, not, filter, list_all, nat_cmp, and_from, false≢true}
-use Rattle.law_run_alone.proofs.Vocabulary.{nat_tests, same_Some, IsValid, Opening, is_exclusive, serves, is_within_limits, Shared, Exclusive, Replica, known_rows, Part, Request, is_lost, Lock, is_own, lock_at, has_lock, has_lock_for}
-use Rattle.law_run_alone.proofs.Vocabulary.{copy_of, goes_with, is_sound_part, lists_twice, State, can_prepare, reply_up, reply_down, reply_of, Has, has_filter, has_map, has_any, any_has, find_some, get_has, holds, Poll, Next, Ask}
-use Rattle.law_run_alone.proofs.Vocabulary.{next, ReadPoint, GatheredSuite, suite_of, has_locks, holds_lock, holds_exclusively, lock_mode, known_of, told_in, told_at, change_of, take_of_changed, parts_at, Fixed, home_of}
-use Rattle.law_run_alone.proofs.Vocabulary.{Proposal, Phase, Gathering, Fetching, Widening, Preparing, Deciding, Finishing, TransactionRun, Running, asked_by, asked_for, fetched_at, fetched_for, request_in, changes_of, decision_of}
-use Rattle.law_run_alone.proofs.Vocabulary.{Agent, fixed_of, next_in, next_of, is_idle, is_prepare, stands_on_locks, asks_same, asked_as, fetched_as, a_prepare_rises, Event, Actor, server_at, actor_at, names, asks_in_its_name, IsKnown}
-use Rattle.law_run_alone.proofs.Vocabulary.{row, WasPrefix, Told, hold_of, beginning, known_by, OwesKnown, server_there, upgrade_told, InCourse, IsDoing, Going, Stage, IdleOr, InPhase, DoingFits, suite_was, told_to, Agrees, DoingAgrees}
-use Rattle.law_run_alone.proofs.Vocabulary.{CameWell, came_preparing, leaves}
+use Rattle.law_run_alone.proofs.Vocabulary.{◌≡◌, inl, inr, ℕ, true, false, cond, List, ◌∷◌, map, Option, Some, None, is_some, refl, sym, ap, subst, ◌∙◌, arith, ◌==◌, ◌&&◌, not, filter, list_all, nat_cmp, and_from, false≢true, nat_tests}
+use Rattle.law_run_alone.proofs.Vocabulary.{same_Some, IsValid, Opening, is_exclusive, serves, is_within_limits, Shared, Exclusive, Replica, known_rows, Part, Request, is_lost, Lock, is_own, lock_at, has_lock, has_lock_for, copy_of}
+use Rattle.law_run_alone.proofs.Vocabulary.{goes_with, is_sound_part, lists_twice, State, can_prepare, reply_up, reply_down, reply_of, Has, has_filter, has_map, has_any, any_has, find_some, holds, Poll, Next, Ask, next, ReadPoint}
+use Rattle.law_run_alone.proofs.Vocabulary.{GatheredSuite, suite_of, has_locks, holds_lock, holds_exclusively, lock_mode, known_of, told_in, told_at, change_of, take_of_changed, parts_at, Fixed, home_of, Proposal, Phase, Gathering}
+use Rattle.law_run_alone.proofs.Vocabulary.{Fetching, Widening, Preparing, Deciding, Finishing, TransactionRun, Running, asked_by, asked_for, fetched_at, fetched_for, request_in, changes_of, decision_of, Agent, fixed_of, next_in, next_of}
+use Rattle.law_run_alone.proofs.Vocabulary.{is_idle, is_prepare, stands_on_locks, asks_same, asked_as, fetched_as, Event, Actor, server_at, actor_at, names, asks_in_its_name, IsKnown, row, WasPrefix, hold_of, beginning, known_by, OwesKnown}
+use Rattle.law_run_alone.proofs.Vocabulary.{server_there, Going, Stage, suite_was, told_to, Agrees, DoingAgrees, CameWell, came_preparing, leaves}
+use Rattle.rep_core.proofs.IntentionLookups.{get_has}
+use Rattle.txn_core.proofs.PrepareParts.{a_prepare_rises}
+use Rattle.law_suite_machine.specs.Machine.{Told, World}
+use Rattle.law_run_machine.proofs.Sending.{upgrade_told}
+use Rattle.law_run_machine.proofs.Linked.{InCourse, IsDoing}
+use Rattle.law_run_machine.proofs.Jobs.{IdleOr}
+use Rattle.law_run_knowledge.proofs.Walk.{InPhase}
+use Rattle.law_run_knowledge.proofs.Lasting.{DoingFits}
 use Rattle.std.specs.List.Sorted.{IsStrictlySortedBy}
-use Rattle.file_exec.specs.declared.changes.Change as executor
-use Rattle.rep_core.specs.declared.request.Request.TheVariants as request
 use Rattle.suite_collect.specs.Collecting.{Upgrade}
 use Rattle.txn_core.specs.Writing.{part_of}
+use Rattle.file_exec.specs.declared.changes.Change as executor
+use Rattle.rep_core.specs.declared.request.Request.TheVariants as request
 use Rattle.run_core.specs.Worlds as worlds
-use Rattle.law_suite_machine.specs.Machine.{World}
 use Rattle.law_suite_machine.specs.Conditions as conditions
 use Rattle.law_run_alone.proofs.Standing.{Stands}
 use Rattle.law_run_alone.proofs.Holding.{PhaseStands}

@@ -1,15 +1,16 @@
 -- Of two runs of the same jobs the endings are the same.
-use Rattle.law_run_alone.proofs.Vocabulary.{◌≡◌, inl, inr, ⊎_elim, ℕ, ◌+◌, true, false, List, [], ◌∷◌, ◌++◌, Option, Some, None, refl, sym, ap, subst, ◌∙◌, eq-eqb, ◌*◌, map, nat_eq, Result, Ok, Err, AllByRecursion, cons_option}
-use Rattle.law_run_alone.proofs.Vocabulary.{false≢true, none-some, same_Some, IsDistinct-head, IsDistinct-tail, Opening, IsAccepted, Lists, Configuration, Folder, empty_content, PlainTable, root, Refusal, Played, replies, table_after}
-use Rattle.law_run_alone.proofs.Vocabulary.{Has, has_from, contains_from, Verdict, Ending, Refused, Swept, Undecided, Job, Transaction, Sweep, Doing, TransactionRun, Running, Task, Agent, fixed_of, Event, Begin}
-use Rattle.law_run_alone.proofs.Vocabulary.{EndedJob, Actor, World, opening, actor_at, step, run, Decided, decisions, task_of, task_at, table_with, AnswersAreTheTables, number_of, begins_now, begins_at}
-use Rattle.law_run_alone.proofs.Vocabulary.{begun_from, ended, Answer', NotIn, In, Stands, append_has_left, append_has_right, IsAt, EndStands, same_place, same_or, Holds, agent_of, agent_at, each_is_begun_once, holds_of}
-use Rattle.law_run_alone.proofs.Vocabulary.{answers_are_the_tables, begins_job, jobs_from, jobs_of, one_at_a_time, AreAlike, IsTransaction, IsRunning, AllAreDecided, EndingsAreOne}
-use Rattle.std.specs.List.{IsDistinct}
-use Rattle.file_ops.specs.Rows as rows
-use Rattle.file_ops.specs.Transactions.{transaction}
-use Rattle.rep_core.specs.declared.reply.Verdict.TheVariants as verdict
+use Rattle.law_run_alone.proofs.Vocabulary.{◌≡◌, inl, inr, ⊎_elim, ℕ, ◌+◌, true, false, List, [], ◌∷◌, ◌++◌, Option, Some, None, refl, sym, ap, subst, ◌∙◌, eq-eqb, ◌*◌, map, nat_eq, Result, Ok, Err, AllByRecursion, cons_option, false≢true}
+use Rattle.law_run_alone.proofs.Vocabulary.{none-some, same_Some, Opening, IsAccepted, Lists, Configuration, empty_content, PlainTable, root, Refusal, Has, has_from, contains_from, Verdict, Ending, Refused, Swept, Undecided, Job}
+use Rattle.law_run_alone.proofs.Vocabulary.{Transaction, Sweep, Doing, TransactionRun, Running, Task, Agent, fixed_of, Event, Begin, EndedJob, Actor, World, opening, actor_at, step, run, Decided, decisions, task_of, task_at, table_with}
+use Rattle.law_run_alone.proofs.Vocabulary.{AnswersAreTheTables, number_of, begins_now, begins_at, begun_from, ended, Answer', NotIn, In, Stands, append_has_left, append_has_right, IsAt, EndStands, same_place, same_or, Holds, agent_of}
+use Rattle.law_run_alone.proofs.Vocabulary.{agent_at, holds_of, answers_are_the_tables, begins_job, jobs_from, jobs_of, one_at_a_time, AreAlike, IsTransaction, IsRunning, AllAreDecided, EndingsAreOne, IsDistinct}
+use Rattle.std.proofs.lemmas.Map.Keys.{IsDistinct-head, IsDistinct-tail}
+use Rattle.suite_content.specs.declared.content.Kind.TheVariants.{Folder}
+use Rattle.file_ops.specs.Transactions.{Played, replies, table_after, transaction}
+use Rattle.law_runs.proofs.Begun.{each_is_begun_once}
 use Rattle.txn_core.specs.declared.ending.Ending.TheVariants.{Answered}
+use Rattle.file_ops.specs.Rows as rows
+use Rattle.rep_core.specs.declared.reply.Verdict.TheVariants as verdict
 use Rattle.law_runs.proofs.Worlds as worlds
 use Rattle.law_run_alone.proofs.Verdicts.{Asked, asked_by, asked_of, left_by, said_in, said_is, undecided}
 use Rattle.law_run_alone.proofs.Along.{ApartFrom, AreApart, same_asked, along_has, is_all}

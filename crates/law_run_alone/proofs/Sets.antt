@@ -1,10 +1,16 @@
 -- What a transaction sets of a suite: it makes it only at a number of its own, and else leaves its kind; a content that it sets is within limits; and
 -- its lists fit.
 use Rattle.law_run_alone.proofs.Vocabulary.{◌≡◌, ℕ, Bool, true, false, cond, List, [], ◌∷◌, Option, Some, None, Ok, Err, refl, sym, ap, subst, ◌∙◌, ◌==◌, ◌||◌, ◌&&◌, is_some, option_map, unwrap_or, Result, nat_cmp, false≢true, eqb-true}
-use Rattle.law_run_alone.proofs.Vocabulary.{none-some, same_Some, IsOrdered, get, IsValid, Content, kind_of, empty_content, is_valid_prefix, is_within_limits, Prefix, PrefixKind, LockMode, Exclusive, Answer, Refusal, Row, KnownSuite}
-use Rattle.law_run_alone.proofs.Vocabulary.{makes, some, touches, Edits, Ended, seen, head, Known, IsSoAt, AgreesWith, is_held, known_rows, Done, exec_of, changes_by_suite, changes_are_held, ReadPoint, GatheredSuite, Suites, suite_of}
-use Rattle.law_run_alone.proofs.Vocabulary.{row_with, known_of, change_of, prefix_kind, Fixed, Task, Proposal, changes_of, known_at, known_from, set_by, Came, FitsAs, told_as, AllGiveValidVotes, edits_fit, same_kind, FromEdits}
-use Rattle.law_run_alone.proofs.Vocabulary.{agrees_itself}
+use Rattle.law_run_alone.proofs.Vocabulary.{none-some, same_Some, IsOrdered, get, IsValid, Content, kind_of, empty_content, is_valid_prefix, is_within_limits, Prefix, PrefixKind, LockMode, Exclusive, Answer, Refusal, Row, makes, some}
+use Rattle.law_run_alone.proofs.Vocabulary.{touches, Edits, Ended, seen, head, Known, IsSoAt, AgreesWith, is_held, known_rows, Done, exec_of, ReadPoint, GatheredSuite, Suites, suite_of, row_with, known_of, change_of, prefix_kind, Fixed}
+use Rattle.law_run_alone.proofs.Vocabulary.{Task, Proposal, changes_of, FitsAs, told_as, AllGiveValidVotes, edits_fit, same_kind, agrees_itself}
+use Rattle.file_exec.proofs.Leading.{changes_by_suite}
+use Rattle.file_exec.specs.KnownSuites.{KnownSuite}
+use Rattle.file_exec.proofs.Unset.{changes_are_held}
+use Rattle.txn_core.proofs.Setting.{known_at}
+use Rattle.txn_core.proofs.Growing.{known_from}
+use Rattle.law_runs.proofs.Executed.{set_by, Came}
+use Rattle.law_headline.proofs.Fair.{FromEdits}
 use Rattle.suite_content.specs.declared.content.Kind.TheVariants as holds
 use Rattle.suite_prefix.specs.declared.copies.PrefixKind.TheVariants as kind
 use Rattle.file_exec.specs.declared.changes.Change as executor

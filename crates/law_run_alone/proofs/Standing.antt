@@ -1,14 +1,13 @@
 -- The locks that a transaction was told of stand in the machine of a suite, as long as nothing takes one away.
 use Rattle.law_run_alone.proofs.Vocabulary.{◌≡◌, ℕ, Bool, true, false, cond, List, [], ◌∷◌, ◌++◌, Option, Some, None, refl, ap, subst, ◌∙◌, ◌==◌, Ok, Err, none-some, is_exclusive, Part, Request, Reply, ReadPoint, GatheredSuite, Suites}
-use Rattle.law_run_alone.proofs.Vocabulary.{suite_of, Task, Proposal, Phase, Deciding, Doing, Running, RunningSweep, Taken, Beginning, Hold, Told, Held, Upgrade, Prepare}
-use Rattle.law_run_alone.proofs.Vocabulary.{Overrule, GiveUp, Finish, Lose, upgraded_hold, upgraded_told, prepared_hold, happens, at2, at2_both, some_told, part_of, moves}
-use Rattle.law_run_alone.proofs.Vocabulary.{first_verdict, prepare_of, to_write, decides_without, decides_first, decides_on, decision_in, decision_by, fixed_in, aim_of, aims_once, aims, is_finishing, is_at_an_end, gives_up}
-use Rattle.law_run_alone.proofs.Vocabulary.{tells_aborted, begun_events, own_events}
+use Rattle.law_run_alone.proofs.Vocabulary.{suite_of, Task, Proposal, Phase, Deciding, Doing, Running, RunningSweep, Taken, Beginning, at2, at2_both, some_told, moves, first_verdict, prepare_of, to_write, decides_without, decides_first}
+use Rattle.law_run_alone.proofs.Vocabulary.{decides_on, decision_in, decision_by, fixed_in, aim_of, aims_once, aims, is_finishing, is_at_an_end, gives_up, tells_aborted, begun_events, own_events}
+use Rattle.law_suite_machine.specs.Machine.{Hold, Told, Verdict, World}
+use Rattle.law_suite_machine.specs.Events.{Held, Upgrade, Prepare, Overrule, GiveUp, Finish, Lose, upgraded_hold, upgraded_told, prepared_hold, happens, Event, run}
+use Rattle.law_server_moves.specs.Preparing.{part_of}
+use Rattle.law_suite_machine.specs.Registers.{Change}
 use Rattle.rep_core.specs.declared.request.Request.TheVariants as request
 use Rattle.rep_core.specs.declared.reply.Reply.TheVariants as reply
-use Rattle.law_suite_machine.specs.Registers.{Change}
-use Rattle.law_suite_machine.specs.Machine.{Verdict, World}
-use Rattle.law_suite_machine.specs.Events.{Event, run}
 
 -- a lock stands in the mode that was told of last
 abbrev pub StandsAs : Option Hold → Told → Type 0

@@ -1,11 +1,11 @@
 -- A transaction that begins asks somebody something: none ends at once.
-use Rattle.law_run_alone.proofs.Vocabulary.{◌≡◌, inl, inr, ⊎_elim, ℕ, ◌+◌, ◌<◌, zero, suc, false, List, [], ◌∷◌, Option, None, refl, arith, false≢true, Representative, total_votes, IsValid, Prefix, LockMode, Has, contains_from}
-use Rattle.law_run_alone.proofs.Vocabulary.{Next, Short, collect, next, short_has_none_left, Cache, Suites, Fixed, Task, Granted, Running, start_from, gather_by, widen_all, to_widen, proceed, execute, heard_on}
-use Rattle.law_run_alone.proofs.Vocabulary.{raised_or_new, with_suite, is_idle, left}
+use Rattle.law_run_alone.proofs.Vocabulary.{◌≡◌, inl, inr, ⊎_elim, ℕ, ◌+◌, ◌<◌, zero, suc, false, List, [], ◌∷◌, Option, None, refl, arith, false≢true, Representative, total_votes, IsValid, Prefix, LockMode, Has, contains_from, Next, Short}
+use Rattle.law_run_alone.proofs.Vocabulary.{collect, next, Cache, Suites, Fixed, Task, Granted, Running, start_from, gather_by, widen_all, to_widen, proceed, execute, heard_on, raised_or_new, with_suite, is_idle, left}
+use Rattle.suite_collect.proofs.Shortness.{short_has_none_left}
 use Rattle.file_exec.specs.declared.executor.Outcome.{Outcome as Executed}
-use Rattle.file_exec.specs.declared.executor.Outcome.TheVariants as exec
 use Rattle.file_exec.specs.declared.need.Need.TheVariants.{Hold}
 use Rattle.txn_core.specs.Transactions.{Step}
+use Rattle.file_exec.specs.declared.executor.Outcome.TheVariants as exec
 use Rattle.law_run_alone.proofs.Votes.{HasValidVotes, start_valid}
 
 abbrev GoesOn' : Step → Type 0

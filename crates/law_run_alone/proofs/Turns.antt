@@ -1,19 +1,19 @@
 -- What an event makes of the one agent that is not idle: what was answered to its transaction, and whether it is undecided.
 use Rattle.law_run_alone.proofs.Vocabulary.{◌≡◌, ◌≢◌, ◌⊎◌, inl, inr, ⊎_elim, ℕ, zero, suc, ◌+◌, Bool, true, false, cond, List, [], ◌∷◌, ◌++◌, Option, Some, None, refl, sym, ap, subst, ◌∙◌, arith, ◌*◌, ◌-◌, ◌==◌, ◌&&◌, ◌||◌, not, nat_lt}
-use Rattle.law_run_alone.proofs.Vocabulary.{is_some, map, option_map, option_to_list, slice_get, slice_set, list_all, filter_map, cons_option, and_parts, none-some, Opening, Service, Lock, Request, Reply, Verdict, Stamped, State}
-use Rattle.law_run_alone.proofs.Vocabulary.{record_of, reply_of, is_full, served, answer_of, Ending, Job, Transaction, Sweep, Response, Replied, Lacked, Fixed, Task, TransactionRun, SweepRun, Doing, Running, RunningSweep, After, GoesOn}
-use Rattle.law_run_alone.proofs.Vocabulary.{Ends, Sweeping, Listing, Resolving, Telling, Breaking, home_of, after_response, execute, is_decide, said_by, Agent, Taken, fixed_of, is_idle, has_sense, max_jobs, next_in, next_of, left}
-use Rattle.law_run_alone.proofs.Vocabulary.{end_of, take_in, take, begin, started, forget, asks_same, Event, Begin, Step, Crash, Return, Forget, Lack, Served, EndedJob, Actor, World, server_at, actor_at, with_actor, serve}
-use Rattle.law_run_alone.proofs.Vocabulary.{after_serving, moved, outcome_of, lacked, answered, becomes, asks_at, asks, steps_once, lacks_for, lacks, operated, operates, step, Decided, task_of, task_at, task_in, decided_by, decided_at}
-use Rattle.law_run_alone.proofs.Vocabulary.{to_decide, decided_as, answer_in, begins_now, Answer', Stands, Recorded, same_or, Tells, Leaves, leaves_begin, leaves_response, IsAt, sweep_decides_none, no_decide, agent_of, Holds, puts_in}
-use Rattle.law_run_alone.proofs.Vocabulary.{all_idle, begins_job, begins_alone, answer_by, decided_endings, append-nil}
+use Rattle.law_run_alone.proofs.Vocabulary.{is_some, map, option_map, option_to_list, slice_get, slice_set, list_all, filter_map, cons_option, and_parts, none-some, Opening, Service, Lock, Request, Reply, Verdict, Stamped, State, record_of}
+use Rattle.law_run_alone.proofs.Vocabulary.{reply_of, is_full, served, answer_of, Ending, Job, Transaction, Sweep, Response, Replied, Lacked, Fixed, Task, TransactionRun, SweepRun, Doing, Running, RunningSweep, After, GoesOn, Ends}
+use Rattle.law_run_alone.proofs.Vocabulary.{Sweeping, Listing, Resolving, Telling, Breaking, home_of, after_response, execute, is_decide, said_by, Agent, Taken, fixed_of, is_idle, has_sense, max_jobs, next_in, next_of, left, end_of}
+use Rattle.law_run_alone.proofs.Vocabulary.{take_in, take, begin, started, forget, asks_same, Event, Begin, Step, Crash, Return, Forget, Served, EndedJob, Actor, World, server_at, actor_at, with_actor, serve, after_serving, moved}
+use Rattle.law_run_alone.proofs.Vocabulary.{outcome_of, lacked, answered, becomes, asks_at, asks, steps_once, lacks_for, lacks, operated, operates, step, Decided, task_of, task_at, task_in, decided_by, decided_at, to_decide, decided_as}
+use Rattle.law_run_alone.proofs.Vocabulary.{answer_in, begins_now, Answer', Stands, Recorded, same_or, Tells, Leaves, leaves_begin, leaves_response, IsAt, sweep_decides_none, no_decide, agent_of, Holds, puts_in, all_idle, begins_job}
+use Rattle.law_run_alone.proofs.Vocabulary.{begins_alone, answer_by, decided_endings, append-nil, Lack as Why}
+use Rattle.run_core.specs.declared.event.Event.TheVariants.{Lack}
+use Rattle.txn_core.specs.Transactions.{Step as Taking}
 use Rattle.rep_core.specs.declared.request.Request.TheVariants as request
 use Rattle.rep_core.specs.declared.reply.Reply.TheVariants as reply
 use Rattle.rep_core.specs.declared.reply.Verdict.TheVariants as verdict
-use Rattle.rep_core.specs.declared.stamped.Lack.{Lack as Why}
 use Rattle.rep_core.specs.declared.stamped.Lack.TheVariants as lack
 use Rattle.txn_core.specs.Sweeps as sweep
-use Rattle.txn_core.specs.Transactions.{Step as Taking}
 use Rattle.law_run_alone.proofs.Verdicts as verdicts
 use Rattle.law_run_alone.proofs.Verdicts.{Asked, asked_by, asked_of, answer_to, answers_of, left_by, said_in, said_is, undecided, Turns, adds_answer, takes_asked, turns_served, ended_as, leaves_answer, leaves_asked}
 

@@ -1,9 +1,8 @@
 -- A transaction that begins where every agent is idle, every server is up and no lock is left: as long as nothing disturbs it, it goes as where all servers are up, and ends decided.
-use Rattle.law_run_alone.proofs.Vocabulary.{◌≡◌, ℕ, ◌+◌, Bool, true, false, cond, List, [], ◌∷◌, Option, Some, None, refl, sym, ap, subst, ◌∙◌, arith, ◌++◌, append_assoc, ◌*◌, ◌-◌, slice_get, ◌&&◌, nat_lt, slice_set, none-some}
-use Rattle.law_run_alone.proofs.Vocabulary.{same_Some, IsValid, Opening, Request, Reply, State, reply_of, Cause, Ending, Undecided, Replied, Fixed, Doing, Running, RunningSweep, Task, after_response, is_decide, said_by, Agent, fixed_of}
-use Rattle.law_run_alone.proofs.Vocabulary.{is_idle, next_in, next_of, take_in, take, has_sense, max_jobs, begin, started, Event, Begin, EndedJob, Actor, World, server_at, actor_at, outcome_of, step, becomes, run, number_of, begins_now}
-use Rattle.law_run_alone.proofs.Vocabulary.{IsAt, leaves_response, agent_of, puts_in, begins_job, all_idle, disturbs, is_decided, no_locks, Identity, Op, Job, Transaction, CanBe, JobGivesValidVotes}
-use Rattle.law_run_alone.specs.Undisturbed.{all_up as every_up}
+use Rattle.law_run_alone.proofs.Vocabulary.{◌≡◌, ℕ, ◌+◌, Bool, true, false, cond, List, [], ◌∷◌, Option, Some, None, refl, sym, ap, subst, ◌∙◌, arith, ◌++◌, append_assoc, ◌*◌, ◌-◌, slice_get, ◌&&◌, nat_lt, slice_set, none-some, same_Some}
+use Rattle.law_run_alone.proofs.Vocabulary.{IsValid, Opening, Request, Reply, State, reply_of, Cause, Ending, Undecided, Replied, Fixed, Doing, Running, RunningSweep, Task, after_response, is_decide, said_by, Agent, fixed_of, is_idle}
+use Rattle.law_run_alone.proofs.Vocabulary.{next_in, next_of, take_in, take, has_sense, max_jobs, begin, started, Event, Begin, EndedJob, Actor, World, server_at, actor_at, outcome_of, step, becomes, run, number_of, begins_now, IsAt}
+use Rattle.law_run_alone.proofs.Vocabulary.{leaves_response, agent_of, puts_in, begins_job, all_idle, disturbs, is_decided, no_locks, Identity, Op, Job, Transaction, CanBe, JobGivesValidVotes, all_up as every_up}
 use Rattle.law_run_alone.proofs.Turns.{doing_of, doing_at, with_job, all_none}
 use Rattle.law_run_alone.proofs.Owns.{IsMine}
 use Rattle.law_run_alone.proofs.Clear.{Clear, is_calm, event_clear, begun_clear, clear_servers}

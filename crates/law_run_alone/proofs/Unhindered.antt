@@ -1,9 +1,11 @@
 -- What is known of every run, which replies are free, and how a transaction ends that does not end undecided.
 use Rattle.law_run_alone.proofs.Vocabulary.{◌≡◌, ℕ, zero, suc, ◌+◌, Bool, true, false, cond, List, [], ◌∷◌, Option, Some, None, refl, sym, ap, subst, ◌∙◌, ◌||◌, slice_get, false≢true, none-some, same_Some, IsValid, Opening, Replica}
-use Rattle.law_run_alone.proofs.Vocabulary.{Exclusive, Lock, Request, Reply, Verdict, IsConsistent, is_lost, in_the_way, has_lock, copy_of, State, reply_of, reply_up, reply_down, locking_reply, stands_prepared, can_prepare}
-use Rattle.law_run_alone.proofs.Vocabulary.{consistent_step, consistent_opening, reply_fits, Cause, Ending, Undecided, Replied, Fixed, TransactionRun, Doing, Running, RunningSweep, After, GoesOn, Ends, after_response, ending_by}
-use Rattle.law_run_alone.proofs.Vocabulary.{stands_on_locks, Agent, fixed_of, is_idle, next_in, left, end_of, take_in, Event, Crash, EndedJob, Actor, World, opening, servers_from, server_at, actor_at}
-use Rattle.law_run_alone.proofs.Vocabulary.{step, after, run, Decided, names, Leaves, Holds, is_crash, disturbs, is_decided}
+use Rattle.law_run_alone.proofs.Vocabulary.{Exclusive, Lock, Request, Reply, Verdict, is_lost, in_the_way, has_lock, copy_of, State, reply_of, reply_up, reply_down, locking_reply, stands_prepared, can_prepare, Cause, Ending, Undecided}
+use Rattle.law_run_alone.proofs.Vocabulary.{Replied, Fixed, TransactionRun, Doing, Running, RunningSweep, After, GoesOn, Ends, after_response, ending_by, stands_on_locks, Agent, fixed_of, is_idle, next_in, left, end_of, take_in, Event}
+use Rattle.law_run_alone.proofs.Vocabulary.{Crash, EndedJob, Actor, World, opening, servers_from, server_at, actor_at, step, after, run, Decided, names, Leaves, Holds, is_crash, disturbs, is_decided}
+use Rattle.rep_core.specs.Consistency.{IsConsistent}
+use Rattle.rep_core.proofs.Consistent.{consistent_step, consistent_opening}
+use Rattle.rep_core.proofs.FittingReplies.{reply_fits}
 use Rattle.rep_core.specs.declared.request.Request.TheVariants as request
 use Rattle.rep_core.specs.declared.reply.Reply.TheVariants as reply
 use Rattle.rep_core.specs.declared.reply.Verdict.TheVariants as verdict

@@ -1,12 +1,12 @@
 -- Nobody resolves a transaction as long as no sweep goes: so its home does not answer Aborted where it is to be decided.
-use Rattle.law_run_alone.proofs.Vocabulary.{◌≡◌, ⊎_elim, ℕ, Bool, true, false, cond, ◌∷◌, Option, Some, None, refl, sym, ap, ◌∙◌, false≢true, eqb-true, same_Some, Decision, Request, Reply, Verdict, Stamped, State, record_of}
-use Rattle.law_run_alone.proofs.Vocabulary.{reply_of, recorded, verdict_of, audit_of, record_here, record_apart, Ways, recording, by_step, home_of, Fixed, Task, Phase, Gathering, Fetching, Widening, Preparing, Deciding, Finishing}
-use Rattle.law_run_alone.proofs.Vocabulary.{Suites, suite_of, parts_at, request_in, changes_of, decision_of, verdict_in, is_decide, asks_same, asked_as, fetched_as, names, same_or}
+use Rattle.law_run_alone.proofs.Vocabulary.{◌≡◌, ⊎_elim, ℕ, Bool, true, false, cond, ◌∷◌, Option, Some, None, refl, sym, ap, ◌∙◌, false≢true, eqb-true, same_Some, Decision, Request, Reply, Verdict, Stamped, State, record_of, reply_of}
+use Rattle.law_run_alone.proofs.Vocabulary.{recorded, verdict_of, audit_of, record_here, record_apart, Ways, recording, by_step, home_of, Fixed, Task, Phase, Gathering, Fetching, Widening, Preparing, Deciding, Finishing, Suites, suite_of}
+use Rattle.law_run_alone.proofs.Vocabulary.{parts_at, request_in, changes_of, decision_of, verdict_in, is_decide, asks_same, asked_as, fetched_as, names, same_or}
+use Rattle.rep_core.specs.Serving.{step}
 use Rattle.rep_core.specs.declared.request.Decision.TheVariants as decision
 use Rattle.rep_core.specs.declared.request.Request.TheVariants as request
 use Rattle.rep_core.specs.declared.reply.Reply.TheVariants as reply
 use Rattle.rep_core.specs.declared.reply.Verdict.TheVariants as verdict
-use Rattle.rep_core.specs.Serving.{step}
 
 abbrev pub is_resolve : Request → Bool
 is_resolve (request.Resolve t) = true

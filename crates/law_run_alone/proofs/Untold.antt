@@ -1,10 +1,11 @@
 -- A transaction that begins was told of no lock yet, so all that it was told of stand.
 use Rattle.law_run_alone.proofs.Vocabulary.{◌≡◌, ℕ, ◌+◌, true, false, cond, List, [], Option, Some, None, is_some, refl, sym, ap, subst, ◌∙◌, ◌*◌, ◌&&◌, nat_lt, slice_get, slice_set, false≢true, none-some, same_Some, Identity, Opening}
-use Rattle.law_run_alone.proofs.Vocabulary.{Shared, Op, holds, Job, Transaction, Fixed, Task, TransactionRun, Doing, Running, After, GoesOn, Ends, execute, Agent, fixed_of, is_idle, has_sense, max_jobs, left, begin}
-use Rattle.law_run_alone.proofs.Vocabulary.{started, told_at, are_nil, leaves_execute, Event, Actor, actor_at, becomes, begins_now, only, set_here, DoingAgrees}
-use Rattle.txn_core.proofs.ToldLists.{Leaves}
-use Rattle.run_core.specs.Worlds as worlds
+use Rattle.law_run_alone.proofs.Vocabulary.{Shared, Op, holds, Job, Transaction, Fixed, Task, TransactionRun, Doing, Running, After, GoesOn, Ends, execute, Agent, fixed_of, is_idle, has_sense, max_jobs, left, begin, started, told_at, Event}
+use Rattle.law_run_alone.proofs.Vocabulary.{Actor, actor_at, becomes, begins_now, DoingAgrees}
+use Rattle.txn_core.proofs.ToldLists.{are_nil, leaves_execute, Leaves}
+use Rattle.law_run_machine.proofs.Turned.{only, set_here}
 use Rattle.law_suite_machine.specs.Machine.{World}
+use Rattle.run_core.specs.Worlds as worlds
 use Rattle.law_run_alone.proofs.Turns.{doing_of, doing_at, with_job}
 use Rattle.law_run_alone.proofs.Owns.{IsMine}
 use Rattle.law_run_alone.proofs.Holding.{DoingStands, doing_any, AtStands}

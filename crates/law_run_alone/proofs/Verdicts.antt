@@ -1,12 +1,11 @@
 -- What was said of a transaction, and what a response adds to it.
 use Rattle.law_run_alone.proofs.Vocabulary.{◌≡◌, ◌⊎◌, inl, inr, ℕ, Bool, true, false, cond, List, [], ◌∷◌, ◌++◌, Option, Some, None, refl, sym, ap, subst, ◌∙◌, is_some, map, option_map, option_to_list, Ok, Err, Identity, Op, Request}
-use Rattle.law_run_alone.proofs.Vocabulary.{Verdict, State, record_of, reply_of, recorded, verdict_of, Cause, Ending, Replied, Fixed, Task, Proposal, Phase, Finishing, TransactionRun}
-use Rattle.law_run_alone.proofs.Vocabulary.{Doing, Running, After, GoesOn, Ends, decision_of, ending_by, request_in, is_decide, said_by, left, end_of, Decided, to_decide, decided_as, decided_at, answer_in, Answer', NotIn}
-use Rattle.law_run_alone.proofs.Vocabulary.{Stands, Recorded, verdict_as, decides, no_decide, Tells, Leaves, answer_by, append-nil}
+use Rattle.law_run_alone.proofs.Vocabulary.{Verdict, State, record_of, reply_of, recorded, verdict_of, Cause, Ending, Replied, Fixed, Task, Proposal, Phase, Finishing, TransactionRun, Doing, Running, After, GoesOn, Ends, decision_of}
+use Rattle.law_run_alone.proofs.Vocabulary.{ending_by, request_in, is_decide, said_by, left, end_of, Answer', NotIn, Stands, Recorded, verdict_as, decides, no_decide, Tells, Leaves, answer_by, append-nil}
+use Rattle.run_core.specs.Decisions.{answer_of, Decided, to_decide, decided_as, decided_at, answer_in}
 use Rattle.rep_core.specs.declared.request.Request.TheVariants as request
 use Rattle.rep_core.specs.declared.reply.Reply.TheVariants as reply
 use Rattle.rep_core.specs.declared.reply.Verdict.TheVariants as verdict
-use Rattle.run_core.specs.Decisions.{answer_of}
 
 -- ---- what was said
 

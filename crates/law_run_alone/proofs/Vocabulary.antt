@@ -1,42 +1,23 @@
 -- The names that the proofs of this crate take from elsewhere, each with one meaning here.
-pub use Rattle.std.proofs.Common.{All, Bool, Contains, Equal, Err, Greater, IsTrue, List, None, Ok, Option, Result, Some, [], ap, append-nil, append_assoc, arith, cond, eq-eqb, false, filter, find, inl, inr, is_some, length, map, nat_eq, nat_le}
-pub use Rattle.std.proofs.Common.{nat_lt, not, option_map, option_to_list, refl, slice_get, slice_set, subst, suc, sym, true, zero, ℕ, ⊎_elim, ◌&&◌, ◌*◌, ◌++◌, ◌+◌, ◌-◌, ◌<◌, ◌==◌, ◌||◌, ◌∙◌, ◌∷◌, ◌≡◌, ◌≢◌, ◌≤◌, ◌⊎◌}
+pub use Rattle.std.proofs.Common.{All, Bool, Err, IsTrue, List, None, Ok, Option, Result, Some, [], ap, append-nil, append_assoc, arith, cond, eq-eqb, false, filter, find, inl, inr, is_some, length, map, nat_eq, nat_le, nat_lt, not}
+pub use Rattle.std.proofs.Common.{option_map, option_to_list, refl, slice_get, slice_set, subst, suc, sym, true, zero, ℕ, ⊎_elim, ◌&&◌, ◌*◌, ◌++◌, ◌+◌, ◌-◌, ◌<◌, ◌==◌, ◌||◌, ◌∙◌, ◌∷◌, ◌≡◌, ◌≢◌, ◌≤◌, ◌⊎◌}
 pub use Rattle.std.proofs.lemmas.Bool.{and_from, and_parts, eqb-true, false≢true, not-true}
 pub use Rattle.std.proofs.lemmas.Bool.Decides.{nat_tests}
-pub use Rattle.std.proofs.lemmas.List.{map-append}
-pub use Rattle.std.proofs.lemmas.List.Elements.{All-cons, All-nil, filter_map-append}
-pub use Rattle.std.proofs.lemmas.Map.Keys.{IsDistinct-head, IsDistinct-tail}
 pub use Rattle.std.proofs.lemmas.Option.{none-some, same_Some}
-pub use Rattle.std.specs.Cmp.{unsigned_tied}
-pub use Rattle.std.specs.FinSet.{contains-empty}
-pub use Rattle.std.specs.List.{AllByRecursion, cons_option, filter_map, list_all, list_any}
+pub use Rattle.std.specs.List.{AllByRecursion, IsDistinct, cons_option, filter_map, list_all, list_any}
 pub use Rattle.std.specs.Ordering.{is_eq, match_ordering, nat_cmp}
 pub use Rattle.std.specs.Prelude.{unwrap_or}
-pub use Rattle.std.specs.declared.cmp.Ordering.{Ordering}
-pub use Rattle.std.specs.declared.cmp.Ordering.TheVariants.{Less}
 pub use Rattle.acl_core.specs.Identity.{Identity}
 pub use Rattle.acl_core.specs.declared.lists.Lists.{Lists}
-pub use Rattle.file_exec.proofs.Leading.{changes_by_suite}
 pub use Rattle.file_exec.proofs.Licensing.{agrees_itself, edits_are_licensed}
-pub use Rattle.file_exec.proofs.Unset.{changes_are_held}
 pub use Rattle.file_exec.specs.Changes.{changes_at, makes, sets_acl, sets_votes, some, touches, with_change}
 pub use Rattle.file_exec.specs.Following.{Edits, Ended, changed, content_in, content_read, emptied, head, is_set, looked, seen, sets_content}
-pub use Rattle.file_exec.specs.Known.{AgreesWith, Done, Heard, IsSoAt, Known, Needs, exec_of, is_held, known_rows}
-pub use Rattle.file_exec.specs.KnownSuites.{KnownSuite}
-pub use Rattle.file_exec.specs.Licensed.{AllLicensed, Licensed, adds_name, changes_lists, changes_votes, drops_name, makes_row, writes_bytes}
-pub use Rattle.file_exec.specs.declared.changes.Change.{Change}
+pub use Rattle.file_exec.specs.Known.{AgreesWith, Done, Heard, IsSoAt, Known, exec_of, is_held, known_rows}
 pub use Rattle.file_exec.specs.declared.edit_log.Edit.{Edit}
 pub use Rattle.file_exec.specs.declared.edit_log.Edit.TheVariants.{Make, SetAcl, SetContent, SetVotes}
-pub use Rattle.file_exec.specs.declared.need.Need.TheVariants.{Know}
-pub use Rattle.file_ops.specs.Limits.{max_operations}
 pub use Rattle.file_ops.specs.Lists.{gives_default, is_misplaced, lists_of}
 pub use Rattle.file_ops.specs.Rows.{PlainTable, Row, made_number, new_row, root}
-pub use Rattle.file_ops.specs.Transactions.{Played, replies, table_after}
-pub use Rattle.file_ops.specs.Walks.{names_in}
 pub use Rattle.file_ops.specs.declared.answer.Answer.{Answer}
-pub use Rattle.file_ops.specs.declared.audit.AuditItem.{AuditItem}
-pub use Rattle.file_ops.specs.declared.operation.Action.{Action}
-pub use Rattle.file_ops.specs.declared.operation.Init.{Init}
 pub use Rattle.file_ops.specs.declared.operation.Op.{Op}
 pub use Rattle.file_ops.specs.declared.refusal.Refusal.{Refusal}
 pub use Rattle.file_ops.specs.declared.service.Service.{Service}
@@ -44,38 +25,25 @@ pub use Rattle.law_headline.proofs.Beside.{HoldsItsKind, kind_after, known_fits,
 pub use Rattle.law_headline.proofs.Carried.{AllValid, CameWell, ValidOr, came_preparing, came_well, event_valid}
 pub use Rattle.law_headline.proofs.Conclusions.{answers_are_the_tables, knowledge_was}
 pub use Rattle.law_headline.proofs.Editing.{AllFit, FitsRow, edits_fit}
-pub use Rattle.law_headline.proofs.Fair.{FromEdits}
-pub use Rattle.law_headline.proofs.Firsts.{firsts_given}
 pub use Rattle.law_headline.proofs.Keeping.{agents_owe, holds_after}
 pub use Rattle.law_headline.proofs.Setting.{head_of, same_kind}
 pub use Rattle.law_headline.proofs.Together.{Together, goes_on, opens}
 pub use Rattle.law_headline.specs.Premises.{AllGiveValidVotes, CanBe, EventGivesValidVotes, JobGivesValidVotes, VotesAreValid}
 pub use Rattle.law_one_table.proofs.Logs.{LogIs, decision_at, decision_of_actor, event_log}
-pub use Rattle.law_one_table.proofs.Running.{machine_one}
 pub use Rattle.law_one_table.proofs.Shown.{FitsAs, kind_empty, told_as}
 pub use Rattle.law_run_knowledge.proofs.Decided.{known_content, known_prefix, suite_was}
-pub use Rattle.law_run_knowledge.proofs.Lasting.{DoingFits}
-pub use Rattle.law_run_knowledge.proofs.Walk.{InPhase}
-pub use Rattle.law_run_machine.proofs.Jobs.{IdleOr}
-pub use Rattle.law_run_machine.proofs.Kept.{actor_opens}
-pub use Rattle.law_run_machine.proofs.Linked.{InCourse, IsDoing}
-pub use Rattle.law_run_machine.proofs.Sending.{upgrade_told}
 pub use Rattle.law_run_machine.proofs.Servers.{server_there}
 pub use Rattle.law_run_machine.proofs.Stages.{Going, Stage}
-pub use Rattle.law_run_machine.proofs.Turned.{only, set_here}
 pub use Rattle.law_run_machine.specs.Deciding.{aim_of, aims, aims_once, begun_events, change_to, decides_first, decides_on, decides_with, decides_without, decision_by, decision_in, first_of, fixed_in, gives_up, is_at_an_end, is_finishing}
 pub use Rattle.law_run_machine.specs.Deciding.{known_by, own_events, showed, showed_to, tells_aborted, to_write, written_from}
-pub use Rattle.law_run_machine.specs.Machines.{answered_events, asked_at_events, asked_events, begin_events, home_in, lack_events, lacks_for_events, machine_from, machine_of, operated_events, operator_events, response_events, servers_of}
-pub use Rattle.law_run_machine.specs.Machines.{step_events}
+pub use Rattle.law_run_machine.specs.Machines.{machine_from, machine_of, servers_of}
 pub use Rattle.law_run_machine.specs.Owed.{AreOwed, Owed, OwesKnown}
 pub use Rattle.law_run_machine.specs.Telling.{told_to}
 pub use Rattle.law_run_quorums.proofs.Known.{knows_from_a_quorum, valid_was}
 pub use Rattle.law_run_quorums.specs.Telling.{Agrees, DoingAgrees}
 pub use Rattle.law_runs.proofs.Agents.{Begun, EndStands, IsAt, same_place}
 pub use Rattle.law_runs.proofs.Asking.{asks_in_its_name, decides, sweep_decides_none}
-pub use Rattle.law_runs.proofs.Begun.{counts_rise, each_is_begun_once}
 pub use Rattle.law_runs.proofs.Conclusions.{decisions_go_on, ends_as, fresh_agents, holds_at_first, holds_of, later_decisions}
-pub use Rattle.law_runs.proofs.Executed.{Came, set_by}
 pub use Rattle.law_runs.proofs.Places.{at_puts, same_or}
 pub use Rattle.law_runs.proofs.Standing.{Answer', In, NotIn, Recorded, Stands, append_has_left, append_has_right, has_append, verdict_as}
 pub use Rattle.law_runs.proofs.Turns.{no_decide, step_is}
@@ -84,28 +52,17 @@ pub use Rattle.law_runs.proofs.Worlds.{Holds, agent_at, agent_of, cons_is, event
 pub use Rattle.law_runs.specs.Claims.{ended}
 pub use Rattle.law_runs.specs.Naming.{names}
 pub use Rattle.law_runs.specs.Numbers.{begins_at, begins_now, begun_from, number_of}
-pub use Rattle.law_runs.specs.Worked.{close_a, read_a, so_many, two_agents}
 pub use Rattle.law_server_moves.specs.Laws.{beginning}
 pub use Rattle.law_server_moves.specs.Moves.{first_verdict, moves, prepare_of}
-pub use Rattle.law_server_moves.specs.Preparing.{part_of}
 pub use Rattle.law_server_moves.specs.Views.{hold_of, plan_of}
-pub use Rattle.law_suite_machine.proofs.Conclusions.{quorums_show}
 pub use Rattle.law_suite_machine.proofs.Invariant.{Inv, IsRecorded}
-pub use Rattle.law_suite_machine.proofs.Knowing.{within_row}
 pub use Rattle.law_suite_machine.proofs.Places.{at1, at2, at2_both}
-pub use Rattle.law_suite_machine.proofs.Rows.{Logged}
 pub use Rattle.law_suite_machine.proofs.Sound.{effect_held, some_told}
-pub use Rattle.law_suite_machine.specs.Events.{Aim, DecideElsewhere, DecideRead, DecideRefused, DecideWrite, Finish, GiveUp, Held, Lose, Overrule, Prepare, Upgrade, happens, prepared_hold, upgraded_hold, upgraded_told}
-pub use Rattle.law_suite_machine.specs.Machine.{Aborted, Answered, Hold, IsQuorum, Told, begun, effect, in_effect, is_answered}
-pub use Rattle.law_suite_machine.specs.Registers.{Beginning, Entry, GoesWith, IsKnown, IsNext, IsPlain, Read, WasPrefix, Wrote, content_at, empty_of, prefix_at, row, transaction}
-pub use Rattle.rep_core.proofs.Consistent.{consistent_opening, consistent_step}
+pub use Rattle.law_suite_machine.specs.Registers.{Beginning, Entry, GoesWith, IsKnown, WasPrefix, content_at, empty_of, prefix_at, row, transaction}
 pub use Rattle.rep_core.proofs.Finding.{any_find, find_some}
-pub use Rattle.rep_core.proofs.FittingReplies.{reply_fits}
-pub use Rattle.rep_core.proofs.IntentionLookups.{get_has}
 pub use Rattle.rep_core.proofs.Members.{Has, all_at, any_has, contains_from, has_any, has_between, has_filter, has_from, has_map}
 pub use Rattle.rep_core.proofs.Records.{record_apart, record_here}
 pub use Rattle.rep_core.proofs.Ways.{Ways, by_step, recording}
-pub use Rattle.rep_core.specs.Consistency.{IsConsistent}
 pub use Rattle.rep_core.specs.Fits.{fits, is_busy, is_down, is_lost, is_prepared}
 pub use Rattle.rep_core.specs.Locks.{before, conflicts, has_lock, has_lock_for, has_prepared, in_the_way, is_own, lock_at, locked, prepared_lock, raised, raised_lock, with_lock}
 pub use Rattle.rep_core.specs.Service.{after_down, after_up, audit_of, can_prepare, locking_reply, recorded, reply_down, reply_of, reply_up, stands_prepared, verdict_of}
@@ -118,6 +75,7 @@ pub use Rattle.rep_core.specs.declared.reply.Verdict.{Verdict}
 pub use Rattle.rep_core.specs.declared.request.Decision.{Decision}
 pub use Rattle.rep_core.specs.declared.request.Part.{Part}
 pub use Rattle.rep_core.specs.declared.request.Request.{Request}
+pub use Rattle.rep_core.specs.declared.stamped.Lack.{Lack}
 pub use Rattle.rep_core.specs.declared.stamped.Stamped.{Stamped}
 pub use Rattle.run_core.proofs.Appending.{after-append, dones-append, outcomes-append}
 pub use Rattle.run_core.specs.Decisions.{Decided, answer_in, decided, decided_as, decided_at, decided_by, decisions, decisions_from, task_at, task_in, task_of, to_decide}
@@ -128,51 +86,35 @@ pub use Rattle.run_core.specs.Worlds.{servers_from, step, steps_once, with_actor
 pub use Rattle.run_core.specs.declared.done.EndedJob.{EndedJob}
 pub use Rattle.run_core.specs.declared.done.Served.{Served}
 pub use Rattle.run_core.specs.declared.event.Event.{Event}
-pub use Rattle.run_core.specs.declared.event.Event.TheVariants.{Begin, Crash, Forget, Lack, Return, Step}
-pub use Rattle.sorted_map.specs.Laws.{insert_step}
+pub use Rattle.run_core.specs.declared.event.Event.TheVariants.{Begin, Crash, Forget, Return, Step}
 pub use Rattle.sorted_map.specs.SortedMap.{IsOrdered, get, insert}
-pub use Rattle.suite_collect.proofs.Shortness.{short_has_none_left}
-pub use Rattle.suite_collect.specs.Collecting.{Ask, Current, Next, Poll, Short, all_told, collect, mode_of, needed_of, next}
+pub use Rattle.suite_collect.specs.Collecting.{Ask, Next, Poll, Short, all_told, collect, mode_of, needed_of, next}
 pub use Rattle.suite_collect.specs.Telling.{holds, newer, newest}
 pub use Rattle.suite_collect.specs.declared.told.Said.{Said}
 pub use Rattle.suite_content.specs.Contents.{empty_content, kind_of}
-pub use Rattle.suite_content.specs.FolderLaws.{length-without_name}
-pub use Rattle.suite_content.specs.Limits.{max_names}
 pub use Rattle.suite_content.specs.declared.content.Content.{Content}
 pub use Rattle.suite_content.specs.declared.content.Content.TheVariants.{Bytes, Names}
 pub use Rattle.suite_content.specs.declared.content.Kind.{Kind}
-pub use Rattle.suite_content.specs.declared.content.Kind.TheVariants.{Folder}
 pub use Rattle.suite_prefix.specs.Absent.{absent_copy, absent_prefix}
-pub use Rattle.suite_prefix.specs.Copies.{held_by}
 pub use Rattle.suite_prefix.specs.LockModes.{is_exclusive, serves}
 pub use Rattle.suite_prefix.specs.SettingsRules.{IsAccepted, Opening}
 pub use Rattle.suite_prefix.specs.Tests.{is_absent, is_empty, is_valid_copy, is_valid_prefix, is_within_limits, keeps_rules, version_agrees}
 pub use Rattle.suite_prefix.specs.declared.copies.Prefix.{Prefix}
 pub use Rattle.suite_prefix.specs.declared.copies.PrefixKind.{PrefixKind}
-pub use Rattle.suite_prefix.specs.declared.copies.PrefixKind.TheVariants.{Absent}
 pub use Rattle.suite_prefix.specs.declared.copies.Replica.{Replica}
 pub use Rattle.suite_prefix.specs.declared.lock_mode.LockMode.{LockMode}
 pub use Rattle.suite_prefix.specs.declared.lock_mode.LockMode.TheVariants.{Exclusive, Shared}
 pub use Rattle.txn_core.proofs.Asks.{asked_as, asks_same, fetched_as}
-pub use Rattle.txn_core.proofs.Growing.{known_from}
-pub use Rattle.txn_core.proofs.PrepareParts.{a_prepare_rises}
-pub use Rattle.txn_core.proofs.Setting.{known_at}
-pub use Rattle.txn_core.proofs.ToldLists.{are_nil, leaves_execute}
-pub use Rattle.txn_core.proofs.Undecided.{ends_are_caused}
-pub use Rattle.txn_core.proofs.Upheld.{exchanges-forget, exchanges-take}
-pub use Rattle.txn_core.proofs.Walk.{IsEarly, goes_execute, goes_response}
 pub use Rattle.txn_core.specs.Agents.{Agent, Take, Taken, after_all, after_event, begin, end_of, fixed_of, forget, has_sense, is_idle, left, max_jobs, next_in, next_of, started, take, take_in}
 pub use Rattle.txn_core.specs.Doing.{After, Breaking, Deciding, Doing, Ends, Fetching, Finishing, Fixed, Gathering, GoesOn, Granted, Listing, Phase, Preparing, Proposal, Resolving, Running, RunningSweep, SweepRun, Sweeping, Task, Telling}
 pub use Rattle.txn_core.specs.Doing.{TransactionRun, Widening, home_of}
 pub use Rattle.txn_core.specs.Laws.{Exchange, IsStart, all_fit, busy_at, exchange_of, first_busy_in, fits_response, has_said, heard_in, holding, is_decide, is_prepare, is_said, locks, more_told, of_job, refusing, said_by, told_by, told_of}
-pub use Rattle.txn_core.specs.Runs.{other, owner}
 pub use Rattle.txn_core.specs.Suites.{GatheredSuite, ReadPoint, Suites, has_locks, holds_exclusively, holds_lock, known_of, lock_mode, row_with, suite_of, told_at, told_in, with_suite}
 pub use Rattle.txn_core.specs.Transactions.{after_response, asked_by, asked_for, cause_of_abort, changes_of, decision_of, ending_by, execute, fetched_at, fetched_for, gather_by, give_up, heard_on, is_poll, lack_cause, locked_at}
 pub use Rattle.txn_core.specs.Transactions.{numbers_from, prepare, proceed, raised_or_new, request_in, said_to, start_from, tell_end, to_widen, verdict_in, widen_all}
 pub use Rattle.txn_core.specs.Undecided.{DidNotServe, IsCaused, IsShort, SetsVotes, Was, is_finish, is_lack, loses, says_aborted, says_down, stands_on_locks, stops}
 pub use Rattle.txn_core.specs.Writing.{change_of, has_vote, new_copy, new_prefix, one_if, parts_at, prefix_kind, sets_prefix, take_from, take_of_changed, takes_whole}
 pub use Rattle.txn_core.specs.declared.ending.Cause.{Cause}
-pub use Rattle.txn_core.specs.declared.ending.Cause.TheVariants.{Lost}
 pub use Rattle.txn_core.specs.declared.ending.Ending.{Ending}
 pub use Rattle.txn_core.specs.declared.ending.Ending.TheVariants.{Refused, Swept, Undecided}
 pub use Rattle.txn_core.specs.declared.job.Job.{Job}
@@ -181,10 +123,7 @@ pub use Rattle.txn_core.specs.declared.response.Response.{Response}
 pub use Rattle.txn_core.specs.declared.response.Response.TheVariants.{Lacked, Replied}
 pub use Rattle.vote_core.specs.Quorums.{Configuration, Representative, total_votes, votes_in}
 pub use Rattle.vote_core.specs.Validity.{IsValid, max_servers}
-pub use Rattle.weak_cache.proofs.Origins.{entries_come_from_puts}
-pub use Rattle.weak_cache.specs.Cache.{hint}
 pub use Rattle.weak_cache.specs.Entries.{Cache}
 pub use Rattle.law_run_alone.specs.Alone.{all_idle, begins_alone, begins_job, jobs_from, jobs_of, one_at_a_time, one_at_a_time_from}
 pub use Rattle.law_run_alone.specs.Endings.{AllAreDecided, AreAlike, EndingsAreOne, EndingsAreTheTables, IsDecided, IsRunning, IsTransaction, UndisturbedEndingsAreOne, answer_by, decided_ending, decided_endings, tables_endings}
 pub use Rattle.law_run_alone.specs.Undisturbed.{NothingIsInTheWay, UndisturbedAreDecided, all_undisturbed, all_undisturbed_from, all_up, begins_clear, disturbs, is_crash, is_decided, no_locks, none_crashes, some_runs, undisturbed_from}
-pub use Rattle.law_run_alone.specs.Worked.{IsUndisturbed, SomeRunsGoAlone, mended, reads, undisturbed, with_caches}

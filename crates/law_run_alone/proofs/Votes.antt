@@ -1,19 +1,24 @@
 -- All votes that a transaction goes by are valid: those of what it was told, of the hints of its agent's cache, and those that it sets.
-use Rattle.law_run_alone.proofs.Vocabulary.{◌≡◌, inl, inr, ⊎_elim, ℕ, Bool, true, false, cond, List, [], ◌∷◌, Option, Some, None, Ok, refl, sym, ap, subst, ◌∙◌, Equal, Greater, ◌==◌, ◌&&◌, ◌||◌, Contains, nat_lt, option_map}
-use Rattle.law_run_alone.proofs.Vocabulary.{unwrap_or, filter, nat_cmp, Ordering, match_ordering, is_eq, unsigned_tied, eqb-true, none-some, same_Some, insert_step, insert, Configuration, IsValid, Opening, Prefix, absent_prefix, Answer}
-use Rattle.law_run_alone.proofs.Vocabulary.{Refusal, Row, Change, Edit, SetAcl, SetVotes, SetContent, Make, touches, some, makes, sets_acl, sets_votes, changes_at, with_change, Edits, Ended, changed, seen, is_set, Known, Heard}
-use Rattle.law_run_alone.proofs.Vocabulary.{Done, known_rows, exec_of, changes_by_suite, State, copy_of, Has, has_from, has_map, has_filter, Said, newest, newer, Cache, hint, entries_come_from_puts, known_of, change_of, Fixed, Task}
-use Rattle.law_run_alone.proofs.Vocabulary.{start_from, to_widen, SetsVotes, Job, Agent, Event, Actor, server_at, actor_at, run, beginning, machine_of, server_there, valid_was, CanBe, JobGivesValidVotes, AllGiveValidVotes}
-use Rattle.law_run_alone.proofs.Vocabulary.{knowledge_was, FitsRow, AllFit, edits_fit, holds_after}
-use Rattle.std.proofs.Common.{Less}
-use Rattle.file_exec.specs.declared.executor.Outcome.TheVariants as exec
-use Rattle.file_exec.specs.Changes as changes
+use Rattle.law_run_alone.proofs.Vocabulary.{unwrap_or, nat_cmp, match_ordering, is_eq, eqb-true, none-some, same_Some, insert, Configuration, IsValid, Opening, Prefix, absent_prefix, Answer, Refusal, Row, Edit, SetAcl, SetVotes, SetContent}
+use Rattle.law_run_alone.proofs.Vocabulary.{Make, touches, some, makes, sets_acl, sets_votes, changes_at, with_change, Edits, Ended, changed, seen, is_set, Known, Heard, Done, known_rows, exec_of, State, copy_of, Has, has_from, has_map}
+use Rattle.law_run_alone.proofs.Vocabulary.{has_filter, Said, newest, newer, Cache, known_of, change_of, Fixed, Task, start_from, to_widen, SetsVotes, Job, Agent, Event, Actor, server_at, actor_at, run, beginning, machine_of, server_there}
+use Rattle.law_run_alone.proofs.Vocabulary.{valid_was, CanBe, JobGivesValidVotes, AllGiveValidVotes, knowledge_was, FitsRow, AllFit, edits_fit, holds_after}
+use Rattle.file_exec.proofs.Leading.{changes_by_suite}
+use Rattle.std.specs.declared.cmp.Ordering.{Ordering}
+use Rattle.std.specs.Cmp.{unsigned_tied}
+use Rattle.sorted_map.specs.Laws.{insert_step}
+use Rattle.file_exec.specs.declared.changes.Change.{Change}
+use Rattle.weak_cache.specs.Cache.{hint}
+use Rattle.weak_cache.proofs.Origins.{entries_come_from_puts}
+use Rattle.std.proofs.Common.{Less, ◌≡◌, inl, inr, ⊎_elim, ℕ, Bool, true, false, cond, List, [], ◌∷◌, Option, Some, None, Ok, refl, sym, ap, subst, ◌∙◌, Equal, Greater, ◌==◌, ◌&&◌, ◌||◌, Contains, nat_lt, option_map, filter}
 use Rattle.file_exec.specs.Changes.{answered}
-use Rattle.suite_collect.specs.declared.told.Said.TheVariants as told
 use Rattle.suite_collect.specs.declared.told.Told.{Told}
 use Rattle.law_suite_machine.specs.Machine.{World}
 use Rattle.weak_cache.specs.Entries.{Entry}
 use Rattle.txn_core.specs.Laws.{task_of}
+use Rattle.file_exec.specs.declared.executor.Outcome.TheVariants as exec
+use Rattle.file_exec.specs.Changes as changes
+use Rattle.suite_collect.specs.declared.told.Said.TheVariants as told
 use Rattle.txn_core.specs.Agents as agents
 
 -- ---- copies and caches of a run

@@ -1,10 +1,10 @@
 -- What holds of all servers, and of what an agent does, event by event.
 use Rattle.law_run_alone.proofs.Vocabulary.{◌≡◌, inl, inr, ⊎_elim, ℕ, ◌+◌, true, false, cond, List, Option, Some, None, refl, sym, ap, subst, ◌∙◌, ◌*◌, ◌&&◌, nat_lt, slice_get, slice_set, none-some, Opening, Request, Stamped, State}
 use Rattle.law_run_alone.proofs.Vocabulary.{reply_of, is_full, served, answer_of, Job, Response, Replied, Lacked, Fixed, Doing, Agent, fixed_of, is_idle, has_sense, max_jobs, next_of, take_in, take, begin, started, forget, Event, Begin}
-use Rattle.law_run_alone.proofs.Vocabulary.{Step, Crash, Return, Forget, Lack, Actor, World, server_at, actor_at, with_actor, serve, moved, answered, becomes, asks_at, asks, steps_once, lacks_for, lacks, operated, operates, step}
-use Rattle.law_run_alone.proofs.Vocabulary.{begins_now, same_or, at_puts, step_is, puts_in, begins_job}
+use Rattle.law_run_alone.proofs.Vocabulary.{Step, Crash, Return, Forget, Actor, World, server_at, actor_at, with_actor, serve, moved, answered, becomes, asks_at, asks, steps_once, lacks_for, lacks, operated, operates, step, begins_now}
+use Rattle.law_run_alone.proofs.Vocabulary.{same_or, at_puts, step_is, puts_in, begins_job, Lack as Why}
+use Rattle.run_core.specs.declared.event.Event.TheVariants.{Lack}
 use Rattle.rep_core.specs.declared.request.Request.TheVariants as request
-use Rattle.rep_core.specs.declared.stamped.Lack.{Lack as Why}
 use Rattle.rep_core.specs.declared.stamped.Lack.TheVariants as lack
 use Rattle.rep_core.specs.Serving as serving
 use Rattle.law_run_alone.proofs.Turns.{doing_of, doing_at, with_job}

@@ -1,10 +1,10 @@
 -- What an event makes of the one agent that has a job, where nothing disturbs it.
-use Rattle.law_run_alone.proofs.Vocabulary.{◌≡◌, ◌≢◌, inl, inr, ℕ, ◌+◌, Bool, true, false, cond, List, Option, Some, None, refl, sym, ap, subst, ◌∙◌, ◌*◌, ◌&&◌, not, is_some, nat_lt, slice_get, slice_set, false≢true, none-some}
-use Rattle.law_run_alone.proofs.Vocabulary.{same_Some, Opening, Request, Stamped, State, reply_of, is_full, served, answer_of, Job, Replied, Lacked, Fixed, Doing, Agent, fixed_of, is_idle, has_sense, max_jobs, next_in, next_of, take}
-use Rattle.law_run_alone.proofs.Vocabulary.{begin, started, forget, Event, Begin, Step, Crash, Return, Forget, Lack, Served, EndedJob, Actor, World, Stepped, quiet, server_at, actor_at, has_no_job, with_actor, moved, outcome_of}
-use Rattle.law_run_alone.proofs.Vocabulary.{answered, becomes, asks_at, asks, steps_once, lacks_for, lacks, operated, operates, step, Decided, begins_now, same_or, Holds, puts_in, begins_job, disturbs}
+use Rattle.law_run_alone.proofs.Vocabulary.{◌≡◌, ◌≢◌, inl, inr, ℕ, ◌+◌, Bool, true, false, cond, List, Option, Some, None, refl, sym, ap, subst, ◌∙◌, ◌*◌, ◌&&◌, not, is_some, nat_lt, slice_get, slice_set, false≢true, none-some, same_Some}
+use Rattle.law_run_alone.proofs.Vocabulary.{Opening, Request, Stamped, State, reply_of, is_full, served, answer_of, Job, Replied, Lacked, Fixed, Doing, Agent, fixed_of, is_idle, has_sense, max_jobs, next_in, next_of, take, begin, started}
+use Rattle.law_run_alone.proofs.Vocabulary.{forget, Event, Begin, Step, Crash, Return, Forget, Served, EndedJob, Actor, World, Stepped, quiet, server_at, actor_at, has_no_job, with_actor, moved, outcome_of, answered, becomes, asks_at, asks}
+use Rattle.law_run_alone.proofs.Vocabulary.{steps_once, lacks_for, lacks, operated, operates, step, Decided, begins_now, same_or, Holds, puts_in, begins_job, disturbs, Lack as Why}
+use Rattle.run_core.specs.declared.event.Event.TheVariants.{Lack}
 use Rattle.rep_core.specs.declared.request.Request.TheVariants as request
-use Rattle.rep_core.specs.declared.stamped.Lack.{Lack as Why}
 use Rattle.law_run_alone.proofs.Turns.{with_job}
 use Rattle.law_run_alone.proofs.Clear.{Clear, is_turn}
 

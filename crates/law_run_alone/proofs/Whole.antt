@@ -1,9 +1,10 @@
 -- What holds of a run and of the machine of each suite, event by event, as long as there are events to come that there can be.
-use Rattle.law_run_alone.proofs.Vocabulary.{inl, ℕ, List, [], ◌∷◌, ◌++◌, refl, sym, subst, AllByRecursion, IsValid, Opening, Agent, fixed_of, Event, step, after, run, decided, row, begun, beginning, machine_from, machine_of, Owed}
-use Rattle.law_run_alone.proofs.Vocabulary.{AreOwed, actor_opens, event_log, EventGivesValidVotes, CanBe, AllValid, ValidOr, event_valid, Together, opens, goes_on, HoldsItsKind, opens_kind, kind_after, agents_owe}
-use Rattle.run_core.specs.Worlds as worlds
-use Rattle.law_suite_machine.specs.Machine.{World}
+use Rattle.law_run_alone.proofs.Vocabulary.{inl, ℕ, List, [], ◌∷◌, ◌++◌, refl, sym, subst, AllByRecursion, IsValid, Opening, Agent, fixed_of, Event, step, after, run, decided, row, beginning, machine_from, machine_of, Owed, AreOwed}
+use Rattle.law_run_alone.proofs.Vocabulary.{event_log, EventGivesValidVotes, CanBe, AllValid, ValidOr, event_valid, Together, opens, goes_on, HoldsItsKind, opens_kind, kind_after, agents_owe}
+use Rattle.law_suite_machine.specs.Machine.{begun, World}
+use Rattle.law_run_machine.proofs.Kept.{actor_opens}
 use Rattle.law_run_machine.specs.Machines.{moved}
+use Rattle.run_core.specs.Worlds as worlds
 use Rattle.law_run_alone.proofs.Grown.{Grown, opens_grown, grown_after}
 
 -- of one suite

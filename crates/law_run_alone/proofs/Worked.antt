@@ -1,6 +1,10 @@
 -- They hold by computation.
-use Rattle.law_run_alone.proofs.Vocabulary.{ℕ, zero, suc, ◌<◌, List, [], ◌∷◌, ◌++◌, refl, sym, ◌∙◌, arith, All, nat_cmp, contains-empty, false≢true, All-nil, All-cons, Representative, IsValid, max_servers, IsAccepted, Transaction}
-use Rattle.law_run_alone.proofs.Vocabulary.{owner, other, Event, Begin, Crash, Return, two_agents, so_many, close_a, read_a, VotesAreValid, with_caches, undisturbed, mended, reads, IsUndisturbed, SomeRunsGoAlone}
+use Rattle.law_run_alone.proofs.Vocabulary.{ℕ, zero, suc, ◌<◌, List, [], ◌∷◌, ◌++◌, refl, sym, ◌∙◌, arith, All, nat_cmp, false≢true, Representative, IsValid, max_servers, IsAccepted, Transaction, Event, Begin, Crash, Return, VotesAreValid}
+use Rattle.std.specs.FinSet.{contains-empty}
+use Rattle.std.proofs.lemmas.List.Elements.{All-nil, All-cons}
+use Rattle.txn_core.specs.Runs.{owner, other}
+use Rattle.law_runs.specs.Worked.{two_agents, so_many, close_a, read_a}
+use Rattle.law_run_alone.specs.Worked.{with_caches, undisturbed, mended, reads, IsUndisturbed, SomeRunsGoAlone}
 use Rattle.std.specs.List.{IsDistinct}
 
 -- three servers with a vote each, below some number

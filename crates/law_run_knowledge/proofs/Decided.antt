@@ -1,6 +1,6 @@
 -- What a transaction knows of a suite, from what its agent holds.
-use Rattle.law_run_knowledge.proofs.Vocabulary.{◌≡◌, ℕ, Some, refl, sym, subst, ◌∙◌, same_Some, Content, newest, ReadPoint, GatheredSuite, suite_of, TransactionRun, Running, Agent, Beginning, WasPrefix, GoesWith, World, Inv}
-use Rattle.law_run_knowledge.proofs.Vocabulary.{copies_were, SuiteWas}
+use Rattle.law_run_knowledge.proofs.Vocabulary.{◌≡◌, ℕ, Some, refl, sym, subst, ◌∙◌, same_Some, Content, newest, ReadPoint, GatheredSuite, suite_of, TransactionRun, Running, Agent, Beginning, WasPrefix, GoesWith, World, Inv, SuiteWas}
+use Rattle.law_suite_machine.proofs.Conclusions.{copies_were}
 use Rattle.law_run_knowledge.proofs.Showed.{newest_was}
 use Rattle.law_run_knowledge.proofs.Lasting.{DoingFits, AgentFits}
 

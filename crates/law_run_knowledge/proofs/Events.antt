@@ -1,24 +1,47 @@
 -- What agents keep and hold of a suite was its register's: event by event.
-use Rattle.law_run_knowledge.proofs.Vocabulary.{◌≡◌, ◌⊎◌, inl, inr, ℕ, zero, suc, ◌+◌, Bool, true, false, cond, List, [], ◌∷◌, ◌++◌, Option, Some, None, refl, sym, ap, subst, ◌∙◌, ◌*◌, ◌&&◌, nat_lt, slice_get, slice_set, Contains}
-use Rattle.law_run_knowledge.proofs.Vocabulary.{nat_cmp, same_Some, none-some, IsOrdered, Opening, Request, Reply, absent_prefix, Prefix, Stamped, State, reply_of, answer_of, is_full, served, Entry, entries_come_from_puts, has_from}
-use Rattle.law_run_knowledge.proofs.Vocabulary.{ReadPoint, GatheredSuite, Suites, suite_of, Response, Replied, Lacked, Job, Transaction, Sweep, Fixed, Task, Granted, Phase, Gathering, Fetching, Widening, Preparing, Deciding, Finishing}
-use Rattle.law_run_knowledge.proofs.Vocabulary.{TransactionRun, SweepRun, Doing, Running, RunningSweep, After, GoesOn, Ends, Step, execute, after_response, request_of, request_in, asked_for, said_to, Agent, fixed_of, next_in, next_of}
-use Rattle.law_run_knowledge.proofs.Vocabulary.{left, take_in, take, begin, started, forget, is_idle, has_sense, max_jobs, Stands, Exchange, of_job, Started, Begins, Runs, DoingStands, stands_after, Begin, Crash, Return, Forget, Actor}
-use Rattle.law_run_knowledge.proofs.Vocabulary.{server_at, actor_at, with_server, answered, asks_at, asks, steps_once, lacks_for, lacks, operated, operates, becomes, step, actors_from, Beginning, WasPrefix, GoesWith, World, set1, begun}
-use Rattle.law_run_knowledge.proofs.Vocabulary.{Event, run, Obeys, Inv, all_steps, begins, copies_were, Shows, moves, beginning, opening_shows, replies_tell, decision_by, servers_of, home_in, response_events, events_of, answered_events}
-use Rattle.law_run_knowledge.proofs.Vocabulary.{asked_at_events, asked_events, step_events, lacks_for_events, lack_events, operated_events, operator_events, begin_events, moved, machine_from, machine_of, AnsweredWell, AsksAtWell}
-use Rattle.law_run_knowledge.proofs.Vocabulary.{AsksWell, StepsWell, LacksForWell, LacksWell, KeepsSide, KeepSides, server_there, servers_set, servers_open, AllConsistent, served_is, opening_consistent, serves, event_comes, run-append}
-use Rattle.law_run_knowledge.proofs.Vocabulary.{obeys-append, IdleOr, All, event_all, opens, set_here, set_apart, same_or, ToldVersion, SuiteWas, DoingWas, AllWere, KnowledgeWas, KnownWas}
+use Rattle.law_run_knowledge.proofs.Vocabulary.{◌≡◌, ◌⊎◌, inl, inr, ℕ, zero, suc, ◌+◌, Bool, true, false, cond, List, [], ◌∷◌, ◌++◌, Option, Some, None, refl, sym, ap, subst, ◌∙◌, ◌*◌, ◌&&◌, nat_lt, slice_get, slice_set, Contains, nat_cmp}
+use Rattle.law_run_knowledge.proofs.Vocabulary.{same_Some, none-some, IsOrdered, Request, Reply, absent_prefix, Prefix, Entry, ReadPoint, GatheredSuite, Suites, suite_of, Response, Replied, Lacked, Fixed, Task, Granted, Phase, Gathering}
+use Rattle.law_run_knowledge.proofs.Vocabulary.{Fetching, Widening, Preparing, Deciding, Finishing, TransactionRun, SweepRun, Doing, Running, RunningSweep, After, GoesOn, Ends, Agent, fixed_of, next_in, next_of, left, take_in, take, begin}
+use Rattle.law_run_knowledge.proofs.Vocabulary.{started, forget, is_idle, has_sense, max_jobs, Beginning, WasPrefix, GoesWith, World, set1, begun, Event, run, Obeys, Inv, moves, beginning, ToldVersion, SuiteWas, DoingWas, AllWere}
+use Rattle.law_run_knowledge.proofs.Vocabulary.{entries_come_from_puts, has_from, Lack as Why}
+use Rattle.suite_prefix.specs.SettingsRules.{Opening}
+use Rattle.rep_core.specs.declared.stamped.Stamped.{Stamped}
+use Rattle.rep_core.specs.State.{State}
+use Rattle.rep_core.specs.Service.{reply_of}
+use Rattle.rep_core.specs.Serving.{answer_of, is_full, served}
+use Rattle.txn_core.specs.declared.job.Job.{Job}
+use Rattle.txn_core.specs.declared.job.Job.TheVariants.{Transaction, Sweep}
+use Rattle.txn_core.specs.Transactions.{Step, execute, after_response, request_of, request_in, asked_for, said_to}
+use Rattle.txn_core.proofs.Causes.{Stands}
+use Rattle.txn_core.specs.Laws.{Exchange, of_job}
+use Rattle.txn_core.proofs.Upheld.{Started, Begins, Runs, DoingStands, stands_after}
+use Rattle.run_core.specs.declared.event.Event.TheVariants.{Begin, Crash, Return, Forget, Step as Steps, Lack}
+use Rattle.run_core.specs.Worlds.{Actor, server_at, actor_at, with_server, answered, asks_at, asks, steps_once, lacks_for, lacks, operated, operates, becomes, step, actors_from}
+use Rattle.law_suite_machine.proofs.Steps.{all_steps}
+use Rattle.law_suite_machine.proofs.Starting.{begins}
+use Rattle.law_suite_machine.proofs.Conclusions.{copies_were}
+use Rattle.law_server_moves.specs.Views.{Shows}
+use Rattle.law_server_moves.proofs.Opening.{opening_shows}
+use Rattle.law_server_moves.proofs.Replies.{replies_tell}
+use Rattle.law_run_machine.specs.Deciding.{decision_by}
+use Rattle.law_run_machine.specs.Machines.{servers_of, home_in, response_events, events_of, answered_events, asked_at_events, asked_events, step_events, lacks_for_events, lack_events, operated_events, operator_events, begin_events, moved}
+use Rattle.law_run_machine.specs.Machines.{machine_from, machine_of}
+use Rattle.law_run_machine.specs.Sides.{AnsweredWell, AsksAtWell, AsksWell, StepsWell, LacksForWell, LacksWell, KeepsSide, KeepSides}
+use Rattle.law_run_machine.proofs.Servers.{server_there, servers_set, servers_open}
+use Rattle.law_run_machine.proofs.Consistent.{AllConsistent, served_is, opening_consistent}
+use Rattle.law_run_machine.proofs.Following.{serves, event_comes}
+use Rattle.law_run_machine.proofs.Joining.{run-append, obeys-append}
+use Rattle.law_run_machine.proofs.Jobs.{IdleOr, All, event_all, opens}
+use Rattle.law_run_machine.proofs.Turned.{set_here, set_apart, same_or}
+use Rattle.law_run_knowledge.specs.Laws.{KnowledgeWas, KnownWas}
 use Rattle.std.specs.List.Sorted.{IsStrictlySortedBy}
 use Rattle.rep_core.specs.declared.request.Request.TheVariants as request
 use Rattle.rep_core.specs.declared.reply.Reply.TheVariants as reply
-use Rattle.rep_core.specs.declared.stamped.Lack.{Lack as Why}
 use Rattle.rep_core.specs.declared.stamped.Lack.TheVariants as lack
 use Rattle.rep_core.specs.Serving as serving
 use Rattle.txn_core.specs.Sweeps as sweep
 use Rattle.txn_core.specs.Agents as agents
 use Rattle.run_core.specs.declared.event.Event as happening
-use Rattle.run_core.specs.declared.event.Event.TheVariants.{Step as Steps, Lack}
 use Rattle.run_core.specs.Worlds as worlds
 use Rattle.run_core.specs.Runs as runs
 use Rattle.law_server_moves.specs.Laws as steps

@@ -1,7 +1,8 @@
 -- What was so stays so: whatever happens to a suite, what an agent keeps and holds of it was still its register's.
 use Rattle.law_run_knowledge.proofs.Vocabulary.{◌≡◌, inl, inr, ℕ, true, List, [], ◌∷◌, Option, Some, None, refl, sym, ap, ◌∙◌, nat_cmp, none-some, IsOrdered, Content, Prefix, Replica, Said, Cache, GatheredSuite, Suites, Doing, Running}
-use Rattle.law_run_knowledge.proofs.Vocabulary.{RunningSweep, Agent, Each, Beginning, GoesWith, Told, World, Event, Held, Upgrade}
-use Rattle.law_run_knowledge.proofs.Vocabulary.{happens, upgraded_told, run, May, Obeys, Stays, at2, Inv, run_stays, told_to, ToldOf, SaidIs, AreTold, CacheWas, ToldVersion, SuiteWas}
+use Rattle.law_run_knowledge.proofs.Vocabulary.{RunningSweep, Agent, Each, Beginning, GoesWith, Told, World, Event, Held, Upgrade, happens, upgraded_told, run, May, Obeys, Stays, at2, Inv, told_to, ToldOf, SaidIs, AreTold, CacheWas}
+use Rattle.law_run_knowledge.proofs.Vocabulary.{ToldVersion, SuiteWas}
+use Rattle.law_suite_machine.proofs.Lasting.{run_stays}
 use Rattle.suite_collect.specs.declared.told.Said.TheVariants as said
 use Rattle.suite_collect.specs.declared.told.Told as collect
 use Rattle.law_run_knowledge.proofs.Walk.{InPhase}
@@ -66,8 +67,7 @@ module _ (z : ℕ) (start : Beginning) (w later : World) (l : Lasts start w late
 
   pub said_later : (t i : ℕ) (said : Said) → SaidIs (w.told i t) said → SaidIs (later.told i t) said
   said_later t i (said.Held prefix dver) was = told_later t i prefix dver was
-  said_later t i (said.Busy holder) was = tt
-  said_later t i said.Down was = tt
+  said_later t i _ was = tt
 
   are_later : (t : ℕ) (told : List collect.Told) → AreTold (told_to w t) told → AreTold (told_to later t) told
   are_later t [] are = tt

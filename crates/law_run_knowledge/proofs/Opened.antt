@@ -1,8 +1,16 @@
 -- A content that may be had without asking is never fetched.
-use Rattle.law_run_knowledge.proofs.Vocabulary.{◌≡◌, ℕ, zero, suc, ◌+◌, ◌<◌, ◌≤◌, Bool, true, false, cond, [], ◌∷◌, Option, Some, None, refl, sym, ap, subst, ◌∙◌, arith, Equal, Greater, ◌==◌, length, is_some, nat_cmp, is_eq, is_at}
-use Rattle.law_run_knowledge.proofs.Vocabulary.{keys_of, eq-eqb, false≢true, nat_cmp_total, same_Some, none-some, lookup_head, lookup_tail, sorted_tail, IsOrdered, by_answer, insert_step, get_below, IsOrdered-insert, Content}
-use Rattle.law_run_knowledge.proofs.Vocabulary.{empty_content, held_by, content_at, Know, needs_what_is_unmet, ReadPoint, GatheredSuite, Suites, suite_of, with_suite, known_of, Fixed, Task, Gathered, opened, or_all}
-use Rattle.law_run_knowledge.proofs.Vocabulary.{open_needed, open_suite, open_first, opened_with, free_content, heard_on, known_at, needed_first}
+use Rattle.law_run_knowledge.proofs.Vocabulary.{◌≡◌, ℕ, zero, suc, ◌+◌, ◌<◌, ◌≤◌, Bool, true, false, cond, [], ◌∷◌, Option, Some, None, refl, sym, ap, subst, ◌∙◌, arith, Equal, Greater, ◌==◌, length, is_some, nat_cmp, is_eq, eq-eqb}
+use Rattle.law_run_knowledge.proofs.Vocabulary.{false≢true, nat_cmp_total, same_Some, none-some, IsOrdered, Content, empty_content, held_by, content_at, Know, ReadPoint, GatheredSuite, Suites, suite_of, with_suite, known_of, Fixed, Task}
+use Rattle.std.specs.BTreeMap.{is_at}
+use Rattle.std.specs.Map.{keys_of}
+use Rattle.std.proofs.lemmas.Map.Entries.{lookup_head, lookup_tail}
+use Rattle.std.proofs.lemmas.Map.Keys.{sorted_tail}
+use Rattle.sorted_map.specs.Comparisons.{by_answer}
+use Rattle.sorted_map.specs.Laws.{insert_step, get_below, IsOrdered-insert}
+use Rattle.file_exec.proofs.Unmet.{needs_what_is_unmet}
+use Rattle.txn_core.specs.Transactions.{Gathered, opened, or_all, open_needed, open_suite, open_first, opened_with, free_content, heard_on}
+use Rattle.txn_core.proofs.Setting.{known_at}
+use Rattle.txn_core.proofs.Fetches.{needed_first}
 use Rattle.file_exec.specs.declared.executor.Outcome.{Outcome as Executed}
 use Rattle.file_exec.specs.declared.executor.Outcome.TheVariants as exec
 use Rattle.file_exec.specs.Known as known

@@ -1,12 +1,13 @@
 -- What a reply tells a transaction of a suite, its machine tells it.
-use Rattle.law_run_knowledge.proofs.Vocabulary.{◌≡◌, inl, inr, ℕ, ◌<◌, Bool, true, false, cond, [], ◌∷◌, Option, Some, None, refl, sym, ap, subst, ◌∙◌, arith, eq-eqb, same_Some, none-some, Content, Prefix, Replica, LockMode}
-use Rattle.law_run_knowledge.proofs.Vocabulary.{is_exclusive, Request, Reply, Said, Poll, Next, Ask, Current, Short, next, GatheredSuite, Task, is_poll, said_to, asked_by, asked_for, asks_same, Beginning, WasContent, Told, World, Event}
-use Rattle.law_run_knowledge.proofs.Vocabulary.{run, upgraded_told, Obeys, MayUpgrade, at2, Inv, moves, TellsCopy, TellsContent, Tells, ToldOf, SaidIs, ToldVersion}
+use Rattle.law_run_knowledge.proofs.Vocabulary.{◌≡◌, inl, inr, ℕ, ◌<◌, Bool, true, false, cond, [], ◌∷◌, Option, Some, None, refl, sym, ap, subst, ◌∙◌, arith, eq-eqb, same_Some, none-some, Content, Prefix, Replica, LockMode, Request, Reply}
+use Rattle.law_run_knowledge.proofs.Vocabulary.{Said, GatheredSuite, Task, asks_same, Beginning, WasContent, Event, run, upgraded_told, Obeys, MayUpgrade, at2, Inv, moves, TellsCopy, TellsContent, Tells, ToldOf, SaidIs, ToldVersion}
+use Rattle.suite_prefix.specs.LockModes.{is_exclusive}
+use Rattle.suite_collect.specs.Collecting.{Poll, Next, Ask, Current, Short, next, Upgrade}
+use Rattle.txn_core.specs.Transactions.{is_poll, said_to, asked_by, asked_for}
+use Rattle.law_suite_machine.specs.Machine.{Hold, Told, World}
 use Rattle.rep_core.specs.declared.request.Request.TheVariants as request
 use Rattle.rep_core.specs.declared.reply.Reply.TheVariants as reply
 use Rattle.suite_collect.specs.declared.told.Said.TheVariants as said
-use Rattle.suite_collect.specs.Collecting.{Upgrade}
-use Rattle.law_suite_machine.specs.Machine.{Hold}
 use Rattle.law_suite_machine.specs.Events as machine
 use Rattle.law_run_knowledge.proofs.Lasting.{Lasts}
 

@@ -1,10 +1,9 @@
 -- What a collector's replies give: its newest prefix was the register's, and the source of a content showed its version.
-use Rattle.law_run_knowledge.proofs.Vocabulary.{◌≡◌, ℕ, ◌<◌, true, false, cond, inl, inr, List, [], ◌∷◌, ◌++◌, Option, Some, None, refl, sym, ap, subst, ◌∙◌, arith, nat_lt, ◌==◌, cases_lt, eq-eqb, eqb-true, false≢true, Prefix, Said}
-use Rattle.law_run_knowledge.proofs.Vocabulary.{Busy, Down, newer, newest, holds, version_in, shown, greatest, Collector, told_since, all_told, votes_or, counted, mode_or, wanted, is_member, members_of, next, Current, tell_at, tell}
-use Rattle.law_run_knowledge.proofs.Vocabulary.{gives_of, source_of, Beginning, WasPrefix, World, CopiesWere, told_to, ToldOf, SaidIs, AreTold, ToldVersion}
-use Rattle.suite_collect.specs.declared.told.Said.TheVariants.{Held}
+use Rattle.law_run_knowledge.proofs.Vocabulary.{◌≡◌, ℕ, ◌<◌, true, false, cond, inl, inr, List, [], ◌∷◌, ◌++◌, Option, Some, None, refl, sym, ap, subst, ◌∙◌, arith, nat_lt, ◌==◌, cases_lt, eq-eqb, eqb-true, false≢true, Prefix, Said, newer}
+use Rattle.law_run_knowledge.proofs.Vocabulary.{newest, holds, version_in, shown, greatest, gives_of, source_of, Beginning, WasPrefix, World, CopiesWere, told_to, ToldOf, SaidIs, AreTold, ToldVersion}
+use Rattle.suite_collect.specs.declared.told.Said.TheVariants.{Busy, Down, Held}
+use Rattle.suite_collect.specs.Collecting.{Collector, told_since, all_told, votes_or, counted, mode_or, wanted, is_member, members_of, next, Current, tell_at, tell, Widening}
 use Rattle.suite_collect.specs.declared.told.Told as collect
-use Rattle.suite_collect.specs.Collecting.{Widening}
 
 module _ (start : Beginning) (w : World) (t : ℕ) (copies : CopiesWere start w) where
   -- ---- prefixes
@@ -15,8 +14,7 @@ module _ (start : Beginning) (w : World) (t : ℕ) (copies : CopiesWere start w)
   newer_was : (i : ℕ) (before : Prefix) (said : Said) → WasPrefix start w.log before → SaidIs (w.told i t) said → WasPrefix start w.log (newer before said)
   newer_was i before (Held prefix dver) was is =
       elim (nat_lt before.pver prefix.pver) as (λ b. WasPrefix start w.log (cond b prefix before)) [ true ↦ told_prefix i prefix dver is | false ↦ was ]
-  newer_was i before (Busy holder) was is = was
-  newer_was i before Down was is = was
+  newer_was i before _ was is = was
 
   pub newest_was : (first : Prefix) (told : List collect.Told) → WasPrefix start w.log first → AreTold (told_to w t) told → WasPrefix start w.log (newest first told)
   newest_was first [] was are = was

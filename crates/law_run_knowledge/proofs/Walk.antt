@@ -1,17 +1,26 @@
 -- What a transaction holds of a suite, and what its agent caches of it, stays the register's in each step.
-use Rattle.law_run_knowledge.proofs.Vocabulary.{◌≡◌, ℕ, zero, suc, ◌<◌, Bool, true, false, cond, ◌⊎◌, inl, inr, List, [], ◌∷◌, Option, Some, None, Ok, Err, refl, sym, ap, subst, ◌∙◌, arith, ◌==◌, length, find, unwrap_or, nat_cmp}
-use Rattle.law_run_knowledge.proofs.Vocabulary.{eqb-true, and_parts, nat_cmp_total, same_Some, none-some, IsOrdered, IsOrdered-insert, Content, empty_content, held_by, absent_prefix, Prefix, LockMode, Request, Reply, Verdict, Lack}
-use Rattle.law_run_knowledge.proofs.Vocabulary.{is_prepared, Hold, Know, Said, Collector, tell_at, tell, mode_of, Next, Ask, Current, Short, next, gives_of, Entry, Cache, is_of, entry_of, hint, content_at, at_version, put, searched}
-use Rattle.law_run_knowledge.proofs.Vocabulary.{entries_come_from_puts, Has, has_to, find_passes, ReadPoint, GatheredSuite, Suites, suite_of, with_suite, first_or, settled, source_of, Response, Replied, Lacked, Cause, Lost, Ending}
-use Rattle.law_run_knowledge.proofs.Vocabulary.{Granted, Fixed, Task, Proposal, Phase, Gathering, Fetching, Widening, Preparing, Deciding, Finishing, TransactionRun, After, GoesOn, Ends, Step, Gathered, tell_end, give_up, prepare}
-use Rattle.law_run_knowledge.proofs.Vocabulary.{locked_at, short_cause, gather_by, start_from, widen_by, widen_one, widened, widen_all, opened, or_all, open_needed, open_suite, open_first, opened_with, free_content, after_search}
-use Rattle.law_run_knowledge.proofs.Vocabulary.{heard_on, raised_or_new, keep_content, heard_of, said_to, proceed, execute, collected, hear, fetched, fetched_at, fetched_for, after_lack, after_response, given_in, lack_cause, verdict_in}
-use Rattle.law_run_knowledge.proofs.Vocabulary.{ending_by, cause_of_abort, request_in, asks_same, Each, each_but, each_with, tell_start, given_is, Beginning, WasPrefix, WasContent, GoesWith, World, CopiesWere, SaidIs, EntryWas}
-use Rattle.law_run_knowledge.proofs.Vocabulary.{CacheWas, ToldVersion, FirstWas, SuiteWas}
+use Rattle.law_run_knowledge.proofs.Vocabulary.{◌≡◌, ℕ, zero, suc, ◌<◌, Bool, true, false, cond, ◌⊎◌, inl, inr, List, [], ◌∷◌, Option, Some, None, Ok, Err, refl, sym, ap, subst, ◌∙◌, arith, ◌==◌, length, find, nat_cmp, eqb-true, and_parts}
+use Rattle.law_run_knowledge.proofs.Vocabulary.{nat_cmp_total, same_Some, none-some, IsOrdered, Content, empty_content, held_by, absent_prefix, Prefix, LockMode, Request, Reply, Hold, Know, Said, gives_of, Entry, Cache, is_of, entry_of}
+use Rattle.law_run_knowledge.proofs.Vocabulary.{hint, content_at, at_version, put, searched, ReadPoint, GatheredSuite, Suites, suite_of, with_suite, first_or, settled, source_of, Response, Replied, Lacked, Granted, Fixed, Task, Proposal}
+use Rattle.law_run_knowledge.proofs.Vocabulary.{Phase, Gathering, Fetching, Widening, Preparing, Deciding, Finishing, TransactionRun, After, GoesOn, Ends, asks_same, Each, each_but, each_with, tell_start, Beginning, WasPrefix, WasContent}
+use Rattle.law_run_knowledge.proofs.Vocabulary.{GoesWith, World, CopiesWere, SaidIs, EntryWas, CacheWas, ToldVersion, FirstWas, SuiteWas, Lack, entries_come_from_puts, Has, has_to}
+use Rattle.std.specs.Prelude.{unwrap_or}
+use Rattle.sorted_map.specs.Laws.{IsOrdered-insert}
+use Rattle.rep_core.specs.declared.reply.Verdict.{Verdict}
+use Rattle.rep_core.specs.Fits.{is_prepared}
+use Rattle.suite_collect.specs.Collecting.{Collector, tell_at, tell, mode_of, Next, Ask, Current, Short, next}
+use Rattle.weak_cache.proofs.Found.{find_passes}
+use Rattle.txn_core.specs.declared.ending.Cause.{Cause}
+use Rattle.txn_core.specs.declared.ending.Cause.TheVariants.{Lost}
+use Rattle.txn_core.specs.declared.ending.Ending.{Ending}
+use Rattle.txn_core.specs.Transactions.{Step, Gathered, tell_end, give_up, prepare, locked_at, short_cause, gather_by, start_from, widen_by, widen_one, widened, widen_all, opened, or_all, open_needed, open_suite, open_first, opened_with}
+use Rattle.txn_core.specs.Transactions.{free_content, after_search, heard_on, raised_or_new, keep_content, heard_of, said_to, proceed, execute, collected, hear, fetched, fetched_at, fetched_for, after_lack, after_response, given_in}
+use Rattle.txn_core.specs.Transactions.{lack_cause, verdict_in, ending_by, cause_of_abort, request_in}
+use Rattle.txn_core.proofs.Cached.{given_is}
+use Rattle.file_exec.specs.declared.executor.Outcome.{Outcome as Executed}
 use Rattle.rep_core.specs.declared.request.Request.TheVariants as request
 use Rattle.rep_core.specs.declared.reply.Reply.TheVariants as reply
 use Rattle.rep_core.specs.declared.reply.Verdict.TheVariants as verdict
-use Rattle.file_exec.specs.declared.executor.Outcome.{Outcome as Executed}
 use Rattle.file_exec.specs.declared.executor.Outcome.TheVariants as exec
 use Rattle.suite_collect.specs.declared.told.Told as collect
 use Rattle.law_run_knowledge.proofs.Opened.{fetched_above}
@@ -114,8 +123,7 @@ module _ (start : Beginning) (z : ℕ) (w : World) (copies : CopiesWere start w)
 
   fits_gather : (cache : Cache) (suites : Suites) (number : ℕ) (next : Next) → Kept cache → Fit suites → Fits (gather_by task cache suites number next)
   fits_gather cache suites number (Short got needed busy) kept fit = fits_give_up cache suites (short_cause number got needed busy) kept fit
-  fits_gather cache suites number (Ask server asked) kept fit = (kept, (refl, fit, tt))
-  fits_gather cache suites number (Current prefix dver members) kept fit = (kept, (refl, fit, tt))
+  fits_gather cache suites number _ kept fit = (kept, (refl, fit, tt))
 
   fits_widen_by : (cache : Cache) (suites : Suites) (left : List ℕ) (granted : Granted) (number : ℕ) (next : Next) (go_on : Suites → Step) → Kept cache → Fit suites
       → ((suites : Suites) → Fit suites → Fits (go_on suites)) → Fits (widen_by task cache suites (Widening left granted) number next go_on)

@@ -1,11 +1,12 @@
 -- What each request that is served keeps of the servers, each event keeps; so every server of a run is consistent.
-use Rattle.law_run_machine.proofs.Vocabulary.{◌≡◌, ℕ, Bool, true, false, cond, List, [], ◌∷◌, Option, Some, None, refl, sym, ap, subst, ◌==◌, Opening, Request, Stamped, IsConsistent, State, answer_of, is_full, served}
-use Rattle.law_run_machine.proofs.Vocabulary.{consistent_opening, consistent_step, Response, Lacked, Agent, fixed_of, next_of, Begin, Step, Crash, Return, Forget, Lack, Actor, opening, server_at, actor_at, with_server, answered}
-use Rattle.law_run_machine.proofs.Vocabulary.{asks_at, asks, steps_once, lacks_for, lacks, operated, operates, becomes, step, after, set1, servers_of, ServersAreConsistent}
+use Rattle.law_run_machine.proofs.Vocabulary.{◌≡◌, ℕ, Bool, true, false, cond, List, [], ◌∷◌, Option, Some, None, refl, sym, ap, subst, ◌==◌, Opening, Request, Stamped, State, answer_of, is_full, served, Response, Lacked, Agent, fixed_of}
+use Rattle.law_run_machine.proofs.Vocabulary.{next_of, Begin, Step, Crash, Return, Forget, Lack, after, set1, servers_of, ServersAreConsistent}
+use Rattle.rep_core.specs.Consistency.{IsConsistent}
+use Rattle.rep_core.proofs.Consistent.{consistent_opening, consistent_step}
+use Rattle.run_core.specs.declared.event.Event.{Event}
+use Rattle.run_core.specs.Worlds.{World, Actor, opening, server_at, actor_at, with_server, answered, asks_at, asks, steps_once, lacks_for, lacks, operated, operates, becomes, step}
 use Rattle.rep_core.specs.declared.request.Request.TheVariants as request
 use Rattle.rep_core.specs.Serving as serving
-use Rattle.run_core.specs.declared.event.Event.{Event}
-use Rattle.run_core.specs.Worlds.{World}
 use Rattle.law_run_machine.proofs.Servers.{servers_set, server_there, servers_open}
 
 -- a request that is served keeps it

@@ -1,12 +1,12 @@
 -- Every agent of a run that is not idle is one of a job.
-use Rattle.law_run_machine.proofs.Vocabulary.{◌≡◌, ◌⊎◌, inl, inr, ℕ, zero, suc, ◌+◌, true, false, cond, List, [], ◌∷◌, ◌++◌, Option, Some, None, refl, sym, ap, subst, ◌∙◌, ◌&&◌, nat_lt, slice_get, false≢true, same_Some, none-some}
-use Rattle.law_run_machine.proofs.Vocabulary.{Request, Response, Job, ReadPoint, GatheredSuite, suite_of, Fixed, Proposal, Deciding, TransactionRun, Doing, Running, decides_on_quorums, Agent, Take, fixed_of, next_of, take, take_in}
-use Rattle.law_run_machine.proofs.Vocabulary.{begin, started, forget, is_idle, has_sense, max_jobs, after_event, after_all, Actor, step, opening, actors_from, after, OfEach, IsOfAJob, AgentsAreOfJobs}
-use Rattle.txn_core.specs.Agents as agents
-use Rattle.txn_core.specs.Agents.{Forget}
+use Rattle.law_run_machine.proofs.Vocabulary.{◌≡◌, ◌⊎◌, inl, inr, ℕ, zero, suc, ◌+◌, true, false, cond, List, [], ◌∷◌, ◌++◌, Option, Some, None, refl, sym, ap, subst, ◌∙◌, ◌&&◌, nat_lt, slice_get, false≢true, same_Some, none-some, Request}
+use Rattle.law_run_machine.proofs.Vocabulary.{Response, Job, ReadPoint, GatheredSuite, suite_of, Fixed, Proposal, Deciding, TransactionRun, Doing, Running, Actor, step, opening, actors_from, after, IsOfAJob, AgentsAreOfJobs}
+use Rattle.txn_core.proofs.Quorums.{decides_on_quorums}
+use Rattle.txn_core.specs.Agents.{after_event, Forget, Agent, Take, fixed_of, next_of, take, take_in, begin, started, forget, is_idle, has_sense, max_jobs, after_all}
+use Rattle.run_core.proofs.EachAgent.{OfEach, after_event as each_after}
 use Rattle.run_core.specs.declared.event.Event.{Event}
 use Rattle.run_core.specs.Worlds.{World}
-use Rattle.run_core.proofs.EachAgent.{after_event as each_after}
+use Rattle.txn_core.specs.Agents as agents
 
 pub one_more : (fixed : Fixed) (agent : Agent) (told : List agents.Event) (event : agents.Event) → after_all fixed agent (told ++ event ∷ []) ≡ after_event fixed (after_all fixed agent told) event
 one_more fixed agent [] event = refl

@@ -1,6 +1,6 @@
 -- What the events of one transaction leave of another.
-use Rattle.law_run_machine.proofs.Vocabulary.{◌≡◌, ◌⊎◌, inl, inr, ℕ, List, [], ◌∷◌, ◌++◌, Option, Some, None, refl, sym, ap, ◌∙◌, Beginning, World, Verdict, Aborted, set1, set2, Event, Held, Upgrade, Aim, Prepare, DecideRead}
-use Rattle.law_run_machine.proofs.Vocabulary.{DecideRefused, DecideWrite, DecideElsewhere, Overrule, GiveUp, Finish, Lose, happens, run, May, Obeys, at1, at2}
+use Rattle.law_run_machine.proofs.Vocabulary.{◌≡◌, ◌⊎◌, inl, inr, ℕ, List, [], ◌∷◌, ◌++◌, Option, Some, None, refl, sym, ap, ◌∙◌, Beginning, World, Verdict, Aborted, set1, set2, Event, Held, Upgrade, Aim, Prepare, DecideRead, DecideRefused}
+use Rattle.law_run_machine.proofs.Vocabulary.{DecideWrite, DecideElsewhere, Overrule, GiveUp, Finish, happens, run, May, Obeys, at1, at2}
 
 -- of a transaction nothing changed, but that Aborted may have been recorded where nothing was
 pub record Quiet (w later : World) (u : ℕ) : Type 0 where
@@ -63,20 +63,19 @@ module _ (start : Beginning) (w : World) (u t : ℕ) (apart : u ≡ t → ⊥) w
   quiet_event (Held i v exclusive) may is = record { told = λ j. at2_other w.told i v _ j u (λ same. apart (same ∙ is)); aim = refl; gave_up = refl; verdict = inl refl }
   quiet_event (Upgrade i v) may is = record { told = λ j. at2_other w.told i v _ j u (λ same. apart (same ∙ is)); aim = refl; gave_up = refl; verdict = inl refl }
   quiet_event (Aim v new) may is = record { told = λ j. refl; aim = at1_other w.aim v _ u (λ same. apart (same ∙ is)); gave_up = refl; verdict = inl refl }
-  quiet_event (Prepare i v left) may is = record { told = λ j. refl; aim = refl; gave_up = refl; verdict = inl refl }
   quiet_event (DecideRead v set known) may is = record { told = λ j. refl; aim = refl; gave_up = refl; verdict = inl (by_verdict v _ is) }
   quiet_event (DecideRefused v set known) may is = record { told = λ j. refl; aim = refl; gave_up = refl; verdict = inl (by_verdict v _ is) }
   quiet_event (DecideWrite v set known new) may is = record { told = λ j. refl; aim = refl; gave_up = refl; verdict = inl (by_verdict v _ is) }
   quiet_event (DecideElsewhere v verdict) may is = record { told = λ j. refl; aim = refl; gave_up = refl; verdict = inl (by_verdict v _ is) }
   quiet_event (GiveUp v) may is = record { told = λ j. refl; aim = refl; gave_up = at1_other w.gave_up v _ u (λ same. apart (same ∙ is)); verdict = inl refl }
   quiet_event (Finish i v verdict) may is = record { told = λ j. refl; aim = refl; gave_up = refl; verdict = inl refl }
-  quiet_event (Lose keep) may is = record { told = λ j. refl; aim = refl; gave_up = refl; verdict = inl refl }
   quiet_event (Overrule v) may is = record {
     told = λ j. refl;
     aim = refl;
     gave_up = refl;
     verdict = at1 (λ o. (o ≡ w.verdict u) ⊎ ((w.verdict u ≡ None) × (o ≡ Some Aborted))) w.verdict v (Some Aborted) u (λ same. inr (ap w.verdict same ∙ may.undecided, refl)) (λ _. inl refl);
   }
+  quiet_event _ may is = record { told = λ j. refl; aim = refl; gave_up = refl; verdict = inl refl }
 
 pub quiet_all : (start : Beginning) (w : World) (u t : ℕ) (events : List Event) → (u ≡ t → ⊥) → Obeys start w events → AreOf t events → Quiet w (run start w events) u
 quiet_all start w u t [] apart obeys of = quiet_same w u

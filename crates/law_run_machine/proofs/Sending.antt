@@ -1,15 +1,20 @@
 -- What a transaction asks a server, its machine of a suite lets it ask.
-use Rattle.law_run_machine.proofs.Vocabulary.{◌≡◌, ◌⊎◌, inl, inr, ℕ, Bool, true, false, cond, List, ◌∷◌, Option, Some, None, is_some, Ok, Err, refl, sym, ap, subst, ◌∙◌, arith, ◌==◌, ◌||◌, ◌≢◌, filter, find, nat_le, nat_cmp}
-use Rattle.law_run_machine.proofs.Vocabulary.{false≢true, and_parts, nat_tests, IsOrdered, Representative, LockMode, Shared, Lock, Prefix, Part, Request, has_prepared, is_keep, verdict_of, has_map, has_filter, find_some, get_has}
-use Rattle.law_run_machine.proofs.Vocabulary.{newest, holds, Collector, needed, got, all_told, wanted, request_for, Asked, Poll, Next, Ask, Current, Short, next, is_left, counted, is_member, members_of, version, asked_of, ask_or_short}
-use Rattle.law_run_machine.proofs.Vocabulary.{ReadPoint, GatheredSuite, Suites, suite_of, holds_lock, holds_exclusively, told_in, told_at, change_of, new_copy, new_prefix, sets_prefix, has_vote, takes_whole, take_of_changed, take_from}
-use Rattle.law_run_machine.proofs.Vocabulary.{part_of, parts_at, Fixed, Task, home_of, Proposal, Phase, Gathering, Fetching, Widening, Preparing, Deciding, Finishing, asked_by, asked_for, fetched_at, fetched_for, request_in, changes_of}
-use Rattle.law_run_machine.proofs.Vocabulary.{decision_of, asks_same, Beginning, Change, Entry, World, Told, Verdict, Answered, Refused, Aborted, Event, happens, decided, May, ended_as, GoesBy, Sends, Decides, AgentSide, content_to}
-use Rattle.law_run_machine.proofs.Vocabulary.{change_to, written_from, first_of, to_write, decides_first, decides_on, decision_with, decision_in}
+use Rattle.law_run_machine.proofs.Vocabulary.{◌≡◌, ◌⊎◌, inl, inr, ℕ, Bool, true, false, cond, List, ◌∷◌, Option, Some, None, is_some, Ok, Err, refl, sym, ap, subst, ◌∙◌, arith, ◌==◌, ◌||◌, ◌≢◌, filter, find, nat_le, nat_cmp, false≢true}
+use Rattle.law_run_machine.proofs.Vocabulary.{and_parts, nat_tests, IsOrdered, Shared, Lock, Part, Request, has_prepared, verdict_of, has_map, has_filter, find_some, newest, holds, ReadPoint, GatheredSuite, Suites, suite_of, holds_lock}
+use Rattle.law_run_machine.proofs.Vocabulary.{holds_exclusively, told_in, told_at, change_of, new_copy, new_prefix, sets_prefix, has_vote, takes_whole, take_of_changed, take_from, part_of, parts_at, Fixed, Task, home_of, Proposal, Phase}
+use Rattle.law_run_machine.proofs.Vocabulary.{Gathering, Fetching, Widening, Preparing, Deciding, Finishing, asked_by, asked_for, fetched_at, fetched_for, request_in, changes_of, decision_of, asks_same, Beginning, Change, Entry, World}
+use Rattle.law_run_machine.proofs.Vocabulary.{Told, Verdict, Answered, Refused, Aborted, Event, happens, decided, May, ended_as, Decides, AgentSide, content_to, change_to, written_from, first_of, to_write, decides_first, decides_on}
+use Rattle.law_run_machine.proofs.Vocabulary.{decision_with, decision_in}
+use Rattle.vote_core.specs.Quorums.{Representative}
+use Rattle.suite_prefix.specs.declared.lock_mode.LockMode.{LockMode}
+use Rattle.suite_prefix.specs.declared.copies.Prefix.{Prefix}
+use Rattle.rep_core.specs.Store.{is_keep}
+use Rattle.rep_core.proofs.IntentionLookups.{get_has}
+use Rattle.suite_collect.specs.Collecting.{Collector, needed, got, all_told, wanted, request_for, Asked, Poll, Next, Ask, Current, Short, next, is_left, counted, is_member, members_of, version, asked_of, ask_or_short, Upgrade}
+use Rattle.law_server_moves.specs.Preparing.{GoesBy, Sends}
 use Rattle.file_exec.specs.declared.changes.Change as executor
 use Rattle.rep_core.specs.declared.request.Take.TheVariants as take
 use Rattle.rep_core.specs.declared.request.Request.TheVariants as request
-use Rattle.suite_collect.specs.Collecting.{Upgrade}
 use Rattle.law_run_machine.proofs.Stages.{Going, Stage}
 
 -- ---- what a collector asks

@@ -1,6 +1,7 @@
 -- The servers of a world, as a function of their numbers.
-use Rattle.law_run_machine.proofs.Vocabulary.{◌≡◌, ℕ, ◌+◌, zero, suc, get_or, Some, refl, sym, ap, subst, ◌∙◌, arith, slice_get, slice_set, unwrap_or, get_or-set_same, get_or-set_other, slice_get_within, unwrap_or-slice_get, Opening}
-use Rattle.law_run_machine.proofs.Vocabulary.{State, server_at, with_server, servers_from, set1, at1, servers_of}
+use Rattle.law_run_machine.proofs.Vocabulary.{◌≡◌, ℕ, ◌+◌, zero, suc, get_or, Some, refl, sym, ap, subst, ◌∙◌, arith, slice_get, slice_set, get_or-set_same, get_or-set_other, slice_get_within, unwrap_or-slice_get, Opening, State, server_at}
+use Rattle.law_run_machine.proofs.Vocabulary.{with_server, servers_from, set1, at1, servers_of}
+use Rattle.std.specs.Prelude.{unwrap_or}
 use Rattle.rep_core.specs.State as state
 use Rattle.run_core.specs.Worlds as worlds
 

@@ -5,68 +5,46 @@ pub use Rattle.std.proofs.lemmas.Bool.{and_parts, false≢true}
 pub use Rattle.std.proofs.lemmas.Bool.Decides.{nat_tests}
 pub use Rattle.std.proofs.lemmas.List.{get_or-set_other, get_or-set_same, length-set}
 pub use Rattle.std.proofs.lemmas.Option.{none-some, same_Some, slice_get_within, unwrap_or-slice_get}
-pub use Rattle.std.specs.BTreeMap.{is_at}
 pub use Rattle.std.specs.Ordering.{nat_cmp}
-pub use Rattle.std.specs.Prelude.{unwrap_or}
-pub use Rattle.acl_core.specs.Identity.{Identity}
-pub use Rattle.file_ops.specs.declared.operation.Op.{Op}
-pub use Rattle.file_ops.specs.declared.service.Service.{Service}
 pub use Rattle.law_runs.proofs.Asking.{asks_in_its_name, asks_to_sweep}
 pub use Rattle.law_runs.specs.Naming.{may_sweep, names}
 pub use Rattle.law_server_moves.proofs.Opening.{aimed_shows, given_up_shows, opening_shows}
-pub use Rattle.law_server_moves.proofs.Placing.{here1}
-pub use Rattle.law_server_moves.proofs.Replies.{replies_tell}
-pub use Rattle.law_server_moves.proofs.Steps.{each_step_moves}
 pub use Rattle.law_server_moves.specs.Agents.{AgentSide, Decides}
 pub use Rattle.law_server_moves.specs.Laws.{beginning}
 pub use Rattle.law_server_moves.specs.Moves.{first_verdict, moves, prepare_of}
-pub use Rattle.law_server_moves.specs.Preparing.{GoesBy, Sends}
 pub use Rattle.law_server_moves.specs.Views.{Shows, ended_as}
 pub use Rattle.law_suite_machine.proofs.Invariant.{Inv}
-pub use Rattle.law_suite_machine.proofs.Lasting.{run_stays}
 pub use Rattle.law_suite_machine.proofs.Places.{another, at1, at2, itself, one_is, one_not}
-pub use Rattle.law_suite_machine.proofs.Starting.{begins}
 pub use Rattle.law_suite_machine.proofs.Steps.{all_steps}
 pub use Rattle.law_suite_machine.specs.Conditions.{IsReady, Knows, May, MayFinish, Obeys}
 pub use Rattle.law_suite_machine.specs.Events.{Aim, DecideElsewhere, DecideRead, DecideRefused, DecideWrite, Event, Finish, GiveUp, Held, Lose, Overrule, Prepare, Upgrade, aimed, decided, given_up, happens, run, upgraded_told}
 pub use Rattle.law_suite_machine.specs.Machine.{Aborted, Answered, Refused, Told, Verdict, World, begun, set1, set2}
 pub use Rattle.law_suite_machine.specs.Registers.{Beginning, Change, Entry, Known}
-pub use Rattle.rep_core.proofs.Consistent.{consistent_opening, consistent_step}
 pub use Rattle.rep_core.proofs.Finding.{any_find, find_some}
-pub use Rattle.rep_core.proofs.IntentionLookups.{get_has}
 pub use Rattle.rep_core.proofs.Members.{Has, any_has, contains_from, filter_has, has_any, has_filter, has_from, has_map, map_has}
-pub use Rattle.rep_core.proofs.PreparedLocks.{prepared_by_prepare}
-pub use Rattle.rep_core.specs.Consistency.{IsConsistent}
 pub use Rattle.rep_core.specs.Fits.{is_prepared}
 pub use Rattle.rep_core.specs.Locks.{has_prepared}
 pub use Rattle.rep_core.specs.Service.{reply_of, verdict_of}
 pub use Rattle.rep_core.specs.Serving.{answer_of, is_full, served}
 pub use Rattle.rep_core.specs.State.{State}
 pub use Rattle.rep_core.specs.Steps.{WasPrepared, is_prepare}
-pub use Rattle.rep_core.specs.Store.{is_keep}
 pub use Rattle.rep_core.specs.declared.lock.Lock.{Lock}
 pub use Rattle.rep_core.specs.declared.reply.Reply.{Reply}
 pub use Rattle.rep_core.specs.declared.request.Part.{Part}
 pub use Rattle.rep_core.specs.declared.request.Request.{Request}
 pub use Rattle.rep_core.specs.declared.stamped.Stamped.{Stamped}
-pub use Rattle.run_core.proofs.EachAgent.{OfEach}
 pub use Rattle.run_core.specs.Runs.{after}
 pub use Rattle.run_core.specs.Worlds.{Actor, actor_at, actors_from, answered, asks, asks_at, becomes, lacks, lacks_for, opening, operated, operates, server_at, servers_from, step, steps_once, with_server}
 pub use Rattle.run_core.specs.declared.event.Event.TheVariants.{Begin, Crash, Forget, Lack, Return, Step}
 pub use Rattle.sorted_map.specs.SortedMap.{IsOrdered, get}
-pub use Rattle.suite_collect.specs.Collecting.{Ask, Asked, Collector, Current, Next, Poll, Short, all_told, ask_or_short, asked_of, counted, got, is_left, is_member, members_of, needed, next, request_for, version, wanted}
 pub use Rattle.suite_collect.specs.Telling.{holds, newest}
 pub use Rattle.suite_prefix.specs.LockModes.{is_exclusive}
 pub use Rattle.suite_prefix.specs.SettingsRules.{Opening}
-pub use Rattle.suite_prefix.specs.declared.copies.Prefix.{Prefix}
-pub use Rattle.suite_prefix.specs.declared.copies.Replica.{Replica}
-pub use Rattle.suite_prefix.specs.declared.lock_mode.LockMode.{LockMode}
 pub use Rattle.suite_prefix.specs.declared.lock_mode.LockMode.TheVariants.{Shared}
 pub use Rattle.txn_core.proofs.Asks.{asked_as, asks_same, fetched_as}
 pub use Rattle.txn_core.proofs.Locks.{Keeps, all_keep, begin_keeps, nothing_held, plus_all}
-pub use Rattle.txn_core.proofs.Quorums.{decides_on_quorums}
 pub use Rattle.txn_core.proofs.Walk.{IsEarly, goes_execute, goes_response}
-pub use Rattle.txn_core.specs.Agents.{Agent, Take, Taken, after_all, after_event, begin, end_of, fixed_of, forget, has_sense, is_idle, left, max_jobs, next_in, next_of, started, take, take_in, with_step}
+pub use Rattle.txn_core.specs.Agents.{Agent, Take, Taken, begin, end_of, fixed_of, forget, has_sense, is_idle, left, max_jobs, next_in, next_of, started, take, take_in, with_step}
 pub use Rattle.txn_core.specs.Doing.{After, Breaking, Changes, Deciding, Doing, Ends, Fetching, Finishing, Fixed, Gathering, GoesOn, Listing, Phase, Preparing, Proposal, Resolving, Running, RunningSweep, SweepRun, Sweeping, Task, Telling}
 pub use Rattle.txn_core.specs.Doing.{TransactionRun, Widening, home_of}
 pub use Rattle.txn_core.specs.Laws.{exchange_of, is_decide, locks, says_held}
@@ -83,7 +61,6 @@ pub use Rattle.txn_core.specs.declared.job.Job.{Job}
 pub use Rattle.txn_core.specs.declared.job.Job.TheVariants.{Sweep, Transaction}
 pub use Rattle.txn_core.specs.declared.response.Response.{Response}
 pub use Rattle.txn_core.specs.declared.response.Response.TheVariants.{Lacked, Replied}
-pub use Rattle.vote_core.specs.Quorums.{Representative}
 pub use Rattle.vote_core.specs.Validity.{max_servers}
 pub use Rattle.weak_cache.specs.Entries.{Cache}
 pub use Rattle.law_run_machine.specs.Deciding.{aim_of, aims, aims_once, begun_events, change_to, content_to, decides_first, decides_on, decides_with, decides_without, decision_by, decision_in, decision_with, first_of, fixed_in, gives_up}
@@ -92,4 +69,3 @@ pub use Rattle.law_run_machine.specs.Laws.{AgentsAreOfJobs, IsOfAJob, MachinesFo
 pub use Rattle.law_run_machine.specs.Machines.{answered_events, asked_at_events, asked_events, begin_events, events_of, history_from, home_in, lack_events, lacks_for_events, machine_from, moved, operated_events, operator_events}
 pub use Rattle.law_run_machine.specs.Machines.{response_events, servers_of, step_events}
 pub use Rattle.law_run_machine.specs.Owed.{AreOwed, Owed, Owes, OwesFirst, OwesKnown, OwesWith}
-pub use Rattle.law_run_machine.specs.Sides.{AnsweredWell, AsksAtWell, AsksWell, KeepSides, KeepsSide, LacksForWell, LacksWell, StepsWell}

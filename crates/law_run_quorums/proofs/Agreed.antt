@@ -1,7 +1,8 @@
 -- In every run collectors hold what machines told: event by event.
-use Rattle.law_run_quorums.proofs.Vocabulary.{◌≡◌, ℕ, ◌+◌, ◌<◌, List, Option, Some, None, refl, sym, ap, subst, ◌∙◌, arith, ◌*◌, slice_get, slice_set, same_Some, Request, told_at, Response, Fixed, TransactionRun, Doing, Running}
-use Rattle.law_run_quorums.proofs.Vocabulary.{RunningSweep, After, GoesOn, Ends, after_response, request_of, Agent, next_in, take_in, left, Leaves, heard_by, hears_response, Actor, actor_at, World, Quiet, InCourse, IsDoing, AllLinked}
-use Rattle.law_run_quorums.proofs.Vocabulary.{numbered_at, Others, set_here, set_apart, same_or, told_to, Agrees, DoingAgrees, AllAgree}
+use Rattle.law_run_quorums.proofs.Vocabulary.{same_Some, Request, told_at, Fixed, TransactionRun, Doing, Running, RunningSweep, After, GoesOn, Ends, after_response, request_of, Agent, next_in, take_in, left, Leaves, heard_by}
+use Rattle.law_run_quorums.proofs.Vocabulary.{hears_response, Actor, actor_at, World, Quiet, InCourse, IsDoing, AllLinked, numbered_at, Others, set_here, set_apart, same_or, told_to, Agrees, DoingAgrees, AllAgree}
+use Rattle.txn_core.specs.declared.response.Response.{Response}
+use Rattle.std.proofs.Common.{◌≡◌, ℕ, ◌+◌, ◌<◌, List, Option, Some, None, refl, sym, ap, subst, ◌∙◌, arith, ◌*◌, slice_get, slice_set}
 use Rattle.suite_collect.specs.declared.told.Told as collect
 use Rattle.run_core.specs.Worlds as worlds
 

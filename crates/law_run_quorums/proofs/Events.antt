@@ -1,22 +1,35 @@
 -- In every run collectors hold what machines told: each event of a world.
-use Rattle.law_run_quorums.proofs.Vocabulary.{◌≡◌, ℕ, ◌+◌, Bool, true, false, cond, List, [], Option, Some, None, is_some, refl, sym, ap, subst, ◌∙◌, arith, ◌*◌, ◌&&◌, nat_lt, Opening, Request, Reply, Stamped, State, reply_of}
-use Rattle.law_run_quorums.proofs.Vocabulary.{answer_of, is_full, served, told_at, Response, Replied, Lacked, Job, Transaction, Sweep, Task, TransactionRun, Doing, Running, RunningSweep, After, GoesOn, Ends, execute, Agent, fixed_of}
-use Rattle.law_run_quorums.proofs.Vocabulary.{next_in, next_of, take, take_in, begin, started, forget, is_idle, has_sense, max_jobs, left, Leaves, are_nil, leaves_execute, heard_by, Begin, Step, Crash, Return, Forget, Actor, server_at}
-use Rattle.law_run_quorums.proofs.Vocabulary.{actor_at, with_server, answered, asks_at, asks, steps_once, lacks_for, lacks, operated, operates, becomes, step, Beginning, Told, World, set1, run, is_exclusive, Obeys, Inv, Shows, moves}
-use Rattle.law_run_quorums.proofs.Vocabulary.{beginning, replies_tell, asks_in_its_name, decision_by, decision_in, own_events, servers_of, home_in, begin_events, answered_events, asked_at_events, asked_events, step_events}
-use Rattle.law_run_quorums.proofs.Vocabulary.{lacks_for_events, lack_events, operated_events, operator_events, moved, AnsweredWell, AsksAtWell, AsksWell, StepsWell, KeepsSide, server_there, servers_set, AllConsistent, served_is}
-use Rattle.law_run_quorums.proofs.Vocabulary.{run-append, own_told, begun_told, quiet_same, decision_told, AllLinked, IsDoing, turn, served_at, served_concerns, lacked_concerns, others_turned, begun_so, told_to, Agrees, DoingAgrees}
-use Rattle.law_run_quorums.proofs.Vocabulary.{AllAgree}
+use Rattle.law_run_quorums.proofs.Vocabulary.{Opening, Request, Reply, told_at, Task, TransactionRun, Doing, Running, RunningSweep, After, GoesOn, Ends, execute, Agent, fixed_of, next_in, next_of, take, take_in, begin, started, forget}
+use Rattle.law_run_quorums.proofs.Vocabulary.{is_idle, has_sense, max_jobs, left, Leaves, are_nil, leaves_execute, heard_by, Actor, server_at, actor_at, with_server, answered, asks_at, asks, steps_once, lacks_for, lacks, operated, operates}
+use Rattle.law_run_quorums.proofs.Vocabulary.{becomes, step, Beginning, Told, World, set1, is_exclusive, Obeys, Inv, Shows, beginning, decision_by, decision_in, own_events, server_there, servers_set, AllConsistent, served_is, quiet_same}
+use Rattle.law_run_quorums.proofs.Vocabulary.{AllLinked, IsDoing, served_at, served_concerns, lacked_concerns, others_turned, begun_so, told_to, Agrees, DoingAgrees, AllAgree, Replied, Lacked, run}
+use Rattle.txn_core.specs.declared.response.Response.{Response}
+use Rattle.law_server_moves.specs.Moves.{moves}
+use Rattle.std.proofs.Common.{◌≡◌, ℕ, ◌+◌, Bool, true, false, cond, List, [], Option, Some, None, is_some, refl, sym, ap, subst, ◌∙◌, arith, ◌*◌, ◌&&◌, nat_lt}
+use Rattle.rep_core.specs.declared.stamped.Stamped.{Stamped}
+use Rattle.rep_core.specs.State.{State}
+use Rattle.rep_core.specs.Service.{reply_of}
+use Rattle.rep_core.specs.Serving.{answer_of, is_full, served}
+use Rattle.txn_core.specs.declared.job.Job.{Job}
+use Rattle.txn_core.specs.declared.job.Job.TheVariants.{Transaction, Sweep}
+use Rattle.run_core.specs.declared.event.Event.TheVariants.{Begin, Step, Crash, Return, Forget, Lack}
+use Rattle.law_server_moves.proofs.Replies.{replies_tell}
+use Rattle.law_runs.proofs.Asking.{asks_in_its_name}
+use Rattle.law_run_machine.specs.Machines.{servers_of, home_in, begin_events, answered_events, asked_at_events, asked_events, step_events, lacks_for_events, lack_events, operated_events, operator_events, moved}
+use Rattle.law_run_machine.specs.Sides.{AnsweredWell, AsksAtWell, AsksWell, StepsWell, KeepsSide}
+use Rattle.law_run_machine.proofs.Joining.{run-append}
+use Rattle.law_run_machine.proofs.Own.{own_told, begun_told}
+use Rattle.law_run_machine.proofs.Sending.{decision_told}
+use Rattle.law_run_machine.proofs.Turns.{turn}
+use Rattle.law_run_machine.proofs.Following.{serves}
 use Rattle.rep_core.specs.declared.request.Request.TheVariants as request
 use Rattle.rep_core.specs.declared.reply.Reply.TheVariants as reply
 use Rattle.rep_core.specs.declared.stamped.Lack.TheVariants as lack
 use Rattle.rep_core.specs.Serving as serving
 use Rattle.suite_collect.specs.declared.told.Told as collect
 use Rattle.run_core.specs.declared.event.Event as happening
-use Rattle.run_core.specs.declared.event.Event.TheVariants.{Lack}
 use Rattle.run_core.specs.Worlds as worlds
 use Rattle.law_server_moves.specs.Laws as steps
-use Rattle.law_run_machine.proofs.Following.{serves}
 use Rattle.law_run_quorums.proofs.Served.{served_agrees, lacked_agrees}
 use Rattle.law_run_quorums.proofs.Agreed.{all_agree, take_agrees}
 

@@ -1,8 +1,15 @@
 -- What a transaction knows of a suite, it knows from a quorum.
-use Rattle.law_run_quorums.proofs.Vocabulary.{◌≡◌, ℕ, ◌≤◌, Bool, true, false, cond, ◌⊎◌, inl, inr, List, [], ◌∷◌, ◌++◌, Option, Some, refl, sym, ap, subst, ◌∙◌, arith, ◌==◌, ◌&&◌, ◌||◌, nat_lt, nat_le, max, false≢true, eqb-true}
-use Rattle.law_run_quorums.proofs.Vocabulary.{nat_tests, Representative, Configuration, votes_in, IsValid, Prefix, LockMode, Shared, Exclusive, serves, Said, Held, Busy, Down, is_held, newer, newest, holds, version_in, shown, greatest}
-use Rattle.law_run_quorums.proofs.Vocabulary.{Collector, all_told, needed_of, among, IsCurrent, gives_of, current_is_a_quorum, some_needed, ReadPoint, GatheredSuite, votes_more, Beginning, Known, WasPrefix, Told, World, IsQuorum, Inv}
-use Rattle.law_run_quorums.proofs.Vocabulary.{showed, known_by, told_to, ToldOf, SaidIs, AreTold, FirstFrom, early_collector, KnowsFromAQuorum}
+use Rattle.law_run_quorums.proofs.Vocabulary.{false≢true, eqb-true, nat_tests, Representative, Configuration, votes_in, Prefix, LockMode, Shared, Exclusive, serves, Said, Collector, all_told, needed_of, ReadPoint, GatheredSuite, Beginning}
+use Rattle.law_run_quorums.proofs.Vocabulary.{Known, WasPrefix, Told, World, IsQuorum, Inv, showed, known_by, told_to, ToldOf, SaidIs, AreTold, KnowsFromAQuorum}
+use Rattle.suite_collect.specs.declared.told.Said.TheVariants.{Held, Busy, Down}
+use Rattle.std.proofs.Common.{◌≡◌, ℕ, ◌≤◌, Bool, true, false, cond, ◌⊎◌, inl, inr, List, [], ◌∷◌, ◌++◌, Option, Some, refl, sym, ap, subst, ◌∙◌, arith, ◌==◌, ◌&&◌, ◌||◌, nat_lt, nat_le, max}
+use Rattle.vote_core.specs.Validity.{IsValid}
+use Rattle.suite_collect.specs.Telling.{is_held, newer, newest, holds, version_in, shown, greatest}
+use Rattle.suite_collect.specs.Laws.{among, IsCurrent}
+use Rattle.suite_collect.proofs.Collected.{gives_of, current_is_a_quorum}
+use Rattle.suite_collect.proofs.Sources.{some_needed}
+use Rattle.txn_core.proofs.SuiteQuorums.{votes_more}
+use Rattle.law_run_quorums.specs.Firsts.{FirstFrom, early_collector}
 use Rattle.suite_collect.specs.declared.told.Told as collect
 
 -- ---- what a server showed
@@ -10,8 +17,7 @@ use Rattle.suite_collect.specs.declared.told.Told as collect
 newer_above : (prefix : Prefix) (said : Said) → prefix.pver ≤ (newer prefix said).pver
 newer_above prefix (Held other dver) =
     elim (nat_lt prefix.pver other.pver) as (λ b. nat_lt prefix.pver other.pver ≡ b → prefix.pver ≤ (cond b other prefix).pver) [ true ↦ λ e. grind (arith, nat_tests) | false ↦ λ _. omega arith ] refl
-newer_above prefix (Busy holder) = omega arith
-newer_above prefix Down = omega arith
+newer_above prefix _ = omega arith
 
 newer_least : (prefix other : Prefix) (dver : ℕ) → other.pver ≤ (newer prefix (Held other dver)).pver
 newer_least prefix other dver =
@@ -23,9 +29,6 @@ record Showed (f : ℕ → Option Told) (start : Prefix) (list : List collect.To
   is : f i ≡ Some one
   prefix : one.copy.prefix.pver ≤ (newest start list).pver
   dver : one.copy.dver ≡ shown list i
-
-not_held : (said : Said) (b : Bool) → (is_held said && b) ≡ true → is_held said ≡ true
-not_held said b is = elim (is_held said) as (λ h. (h && b) ≡ true → h ≡ true) [ true ↦ λ _. refl | false ↦ λ no. no ] is
 
 showed_on : (f : ℕ → Option Told) (start : Prefix) (mode : LockMode) (list : List collect.Told) (i : ℕ) → AreTold f list → holds mode list i ≡ true → Showed f start list i
 showed_on f start mode [] i are held = absurd (false≢true held)

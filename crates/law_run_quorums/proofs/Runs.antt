@@ -1,10 +1,18 @@
 -- In every run collectors hold what machines told.
-use Rattle.law_run_quorums.proofs.Vocabulary.{ℕ, List, [], ◌∷◌, sym, subst, Opening, Agent, fixed_of, step, after, World, begun, Inv, all_steps, begins, Shows, beginning, opening_shows, servers_of, home_in, events_of, moved}
-use Rattle.law_run_quorums.proofs.Vocabulary.{machine_from, AreOwed, servers_open, AllConsistent, opening_consistent, event_comes, AllLinked, AllWaiting, waits_next, Readied, ready_next, All, event_all, next, actor_opens, opens_linked}
-use Rattle.law_run_quorums.proofs.Vocabulary.{opens_waiting, opens_readied, DoingAgrees, AllAgree, CollectorsAgree}
+use Rattle.law_run_quorums.proofs.Vocabulary.{Opening, Agent, fixed_of, step, World, begun, Inv, Shows, beginning, AreOwed, servers_open, AllConsistent, opening_consistent, AllLinked, DoingAgrees, AllAgree, CollectorsAgree}
+use Rattle.std.proofs.Common.{ℕ, List, [], ◌∷◌, sym, subst}
+use Rattle.run_core.specs.Runs.{after}
+use Rattle.law_suite_machine.proofs.Steps.{all_steps}
+use Rattle.law_suite_machine.proofs.Starting.{begins}
+use Rattle.law_server_moves.proofs.Opening.{opening_shows}
+use Rattle.law_run_machine.specs.Machines.{servers_of, home_in, events_of, moved, machine_from}
+use Rattle.law_run_machine.proofs.Following.{event_comes}
+use Rattle.law_run_machine.proofs.Waited.{AllWaiting, waits_next}
+use Rattle.law_run_machine.proofs.Readied.{Readied, ready_next}
+use Rattle.law_run_machine.proofs.Jobs.{All, event_all, opens as jobs_open}
+use Rattle.law_run_machine.proofs.Kept.{next, actor_opens, opens_linked, opens_waiting, opens_readied}
 use Rattle.run_core.specs.declared.event.Event as happening
 use Rattle.run_core.specs.Worlds as worlds
-use Rattle.law_run_machine.proofs.Jobs.{opens as jobs_open}
 use Rattle.law_run_quorums.proofs.Events.{event_agrees}
 
 agree_from : (given : Opening) (z : ℕ) (w : World) (world : worlds.World) (events : List happening.Event) → Inv (beginning z given) w

@@ -1,8 +1,16 @@
 -- What a request that is served makes of the machine's telling, and of the collector's list.
-use Rattle.law_run_quorums.proofs.Vocabulary.{◌≡◌, ℕ, Bool, true, false, cond, List, [], ◌∷◌, Option, Some, None, is_some, refl, sym, ap, subst, ◌∙◌, arith, ◌==◌, ◌&&◌, ◌||◌, false≢true, eqb-true, nat_tests, Prefix, Replica, LockMode}
-use Rattle.law_run_quorums.proofs.Vocabulary.{Shared, Exclusive, serves, Part, Request, Reply, Lack, Said, Held, Busy, Down, is_held, holds, mode_of, Replied, Lacked, more_told, told_by, locks, is_poll, said_to, serves_shared, heard_by}
-use Rattle.law_run_quorums.proofs.Vocabulary.{Beginning, Told, Hold, Verdict, World, set2, Event, Overrule, happens, run, upgraded_told, is_exclusive, Obeys, at2, one_is, itself, Sound, prepare_of, first_verdict, moves, TellsCopy}
-use Rattle.law_run_quorums.proofs.Vocabulary.{Tells, names, told_to, ToldOf, SaidIs, AreTold, Agrees}
+use Rattle.law_run_quorums.proofs.Vocabulary.{false≢true, eqb-true, nat_tests, Prefix, Replica, LockMode, Shared, Exclusive, serves, Request, Reply, Said, mode_of, more_told, told_by, locks, is_poll, said_to, heard_by, Beginning, Told}
+use Rattle.law_run_quorums.proofs.Vocabulary.{Hold, Verdict, World, set2, is_exclusive, Obeys, TellsCopy, Tells, told_to, ToldOf, SaidIs, AreTold, Agrees, Replied, Lacked, Event, Overrule, happens, run, upgraded_told}
+use Rattle.suite_collect.specs.declared.told.Said.TheVariants.{Held, Busy, Down}
+use Rattle.law_server_moves.specs.Moves.{prepare_of, first_verdict, moves}
+use Rattle.std.proofs.Common.{◌≡◌, ℕ, Bool, true, false, cond, List, [], ◌∷◌, Option, Some, None, is_some, refl, sym, ap, subst, ◌∙◌, arith, ◌==◌, ◌&&◌, ◌||◌}
+use Rattle.rep_core.specs.declared.request.Part.{Part}
+use Rattle.rep_core.specs.declared.stamped.Lack.{Lack}
+use Rattle.suite_collect.specs.Telling.{is_held, holds}
+use Rattle.txn_core.proofs.Locks.{serves_shared}
+use Rattle.law_suite_machine.proofs.Places.{at2, one_is, itself}
+use Rattle.law_suite_machine.proofs.Sound.{Sound}
+use Rattle.law_runs.specs.Naming.{names}
 use Rattle.suite_prefix.specs.LockModes as modes
 use Rattle.rep_core.specs.declared.request.Request.TheVariants as request
 use Rattle.rep_core.specs.declared.reply.Reply.TheVariants as reply

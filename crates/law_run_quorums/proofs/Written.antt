@@ -1,18 +1,17 @@
 -- What a transaction writes to a suite covers enough servers.
-use Rattle.law_run_quorums.proofs.Vocabulary.{◌≡◌, ℕ, ◌+◌, ◌<◌, ◌≤◌, Bool, IsTrue, true, false, cond, ◌⊎◌, inl, inr, List, [], ◌∷◌, Option, Some, None, refl, sym, ap, subst, ◌∙◌, arith, ◌==◌, ◌&&◌, ◌||◌, nat_lt, is_some, false≢true}
-use Rattle.law_run_quorums.proofs.Vocabulary.{nat_tests, same_Some, list_any, Representative, votes_at, is_write_quorum, Replica, all_told, ReadPoint, GatheredSuite, change_of, gets_votes, sets_prefix, new_prefix, new_copy, one_if}
-use Rattle.law_run_quorums.proofs.Vocabulary.{has_vote, takes_whole, take_of_changed, take_from, part_of, Changes, votes_then, newest_of, IsReady, Beginning, Change, WasPrefix, World, holds_exclusively, CoversPrefix, KeepsContent}
-use Rattle.law_run_quorums.proofs.Vocabulary.{CoversContent, left_of, known_by, change_to, OwesKnown, OwesWritten, told_to, Agrees, IsFair, PreparedPart, WritesToQuorums}
+use Rattle.law_run_quorums.proofs.Vocabulary.{nat_tests, same_Some, Representative, votes_at, is_write_quorum, Replica, all_told, ReadPoint, GatheredSuite, Changes, votes_then, newest_of, IsReady, Beginning, Change, WasPrefix, World}
+use Rattle.law_run_quorums.proofs.Vocabulary.{holds_exclusively, CoversPrefix, KeepsContent, CoversContent, known_by, change_to, OwesKnown, OwesWritten, told_to, Agrees, WritesToQuorums}
+use Rattle.std.proofs.Common.{◌≡◌, ℕ, ◌+◌, ◌<◌, ◌≤◌, Bool, IsTrue, true, false, cond, ◌⊎◌, inl, inr, List, [], ◌∷◌, Option, Some, None, refl, sym, ap, subst, ◌∙◌, arith, ◌==◌, ◌&&◌, ◌||◌, nat_lt, is_some}
+use Rattle.std.specs.List.{list_any}
+use Rattle.txn_core.specs.Writing.{change_of, gets_votes, sets_prefix, new_prefix, new_copy, one_if, has_vote, takes_whole, take_of_changed, take_from, part_of}
+use Rattle.law_server_moves.specs.Preparing.{left_of}
+use Rattle.law_run_quorums.specs.Fairness.{IsFair, PreparedPart}
 use Rattle.file_exec.specs.declared.changes.Change as executor
 use Rattle.rep_core.specs.declared.request.Take.TheVariants as take
 use Rattle.txn_core.specs.Suites as suites
 
 same_set : (w : World) (t : ℕ) (suite : GatheredSuite) → Agrees (told_to w t) (all_told suite.collector) → suites.holds_exclusively suite ≡ holds_exclusively w t
 same_set w t suite agrees = λ n i. sym (agrees.exclusive i) n
-
-or_false : (a b : Bool) → (a || b) ≡ false → (a ≡ false) × (b ≡ false)
-or_false true b is = absurd (false≢true (sym is))
-or_false false b is = (refl, is)
 
 -- a server with votes has one
 votes_has : (reps : List Representative) (server : ℕ) → 0 < votes_at reps server → list_any (λ rep. (rep.0 == server) && nat_lt 0 rep.1) reps ≡ true

@@ -1,8 +1,8 @@
 -- A transaction that is begun again and again where its votes are up: one of as many tries as there are servers is decided.
 use Rattle.law_run_recovers.proofs.Vocabulary.{◌≡◌, inl, inr, ⊎_elim, ℕ, zero, suc, ◌+◌, ◌<◌, Bool, true, false, cond, List, [], ◌∷◌, ◌++◌, append_assoc, length, Option, Some, None, is_some, refl, sym, ap, subst, ◌∙◌, arith, ◌*◌, ◌&&◌}
-use Rattle.law_run_recovers.proofs.Vocabulary.{nat_lt, slice_get, option_map, false≢true, and_parts, slice_get_within, Identity, Opening, State, Has, has_from, any_has, contains_from, Op, Job, Transaction, Fixed, home_of, fixed_of}
-use Rattle.law_run_recovers.proofs.Vocabulary.{is_idle, has_sense, max_jobs, Event, Begin, Actor, World, actor_at, has_no_job, opening, step, after, dones, outcomes, run, table_of, dones-append, outcomes-append, begins_now, so_many}
-use Rattle.law_run_recovers.proofs.Vocabulary.{CanBe, begins_job, can_front, with_job, up_in, is_up, up_free, unhindered_from, VotesAreUp, GoesAlone, again, goes_again, OneIsDecided, Always, OneOfThemIsDecidedAt}
+use Rattle.law_run_recovers.proofs.Vocabulary.{nat_lt, slice_get, option_map, false≢true, and_parts, slice_get_within, Identity, Opening, State, Has, has_from, any_has, contains_from, Op, Job, Transaction, Fixed, home_of, fixed_of, is_idle}
+use Rattle.law_run_recovers.proofs.Vocabulary.{has_sense, max_jobs, Event, Begin, Actor, World, actor_at, has_no_job, opening, step, after, dones, outcomes, run, table_of, dones-append, outcomes-append, begins_now, so_many, CanBe}
+use Rattle.law_run_recovers.proofs.Vocabulary.{begins_job, can_front, with_job, up_in, is_up, up_free, unhindered_from, VotesAreUp, GoesAlone, again, goes_again, OneIsDecided, Always, OneOfThemIsDecidedAt}
 use Rattle.run_core.proofs.Appending as appending
 use Rattle.law_run_recovers.proofs.Homes.{homes_go_round}
 use Rattle.law_run_recovers.proofs.AmongOver.{has_after}

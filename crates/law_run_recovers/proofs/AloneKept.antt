@@ -1,8 +1,8 @@
 -- What a transaction that goes alone leaves where its home was down: nothing is decided, and stored copies are as they were; servers are up that were.
-use Rattle.law_run_recovers.proofs.Vocabulary.{◌≡◌, inl, ℕ, ◌+◌, Bool, true, false, List, [], ◌∷◌, ◌++◌, append-nil, length, Option, Some, None, refl, sym, ap, subst, ◌∙◌, ◌*◌, ◌==◌, ◌||◌, not, Contains}
-use Rattle.law_run_recovers.proofs.Vocabulary.{false≢true, eqb-true, same_Some, Identity, Opening, Replica, Lock, Request, Verdict, is_answered, copy_of, State, Has, has_from, Op, Transaction, home_of, fixed_of, next_of, or_right}
-use Rattle.law_run_recovers.proofs.Vocabulary.{Event, Begin, Step, Crash, Return, Actor, World, server_at, actor_at, run, decisions, decisions_from, table_of, table_after_all, decisions_from-append, EndedSo, names}
-use Rattle.law_run_recovers.proofs.Vocabulary.{by_step, finish_is_after, so_many, IsOwnAt, names_mine, AllAt, MayAsk, asks_servers, up_in, is_up, up_free, locks_in, shown_in, shown_at, GoesAlone, begun_world, world_after}
+use Rattle.law_run_recovers.proofs.Vocabulary.{◌≡◌, inl, ℕ, ◌+◌, Bool, true, false, List, [], ◌∷◌, ◌++◌, append-nil, length, Option, Some, None, refl, sym, ap, subst, ◌∙◌, ◌*◌, ◌==◌, ◌||◌, not, Contains, false≢true, eqb-true, same_Some}
+use Rattle.law_run_recovers.proofs.Vocabulary.{Identity, Opening, Replica, Lock, Request, Verdict, is_answered, copy_of, State, Has, has_from, Op, Transaction, home_of, fixed_of, next_of, or_right, Event, Begin, Step, Crash, Return, Actor}
+use Rattle.law_run_recovers.proofs.Vocabulary.{World, server_at, actor_at, run, decisions, decisions_from, table_of, table_after_all, decisions_from-append, EndedSo, names, by_step, finish_is_after, so_many, IsOwnAt, names_mine, AllAt}
+use Rattle.law_run_recovers.proofs.Vocabulary.{MayAsk, asks_servers, up_in, is_up, up_free, locks_in, shown_in, shown_at, GoesAlone, begun_world, world_after}
 use Rattle.rep_core.specs.declared.request.Request.TheVariants as request
 use Rattle.rep_core.specs.declared.reply.Verdict.TheVariants as verdict
 use Rattle.file_ops.specs.Rows as rows

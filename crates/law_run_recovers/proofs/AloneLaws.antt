@@ -1,5 +1,6 @@
 -- What is promised to a transaction that goes alone: it is met by nobody, and each job of its agent that ends from then on is it.
-use Rattle.law_run_recovers.proofs.Vocabulary.{◌≡◌, ℕ, ◌+◌, ◌-◌, ◌*◌, arith, false, List, [], ◌∷◌, ◌++◌, sym, ap, subst, ◌∙◌, not, not-true, and_parts, has_from, hinders, unhindered_from, world_after, step, Contains, Identity, Opening, Op, fixed_of, Event, EndedJob, Actor, dones, outcomes, GoesAlone, EndsThen, begun_world, Always, DecidedWhereVotesAreAt, EndsAreByVotesAt, EndsInTimeAt}
+use Rattle.law_run_recovers.proofs.Vocabulary.{◌≡◌, ℕ, ◌+◌, ◌-◌, ◌*◌, arith, false, List, [], ◌∷◌, ◌++◌, sym, ap, subst, ◌∙◌, not, not-true, and_parts, has_from, hinders, unhindered_from, world_after, step, Contains, Identity, Opening, Op}
+use Rattle.law_run_recovers.proofs.Vocabulary.{fixed_of, Event, EndedJob, Actor, dones, outcomes, GoesAlone, EndsThen, begun_world, Always, DecidedWhereVotesAreAt, EndsAreByVotesAt, EndsInTimeAt}
 use Rattle.law_run_recovers.proofs.AmongOver.{ended_own}
 use Rattle.law_run_recovers.proofs.AmongTime.{unmet_end_in_time}
 use Rattle.law_run_recovers.proofs.AmongBegin.{first_course}

@@ -1,9 +1,9 @@
 -- What a transaction that goes steadily asks for next is of what it asks for on the table as it began.
-use Rattle.law_run_recovers.proofs.Vocabulary.{◌≡◌, inl, ℕ, List, [], ◌∷◌, Some, refl, sym, ap, subst, ◌∙◌, Contains, none-some, Identity, Configuration, Opening, LockMode, Exclusive, Op, Request, Has, contains_from, Collector, Asked}
-use Rattle.law_run_recovers.proofs.Vocabulary.{Poll, Upgrade, wanted, request_for, mode_asked, Cache, Suites, suite_of, parts_at, Task, Granted, Phase, Gathering, Fetching, Preparing, Deciding, Finishing, home_of, asked_for, changes_of}
+use Rattle.law_run_recovers.proofs.Vocabulary.{◌≡◌, inl, ℕ, List, [], ◌∷◌, Some, refl, sym, ap, subst, ◌∙◌, Contains, none-some, Identity, Configuration, Opening, LockMode, Exclusive, Op, Request, Has, contains_from, Collector, Asked, Poll}
+use Rattle.law_run_recovers.proofs.Vocabulary.{Upgrade, wanted, request_for, mode_asked, Cache, Suites, suite_of, parts_at, Task, Granted, Phase, Gathering, Fetching, Preparing, Deciding, Finishing, home_of, asked_for, changes_of}
 use Rattle.law_run_recovers.proofs.Vocabulary.{decision_of, request_in, fixed_of, asks_same, Event, Actor, table_of, locks_asked, votes_set, asks_for}
-use Rattle.rep_core.specs.declared.request.Request.TheVariants as request
 use Rattle.suite_collect.specs.Collecting.{mode_or}
+use Rattle.rep_core.specs.declared.request.Request.TheVariants as request
 use Rattle.txn_core.specs.Doing as doing
 use Rattle.law_run_recovers.proofs.Steady.{GoesSteadily}
 use Rattle.law_run_recovers.proofs.Asked.{onto_left, onto_so_far, asked_exclusive, next_mode}

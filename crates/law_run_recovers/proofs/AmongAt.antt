@@ -1,12 +1,12 @@
 -- What a transaction that goes steadily is replied, at a moment before its end is fixed.
-use Rattle.law_run_recovers.proofs.Vocabulary.{◌≡◌, ℕ, true, false, cond, List, [], ◌∷◌, ◌++◌, append_assoc, append-nil, Option, Some, None, is_some, refl, sym, ap, subst, ◌∙◌, ◌==◌, ◌&&◌, ◌||◌, Contains, list_any}
-use Rattle.law_run_recovers.proofs.Vocabulary.{false≢true, and_parts, and_from, eq-eqb, Identity, Opening, LockMode, Op, Decision, Part, Request, is_prepared, has_lock, copy_of, State, reply_of, reply_up, reply_down}
-use Rattle.law_run_recovers.proofs.Vocabulary.{stands_prepared, can_prepare, recorded, verdict_of, Has, has_any, has_from, Asked, Upgrade, request_for, mode_asked, Poll, Transaction, TransactionRun, Running, given_in, stands_on_locks}
-use Rattle.law_run_recovers.proofs.Vocabulary.{fixed_of, next_of, Event, Begin, Step, Actor, World, server_at, actor_at, run, CanBe, replies_down, can_front, Finds, up_in, is_up, shown_in, shown_at, locks_in, locks_at, asks_for}
-use Rattle.law_run_recovers.proofs.Vocabulary.{is_open_way, is_open_at, way_in, way_at, world_after, robs, hinders_itself, SameWay, bereaves, shows_same, told_as_first, or_right}
+use Rattle.law_run_recovers.proofs.Vocabulary.{◌≡◌, ℕ, true, false, cond, List, [], ◌∷◌, ◌++◌, append_assoc, append-nil, Option, Some, None, is_some, refl, sym, ap, subst, ◌∙◌, ◌==◌, ◌&&◌, ◌||◌, Contains, list_any, false≢true, and_parts}
+use Rattle.law_run_recovers.proofs.Vocabulary.{and_from, eq-eqb, Identity, Opening, LockMode, Op, Part, Request, is_prepared, has_lock, copy_of, State, reply_of, reply_up, reply_down, stands_prepared, can_prepare, recorded, verdict_of, Has}
+use Rattle.law_run_recovers.proofs.Vocabulary.{has_any, has_from, Asked, Upgrade, request_for, mode_asked, Poll, Transaction, TransactionRun, Running, given_in, stands_on_locks, fixed_of, next_of, Event, Begin, Step, Actor, World}
+use Rattle.law_run_recovers.proofs.Vocabulary.{server_at, actor_at, run, CanBe, replies_down, can_front, Finds, up_in, is_up, shown_in, shown_at, locks_in, locks_at, asks_for, is_open_way, is_open_at, way_in, way_at, world_after, robs}
+use Rattle.law_run_recovers.proofs.Vocabulary.{hinders_itself, SameWay, bereaves, shows_same, told_as_first, or_right, given as gives}
+use Rattle.rep_core.specs.declared.request.Decision.{Decision}
 use Rattle.rep_core.specs.declared.reply.Reply.TheVariants as reply
 use Rattle.rep_core.specs.declared.request.Request.TheVariants as request
-use Rattle.rep_core.specs.Service.{given as gives}
 use Rattle.law_run_recovers.proofs.Steady.{GoesSteadily}
 use Rattle.law_run_recovers.proofs.Keeps.{IsAtWork, OfAsks}
 use Rattle.law_run_recovers.proofs.NearGround.{answers, opens, first_asked, is_holder, met_by, sight, opens_up}

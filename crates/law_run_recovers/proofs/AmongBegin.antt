@@ -1,7 +1,7 @@
 -- A transaction that goes steadily ends as the votes say that are open: its begin.
-use Rattle.law_run_recovers.proofs.Vocabulary.{◌≡◌, ℕ, Bool, true, false, cond, List, [], Option, Some, None, refl, sym, ap, subst, ◌∙◌, ◌*◌, ◌+◌, ◌&&◌, nat_lt, false≢true, and_parts, none-some, same_Some, Identity, Opening}
-use Rattle.law_run_recovers.proofs.Vocabulary.{Op, State, Has, Ending, Transaction, table_of, Task, TransactionRun, Doing, Running, After, GoesOn, Ends, execute, Agent, fixed_of, is_idle, has_sense, max_jobs, left, end_of, begins}
-use Rattle.law_run_recovers.proofs.Vocabulary.{begin, started, Event, Actor, server_at, step, run, ended, no_lock, locks_in, locks_at, runs, running_in, world_after}
+use Rattle.law_run_recovers.proofs.Vocabulary.{◌≡◌, ℕ, Bool, true, false, cond, List, [], Option, Some, None, refl, sym, ap, subst, ◌∙◌, ◌*◌, ◌+◌, ◌&&◌, nat_lt, false≢true, and_parts, none-some, same_Some, Identity, Opening, Op, State, Has}
+use Rattle.law_run_recovers.proofs.Vocabulary.{Ending, Transaction, table_of, Task, TransactionRun, Doing, Running, After, GoesOn, Ends, execute, Agent, fixed_of, is_idle, has_sense, max_jobs, left, end_of, begins, begin, started, Event}
+use Rattle.law_run_recovers.proofs.Vocabulary.{Actor, server_at, step, run, ended, no_lock, locks_in, locks_at, runs, running_in, world_after}
 use Rattle.txn_core.specs.Transactions.{Step as CourseStep}
 use Rattle.law_run_recovers.proofs.Steady.{GoesSteadily}
 use Rattle.law_run_recovers.proofs.Executes.{begin_stands}

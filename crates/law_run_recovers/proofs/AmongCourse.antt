@@ -1,9 +1,9 @@
 -- How a transaction stands that goes steadily, at each moment at which it runs; and what an event that is not its own leaves of that.
-use Rattle.law_run_recovers.proofs.Vocabulary.{◌≡◌, ◌⊎◌, inl, inr, ⊎_elim, ℕ, ◌<◌, Bool, true, false, List, [], ◌∷◌, ◌++◌, Option, Some, None, refl, sym, ap, subst, ◌∙◌, arith, ◌+◌, ◌==◌, ◌||◌, false≢true, eqb-true}
-use Rattle.law_run_recovers.proofs.Vocabulary.{eq-eqb, nat_tests, none-some, Identity, Opening, Prefix, LockMode, Op, PlainTable, State, Has, Cache, forgotten, Transaction, Ending, Suites, Fixed, Task, Phase, Gathering, Fetching}
-use Rattle.law_run_recovers.proofs.Vocabulary.{TransactionRun, Doing, Running, RunningSweep, Agent, fixed_of, is_idle, begin, forget, after_all, after-append, Event, Begin, Step, Crash, Return, Forget}
-use Rattle.law_run_recovers.proofs.Vocabulary.{Lack, Actor, World, server_at, actor_at, step, run, decisions, table_of, names, may_sweep, same_place, agents_ask_for_themselves, holds_of, service_stays, agent_of, agent_at, locks_in}
-use Rattle.law_run_recovers.proofs.Vocabulary.{locks_at, runs, running_in, is_running, begun_world, world_after, robs, hinders_itself, bereaves, shows_same, Replica, all_consistent}
+use Rattle.law_run_recovers.proofs.Vocabulary.{◌≡◌, ◌⊎◌, inl, inr, ⊎_elim, ℕ, ◌<◌, Bool, true, false, List, [], ◌∷◌, ◌++◌, Option, Some, None, refl, sym, ap, subst, ◌∙◌, arith, ◌+◌, ◌==◌, ◌||◌, false≢true, eqb-true, eq-eqb, nat_tests}
+use Rattle.law_run_recovers.proofs.Vocabulary.{none-some, Identity, Opening, Prefix, LockMode, Op, PlainTable, State, Has, Cache, forgotten, Transaction, Ending, Suites, Fixed, Task, Phase, Gathering, Fetching, TransactionRun, Doing}
+use Rattle.law_run_recovers.proofs.Vocabulary.{Running, RunningSweep, Agent, fixed_of, is_idle, begin, forget, after_all, after-append, Event, Begin, Step, Crash, Return, Forget, Lack, Actor, World, server_at, actor_at, step, run}
+use Rattle.law_run_recovers.proofs.Vocabulary.{decisions, table_of, names, may_sweep, same_place, agents_ask_for_themselves, holds_of, service_stays, agent_of, agent_at, locks_in, locks_at, runs, running_in, is_running, begun_world}
+use Rattle.law_run_recovers.proofs.Vocabulary.{world_after, robs, hinders_itself, bereaves, shows_same, Replica, all_consistent}
 use Rattle.file_ops.specs.Rows as rows
 use Rattle.rep_core.specs.declared.request.Request.TheVariants as request
 use Rattle.txn_core.specs.Doing as doing

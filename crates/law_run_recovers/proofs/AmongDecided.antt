@@ -1,12 +1,12 @@
 -- What was decided of a transaction that goes steadily had its home up and its votes open, whether or not its agent went on to the end.
 use Rattle.law_run_recovers.proofs.Vocabulary.{◌≡◌, ◌⊎◌, inl, inr, ⊎_elim, ℕ, ◌<◌, true, List, [], ◌∷◌, ◌++◌, append_assoc, Option, Some, None, is_some, Result, Ok, Err, refl, sym, ap, subst, ◌∙◌, arith, ◌+◌, ◌*◌, ◌==◌, ◌&&◌, find}
-use Rattle.law_run_recovers.proofs.Vocabulary.{Contains, list_any, cons_option, false≢true, eqb-true, eq-eqb, none-some, same_Some, Identity, Opening, LockMode, serves, Answer, Refusal, Op, Has, has_from, has_any, Request}
-use Rattle.law_run_recovers.proofs.Vocabulary.{Ending, Refused, Transaction, ReadPoint, GatheredSuite, suite_of, Running, home_of, request_in, decision_of, Agent, fixed_of, next_in, next_of, EndedJob, Event, Begin}
-use Rattle.law_run_recovers.proofs.Vocabulary.{Step, Actor, World, server_at, actor_at, asks_at, asks, steps_once, step, run, Decided, decided, decided_by, decisions, decisions_from, task_of, task_at, table_of, IsAnsweredAsKnown, Runs}
-use Rattle.law_run_recovers.proofs.Vocabulary.{IsAt, EndStands, same_place, answers_follow_knowledge, holds_of, In, agent_of, agent_at, is_decided, is_up, runs, world_after, first_wanting, has_votes_open, is_gathered, GathersItsAsks}
-use Rattle.law_run_recovers.proofs.Vocabulary.{has_asked, locks_asked, asks_for, wants, answer_on, EndsThen, WasDecidedThen, Always, AreAnsweredAsBegun, GatherTheirAsks, GoesAmongLocks, HadVotesOpen, UnmetHadVotesUpAt, any_has, begun_world}
-use Rattle.rep_core.specs.declared.request.Request.TheVariants as request
+use Rattle.law_run_recovers.proofs.Vocabulary.{Contains, list_any, cons_option, false≢true, eqb-true, eq-eqb, none-some, same_Some, Identity, Opening, LockMode, serves, Answer, Refusal, Op, Has, has_from, has_any, Request, Ending, Refused}
+use Rattle.law_run_recovers.proofs.Vocabulary.{Transaction, ReadPoint, GatheredSuite, suite_of, Running, home_of, request_in, decision_of, Agent, fixed_of, next_in, next_of, EndedJob, Event, Begin, Step, Actor, World, server_at, actor_at}
+use Rattle.law_run_recovers.proofs.Vocabulary.{asks_at, asks, steps_once, step, run, Decided, decided, decided_by, decisions, decisions_from, task_of, task_at, table_of, IsAnsweredAsKnown, Runs, IsAt, EndStands, same_place}
+use Rattle.law_run_recovers.proofs.Vocabulary.{answers_follow_knowledge, holds_of, In, agent_of, agent_at, is_decided, is_up, runs, world_after, first_wanting, has_votes_open, is_gathered, GathersItsAsks, has_asked, locks_asked, asks_for}
+use Rattle.law_run_recovers.proofs.Vocabulary.{wants, answer_on, EndsThen, WasDecidedThen, Always, AreAnsweredAsBegun, GatherTheirAsks, GoesAmongLocks, HadVotesOpen, UnmetHadVotesUpAt, any_has, begun_world}
 use Rattle.txn_core.specs.declared.ending.Ending.TheVariants.{Answered}
+use Rattle.rep_core.specs.declared.request.Request.TheVariants as request
 use Rattle.txn_core.specs.Doing as doing
 use Rattle.law_run_recovers.proofs.Steady.{GoesSteadily, steady}
 use Rattle.law_run_recovers.proofs.AmongLaws.{none_in, all_is, first_same, rows_met, among_had}

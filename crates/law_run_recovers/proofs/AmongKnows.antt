@@ -1,12 +1,12 @@
 -- What a transaction that goes steadily knows after a step of it is so on the table of its begin, whatever others have decided since.
 use Rattle.law_run_recovers.proofs.Vocabulary.{◌≡◌, ◌≢◌, true, false, List, [], ◌∷◌, ◌++◌, append_assoc, Option, Some, None, refl, sym, ap, subst, ◌∙◌, ℕ, ◌==◌, unwrap_or, nat_cmp, false≢true, and_parts, eqb-true, none-some, IsOrdered}
-use Rattle.law_run_recovers.proofs.Vocabulary.{Identity, Opening, Prefix, Replica, Shared, Op, row_of, AgreesWith, IsSoAt, Lock, Verdict, is_own, lock_at, State, record_of, Has, find_some, Transaction, ReadPoint, GatheredSuite}
-use Rattle.law_run_recovers.proofs.Vocabulary.{suite_of, known_of, TransactionRun, Running, fixed_of, is_decide, Event, Begin, Step, Actor, World, server_at, actor_at, step, run, table_of, row, IsKnown, Answered, IsQuorum, effect}
-use Rattle.law_run_recovers.proofs.Vocabulary.{beginning, hold_of, showed, showed_to, known_by, machine_of, servers_of, OwesKnown, register, row_shown, all_shown, CanBe, all_keep, holds_after, known_owed, no_record, Stands}
-use Rattle.law_run_recovers.proofs.Vocabulary.{all_consistent, is_resolve, locks_in, locks_at, is_open_way, is_open_at, way_in, shows_same, begun_world, world_after}
+use Rattle.law_run_recovers.proofs.Vocabulary.{Identity, Opening, Prefix, Replica, Shared, Op, row_of, AgreesWith, IsSoAt, Lock, Verdict, is_own, lock_at, State, record_of, Has, find_some, Transaction, ReadPoint, GatheredSuite, suite_of}
+use Rattle.law_run_recovers.proofs.Vocabulary.{known_of, TransactionRun, Running, fixed_of, is_decide, Event, Begin, Step, Actor, World, server_at, actor_at, step, run, table_of, row, IsKnown, Answered, IsQuorum, effect, beginning, hold_of}
+use Rattle.law_run_recovers.proofs.Vocabulary.{showed, showed_to, known_by, machine_of, servers_of, OwesKnown, register, row_shown, all_shown, CanBe, all_keep, holds_after, known_owed, no_record, Stands, all_consistent, is_resolve}
+use Rattle.law_run_recovers.proofs.Vocabulary.{locks_in, locks_at, is_open_way, is_open_at, way_in, shows_same, begun_world, world_after}
+use Rattle.law_suite_machine.specs.Machine.{Hold, Told}
 use Rattle.file_exec.specs.Known as known
 use Rattle.rep_core.specs.State as state
-use Rattle.law_suite_machine.specs.Machine.{Hold, Told}
 use Rattle.law_one_table.proofs.Effects as effects
 use Rattle.law_run_recovers.proofs.Steady.{GoesSteadily}
 use Rattle.law_run_recovers.proofs.AsBegun.{row_same, stored_effect}

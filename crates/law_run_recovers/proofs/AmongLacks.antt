@@ -1,8 +1,7 @@
 -- A step of a transaction that is not served, or of which its agent is told so, once its end is fixed: it goes on to tell its end.
 use Rattle.law_run_recovers.proofs.Vocabulary.{◌≡◌, ◌⊎◌, inl, inr, ℕ, Bool, true, false, List, [], ◌∷◌, ◌++◌, Some, refl, sym, ap, subst, ◌∙◌, arith, ◌-◌, ◌||◌, false≢true, none-some, Identity, Opening, Op, Verdict, Ending, Transaction}
-use Rattle.law_run_recovers.proofs.Vocabulary.{Task, Phase, Finishing, TransactionRun, Running, After, GoesOn, Ends, after_lack, Agent, Taken, fixed_of, is_idle, next_of, left, end_of}
-use Rattle.law_run_recovers.proofs.Vocabulary.{with_step, take_in, take, begin, after-append, Event, EndedJob, Actor, World, actor_at, one_more, outcome_of, step, Stepped, ended, number_of, take_keeps, world_after, hinders_itself, robs}
-use Rattle.law_run_recovers.proofs.Vocabulary.{Lacked, nat_tests}
+use Rattle.law_run_recovers.proofs.Vocabulary.{Task, Phase, Finishing, TransactionRun, Running, After, GoesOn, Ends, after_lack, Agent, Taken, fixed_of, is_idle, next_of, left, end_of, with_step, take_in, take, begin, after-append, Event}
+use Rattle.law_run_recovers.proofs.Vocabulary.{EndedJob, Actor, World, actor_at, one_more, outcome_of, step, Stepped, ended, number_of, take_keeps, world_after, hinders_itself, robs, Lacked, nat_tests}
 use Rattle.txn_core.specs.Transactions.{Step as CourseStep}
 use Rattle.txn_core.specs.Agents as agents
 use Rattle.law_run_recovers.proofs.Steady.{GoesSteadily}

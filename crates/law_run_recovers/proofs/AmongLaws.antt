@@ -1,10 +1,10 @@
 -- What is promised to a transaction that goes steadily, by the servers that are open to it; as one that goes among locks that stay.
-use Rattle.law_run_recovers.proofs.Vocabulary.{◌≡◌, ◌⊎◌, inl, inr, ℕ, Bool, true, false, cond, List, [], ◌∷◌, ◌++◌, append-nil, length, Option, Some, None, refl, sym, ap, subst, ◌∙◌, ◌==◌, ◌&&◌, not, nat_lt, map, find, Contains}
-use Rattle.law_run_recovers.proofs.Vocabulary.{false≢true, and_parts, eq-eqb, eqb-true, Identity, Representative, votes_in, Opening, Prefix, LockMode, Op, Row, row_of, State, find_some, Has, any_has, has_any, has_from}
-use Rattle.law_run_recovers.proofs.Vocabulary.{has_map, contains_from, needed_of, Ending, Undecided, Unavailable, has_vote, home_of, fixed_of, Event, EndedJob, Actor, World, server_at, run, table_of, has_append, machine_of}
-use Rattle.law_run_recovers.proofs.Vocabulary.{all_keep, is_decided, up_in, is_up, Demand, is_met, all_met, led_to_by, votes_set, votes_of_row, MayStart, MayStartAll, HasFirstVotes, answer_on, asks_for, is_open_way, is_way_met, way_in}
-use Rattle.law_run_recovers.proofs.Vocabulary.{way_at, is_open_at, in_its_way, EndsOpenly, EndsByOpenVotes, first_wanting, has_votes_open, Want, open_demand, open_demands}
-use Rattle.law_run_recovers.proofs.Vocabulary.{first_mode, wants, wants_of_rows, EndsThen, VotesNeverMovedOf, Always, AmongLocksEndByVotesAt, AreDecidedWhereOpen, GoesAmongLocks}
+use Rattle.law_run_recovers.proofs.Vocabulary.{◌≡◌, ◌⊎◌, inl, inr, ℕ, Bool, true, false, cond, List, [], ◌∷◌, ◌++◌, append-nil, length, Option, Some, None, refl, sym, ap, subst, ◌∙◌, ◌==◌, ◌&&◌, not, nat_lt, map, find, Contains, false≢true}
+use Rattle.law_run_recovers.proofs.Vocabulary.{and_parts, eq-eqb, eqb-true, Identity, Representative, votes_in, Opening, Prefix, LockMode, Op, Row, row_of, State, find_some, Has, any_has, has_any, has_from, has_map, contains_from}
+use Rattle.law_run_recovers.proofs.Vocabulary.{needed_of, Ending, Undecided, Unavailable, has_vote, home_of, fixed_of, Event, EndedJob, Actor, World, server_at, run, table_of, has_append, machine_of, all_keep, is_decided, up_in, is_up}
+use Rattle.law_run_recovers.proofs.Vocabulary.{Demand, is_met, all_met, led_to_by, votes_set, votes_of_row, MayStart, MayStartAll, HasFirstVotes, answer_on, asks_for, is_open_way, is_way_met, way_in, way_at, is_open_at, in_its_way}
+use Rattle.law_run_recovers.proofs.Vocabulary.{EndsOpenly, EndsByOpenVotes, first_wanting, has_votes_open, Want, open_demand, open_demands, first_mode, wants, wants_of_rows, EndsThen, VotesNeverMovedOf, Always, AmongLocksEndByVotesAt}
+use Rattle.law_run_recovers.proofs.Vocabulary.{AreDecidedWhereOpen, GoesAmongLocks}
 use Rattle.law_one_table.proofs.Effects as effects
 use Rattle.law_run_recovers.proofs.Steady.{GoesSteadily, steady}
 use Rattle.law_run_recovers.proofs.Leading.{led}

@@ -1,14 +1,14 @@
 -- A transaction that goes among locks that stay has none once it has ended: each server that gave it one was told how it ended.
-use Rattle.law_run_recovers.proofs.Vocabulary.{◌≡◌, ◌⊎◌, inl, inr, ⊎_elim, ℕ, ◌+◌, ◌≤◌, ◌<◌, Bool, true, false, List, [], ◌∷◌, ◌++◌, append-nil, length, Option, Some, None, is_some, refl, sym, ap, subst, ◌∙◌, arith, ◌*◌}
-use Rattle.law_run_recovers.proofs.Vocabulary.{◌==◌, ◌&&◌, ◌||◌, filter, slice_get, slice_set, list_any, false≢true, and_parts, and_from, eqb-true, eq-eqb, or_right, list_any-append, same_Some, slice_get_within, Identity, max_servers}
-use Rattle.law_run_recovers.proofs.Vocabulary.{Opening, Op, Lock, Request, Reply, Stamped, State, reply_of, served, answer_of, Has, contains_from, has_filter, filter_has, has_map, any_has, has_any, Transaction, Replied, numbers_from}
-use Rattle.law_run_recovers.proofs.Vocabulary.{is_finish, Agent, fixed_of, is_idle, next_of, begin, Exchange, exchange_of, exchanges, locks, says_held, was_held, exchanges-take, exchanges-forget, Served, Event, Begin, Step, Actor}
-use Rattle.law_run_recovers.proofs.Vocabulary.{World, server_at, step, run, so_many, puts_in, stage, wants_lock, was_locked, locked, sent_to, IsInOrder, stages_rise, all_finish, up_in, is_up, locks_in, locks_at, world_after}
-use Rattle.law_run_recovers.proofs.Vocabulary.{GoesAmongLocks, Always, AmongLocksLeaveNoLockAt, or_left}
+use Rattle.law_run_recovers.proofs.Vocabulary.{◌≡◌, ◌⊎◌, inl, inr, ⊎_elim, ℕ, ◌+◌, ◌≤◌, ◌<◌, Bool, true, false, List, [], ◌∷◌, ◌++◌, append-nil, length, Option, Some, None, is_some, refl, sym, ap, subst, ◌∙◌, arith, ◌*◌, ◌==◌, ◌&&◌, ◌||◌}
+use Rattle.law_run_recovers.proofs.Vocabulary.{filter, slice_get, slice_set, list_any, false≢true, and_parts, and_from, eqb-true, eq-eqb, or_right, list_any-append, same_Some, slice_get_within, Identity, max_servers, Opening, Op, Lock}
+use Rattle.law_run_recovers.proofs.Vocabulary.{Request, Reply, Stamped, State, reply_of, served, answer_of, Has, contains_from, has_filter, filter_has, has_map, any_has, has_any, Transaction, Replied, numbers_from, is_finish, Agent}
+use Rattle.law_run_recovers.proofs.Vocabulary.{fixed_of, is_idle, next_of, begin, Exchange, exchange_of, exchanges, locks, says_held, was_held, exchanges-take, exchanges-forget, Served, Event, Begin, Step, Actor, World, server_at, step}
+use Rattle.law_run_recovers.proofs.Vocabulary.{run, so_many, puts_in, stage, wants_lock, was_locked, locked, sent_to, IsInOrder, up_in, is_up, locks_in, locks_at, world_after, GoesAmongLocks, Always, AmongLocksLeaveNoLockAt, or_left}
+use Rattle.law_agents.proofs.Orders.{stages_rise, all_finish}
+use Rattle.law_run_recovers.specs.Sweeping.{has_any as any_of}
 use Rattle.rep_core.specs.declared.request.Request.TheVariants as request
 use Rattle.txn_core.specs.Agents as agents
 use Rattle.law_agents.specs.Orders as orders
-use Rattle.law_run_recovers.specs.Sweeping.{has_any as any_of}
 use Rattle.law_run_recovers.proofs.Apart.{Apart, event_apart}
 use Rattle.law_run_recovers.proofs.Keeps.{run_at}
 use Rattle.law_run_recovers.proofs.Locked.{freed}

@@ -1,10 +1,10 @@
 -- Who asks in the name of a transaction that goes steadily: its agent, which began no more since; and once it has ended nobody.
-use Rattle.law_run_recovers.proofs.Vocabulary.{◌≡◌, inr, ⊎_elim, ℕ, ◌+◌, ◌<◌, true, false, List, ◌∷◌, ◌++◌, Option, Some, None, refl, sym, ap, subst, ◌∙◌, arith, cons_option, false≢true, eq-eqb, none-some, same_Some, Identity, Opening}
-use Rattle.law_run_recovers.proofs.Vocabulary.{Op, Has, has_from, contains_from, Transaction, Agent, fixed_of, is_idle, next_in, begin, EndedJob, Served, Event, Begin, Step, Actor, World, becomes, opening, step, actor_at, dones}
-use Rattle.law_run_recovers.proofs.Vocabulary.{done_in, outcomes, run, dones-append, outcomes-append, ended, names, may_sweep, same_place, agents_ask_for_themselves, holds_of, has_append, append_has_right, agent_of, agent_at}
-use Rattle.law_run_recovers.proofs.Vocabulary.{begun_world, world_after, EndsThen}
-use Rattle.law_run_recovers.proofs.Steady.{GoesSteadily}
+use Rattle.law_run_recovers.proofs.Vocabulary.{◌≡◌, inr, ⊎_elim, ℕ, ◌+◌, ◌<◌, true, false, List, ◌∷◌, ◌++◌, Option, Some, None, refl, sym, ap, subst, ◌∙◌, arith, cons_option, false≢true, eq-eqb, none-some, same_Some, Identity, Opening, Op}
+use Rattle.law_run_recovers.proofs.Vocabulary.{Has, has_from, contains_from, Transaction, Agent, fixed_of, is_idle, next_in, begin, EndedJob, Served, Event, Begin, Step, Actor, World, becomes, opening, step, actor_at, dones, done_in}
+use Rattle.law_run_recovers.proofs.Vocabulary.{outcomes, run, dones-append, outcomes-append, ended, names, may_sweep, same_place, agents_ask_for_themselves, holds_of, has_append, append_has_right, agent_of, agent_at, begun_world}
+use Rattle.law_run_recovers.proofs.Vocabulary.{world_after, EndsThen}
 use Rattle.law_run_recovers.specs.Ends.{Ended}
+use Rattle.law_run_recovers.proofs.Steady.{GoesSteadily}
 use Rattle.law_run_recovers.proofs.Asker.{IsAsker, asker}
 use Rattle.law_run_recovers.proofs.Keeps.{run_at}
 use Rattle.law_run_recovers.proofs.Serves.{Told}

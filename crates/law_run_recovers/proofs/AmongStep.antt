@@ -1,17 +1,17 @@
 -- A transaction that goes steadily ends as the votes say that are open: its own steps.
 use Rattle.law_run_recovers.proofs.Vocabulary.{◌≡◌, ◌⊎◌, inl, inr, ⊎_elim, ℕ, Bool, true, false, List, [], ◌∷◌, ◌++◌, Option, Some, None, is_some, refl, sym, ap, subst, ◌∙◌, arith, ◌+◌, ◌-◌, Contains, slice_get, nat_cmp, false≢true}
-use Rattle.law_run_recovers.proofs.Vocabulary.{and_parts, eq-eqb, none-some, same_Some, IsOrdered, Identity, Opening, Replica, LockMode, Op, Request, Reply, is_prepared, Verdict, reply_of, held, verdict_of, answer_of, served, State}
-use Rattle.law_run_recovers.proofs.Vocabulary.{Has, newest, Collector, Asked, Poll, Upgrade, counted, votes_or, request_for, mode_asked, mode_of, Cache, Transaction, Replied, row_of, IsSoAt, table_of, Suites, suite_of, known_of}
-use Rattle.law_run_recovers.proofs.Vocabulary.{has_vote, parts_at, Task, Phase, Gathering, Fetching, Preparing, Deciding, Finishing, TransactionRun, Running, After, GoesOn, Ends, home_of, asked_for, given_in, changes_of, decision_of}
-use Rattle.law_run_recovers.proofs.Vocabulary.{request_in, after_reply, Agent, Taken, fixed_of, is_idle, next_in, next_of, left, end_of, with_step, take_in, take, begin, after_all, exchanges, is_decide, asks_same, Keeps}
-use Rattle.law_run_recovers.proofs.Vocabulary.{nothing_held, plus_all, begin_keeps, after-append, Event, Begin, Step, EndedJob, Served, Actor, World, server_at, actor_at, one_more, outcome_of, step, run, decisions, ended, number_of}
-use Rattle.law_run_recovers.proofs.Vocabulary.{take_keeps, holds_of, agent_of, puts_in, is_resolve, never_resolves, is_up, shown_at, shown_in, asks_for, runs, world_after, Stamped, copy_of, shows_same, stands_on_locks, same_mode}
+use Rattle.law_run_recovers.proofs.Vocabulary.{and_parts, eq-eqb, none-some, same_Some, IsOrdered, Identity, Opening, Replica, LockMode, Op, Request, Reply, is_prepared, Verdict, reply_of, held, verdict_of, answer_of, served, State, Has}
+use Rattle.law_run_recovers.proofs.Vocabulary.{newest, Collector, Asked, Poll, Upgrade, counted, votes_or, request_for, mode_asked, mode_of, Cache, Transaction, Replied, row_of, IsSoAt, table_of, Suites, suite_of, known_of, has_vote}
+use Rattle.law_run_recovers.proofs.Vocabulary.{parts_at, Task, Phase, Gathering, Fetching, Preparing, Deciding, Finishing, TransactionRun, Running, After, GoesOn, Ends, home_of, asked_for, given_in, changes_of, decision_of, request_in}
+use Rattle.law_run_recovers.proofs.Vocabulary.{after_reply, Agent, Taken, fixed_of, is_idle, next_in, next_of, left, end_of, with_step, take_in, take, begin, after_all, exchanges, is_decide, asks_same, Keeps, nothing_held, plus_all}
+use Rattle.law_run_recovers.proofs.Vocabulary.{begin_keeps, after-append, Event, Begin, Step, EndedJob, Served, Actor, World, server_at, actor_at, one_more, outcome_of, step, run, decisions, ended, number_of, take_keeps, holds_of, agent_of}
+use Rattle.law_run_recovers.proofs.Vocabulary.{puts_in, is_resolve, never_resolves, is_up, shown_at, shown_in, asks_for, runs, world_after, Stamped, copy_of, shows_same, stands_on_locks, same_mode}
+use Rattle.rep_core.specs.Service.{after}
+use Rattle.txn_core.specs.Transactions.{Step as CourseStep}
 use Rattle.rep_core.specs.declared.request.Request.TheVariants as request
 use Rattle.rep_core.specs.declared.reply.Reply.TheVariants as reply
-use Rattle.rep_core.specs.Service.{after}
 use Rattle.file_exec.specs.Known as known
 use Rattle.txn_core.specs.Doing as doing
-use Rattle.txn_core.specs.Transactions.{Step as CourseStep}
 use Rattle.txn_core.specs.Agents as agents
 use Rattle.txn_core.proofs.Locks as keeping
 use Rattle.law_run_recovers.proofs.Steady.{GoesSteadily}

@@ -1,14 +1,14 @@
 -- A transaction that goes steadily ends within a number of its own steps that its table tells.
-use Rattle.law_run_recovers.proofs.Vocabulary.{◌≡◌, ◌⊎◌, inl, inr, ⊎_elim, ℕ, ◌+◌, ◌<◌, ◌≤◌, Bool, true, false, cond, List, [], ◌∷◌, ◌++◌, append_assoc, length, Some, is_some, refl, sym, ap, subst, ◌∙◌, arith, Option, suc, zero, None}
-use Rattle.law_run_recovers.proofs.Vocabulary.{◌==◌, ◌&&◌, ◌||◌, cons_option, list_all, nat_tests, list_all-append, slice_get_within, none-some, slice_get_cases, Identity, Opening, Op, reply_of, Has, has_any, contains_from, any_has}
-use Rattle.law_run_recovers.proofs.Vocabulary.{has_filter, has_from, Transaction, Replied, Lacked, numbers_from, request_in, Agent, fixed_of, next_in, next_of, begin, after_all, is_idle, Exchange, exchange_of, exchanges, among}
-use Rattle.law_run_recovers.proofs.Vocabulary.{asks_only, names_of, names_only, says_held, exchanges-take, exchanges-forget, Event, Begin, Step, EndedJob, Actor, World, step, server_at, dones, outcomes, run}
-use Rattle.law_run_recovers.proofs.Vocabulary.{table_of, number_of, so_many, its_step, own_steps, few_steps, begun_world, world_after, hinders_itself, Ending, Finishing, Request, Response}
-use Rattle.law_run_recovers.proofs.Vocabulary.{State, Verdict, VotesAreValid, and_parts, eqb-true, false≢true, append_has_right, asks_same, cache_valid, copy_valid, is_finish, jobs_end, locked, sent_to, wants_lock, was_locked}
-use Rattle.law_run_recovers.proofs.Vocabulary.{max_servers, finishes_in_order, Always, EndInTime, GoesAmongLocks, GoesUnmet, eq-eqb}
+use Rattle.law_run_recovers.proofs.Vocabulary.{◌≡◌, ◌⊎◌, inl, inr, ⊎_elim, ℕ, ◌+◌, ◌<◌, ◌≤◌, Bool, true, false, cond, List, [], ◌∷◌, ◌++◌, append_assoc, length, Some, is_some, refl, sym, ap, subst, ◌∙◌, arith, Option, suc, zero, None, ◌==◌}
+use Rattle.law_run_recovers.proofs.Vocabulary.{◌&&◌, ◌||◌, cons_option, list_all, nat_tests, list_all-append, slice_get_within, none-some, slice_get_cases, Identity, Opening, Op, reply_of, Has, has_any, contains_from, any_has, has_filter}
+use Rattle.law_run_recovers.proofs.Vocabulary.{has_from, Transaction, Replied, Lacked, numbers_from, request_in, Agent, fixed_of, next_in, next_of, begin, after_all, is_idle, Exchange, exchange_of, exchanges, among, asks_only, names_of}
+use Rattle.law_run_recovers.proofs.Vocabulary.{names_only, says_held, exchanges-take, exchanges-forget, Event, Begin, Step, EndedJob, Actor, World, step, server_at, dones, outcomes, run, table_of, number_of, so_many, its_step, own_steps}
+use Rattle.law_run_recovers.proofs.Vocabulary.{few_steps, begun_world, world_after, hinders_itself, Ending, Finishing, Request, Response, State, Verdict, VotesAreValid, and_parts, eqb-true, false≢true, append_has_right, asks_same}
+use Rattle.law_run_recovers.proofs.Vocabulary.{cache_valid, copy_valid, is_finish, jobs_end, locked, sent_to, wants_lock, was_locked, max_servers, Always, EndInTime, GoesAmongLocks, GoesUnmet, eq-eqb}
+use Rattle.law_agents.proofs.Orders.{finishes_in_order}
+use Rattle.law_run_recovers.specs.Ends.{Ended}
 use Rattle.txn_core.specs.Agents as agents
 use Rattle.law_run_recovers.proofs.Steady.{GoesSteadily, steady}
-use Rattle.law_run_recovers.specs.Ends.{Ended}
 use Rattle.law_run_recovers.proofs.Apart.{event_apart}
 use Rattle.law_run_recovers.proofs.AmongOver.{has_after}
 use Rattle.law_run_recovers.proofs.Keeps.{run_at}

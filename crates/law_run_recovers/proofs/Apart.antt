@@ -1,10 +1,10 @@
 -- What an event makes of an agent at work whose step it is not: it does what it did, and no job of it ended.
 use Rattle.law_run_recovers.proofs.Vocabulary.{◌≡◌, ◌⊎◌, inl, inr, ⊎_elim, ℕ, ◌+◌, Bool, true, false, cond, [], ◌∷◌, Option, Some, None, is_some, refl, sym, ap, ◌∙◌, ◌-◌, ◌==◌, ◌&&◌, not, nat_lt, slice_get, find, option_map, false≢true}
-use Rattle.law_run_recovers.proofs.Vocabulary.{eqb-true, eq-eqb, none-some, same_Some, Opening, Prefix, Request, State, Entry, Cache, is_of, forgotten, hint, Ending, Job, Replied, Lacked, Fixed, Agent, Taken, fixed_of, is_idle}
-use Rattle.law_run_recovers.proofs.Vocabulary.{has_sense, max_jobs, next_of, take, begin, started, forget, Event, Begin, Step, Crash, Return, Forget, Lack, EndedJob, Served, Actor, World, Stepped, server_at, actor_at, with_actor, quiet}
-use Rattle.law_run_recovers.proofs.Vocabulary.{serve, after_serving, outcome_of, moved, took, becomes, answered, asks_at, asks, steps_once, lacks_for, lacks, operated, operates, step, same_or, puts_in, hinders_itself}
-use Rattle.rep_core.specs.declared.request.Request.TheVariants as request
+use Rattle.law_run_recovers.proofs.Vocabulary.{eqb-true, eq-eqb, none-some, same_Some, Opening, Prefix, Request, State, Entry, Cache, is_of, forgotten, hint, Ending, Job, Replied, Lacked, Fixed, Agent, Taken, fixed_of, is_idle, has_sense}
+use Rattle.law_run_recovers.proofs.Vocabulary.{max_jobs, next_of, take, begin, started, forget, Event, Begin, Step, Crash, Return, Forget, Lack, EndedJob, Served, Actor, World, Stepped, server_at, actor_at, with_actor, quiet, serve}
+use Rattle.law_run_recovers.proofs.Vocabulary.{after_serving, outcome_of, moved, took, becomes, answered, asks_at, asks, steps_once, lacks_for, lacks, operated, operates, step, same_or, puts_in, hinders_itself}
 use Rattle.rep_core.specs.declared.stamped.Lack.{Lack as Why}
+use Rattle.rep_core.specs.declared.request.Request.TheVariants as request
 use Rattle.rep_core.specs.declared.stamped.Lack.TheVariants as lack
 
 -- ---- what is forgotten is hinted no more

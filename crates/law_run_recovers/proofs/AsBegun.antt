@@ -1,11 +1,12 @@
 -- A suite whose copies in effect have at a quorum the versions that they had is the register that it was; and where nothing is in the way what is stored is in effect.
 use Rattle.law_run_recovers.proofs.Vocabulary.{◌≡◌, ◌≢◌, ◌⊎◌, inl, inr, ℕ, ◌≤◌, ◌<◌, Bool, true, false, cond, Option, Some, None, refl, sym, ap, subst, ◌∙◌, arith, ◌==◌, unwrap_or, nat_cmp, false≢true, eqb-true, get, Opening, LockMode}
-use Rattle.law_run_recovers.proofs.Vocabulary.{Replica, IsConsistent, conflicts, in_the_way, copy_of, left_by, State, has_from, find_none, server_at, Stays, Beginning, row, prefix_at, content_at, empty_of, Answered, IsQuorum}
-use Rattle.law_run_recovers.proofs.Vocabulary.{in_effect, effect, within_row, Inv, plan_of, Shows, servers_of, home_in}
+use Rattle.law_run_recovers.proofs.Vocabulary.{Replica, IsConsistent, conflicts, in_the_way, copy_of, left_by, State, has_from, find_none, server_at, Beginning, row, prefix_at, content_at, empty_of, Inv, plan_of, Shows, servers_of, home_in}
+use Rattle.law_suite_machine.specs.Laws.{Stays}
+use Rattle.law_suite_machine.proofs.Knowing.{within_row}
+use Rattle.law_suite_machine.specs.Machine.{World, Verdict, is_answered, Answered, IsQuorum, in_effect, effect}
 use Rattle.rep_core.specs.Intentions as server
 use Rattle.rep_core.specs.State as state
 use Rattle.run_core.specs.Worlds as worlds
-use Rattle.law_suite_machine.specs.Machine.{World, Verdict, is_answered}
 use Rattle.law_run_recovers.proofs.Stand.{in_conflict}
 
 -- ---- two machines of a suite

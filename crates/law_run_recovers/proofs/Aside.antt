@@ -1,8 +1,8 @@
 -- What an event that does not hinder an agent is to it: nothing at all, or its own step, which was served.
 use Rattle.law_run_recovers.proofs.Vocabulary.{◌≡◌, ◌≢◌, ◌⊎◌, inl, inr, ⊎_elim, ℕ, ◌+◌, Bool, true, false, cond, Option, Some, None, is_some, refl, sym, ap, subst, ◌∙◌, ◌*◌, ◌==◌, ◌&&◌, not, nat_lt, slice_get, slice_set, false≢true}
-use Rattle.law_run_recovers.proofs.Vocabulary.{and_parts, eqb-true, eq-eqb, not-false, none-some, same_Some, Opening, Request, Ending, Job, Lacked, Doing, Fixed, Agent, fixed_of, is_idle, has_sense, max_jobs, next_in, next_of, take}
-use Rattle.law_run_recovers.proofs.Vocabulary.{begin, started, forget, Event, Begin, Step, Forget, Lack, EndedJob, Actor, World, Stepped, actor_at, has_no_job, with_actor, moved, outcome_of, becomes, asks, steps_once}
-use Rattle.law_run_recovers.proofs.Vocabulary.{lacks_for, lacks, step, begins_now, same_or, puts_in, none_of, with_job, hinders}
+use Rattle.law_run_recovers.proofs.Vocabulary.{and_parts, eqb-true, eq-eqb, not-false, none-some, same_Some, Opening, Request, Ending, Job, Lacked, Doing, Fixed, Agent, fixed_of, is_idle, has_sense, max_jobs, next_in, next_of, take, begin}
+use Rattle.law_run_recovers.proofs.Vocabulary.{started, forget, Event, Begin, Step, Forget, Lack, EndedJob, Actor, World, Stepped, actor_at, has_no_job, with_actor, moved, outcome_of, becomes, asks, steps_once, lacks_for, lacks, step}
+use Rattle.law_run_recovers.proofs.Vocabulary.{begins_now, same_or, puts_in, none_of, with_job, hinders}
 use Rattle.rep_core.specs.declared.stamped.Lack.{Lack as Why}
 
 -- servers and the agent are as they were, and no job of the agent ended

@@ -1,7 +1,7 @@
 -- Of whom a collector asks, and in which mode: of one that has a vote by the votes that count, as it wants.
 use Rattle.law_run_recovers.proofs.Vocabulary.{◌≡◌, inl, inr, ℕ, Bool, true, false, cond, List, [], ◌∷◌, Option, Some, None, refl, sym, ap, subst, ◌∙◌, ◌==◌, ◌&&◌, not, nat_lt, nat_le, find, false≢true, and_parts, and_from, eqb-true}
-use Rattle.law_run_recovers.proofs.Vocabulary.{eq-eqb, Representative, LockMode, Shared, Exclusive, serves, Has, any_has, has_any, find_some, newest, holds, has_refused, Collector, Asked, Poll, Upgrade, all_told, counted, wanted}
-use Rattle.law_run_recovers.proofs.Vocabulary.{needed, got, is_member, is_left, members_of, version, ask_or_short, mode_asked, Next, Current, Ask, Short, next, has_vote, has_asked, not-true}
+use Rattle.law_run_recovers.proofs.Vocabulary.{eq-eqb, Representative, LockMode, Shared, Exclusive, serves, Has, any_has, has_any, find_some, newest, holds, has_refused, Collector, Asked, Poll, Upgrade, all_told, counted, wanted, needed}
+use Rattle.law_run_recovers.proofs.Vocabulary.{got, is_member, is_left, members_of, version, ask_or_short, mode_asked, Next, Current, Ask, Short, next, has_vote, has_asked, not-true}
 use Rattle.law_run_recovers.proofs.Asking.{onto}
 use Rattle.law_run_recovers.proofs.Polled.{first_left}
 

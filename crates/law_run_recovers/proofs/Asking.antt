@@ -1,9 +1,10 @@
 -- What a transaction asks for in its order: what it has asked for so far, and what is asked next.
 use Rattle.law_run_recovers.proofs.Vocabulary.{◌≡◌, inl, inr, ℕ, Bool, true, false, cond, List, [], ◌∷◌, ◌++◌, Option, Some, None, refl, sym, ap, ◌∙◌, arith, ◌==◌, ◌&&◌, ◌||◌, not, find, map, list_any, nat_cmp, false≢true, nat_tests}
-use Rattle.law_run_recovers.proofs.Vocabulary.{none-some, same_Some, IsOrdered, LockMode, Shared, Exclusive, serves, Has, Need, Hold, Know, KnownSuite, Known, is_opened, first_unmet, ReadPoint, GatheredSuite, Suites, suite_of}
-use Rattle.law_run_recovers.proofs.Vocabulary.{known_row, known_of, known_from, known_at, has_asked, not_asked}
+use Rattle.law_run_recovers.proofs.Vocabulary.{none-some, same_Some, IsOrdered, LockMode, Shared, Exclusive, serves, Has, Need, Hold, Know, KnownSuite, Known, is_opened, first_unmet, ReadPoint, GatheredSuite, Suites, suite_of, known_row}
+use Rattle.law_run_recovers.proofs.Vocabulary.{known_of, has_asked, not_asked, is_held}
+use Rattle.txn_core.proofs.Growing.{known_from}
+use Rattle.txn_core.proofs.Setting.{known_at}
 use Rattle.file_exec.specs.Known as known
-use Rattle.file_exec.specs.Known.{is_held}
 
 -- ---- lists
 

@@ -1,8 +1,10 @@
 -- At a decision: its server is up, and the newest prefix that was seen of a suite is that of its row.
 use Rattle.law_run_recovers.proofs.Vocabulary.{◌≡◌, ℕ, true, false, cond, List, Option, Some, None, is_some, refl, sym, ap, ◌∙◌, none-some, Opening, Prefix, Request, Stamped, State, record_of, reply_of, reply_up, reply_down, is_full}
-use Rattle.law_run_recovers.proofs.Vocabulary.{answer_of, GatheredSuite, suite_of, Fixed, Task, changes_of, fixed_of, newest_of, IsReady, Event, Step, Served, Actor, World, server_at, answered, asks_at, run, Decided, decided}
-use Rattle.law_run_recovers.proofs.Vocabulary.{decided_at, decided_as, decided_by, to_decide, answer_in, IsAnsweredAsKnown, Beginning, row, prefix_at, beginning, machine_of, suite_was, newest_prefix, row_at, CanBe, Together}
-use Rattle.law_run_recovers.proofs.Vocabulary.{holds_after, owes_known, row_known, undecided, votes_of_row, up_in, is_up}
+use Rattle.law_run_recovers.proofs.Vocabulary.{answer_of, GatheredSuite, suite_of, Fixed, Task, changes_of, fixed_of, newest_of, IsReady, Event, Step, Served, Actor, World, server_at, answered, asks_at, run, Decided, decided, decided_at}
+use Rattle.law_run_recovers.proofs.Vocabulary.{decided_as, decided_by, to_decide, answer_in, IsAnsweredAsKnown, Beginning, row, prefix_at, beginning, machine_of, row_at, CanBe, Together, holds_after, undecided, votes_of_row, up_in, is_up}
+use Rattle.law_run_knowledge.proofs.Decided.{suite_was, newest_prefix}
+use Rattle.law_headline.proofs.Owing.{owes_known}
+use Rattle.law_headline.proofs.Beside.{row_known}
 use Rattle.law_suite_machine.specs.Machine as machine
 use Rattle.law_run_recovers.proofs.Found.{same_top}
 use Rattle.law_run_recovers.proofs.Rows.{row_votes}

@@ -1,10 +1,11 @@
 -- A transaction that nobody robs: until its end is fixed the locks that it was told of stand, whatever others do.
-use Rattle.law_run_recovers.proofs.Vocabulary.{◌≡◌, ◌⊎◌, inl, inr, ⊎_elim, Bool, true, false, List, [], ◌∷◌, ◌++◌, append_assoc, Option, Some, None, refl, sym, ap, subst, ◌∙◌, arith, ℕ, ◌==◌, ◌&&◌, ◌||◌, not, false≢true}
-use Rattle.law_run_recovers.proofs.Vocabulary.{eqb-true, nat_tests, none-some, same_Some, Identity, Opening, IsAccepted, Op, Request, State, Transaction, Suites, suite_of, parts_at, Fixed, Task, home_of, Phase, Gathering, Fetching}
-use Rattle.law_run_recovers.proofs.Vocabulary.{Widening, Preparing, Deciding, Finishing, Doing, Running, RunningSweep, request_in, changes_of, decision_of, fixed_of, begin, forget, next_in, next_of, asks_same, asked_as, fetched_as}
-use Rattle.law_run_recovers.proofs.Vocabulary.{Served, Event, Begin, Step, Crash, Return, Forget, Lack, Actor, World, server_at, actor_at, run, names, may_sweep, agents_ask_for_themselves, machine_of, machine_one, CanBe, holds_after}
-use Rattle.law_run_recovers.proofs.Vocabulary.{begins_job, IsMine, can_front, Stands, releases, doing_of, begun_stands, started_untold, is_resolve, never_resolves, Carried, carried_by, runs, is_telling, world_after, takes, up_and}
-use Rattle.law_run_recovers.proofs.Vocabulary.{of_up, robs, hinders_itself, drops, bereaves}
+use Rattle.law_run_recovers.proofs.Vocabulary.{◌≡◌, ◌⊎◌, inl, inr, ⊎_elim, Bool, true, false, List, [], ◌∷◌, ◌++◌, append_assoc, Option, Some, None, refl, sym, ap, subst, ◌∙◌, arith, ℕ, ◌==◌, ◌&&◌, ◌||◌, not, false≢true, eqb-true}
+use Rattle.law_run_recovers.proofs.Vocabulary.{nat_tests, none-some, same_Some, Identity, Opening, IsAccepted, Op, Request, State, Transaction, Suites, suite_of, parts_at, Fixed, Task, home_of, Phase, Gathering, Fetching, Preparing}
+use Rattle.law_run_recovers.proofs.Vocabulary.{Deciding, Finishing, Doing, Running, RunningSweep, request_in, changes_of, decision_of, fixed_of, begin, forget, next_in, next_of, asks_same, asked_as, fetched_as, Served, Event, Begin, Step}
+use Rattle.law_run_recovers.proofs.Vocabulary.{Crash, Return, Forget, Lack, Actor, World, server_at, actor_at, run, names, may_sweep, agents_ask_for_themselves, machine_of, machine_one, CanBe, holds_after, begins_job, IsMine, can_front}
+use Rattle.law_run_recovers.proofs.Vocabulary.{Stands, releases, doing_of, is_resolve, never_resolves, Carried, carried_by, runs, is_telling, world_after, takes, up_and, of_up, robs, hinders_itself, drops, bereaves}
+use Rattle.txn_core.specs.Doing.{Widening}
+use Rattle.law_run_alone.proofs.Untold.{begun_stands, started_untold}
 use Rattle.rep_core.specs.declared.request.Request.TheVariants as request
 use Rattle.law_suite_machine.specs.Machine as machine
 use Rattle.law_run_alone.proofs.Holding as holding

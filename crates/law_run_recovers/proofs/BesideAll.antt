@@ -1,9 +1,7 @@
 -- Transactions side by side: all along nobody meets any, and each lock at a server that is up is of one that runs and asks for it.
-use Rattle.law_run_recovers.proofs.Vocabulary.{and_from, and_parts, length, list_all, ◌==◌}
-use Rattle.law_run_recovers.proofs.Vocabulary.{◌≡◌, ℕ, Bool, true, false, List, [], ◌∷◌, ◌++◌, append-nil, append_assoc, Some, refl, sym, ap, subst, ◌∙◌, ◌%◌, ◌&&◌, ◌||◌, not, Contains, list_any, false≢true}
-use Rattle.law_run_recovers.proofs.Vocabulary.{same_Some, Opening, IsAccepted, LockMode, Request, State, has_from, has_any, Transaction, Task, request_in, fixed_of, next_in, next_of, Event, Begin, Actor}
-use Rattle.law_run_recovers.proofs.Vocabulary.{actor_at, step, run, names, CanBe, clear_servers, names_mine, can_front, run_more, clashes, clash, Begun, its_asks, GoSideBySide, GoSideBySideWhileDown, running_in, is_running, server_at}
-use Rattle.law_run_recovers.proofs.Vocabulary.{asks_for, Sweep, or_right}
+use Rattle.law_run_recovers.proofs.Vocabulary.{and_from, and_parts, length, list_all, ◌==◌, ◌≡◌, ℕ, Bool, true, false, List, [], ◌∷◌, ◌++◌, append-nil, append_assoc, Some, refl, sym, ap, subst, ◌∙◌, ◌%◌, ◌&&◌, ◌||◌, not, Contains, list_any}
+use Rattle.law_run_recovers.proofs.Vocabulary.{false≢true, same_Some, Opening, IsAccepted, LockMode, Request, State, has_from, has_any, Transaction, Task, request_in, fixed_of, next_in, next_of, Event, Begin, Actor, actor_at, step, run}
+use Rattle.law_run_recovers.proofs.Vocabulary.{names, CanBe, clear_servers, names_mine, can_front, run_more, clashes, clash, Begun, its_asks, GoSideBySide, GoSideBySideWhileDown, running_in, is_running, server_at, asks_for, Sweep, or_right}
 use Rattle.rep_core.specs.declared.request.Request.TheVariants as request
 use Rattle.law_run_recovers.proofs.AtWork.{mine_where}
 use Rattle.law_run_recovers.proofs.Keeps.{OfAsks}

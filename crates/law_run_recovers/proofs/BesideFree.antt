@@ -1,10 +1,11 @@
 -- A transaction that nobody meets where all servers are up: what it is replied is neither Busy, Down nor Lost, and so it does not end undecided.
-use Rattle.law_run_recovers.proofs.Vocabulary.{◌≡◌, ◌⊎◌, inl, inr, ⊎_elim, ℕ, true, false, cond, List, [], ◌∷◌, ◌++◌, append_assoc, Some, None, is_some, Ok, Err, refl, sym, ap, subst, ◌∙◌, Contains, false≢true, and_from}
-use Rattle.law_run_recovers.proofs.Vocabulary.{none-some, same_Some, Identity, Opening, LockMode, Op, Request, Reply, Verdict, is_busy, is_down, is_lost, is_prepared, State, reply_of, reply_up, reply_down, verdict_of, reply_fits, Asked}
-use Rattle.law_run_recovers.proofs.Vocabulary.{mode_asked, Cache, Cause, Undecided, Transaction, Replied, Suites, Task, Phase, Gathering, Fetching, Preparing, Deciding, Finishing, asked_for, given_in, decision_of, request_in}
-use Rattle.law_run_recovers.proofs.Vocabulary.{Agent, fixed_of, begin, forget, take, after_all, is_decide, asks_same, after-append, EndedJob, Event, Begin, Step, Actor, server_at, actor_at, step, run, CanBe, TellsValid, IsFree, Since}
-use Rattle.law_run_recovers.proofs.Vocabulary.{since_begin, since_forget, since_take, never_undecided, can_front, valid_back, all_consistent, up_valid, HasValidVotes, copy_valid, cache_valid, asks_for, is_open_way, is_open_at, up_in}
-use Rattle.law_run_recovers.proofs.Vocabulary.{is_up, world_after, GoesUnmet, hinders_itself, GoesAmongLocks, EndsThen}
+use Rattle.law_run_recovers.proofs.Vocabulary.{◌≡◌, ◌⊎◌, inl, inr, ⊎_elim, ℕ, true, false, cond, List, [], ◌∷◌, ◌++◌, append_assoc, Some, None, is_some, Ok, Err, refl, sym, ap, subst, ◌∙◌, Contains, false≢true, and_from, none-some}
+use Rattle.law_run_recovers.proofs.Vocabulary.{same_Some, Identity, Opening, LockMode, Op, Request, Reply, Verdict, is_busy, is_down, is_lost, is_prepared, State, reply_of, reply_up, reply_down, verdict_of, Asked, mode_asked, Cache, Cause}
+use Rattle.law_run_recovers.proofs.Vocabulary.{Undecided, Transaction, Replied, Suites, Task, Phase, Gathering, Fetching, Preparing, Deciding, Finishing, asked_for, given_in, decision_of, request_in, Agent, fixed_of, begin, forget, take}
+use Rattle.law_run_recovers.proofs.Vocabulary.{after_all, is_decide, asks_same, after-append, EndedJob, Event, Begin, Step, Actor, server_at, actor_at, step, run, CanBe, can_front, valid_back, all_consistent, up_valid, HasValidVotes}
+use Rattle.law_run_recovers.proofs.Vocabulary.{copy_valid, cache_valid, asks_for, is_open_way, is_open_at, up_in, is_up, world_after, GoesUnmet, hinders_itself, GoesAmongLocks, EndsThen}
+use Rattle.rep_core.proofs.FittingReplies.{reply_fits}
+use Rattle.law_run_alone.proofs.Exchanged.{TellsValid, IsFree, Since, since_begin, since_forget, since_take, never_undecided}
 use Rattle.rep_core.specs.declared.request.Request.TheVariants as request
 use Rattle.rep_core.specs.declared.reply.Reply.TheVariants as reply
 use Rattle.rep_core.specs.declared.reply.Verdict.TheVariants as verdict

@@ -1,7 +1,8 @@
 -- The laws of transactions side by side.
-use Rattle.law_run_recovers.proofs.Vocabulary.{◌≡◌, ℕ, Bool, true, false, List, [], ◌∷◌, ◌++◌, append-nil, append_assoc, Option, Some, None, is_some, Result, refl, sym, ap, subst, ◌∙◌, same_Some, Opening, Answer, Refusal, State, Cause, SideBySideEndByVotesAt}
-use Rattle.law_run_recovers.proofs.Vocabulary.{Unavailable, HomeDown, Ending, Undecided, Transaction, home_of, fixed_of, EndedJob, Served, Event, Begin, Step, server_at, actor_at, step, run, table_of, CanBe, Begun, GoSideBySide, GoSideBySideWhileDown, SideBySideEndWhileDownAt}
-use Rattle.law_run_recovers.proofs.Vocabulary.{Demand, demands, first_short, ending_by, ending_of, answer_on, EndsThen, is_up, is_running, world_after, GoesUnmet, Always, SideBySideAreDecidedAt, SideBySideAreToldFreelyAt, SideBySideAreUnmetAt, SideBySideEndInTimeAt}
+use Rattle.law_run_recovers.proofs.Vocabulary.{◌≡◌, ℕ, Bool, true, false, List, [], ◌∷◌, ◌++◌, append-nil, append_assoc, Option, Some, None, is_some, Result, refl, sym, ap, subst, ◌∙◌, same_Some, Opening, Answer, Refusal, State, Cause}
+use Rattle.law_run_recovers.proofs.Vocabulary.{SideBySideEndByVotesAt, Unavailable, HomeDown, Ending, Undecided, Transaction, home_of, fixed_of, EndedJob, Served, Event, Begin, Step, server_at, actor_at, step, run, table_of, CanBe, Begun}
+use Rattle.law_run_recovers.proofs.Vocabulary.{GoSideBySide, GoSideBySideWhileDown, SideBySideEndWhileDownAt, Demand, demands, first_short, ending_by, ending_of, answer_on, EndsThen, is_up, is_running, world_after, GoesUnmet, Always}
+use Rattle.law_run_recovers.proofs.Vocabulary.{SideBySideAreDecidedAt, SideBySideAreToldFreelyAt, SideBySideAreUnmetAt, SideBySideEndInTimeAt}
 use Rattle.law_run_recovers.proofs.Keeps.{step_asks}
 use Rattle.law_run_recovers.proofs.StepsServed.{own_took}
 use Rattle.law_run_recovers.proofs.UnmetLaws.{unmet_by_votes}

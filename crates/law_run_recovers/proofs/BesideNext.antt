@@ -1,10 +1,8 @@
 -- Transactions side by side: one event more.
-use Rattle.law_run_recovers.proofs.Vocabulary.{◌≡◌, ◌≢◌, ⊎_elim, ℕ, Bool, true, false, cond, List, [], ◌∷◌, ◌++◌, append-nil, append_assoc, Option, Some, None, is_some, refl, sym, ap, subst, ◌∙◌, ◌==◌, ◌&&◌, ◌||◌, not, option_map}
-use Rattle.law_run_recovers.proofs.Vocabulary.{Contains, false≢true, and_parts, and_from, eqb-true, eq-eqb, same_Some, Opening, LockMode, is_exclusive, Lock, in_the_way, conflicts, State, Has, find_some, Job, Transaction}
-use Rattle.law_run_recovers.proofs.Vocabulary.{fixed_of, Served, Event}
-use Rattle.law_run_recovers.proofs.Vocabulary.{Begin, Step, Lack, World, server_at, actor_at, has_no_job, step, run, names, begins_job, MayAsk, asks_servers}
-use Rattle.law_run_recovers.proofs.Vocabulary.{clashes, clash, Begun, its_asks, spoils, GoSideBySideWhileDown, up_in, is_up, asks_for, is_way_met, way_in, in_its_way, GoesAmongLocks, locks_in, locks_at, is_running, is_telling, takes, up_and, of_up}
-use Rattle.law_run_recovers.proofs.Vocabulary.{robs, hinders_itself, StandsOpen, everywhere, not-true}
+use Rattle.law_run_recovers.proofs.Vocabulary.{◌≡◌, ◌≢◌, ⊎_elim, ℕ, Bool, true, false, cond, List, [], ◌∷◌, ◌++◌, append-nil, append_assoc, Option, Some, None, is_some, refl, sym, ap, subst, ◌∙◌, ◌==◌, ◌&&◌, ◌||◌, not, option_map, Contains}
+use Rattle.law_run_recovers.proofs.Vocabulary.{false≢true, and_parts, and_from, eqb-true, eq-eqb, same_Some, Opening, LockMode, is_exclusive, Lock, in_the_way, conflicts, State, Has, find_some, Job, Transaction, fixed_of, Served, Event}
+use Rattle.law_run_recovers.proofs.Vocabulary.{Begin, Step, Lack, World, server_at, actor_at, has_no_job, step, run, names, begins_job, MayAsk, asks_servers, clashes, clash, Begun, its_asks, spoils, GoSideBySideWhileDown, up_in, is_up}
+use Rattle.law_run_recovers.proofs.Vocabulary.{asks_for, is_way_met, way_in, in_its_way, GoesAmongLocks, locks_in, locks_at, is_running, is_telling, takes, up_and, of_up, robs, hinders_itself, StandsOpen, everywhere, not-true}
 use Rattle.law_run_recovers.proofs.Keeps.{step_asks}
 use Rattle.law_run_recovers.proofs.Owned.{AllOwned, MayLock, owned_stays}
 use Rattle.law_run_recovers.proofs.Sides.{compared, names_one, takes_named}

@@ -1,8 +1,6 @@
 -- Transactions side by side: so nobody meets any, at each moment.
-use Rattle.law_run_recovers.proofs.Vocabulary.{◌≡◌, ⊎_elim, suc, true, List, [], ◌∷◌, ◌++◌, append-nil, sym, ap, subst, ◌∙◌, arith, length, ◌==◌, ◌||◌, not, eqb-true}
-use Rattle.law_run_recovers.proofs.Vocabulary.{Opening, Lock, State, Has, all_at, Transaction, Event, Begin}
-use Rattle.law_run_recovers.proofs.Vocabulary.{server_at, run, at_has}
-use Rattle.law_run_recovers.proofs.Vocabulary.{Begun, GoSideBySideWhileDown, asks_for, is_running, StandsOpen, everywhere}
+use Rattle.law_run_recovers.proofs.Vocabulary.{◌≡◌, ⊎_elim, suc, true, List, [], ◌∷◌, ◌++◌, append-nil, sym, ap, subst, ◌∙◌, arith, length, ◌==◌, ◌||◌, not, eqb-true, Opening, Lock, State, Has, all_at, Transaction, Event, Begin, server_at}
+use Rattle.law_run_recovers.proofs.Vocabulary.{run, at_has, Begun, GoSideBySideWhileDown, asks_for, is_running, StandsOpen, everywhere}
 use Rattle.law_run_recovers.proofs.Found.{or_rest}
 use Rattle.law_run_recovers.proofs.AmongCourse.{parted, nil_cons}
 use Rattle.law_run_recovers.proofs.BesideUnmet.{IsUnmet, world_then, unmet_more, nil_front, begins_there}

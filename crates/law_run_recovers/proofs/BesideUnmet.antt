@@ -1,7 +1,7 @@
 -- A transaction of some side by side: what it takes that nobody meets it up to a moment, and up to the next.
-use Rattle.law_run_recovers.proofs.Vocabulary.{◌≡◌, ◌⊎◌, inl, inr, ⊎_elim, ℕ, true, false, List, [], ◌∷◌, ◌++◌, append-nil, append_assoc, Option, Some, None, refl, sym, ap, subst, ◌∙◌, ◌||◌, none-some, Identity, Opening, Op, Has}
-use Rattle.law_run_recovers.proofs.Vocabulary.{Job, Transaction, fixed_of, Event, Begin, Actor, World, opening, actor_at, run, ended, begins_now, CanBe, begins_job, with_job, asks_for, is_running, world_after, robs, hinders_itself}
-use Rattle.law_run_recovers.proofs.Vocabulary.{StandsOpen, GoesUnmet, GoesAmongLocks, everywhere, Begun, same_Some}
+use Rattle.law_run_recovers.proofs.Vocabulary.{◌≡◌, ◌⊎◌, inl, inr, ⊎_elim, ℕ, true, false, List, [], ◌∷◌, ◌++◌, append-nil, append_assoc, Option, Some, None, refl, sym, ap, subst, ◌∙◌, ◌||◌, none-some, Identity, Opening, Op, Has, Job}
+use Rattle.law_run_recovers.proofs.Vocabulary.{Transaction, fixed_of, Event, Begin, Actor, World, opening, actor_at, run, ended, begins_now, CanBe, begins_job, with_job, asks_for, is_running, world_after, robs, hinders_itself, StandsOpen}
+use Rattle.law_run_recovers.proofs.Vocabulary.{GoesUnmet, GoesAmongLocks, everywhere, Begun, same_Some}
 use Rattle.law_run_recovers.proofs.Keeps.{after_append}
 use Rattle.law_run_recovers.proofs.Open.{unmet_is_among_locks}
 use Rattle.law_run_recovers.proofs.Sides.{ended_still, ended_runs_not}

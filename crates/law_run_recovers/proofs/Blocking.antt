@@ -1,12 +1,12 @@
 -- What blocks a suite after sweeps: whoever is down, and whoever has a lock on it in doubt.
 use Rattle.law_run_recovers.proofs.Vocabulary.{◌≡◌, ◌⊎◌, inl, inr, ⊎_elim, ℕ, ◌+◌, ◌<◌, ◌≤◌, Bool, true, false, cond, List, [], ◌∷◌, ◌++◌, Option, Some, None, is_some, refl, sym, ap, subst, ◌∙◌, arith, ◌%◌, ◌/◌, ◌==◌, ◌&&◌, ◌||◌, not}
-use Rattle.law_run_recovers.proofs.Vocabulary.{nat_lt, nat_le, option_map, Contains, mod-lt, false≢true, and_parts, and_from, eqb-true, eq-eqb, nat_tests, All-contains, Representative, Configuration, votes_in, total_votes, IsValid}
-use Rattle.law_run_recovers.proofs.Vocabulary.{Opening, LockMode, Shared, Exclusive, Lock, Request, Stamped, conflicts, in_the_way, has_prepared, State, served, is_full, answer_of, contains_from, has_filter, any_has, has_any}
-use Rattle.law_run_recovers.proofs.Vocabulary.{find_some, needed_of, has_vote, Fixed, home_of, fixed_of, Event, Crash, World, server_at, operates, operated, opening, step, run, same_or, puts_in, all_up, up_in, is_up, locks_in, locks_at}
-use Rattle.law_run_recovers.proofs.Vocabulary.{is_in_doubt, in_doubt, way_in, is_open_way, is_open_at, Want, sweeps, blocks, SweepsAll, can_have, DoubtedAt, IsBlocker, WasItsHome, Always, BlockedByDoubtsAt, OneCrashBlocksAt, SomeServerBlocksAt, not-true}
+use Rattle.law_run_recovers.proofs.Vocabulary.{nat_lt, nat_le, option_map, Contains, mod-lt, false≢true, and_parts, and_from, eqb-true, eq-eqb, nat_tests, All-contains, Representative, Configuration, votes_in, total_votes, IsValid, Opening}
+use Rattle.law_run_recovers.proofs.Vocabulary.{LockMode, Shared, Exclusive, Lock, Request, Stamped, conflicts, in_the_way, has_prepared, State, served, is_full, answer_of, contains_from, has_filter, any_has, has_any, find_some, needed_of}
+use Rattle.law_run_recovers.proofs.Vocabulary.{has_vote, Fixed, home_of, fixed_of, Event, Crash, World, server_at, operates, operated, opening, step, run, same_or, puts_in, all_up, up_in, is_up, locks_in, locks_at, is_in_doubt, in_doubt}
+use Rattle.law_run_recovers.proofs.Vocabulary.{way_in, is_open_way, is_open_at, Want, sweeps, blocks, SweepsAll, can_have, DoubtedAt, IsBlocker, WasItsHome, Always, BlockedByDoubtsAt, OneCrashBlocksAt, SomeServerBlocksAt, not-true}
 use Rattle.vote_core.specs.Validity.{IsAccepted}
-use Rattle.rep_core.specs.declared.request.Request.TheVariants as request
 use Rattle.run_core.proofs.Appending.{after-append}
+use Rattle.rep_core.specs.declared.request.Request.TheVariants as request
 use Rattle.law_run_recovers.proofs.Free.{is_up_of}
 use Rattle.law_run_recovers.proofs.Rounds.{Ends, ends}
 use Rattle.law_run_recovers.proofs.Gathered.{Voter, some_voter}

@@ -1,8 +1,8 @@
 -- Where no sweep begins, who is busy runs a transaction; and where every agent was idle, one that began there.
-use Rattle.law_run_recovers.proofs.Vocabulary.{all_idle, List, None, Option, Some, [], ap, append-nil, append_assoc, cond, false, is_some, refl, subst, sym, true, ℕ, ⊎_elim, ◌++◌, ◌∙◌, ◌∷◌, ◌≡◌, eqb-true, eq-eqb, false≢true, busy}
-use Rattle.law_run_recovers.proofs.Vocabulary.{Identity, Op, CanBe, Running, RunningSweep, names_mine, names, can_front, run_more, all_none, doing_at, doing_of, BeginsNone, event_doing, none_begins, begins_job, holds_of, same_or, agent_of}
-use Rattle.law_run_recovers.proofs.Vocabulary.{Request, Decided, IsAt, IsMine, Leaves, leaves_response, decisions, run, Actor, World, actor_at, step, Event, Begin, Opening, Agent, fixed_of, is_idle, is_decide, said_by}
-use Rattle.law_run_recovers.proofs.Vocabulary.{after_response, left, next_in, next_of, take_in, Doing, Task, TransactionRun, After, GoesOn, Ends, Job, Sweep, Transaction, Response, Begun, running_in, runs}
+use Rattle.law_run_recovers.proofs.Vocabulary.{all_idle, List, None, Option, Some, [], ap, append-nil, append_assoc, cond, false, is_some, refl, subst, sym, true, ℕ, ⊎_elim, ◌++◌, ◌∙◌, ◌∷◌, ◌≡◌, eqb-true, eq-eqb, false≢true, busy, Identity}
+use Rattle.law_run_recovers.proofs.Vocabulary.{Op, CanBe, Running, RunningSweep, names_mine, names, can_front, run_more, all_none, doing_at, doing_of, BeginsNone, event_doing, none_begins, begins_job, holds_of, same_or, agent_of, Request}
+use Rattle.law_run_recovers.proofs.Vocabulary.{Decided, IsAt, IsMine, Leaves, leaves_response, decisions, run, Actor, World, actor_at, step, Event, Begin, Opening, Agent, fixed_of, is_idle, is_decide, said_by, after_response, left, next_in}
+use Rattle.law_run_recovers.proofs.Vocabulary.{next_of, take_in, Doing, Task, TransactionRun, After, GoesOn, Ends, Job, Sweep, Transaction, Response, Begun, running_in, runs}
 use Rattle.law_run_recovers.proofs.AtWork.{mine_where}
 use Rattle.law_run_recovers.proofs.BesideUnmet.{begins_there, job_same, onward}
 use Rattle.law_run_recovers.proofs.Open.{begun_runs}

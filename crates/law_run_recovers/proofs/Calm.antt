@@ -1,11 +1,10 @@
 -- Sweeps decide nothing, and change nothing that is in effect.
-use Rattle.law_run_recovers.proofs.Vocabulary.{◌≡◌, inl, inr, ℕ, ◌+◌, Bool, true, false, cond, List, [], ◌∷◌, ◌++◌, append-nil, Option, Some, None, is_some, refl, sym, ap, subst, ◌∙◌, ◌*◌, ◌==◌, ◌&&◌, not, nat_lt, slice_set}
-use Rattle.law_run_recovers.proofs.Vocabulary.{cons_option, false≢true, and_parts, eqb-true, not-true, none-some, Opening, Sweep, Lacked, Fixed, SweepRun, Doing, Running, RunningSweep, After, GoesOn, Ends, Agent, fixed_of, is_idle}
-use Rattle.law_run_recovers.proofs.Vocabulary.{has_sense, max_jobs, next_in, left, begin, started, Event, Begin, Step, Forget, Lack, Actor, World, Stepped, actor_at, has_no_job, becomes, asks, steps_once, step, after}
-use Rattle.law_run_recovers.proofs.Vocabulary.{run, decided, decided_by, decisions_from, task_of, task_at, task_in, begins_now, puts_in, begins_job, with_job, step_events, asked_events, events_of, history_from, no_task, hinders}
-use Rattle.law_run_recovers.proofs.Vocabulary.{unhindered_from, sweeps, goes_round, Always, SweepsKeepEffectsAt}
+use Rattle.law_run_recovers.proofs.Vocabulary.{◌≡◌, inl, inr, ℕ, ◌+◌, Bool, true, false, cond, List, [], ◌∷◌, ◌++◌, append-nil, Option, Some, None, is_some, refl, sym, ap, subst, ◌∙◌, ◌*◌, ◌==◌, ◌&&◌, not, nat_lt, slice_set, cons_option}
+use Rattle.law_run_recovers.proofs.Vocabulary.{false≢true, and_parts, eqb-true, not-true, none-some, Opening, Sweep, Lacked, Fixed, SweepRun, Doing, Running, RunningSweep, After, GoesOn, Ends, Agent, fixed_of, is_idle, has_sense, max_jobs}
+use Rattle.law_run_recovers.proofs.Vocabulary.{next_in, left, begin, started, Event, Begin, Step, Forget, Lack, Actor, World, Stepped, actor_at, has_no_job, becomes, asks, steps_once, step, after, run, decided, decided_by, decisions_from}
+use Rattle.law_run_recovers.proofs.Vocabulary.{task_of, task_at, task_in, begins_now, puts_in, begins_job, with_job, no_task, hinders, unhindered_from, sweeps, goes_round, Always, SweepsKeepEffectsAt}
+use Rattle.law_run_machine.specs.Machines.{moved, step_events, asked_events, events_of, history_from}
 use Rattle.law_suite_machine.specs.Machine as machine
-use Rattle.law_run_machine.specs.Machines.{moved}
 use Rattle.law_run_recovers.proofs.Aside.{Aside, event_aside}
 use Rattle.law_run_recovers.proofs.OwnStep.{own_step, then_does}
 use Rattle.law_run_recovers.proofs.Quiet.{AllQuiet, all_both, quiet_begin, quiet_lack, quiet_round, Calm, effects_stay, decisions_stay}

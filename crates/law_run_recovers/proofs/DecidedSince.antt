@@ -1,7 +1,7 @@
 -- A transaction was not decided before it began, nor as it did.
-use Rattle.law_run_recovers.proofs.Vocabulary.{◌≡◌, ⊎_elim, ℕ, ◌+◌, ◌*◌, ◌≤◌, List, [], ◌∷◌, ◌++◌, append-nil, Option, Some, sym, ap, subst, ◌∙◌, arith, cons_option}
-use Rattle.law_run_recovers.proofs.Vocabulary.{Identity, Opening, Op, Transaction, fixed_of, Event, Begin, Actor, actor_at, opening, step, run, Decided, decisions, decisions_from, decisions_from-append, not_begun, has_append, append_has_right, holds_of}
-use Rattle.law_run_recovers.proofs.Vocabulary.{Has, agent_of, agent_at, no_task, CanBe}
+use Rattle.law_run_recovers.proofs.Vocabulary.{◌≡◌, ⊎_elim, ℕ, ◌+◌, ◌*◌, ◌≤◌, List, [], ◌∷◌, ◌++◌, append-nil, Option, Some, sym, ap, subst, ◌∙◌, arith, cons_option, Identity, Opening, Op, Transaction, fixed_of, Event, Begin, Actor}
+use Rattle.law_run_recovers.proofs.Vocabulary.{actor_at, opening, step, run, Decided, decisions, decisions_from, decisions_from-append, has_append, append_has_right, holds_of, Has, agent_of, agent_at, no_task, CanBe}
+use Rattle.law_runs.proofs.Agents.{not_begun}
 
 -- it was not decided before, nor as it began
 module _ (given : Opening) (events later : List Event) (agent t : ℕ) (caller : Identity) (site : ℕ) (ops : List Op) (actor : Actor) (can : CanBe given (events ++ Begin agent (Transaction caller site ops) ∷ later))

@@ -1,6 +1,6 @@
 -- What is decided by a Decide that is served is answered as it was to be.
-use Rattle.law_run_recovers.proofs.Vocabulary.{◌≡◌, ℕ, true, false, cond, List, Option, Some, None, is_some, Result, Ok, Err, sym, ap, ◌∙◌, none-some, same_Some, Answer, Refusal, Request, Verdict, Stamped, reply_of, recorded}
-use Rattle.law_run_recovers.proofs.Vocabulary.{verdict_of, is_full, answer_of, State, record_of, Fixed, Task, Proposal, decision_of, Served, Actor, World, server_at, answered, asks_at, Decided, answer_in, decided_as, decided_at, decided_by}
+use Rattle.law_run_recovers.proofs.Vocabulary.{◌≡◌, ℕ, true, false, cond, List, Option, Some, None, is_some, Result, Ok, Err, sym, ap, ◌∙◌, none-some, same_Some, Answer, Refusal, Request, Verdict, Stamped, reply_of, recorded, verdict_of}
+use Rattle.law_run_recovers.proofs.Vocabulary.{is_full, answer_of, State, record_of, Fixed, Task, Proposal, decision_of, Served, Actor, World, server_at, answered, asks_at, Decided, answer_in, decided_as, decided_at, decided_by}
 use Rattle.rep_core.specs.declared.request.Request.TheVariants as request
 use Rattle.rep_core.specs.declared.reply.Reply.TheVariants as reply
 use Rattle.run_core.specs.Decisions as decisions

@@ -1,6 +1,6 @@
 -- Lists of locks that are filtered, and how many transactions have some.
-use Rattle.law_run_recovers.proofs.Vocabulary.{◌≡◌, inl, inr, ℕ, ◌+◌, Bool, true, false, cond, List, [], ◌∷◌, ◌++◌, refl, sym, ap, ◌∙◌, arith, ◌==◌, ◌&&◌, ◌||◌, not, filter, list_all, list_any, and_parts, eqb-true, nat_tests, Lock}
-use Rattle.law_run_recovers.proofs.Vocabulary.{before, rise, with_lock, Has, all_at, rising, others, one_if, holders}
+use Rattle.law_run_recovers.proofs.Vocabulary.{◌≡◌, inl, inr, ℕ, ◌+◌, Bool, true, false, cond, List, [], ◌∷◌, ◌++◌, refl, sym, ap, ◌∙◌, arith, ◌==◌, ◌&&◌, ◌||◌, not, filter, list_all, list_any, and_parts, eqb-true, nat_tests, Lock, before}
+use Rattle.law_run_recovers.proofs.Vocabulary.{rise, with_lock, Has, all_at, rising, others, one_if, holders}
 
 module _ {X : Type 0} where
   -- a filter of a filter

@@ -1,6 +1,6 @@
 -- What a transaction asks for where it may execute next, and how its job ends.
-use Rattle.law_run_recovers.proofs.Vocabulary.{◌≡◌, ℕ, false, Option, Some, None, refl, sym, ap, none-some, same_Some, Request, Ending, ReadPoint, GatheredSuite, Suites, suite_of, Fixed, Task, Phase, Gathering, Fetching}
-use Rattle.law_run_recovers.proofs.Vocabulary.{fetched_at, fetched_for, request_in, is_decide, asks_same, asked_as, fetched_as, EndedJob, Actor, outcome_of, releases}
+use Rattle.law_run_recovers.proofs.Vocabulary.{◌≡◌, ℕ, false, Option, Some, None, refl, sym, ap, none-some, same_Some, Request, Ending, ReadPoint, GatheredSuite, Suites, suite_of, Fixed, Task, Phase, Gathering, Fetching, fetched_at}
+use Rattle.law_run_recovers.proofs.Vocabulary.{fetched_for, request_in, is_decide, asks_same, asked_as, fetched_as, EndedJob, Actor, outcome_of, releases}
 use Rattle.rep_core.specs.declared.request.Request.TheVariants as request
 use Rattle.law_run_recovers.proofs.Heard.{MayExecute}
 use Rattle.law_run_recovers.proofs.Still.{IsOpenPhase}

@@ -1,17 +1,16 @@
 -- A transaction executes on what it gathered: what it needs next on the table is asked for, or all is known.
-use Rattle.law_run_recovers.proofs.Vocabulary.{◌≡◌, inl, inr, ℕ, zero, suc, Bool, true, false, cond, List, [], ◌∷◌, length, Option, Some, None, is_some, Result, Ok, Err, refl, sym, ap, subst, ◌∙◌, ◌==◌, ◌&&◌, ◌||◌, not, map, filter}
-use Rattle.law_run_recovers.proofs.Vocabulary.{find, unwrap_or, list_any, nat_cmp, false≢true, and_parts, and_from, false_from_ne_true, none-some, same_Some, IsOrdered, Configuration, Content, absent_prefix, Prefix, LockMode, Shared}
-use Rattle.law_run_recovers.proofs.Vocabulary.{Exclusive, serves, Has, any_has, has_any, Answer, Refusal, PlainTable, row_of, replies, Change, Need, Hold, Know, Ended, Heard, heard, Done, first_unmet, exec_of, AgreesWith, on_table}
-use Rattle.law_run_recovers.proofs.Vocabulary.{transaction, goes_alike, on_transaction, changes_are_held, Collector, collect, raise, Cache, hint, searched, search_keeps_all, ReadPoint, GatheredSuite, Suites, suite_of, with_suite}
-use Rattle.law_run_recovers.proofs.Vocabulary.{known_of, Fixed, Task, Granted, Gathered, start_from, raised_or_new, gather, widen_all, heard_on, after_search, free_content, opened_with, open_first, open_suite, open_needed, or_all}
-use Rattle.law_run_recovers.proofs.Vocabulary.{opened, proceed, execute, prepare, locked_at, self, with_at, each_but, each_with, but_with, are_nil, World, is_met, MayStart, has_asked, not_asked, changes_on, mode_or, first_mode, serves_shared, or_right}
-use Rattle.file_exec.specs.declared.executor.Outcome.{Outcome as Executed}
+use Rattle.law_run_recovers.proofs.Vocabulary.{◌≡◌, inl, inr, ℕ, zero, suc, Bool, true, false, cond, List, [], ◌∷◌, length, Option, Some, None, is_some, Result, Ok, Err, refl, sym, ap, subst, ◌∙◌, ◌==◌, ◌&&◌, ◌||◌, not, map, filter, find}
+use Rattle.law_run_recovers.proofs.Vocabulary.{unwrap_or, list_any, nat_cmp, false≢true, and_parts, and_from, false_from_ne_true, none-some, same_Some, IsOrdered, Configuration, Content, absent_prefix, Prefix, LockMode, Shared, Exclusive}
+use Rattle.law_run_recovers.proofs.Vocabulary.{serves, Has, any_has, has_any, Answer, Refusal, PlainTable, row_of, replies, Change, Need, Hold, Know, Ended, Heard, heard, Done, first_unmet, exec_of, AgreesWith, on_table, transaction}
+use Rattle.law_run_recovers.proofs.Vocabulary.{on_transaction, changes_are_held, Collector, collect, raise, Cache, hint, searched, search_keeps_all, ReadPoint, GatheredSuite, Suites, suite_of, with_suite, known_of, Fixed, Task, Granted}
+use Rattle.law_run_recovers.proofs.Vocabulary.{self, with_at, each_but, each_with, but_with, are_nil, World, is_met, MayStart, has_asked, not_asked, changes_on, mode_or, first_mode, serves_shared, or_right, Outcome as Executed, is_held}
+use Rattle.file_exec.proofs.Alike.{goes_alike}
+use Rattle.file_exec.specs.Changes.{answered}
+use Rattle.txn_core.specs.Transactions.{Step, Gathered, start_from, raised_or_new, gather, widen_all, heard_on, after_search, free_content, opened_with, open_first, open_suite, open_needed, or_all, opened, proceed, execute, prepare}
+use Rattle.txn_core.specs.Transactions.{locked_at}
 use Rattle.file_exec.specs.declared.executor.Outcome.TheVariants as exec
 use Rattle.file_exec.specs.Changes as changes
-use Rattle.file_exec.specs.Changes.{answered}
 use Rattle.file_exec.specs.Known as known
-use Rattle.file_exec.specs.Known.{is_held}
-use Rattle.txn_core.specs.Transactions.{Step}
 use Rattle.law_run_recovers.proofs.Asking.{onto, any_onto, first_hold, first_new, none_left, held_in, held_if, held_is}
 use Rattle.law_run_recovers.proofs.Led.{reached_first, reached_raise}
 use Rattle.law_run_recovers.proofs.VotesSet.{as_set, sets, votes_of, same_votes, changes_ordered, IsSet, set_by}

@@ -1,13 +1,13 @@
 -- Where a suite's votes are found, they are those of its row: a prefix that the suite had, of which servers that are up have a quorum, none of which
 -- shows a newer one, is the row's, as long as no server that is up has a lock.
 use Rattle.law_run_recovers.proofs.Vocabulary.{◌≡◌, inl, inr, ⊎_elim, ℕ, suc, ◌+◌, ◌≤◌, Bool, true, false, cond, List, [], ◌∷◌, length, Option, Some, None, refl, sym, ap, subst, ◌∙◌, arith, ◌==◌, ◌&&◌, ◌||◌, not, nat_lt, nat_le, find}
-use Rattle.law_run_recovers.proofs.Vocabulary.{option_map, unwrap_or, list_any, nat_cmp, false≢true, and_parts, cases_Bool, eqb-true, eq-eqb, and_from, ltb-false, nat_tests, none-some, get, Representative, Configuration, votes_in}
-use Rattle.law_run_recovers.proofs.Vocabulary.{Opening, Prefix, Replica, Lock, IsConsistent, copy_of, State, Has, has_from, all_at, any_has, has_any, find_none, Fixed, fixed_of, server_at, Beginning, row, prefix_at, WasPrefix, IsQuorum}
-use Rattle.law_run_recovers.proofs.Vocabulary.{in_effect, effect, Inv, plan_of, Shows, beginning, servers_of, home_in, at_has, up_in, is_up, up_free, shown_at, shown_in, shows_newer_by, newer_by}
+use Rattle.law_run_recovers.proofs.Vocabulary.{option_map, unwrap_or, list_any, nat_cmp, false≢true, and_parts, cases_Bool, eqb-true, eq-eqb, and_from, ltb-false, nat_tests, none-some, get, Representative, Configuration, votes_in, Opening}
+use Rattle.law_run_recovers.proofs.Vocabulary.{Prefix, Replica, Lock, IsConsistent, copy_of, State, Has, has_from, all_at, any_has, has_any, find_none, Fixed, fixed_of, server_at, Beginning, row, prefix_at, WasPrefix, IsQuorum, in_effect}
+use Rattle.law_run_recovers.proofs.Vocabulary.{effect, Inv, plan_of, Shows, beginning, servers_of, home_in, at_has, up_in, is_up, up_free, shown_at, shown_in, shows_newer_by, newer_by}
+use Rattle.law_suite_machine.specs.Machine.{World}
 use Rattle.rep_core.specs.Intentions as server
 use Rattle.rep_core.specs.State as state
 use Rattle.run_core.specs.Worlds as worlds
-use Rattle.law_suite_machine.specs.Machine.{World}
 
 -- ---- votes of those that have some
 

@@ -1,11 +1,12 @@
 -- A suite that a transaction gathers: it falls short as its demand says, or had a Current.
-use Rattle.law_run_recovers.proofs.Vocabulary.{◌≡◌, inl, inr, ⊎_elim, ℕ, ◌+◌, ◌<◌, ◌≤◌, Bool, true, false, cond, List, [], ◌∷◌, Option, Some, None, is_some, refl, sym, ap, subst, ◌∙◌, arith, ◌==◌, ◌&&◌, ◌||◌, not, nat_lt, nat_le}
-use Rattle.law_run_recovers.proofs.Vocabulary.{eqb-true, nat_tests, nat_cmp_total, All-contains, same_Some, IsOrdered-insert, Representative, Configuration, votes_in, IsValid, max_servers, Prefix, LockMode, Shared, Exclusive, serves}
-use Rattle.law_run_recovers.proofs.Vocabulary.{Has, contains_from, PlainTable, holds, newest, Collector, all_told, first_members, version, needed, needed_of, got, Next, Current, Short, next, Cache, Undecided, ReadPoint}
-use Rattle.law_run_recovers.proofs.Vocabulary.{GatheredSuite, Suites, suite_of, with_suite, settled, first_or, source_of, Fixed, Task, short_cause, gather_by, locked_at, self, with_at, each_but, each_with, World, is_met, demand_by}
-use Rattle.law_run_recovers.proofs.Vocabulary.{led_to_by, has_asked, serves_shared, Told, is_held, and_parts, or_cases, or_right, false≢true}
-use Rattle.rep_core.specs.declared.reply.Verdict.TheVariants as verdict
+use Rattle.law_run_recovers.proofs.Vocabulary.{◌≡◌, inl, inr, ⊎_elim, ℕ, ◌+◌, ◌<◌, ◌≤◌, Bool, true, false, cond, List, [], ◌∷◌, Option, Some, None, is_some, refl, sym, ap, subst, ◌∙◌, arith, ◌==◌, ◌&&◌, ◌||◌, not, nat_lt, nat_le, eqb-true}
+use Rattle.law_run_recovers.proofs.Vocabulary.{nat_tests, nat_cmp_total, All-contains, same_Some, IsOrdered-insert, Representative, Configuration, votes_in, IsValid, max_servers, Prefix, LockMode, Shared, Exclusive, serves, Has}
+use Rattle.law_run_recovers.proofs.Vocabulary.{contains_from, PlainTable, holds, newest, Collector, all_told, first_members, version, needed, needed_of, got, Next, Current, Short, next, Cache, Undecided, ReadPoint, GatheredSuite, Suites}
+use Rattle.law_run_recovers.proofs.Vocabulary.{suite_of, with_suite, settled, first_or, source_of, Fixed, Task, short_cause, gather_by, locked_at, self, with_at, each_but, each_with, World, is_met, demand_by, led_to_by, has_asked}
+use Rattle.law_run_recovers.proofs.Vocabulary.{serves_shared, Told, and_parts, or_cases, or_right, false≢true}
+use Rattle.suite_collect.specs.Telling.{is_held}
 use Rattle.txn_core.specs.Transactions.{Step}
+use Rattle.rep_core.specs.declared.reply.Verdict.TheVariants as verdict
 use Rattle.law_run_recovers.proofs.Asking.{onto, held_in, held_if}
 use Rattle.law_run_recovers.proofs.Led.{EndsShort, reached_short, reached_leads, reached_current, reached_settled}
 use Rattle.law_run_recovers.proofs.Polled.{Sight, finds_at, AllBelow, greatest_below, Refusing, gathering, at_current}

@@ -1,12 +1,13 @@
 -- What is decided of a transaction that goes alone had its home and its votes up: each server that told it of a lock was open to it, and nothing was decided before.
-use Rattle.law_run_recovers.proofs.Vocabulary.{◌≡◌, inl, ⊎_elim, ℕ, ◌+◌, ◌*◌, ◌≤◌, true, false, List, [], ◌∷◌, ◌++◌, append-nil, le_trans, Option, Some, None, refl, sym, ap, subst, ◌∙◌, arith, ◌==◌, nat_le, list_any, cons_option, false≢true, eq-eqb}
-use Rattle.law_run_recovers.proofs.Vocabulary.{and_parts, or_right, le-leb, leb-true, same_Some, Identity, Representative, votes_in, is_write_quorum, Opening, LockMode, Exclusive, Op, row_of, votes_in-wider, holds, needed_of, all_told, Transaction}
-use Rattle.law_run_recovers.proofs.Vocabulary.{GatheredSuite, suite_of, is_changed, Running, home_of, changes_of, votes_after, Agent, fixed_of, begin, after_all, newest_of, IsReady, decides_on_quorums, Event, Begin, Step, Actor, actor_at, run}
-use Rattle.law_run_recovers.proofs.Vocabulary.{Decided, decided, decisions, decisions_from, table_of, table_after_all, decisions_from-append, answers_follow_knowledge, IsAnsweredAsKnown, Runs, IsAt, holds_of, has_append, Has, has_any, agent_of, all_met}
-use Rattle.law_run_recovers.proofs.Vocabulary.{demand, is_met, open_demands, wants_of_rows, votes_of_row, has_votes_open, GoesAlone, HadVotesUp, is_up, runs, begun_world, world_after, Always, DecidedHadVotesUpAt}
+use Rattle.law_run_recovers.proofs.Vocabulary.{◌≡◌, inl, ⊎_elim, ℕ, ◌+◌, ◌*◌, ◌≤◌, true, false, List, [], ◌∷◌, ◌++◌, append-nil, le_trans, Option, Some, None, refl, sym, ap, subst, ◌∙◌, arith, ◌==◌, nat_le, list_any, cons_option}
+use Rattle.law_run_recovers.proofs.Vocabulary.{false≢true, eq-eqb, and_parts, or_right, le-leb, leb-true, same_Some, Identity, Representative, votes_in, is_write_quorum, Opening, LockMode, Exclusive, Op, row_of, votes_in-wider, holds}
+use Rattle.law_run_recovers.proofs.Vocabulary.{needed_of, all_told, Transaction, GatheredSuite, suite_of, Running, home_of, changes_of, votes_after, Agent, fixed_of, begin, after_all, newest_of, IsReady, Event, Begin, Step, Actor, actor_at}
+use Rattle.law_run_recovers.proofs.Vocabulary.{run, Decided, decided, decisions, decisions_from, table_of, table_after_all, decisions_from-append, answers_follow_knowledge, IsAnsweredAsKnown, Runs, IsAt, holds_of, has_append, Has, has_any}
+use Rattle.law_run_recovers.proofs.Vocabulary.{agent_of, all_met, demand, is_met, open_demands, wants_of_rows, votes_of_row, has_votes_open, GoesAlone, HadVotesUp, is_up, runs, begun_world, world_after, Always, DecidedHadVotesUpAt}
+use Rattle.txn_core.proofs.Quorums.{decides_on_quorums}
+use Rattle.txn_core.specs.Writing.{sets_votes, is_changed}
 use Rattle.file_ops.specs.Rows as rows
 use Rattle.txn_core.specs.Doing as doing
-use Rattle.txn_core.specs.Writing.{sets_votes}
 use Rattle.law_run_recovers.proofs.AloneLaws.{steadily, calm, now_at, alone_then}
 use Rattle.law_run_recovers.proofs.AmongAt.{can_so_far}
 use Rattle.law_run_recovers.proofs.AmongBegin.{idle_before}

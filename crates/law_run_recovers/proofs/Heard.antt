@@ -1,16 +1,16 @@
 -- What a transaction makes of a reply that is right: it stands as before, or ends as it should.
 use Rattle.law_run_recovers.proofs.Vocabulary.{◌≡◌, inl, ◌⊎◌, ⊎_elim, ℕ, true, false, cond, List, [], ◌∷◌, Option, Some, None, is_some, Ok, Err, refl, sym, ap, subst, ◌∙◌, option_map, false≢true, nat_cmp_total, none-some, same_Some}
-use Rattle.law_run_recovers.proofs.Vocabulary.{insert-insert, Content, Prefix, LockMode, is_prepared, verdict_of, Request, Reply, PlainTable, row_of, IsSoAt, Told, Collector, Asked, request_for, mode_of, mode_asked, tell, tell_at}
-use Rattle.law_run_recovers.proofs.Vocabulary.{told_by, Next, Current, Ask, Short, next, Cache, put, Undecided, Lost, ReadPoint, GatheredSuite, Suites, suite_of, with_suite, known_of, first_or, settled, Fixed, Task, Granted, Phase}
-use Rattle.law_run_recovers.proofs.Vocabulary.{Gathering, Fetching, Preparing, Deciding, Finishing, TransactionRun, GoesOn, home_of, Gathered, asked_by, asked_for, fetched_at, fetched_for, request_in, decision_of, hear, collected}
-use Rattle.law_run_recovers.proofs.Vocabulary.{heard_of, given_in, keep_content, fetched, prepare, give_up, short_cause, verdict_in, cause_of_abort, locked_at, widen_all, execute, after_reply, self, with_at, but_with, World, is_up}
-use Rattle.law_run_recovers.proofs.Vocabulary.{MayStart, is_met, ending_of, mode_stays, same_mode}
+use Rattle.law_run_recovers.proofs.Vocabulary.{Content, Prefix, LockMode, is_prepared, verdict_of, Request, Reply, PlainTable, row_of, IsSoAt, Told, Collector, Asked, request_for, mode_of, mode_asked, tell, tell_at, told_by, Next, Current}
+use Rattle.law_run_recovers.proofs.Vocabulary.{Ask, Short, next, Cache, put, Undecided, Lost, ReadPoint, GatheredSuite, Suites, suite_of, with_suite, known_of, first_or, settled, Fixed, Task, Granted, Phase, Gathering, Fetching, Preparing}
+use Rattle.law_run_recovers.proofs.Vocabulary.{Deciding, Finishing, TransactionRun, GoesOn, home_of, self, with_at, but_with, World, is_up, MayStart, is_met, ending_of, mode_stays, same_mode}
+use Rattle.sorted_map.specs.Edits.{insert-insert}
+use Rattle.txn_core.specs.Transactions.{Step, Gathered, asked_by, asked_for, fetched_at, fetched_for, request_in, decision_of, hear, collected, heard_of, given_in, keep_content, fetched, prepare, give_up, short_cause, verdict_in}
+use Rattle.txn_core.specs.Transactions.{cause_of_abort, locked_at, widen_all, execute, after_reply}
 use Rattle.rep_core.specs.declared.reply.Reply.TheVariants as reply
 use Rattle.rep_core.specs.declared.reply.Verdict.TheVariants as verdict
 use Rattle.file_exec.specs.Known as known
 use Rattle.txn_core.specs.Doing as doing
 use Rattle.txn_core.specs.Transactions as txn_run
-use Rattle.txn_core.specs.Transactions.{Step}
 use Rattle.law_run_recovers.specs.Ends as laws
 use Rattle.law_run_recovers.proofs.Asking.{held_in, held_if}
 use Rattle.law_run_recovers.proofs.Led.{reached_told}

@@ -1,15 +1,13 @@
 -- What a transaction leaves in its agent's cache: of a suite the site is hinted what it was before, or where the suite was found.
 use Rattle.law_run_recovers.proofs.Vocabulary.{◌≡◌, ◌⊎◌, inr, ℕ, zero, suc, Bool, true, false, cond, List, [], ◌∷◌, length, Option, Some, None, Ok, Err, refl, sym, ap, subst, ◌∙◌, ◌==◌, eqb-true, none-some, same_Some, Content, Prefix}
 use Rattle.law_run_recovers.proofs.Vocabulary.{is_prepared, Request, Reply, Verdict, PlainTable, Hold, Know, Said, Told, mode_of, tell, Next, Current, Ask, Short, next, Entry, Cache, hint, put, Ending, Undecided, Cause, Lost, ReadPoint}
-use Rattle.law_run_recovers.proofs.Vocabulary.{GatheredSuite, Suites, suite_of, with_suite, settled, Fixed, Task, Granted, Phase, Gathering, Fetching, Preparing, Deciding, Finishing, Gathered, tell_end, give_up, prepare, gather_by}
-use Rattle.law_run_recovers.proofs.Vocabulary.{raised_or_new, widened, widen_by, widen_one, widen_all, to_widen, proceed, heard_on, free_content, opened_with, open_first, open_suite, open_needed, or_all, opened, execute, hear}
-use Rattle.law_run_recovers.proofs.Vocabulary.{collected, heard_of, given_in, keep_content, fetched, verdict_in, cause_of_abort, locked_at, after_reply, World, led_to_by}
+use Rattle.law_run_recovers.proofs.Vocabulary.{GatheredSuite, Suites, suite_of, with_suite, settled, Fixed, Task, Granted, Phase, Gathering, Fetching, Preparing, Deciding, Finishing, World, led_to_by, Outcome as Executed}
+use Rattle.txn_core.specs.Transactions.{Step, Gathered, tell_end, give_up, prepare, gather_by, raised_or_new, widened, widen_by, widen_one, widen_all, to_widen, proceed, heard_on, free_content, opened_with, open_first, open_suite}
+use Rattle.txn_core.specs.Transactions.{open_needed, or_all, opened, execute, hear, collected, heard_of, given_in, keep_content, fetched, verdict_in, cause_of_abort, locked_at, after_reply}
 use Rattle.rep_core.specs.declared.reply.Verdict.TheVariants as verdict
-use Rattle.file_exec.specs.declared.executor.Outcome.{Outcome as Executed}
 use Rattle.file_exec.specs.declared.executor.Outcome.TheVariants as exec
 use Rattle.txn_core.specs.Doing as doing
 use Rattle.txn_core.specs.Transactions as txn_run
-use Rattle.txn_core.specs.Transactions.{Step}
 use Rattle.law_run_recovers.proofs.Hinting.{hint_put, hint_put_here}
 use Rattle.law_run_recovers.proofs.SameDemands.{LeadsFrom, HintsLed}
 use Rattle.law_run_recovers.proofs.Polled.{Sight, finds_at}

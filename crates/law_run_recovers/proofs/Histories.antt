@@ -1,6 +1,6 @@
 -- What one server served, in its order, was served so in the run.
-use Rattle.law_run_recovers.proofs.Vocabulary.{◌≡◌, ℕ, Bool, true, false, cond, List, [], ◌∷◌, ◌++◌, Option, Some, None, refl, ap, ◌∙◌, ◌==◌, cons_option, none-some, Served, done_in, finished_before, finished_changes_are_met, if_at}
-use Rattle.law_run_recovers.proofs.Vocabulary.{served_at, FinishedBeforeAtServer, ChangesAreMetAtServer}
+use Rattle.law_run_recovers.proofs.Vocabulary.{◌≡◌, ℕ, Bool, true, false, cond, List, [], ◌∷◌, ◌++◌, Option, Some, None, refl, ap, ◌∙◌, ◌==◌, cons_option, none-some, Served, done_in, finished_before, finished_changes_are_met}
+use Rattle.law_run_recovers.specs.Histories.{if_at, served_at, FinishedBeforeAtServer, ChangesAreMetAtServer}
 use Rattle.run_core.specs.declared.done.Done.{Done}
 
 abbrev head_or : Served → List Served → Served

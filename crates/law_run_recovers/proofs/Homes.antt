@@ -1,5 +1,6 @@
 -- Homes go round: of as many jobs in a row as there are servers one has each server as its home.
-use Rattle.law_run_recovers.proofs.Vocabulary.{◌≡◌, ⊎_elim, ℕ, ◌+◌, ◌*◌, ◌-◌, ◌<◌, ◌≤◌, ◌⊎◌, ap, ◌∙◌, arith, ◌%◌, ◌/◌, mod-lt, add-mod_right, div-add-mod', mod-mul-add, Opening, home_of, fixed_of, rest_of, HomesGoRound}
+use Rattle.law_run_recovers.proofs.Vocabulary.{◌≡◌, ⊎_elim, ℕ, ◌+◌, ◌*◌, ◌-◌, ◌<◌, ◌≤◌, ◌⊎◌, ap, ◌∙◌, arith, ◌%◌, ◌/◌, mod-lt, add-mod_right, Opening, home_of, fixed_of, rest_of, HomesGoRound}
+use Rattle.std.proofs.lemmas.Nat.{div-add-mod', mod-mul-add}
 
 place_of : (place index : ℕ) → index < 64 → (64 * place + index) / 64 ≡ place
 place_of place index small = omega arith

@@ -1,15 +1,17 @@
 -- The votes that a job meets in a run are valid.
 use Rattle.law_run_recovers.proofs.Vocabulary.{◌≡◌, inl, inr, ⊎_elim, ℕ, Bool, true, false, cond, List, [], ◌∷◌, ◌++◌, append_assoc, Option, Some, None, refl, sym, ap, subst, ◌∙◌, arith, ◌==◌, ◌&&◌, is_some, Contains, IsValid, Opening}
 use Rattle.law_run_recovers.proofs.Vocabulary.{Request, Reply, Stamped, State, copy_of, reply_of, reply_up, reply_down, is_full, answer_of, Has, has_from, Response, Replied, Lacked, Fixed, Agent, Take, fixed_of, next_of, take, begin}
-use Rattle.law_run_recovers.proofs.Vocabulary.{forget, Exchange, exchange_of, exchanges, Event, Begin, Step, Forget, Lack, Served, EndedJob, World, Actor, server_at, actor_at, serve, answered, asks_at, asks, steps_once}
-use Rattle.law_run_recovers.proofs.Vocabulary.{step, run, ShowsValidVotes, VotesAreValid, asks_now, told_of, told_at, told_in, EndsInItsTime, runs_end_in_time, has_append, CanBe, front, TellsValid, up_valid, copy_valid, cache_valid}
-use Rattle.law_run_recovers.proofs.Vocabulary.{RunsEndByTheBounds}
+use Rattle.law_run_recovers.proofs.Vocabulary.{forget, Exchange, exchange_of, exchanges, Event, Begin, Step, Forget, Lack, Served, EndedJob, World, Actor, server_at, actor_at, serve, answered, asks_at, asks, steps_once, step, run}
+use Rattle.law_run_recovers.proofs.Vocabulary.{ShowsValidVotes, VotesAreValid, has_append, CanBe, front, up_valid, copy_valid, cache_valid}
+use Rattle.law_agents.specs.RunBounds.{asks_now, told_of, told_at, told_in, EndsInItsTime, told_by}
+use Rattle.law_agents.proofs.RunBounds.{runs_end_in_time}
+use Rattle.law_run_alone.proofs.Exchanged.{TellsValid}
+use Rattle.law_run_recovers.specs.InTime.{RunsEndByTheBounds}
 use Rattle.rep_core.specs.declared.request.Request.TheVariants as request
 use Rattle.rep_core.specs.declared.reply.Reply.TheVariants as reply
 use Rattle.txn_core.specs.Agents as agents
 use Rattle.run_core.specs.Worlds as worlds
 use Rattle.run_core.proofs.Appending as going
-use Rattle.law_agents.specs.RunBounds.{told_by}
 
 -- ---- what a server replies
 

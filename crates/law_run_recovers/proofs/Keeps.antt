@@ -1,13 +1,13 @@
 -- While a transaction goes among locks that stay, and until its end is fixed, what near servers have stored of its suites stays where they are open to it.
-use Rattle.law_run_recovers.proofs.Vocabulary.{◌≡◌, ℕ, ◌+◌, ◌≤◌, Bool, true, false, cond, List, [], ◌∷◌, ◌++◌, Option, Some, None, refl, sym, ap, subst, ◌∙◌, arith, ◌*◌, ◌==◌, ◌&&◌, ◌||◌, not, nat_lt, Contains}
-use Rattle.law_run_recovers.proofs.Vocabulary.{list_any, false≢true, eqb-true, eq-eqb, nat_tests, none-some, same_Some, Identity, Opening, Replica, LockMode, Exclusive, Op, Lock, Verdict, Request, copy_of, State, is_full, answer_of}
-use Rattle.law_run_recovers.proofs.Vocabulary.{Job, Transaction, Response, Lacked, Fixed, Doing, Running, RunningSweep, Phase, Finishing, is_finish, Agent, fixed_of, is_idle}
-use Rattle.law_run_recovers.proofs.Vocabulary.{has_sense, max_jobs, begin, started, forget, take, take_in, next_of, Served, Event, Begin, Step, Crash, Return, Forget, Lack, Actor, World, server_at, actor_at, becomes, serve, operated}
-use Rattle.law_run_recovers.proofs.Vocabulary.{operates, asks_at, asks, answered, steps_once, lacks_for, lacks, step, Decided, decisions, after, run, IsAt, take_keeps, holds_of, new_of, each_event, agent_of, agent_at, CanBe, begins_job}
-use Rattle.law_run_recovers.proofs.Vocabulary.{all_consistent, asks_for, is_open_way, way_in, is_open_at, runs, running_in, is_running, is_told, tells, telling_in, is_telling, world_after, takes, up_and, of_up, robs, hinders_itself}
-use Rattle.law_run_recovers.proofs.Vocabulary.{GoesAmongLocks, shows_same, SameWay, told_as_first, AsAtItsBegin}
-use Rattle.rep_core.specs.declared.request.Request.TheVariants as request
+use Rattle.law_run_recovers.proofs.Vocabulary.{◌≡◌, ℕ, ◌+◌, ◌≤◌, Bool, true, false, cond, List, [], ◌∷◌, ◌++◌, Option, Some, None, refl, sym, ap, subst, ◌∙◌, arith, ◌*◌, ◌==◌, ◌&&◌, ◌||◌, not, nat_lt, Contains, list_any, false≢true}
+use Rattle.law_run_recovers.proofs.Vocabulary.{eqb-true, eq-eqb, nat_tests, none-some, same_Some, Identity, Opening, Replica, LockMode, Exclusive, Op, Lock, Verdict, Request, copy_of, State, is_full, answer_of, Job, Transaction, Response}
+use Rattle.law_run_recovers.proofs.Vocabulary.{Lacked, Fixed, Doing, Running, RunningSweep, Phase, Finishing, is_finish, Agent, fixed_of, is_idle, has_sense, max_jobs, begin, started, forget, take, take_in, next_of, Served, Event, Begin}
+use Rattle.law_run_recovers.proofs.Vocabulary.{Step, Crash, Return, Forget, Lack, Actor, World, server_at, actor_at, becomes, serve, operated, operates, asks_at, asks, answered, steps_once, lacks_for, lacks, step, Decided, decisions, after}
+use Rattle.law_run_recovers.proofs.Vocabulary.{run, IsAt, take_keeps, holds_of, agent_of, agent_at, CanBe, begins_job, all_consistent, asks_for, is_open_way, way_in, is_open_at, runs, running_in, is_running, is_told, tells, telling_in}
+use Rattle.law_run_recovers.proofs.Vocabulary.{is_telling, world_after, takes, up_and, of_up, robs, hinders_itself, GoesAmongLocks, shows_same, SameWay, told_as_first, AsAtItsBegin}
+use Rattle.law_runs.proofs.Each.{new_of, each_event}
 use Rattle.rep_core.specs.declared.stamped.Lack.{Lack as Why}
+use Rattle.rep_core.specs.declared.request.Request.TheVariants as request
 use Rattle.run_core.specs.Worlds as worlds
 use Rattle.law_run_recovers.proofs.Serves.{Serves}
 use Rattle.law_run_recovers.proofs.Still.{IsOpen, IsOpenPhase, open_before, open_next}

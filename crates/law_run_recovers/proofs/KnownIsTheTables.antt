@@ -1,9 +1,10 @@
 -- What a transaction knows is what the registers of the run hold, and so on its table, as long as no lock of it was taken away and it is not answered.
-use Rattle.law_run_recovers.proofs.Vocabulary.{◌≡◌, ◌≢◌, ⊎_elim, ℕ, false, List, Option, Some, None, refl, sym, ap, ◌∙◌, unwrap_or, slice_get, slice_set, nat_cmp, none-some, same_Some, IsOrdered, Opening, Request, Stamped, served}
-use Rattle.law_run_recovers.proofs.Vocabulary.{State, record_of, is_resolve, row_of, AgreesWith, ReadPoint, GatheredSuite, suite_of, known_of, Fixed, TransactionRun, Running, is_decide, Event, Actor, World, Stepped, server_at, actor_at}
-use Rattle.law_run_recovers.proofs.Vocabulary.{run, table_of, Answered, IsKnown, beginning, home_in, machine_of, known_by, same_or, step_is, puts_in, register, agrees, all_shown, CanBe, all_keep, holds_after, Stands, is_known, known_owed}
-use Rattle.rep_core.specs.State as state
+use Rattle.law_run_recovers.proofs.Vocabulary.{◌≡◌, ◌≢◌, ⊎_elim, ℕ, false, List, Option, Some, None, refl, sym, ap, ◌∙◌, unwrap_or, slice_get, slice_set, nat_cmp, none-some, same_Some, IsOrdered, Opening, Request, Stamped, served, State}
+use Rattle.law_run_recovers.proofs.Vocabulary.{record_of, is_resolve, row_of, AgreesWith, ReadPoint, GatheredSuite, suite_of, known_of, Fixed, TransactionRun, Running, is_decide, Event, Actor, World, Stepped, server_at, actor_at, run}
+use Rattle.law_run_recovers.proofs.Vocabulary.{table_of, Answered, IsKnown, beginning, home_in, machine_of, known_by, same_or, step_is, puts_in, register, all_shown, CanBe, all_keep, holds_after, Stands, is_known, known_owed}
+use Rattle.law_one_table.proofs.Knowing.{agrees}
 use Rattle.law_server_moves.specs.Views.{verdict_of}
+use Rattle.rep_core.specs.State as state
 use Rattle.law_run_recovers.proofs.StepsServed.{OwnTook}
 use Rattle.law_run_recovers.proofs.Still.{record_stays}
 

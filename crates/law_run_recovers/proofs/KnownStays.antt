@@ -1,15 +1,13 @@
 -- What a transaction knows as it executes it still knows once it goes on, whatever it does next.
-use Rattle.law_run_recovers.proofs.Vocabulary.{◌≡◌, inl, inr, ℕ, zero, suc, ◌+◌, ◌≤◌, ◌<◌, Bool, true, false, cond, List, [], ◌∷◌, length, Option, Some, None, is_some, Ok, Err, refl, sym, ap, subst, ◌∙◌, arith, ◌==◌, ◌||◌, nat_lt}
-use Rattle.law_run_recovers.proofs.Vocabulary.{list_any, nat_cmp, is_eq, false≢true, eqb-true, nat_tests, nat_cmp_total, none-some, same_Some, IsOrdered, IsOrdered-insert, max_servers, Prefix, Shared, Has, filter_has, Verdict}
-use Rattle.law_run_recovers.proofs.Vocabulary.{PlainTable, row_of, Hold, Know, IsSoAt, AgreesWith, holds, raise, all_told, Next, Current, Ask, Short, next, Cache, Ending, Undecided, ReadPoint, GatheredSuite, Suites, suite_of}
-use Rattle.law_run_recovers.proofs.Vocabulary.{with_suite, known_of, holds_lock, has_locks, Fixed, Task, Granted, TransactionRun, GoesOn, Gathered, numbers_from, locked_at, tell_end, prepare, short_cause, gather_by, gather}
-use Rattle.law_run_recovers.proofs.Vocabulary.{raised_or_new, widened, widen_by, widen_one, widen_all, to_widen, proceed, opened, heard_on, execute, with_at, World, or_right}
+use Rattle.law_run_recovers.proofs.Vocabulary.{◌≡◌, inl, inr, ℕ, zero, suc, ◌+◌, ◌≤◌, ◌<◌, Bool, true, false, cond, List, [], ◌∷◌, length, Option, Some, None, is_some, Ok, Err, refl, sym, ap, subst, ◌∙◌, arith, ◌==◌, ◌||◌, nat_lt, list_any}
+use Rattle.law_run_recovers.proofs.Vocabulary.{nat_cmp, is_eq, false≢true, eqb-true, nat_tests, nat_cmp_total, none-some, same_Some, IsOrdered, IsOrdered-insert, max_servers, Prefix, Shared, Has, filter_has, Verdict, PlainTable, row_of}
+use Rattle.law_run_recovers.proofs.Vocabulary.{Hold, Know, IsSoAt, AgreesWith, holds, raise, all_told, Next, Current, Ask, Short, next, Cache, Ending, Undecided, ReadPoint, GatheredSuite, Suites, suite_of, with_suite, known_of, holds_lock}
+use Rattle.law_run_recovers.proofs.Vocabulary.{has_locks, Fixed, Task, Granted, TransactionRun, GoesOn, with_at, World, or_right, Outcome as Executed}
+use Rattle.txn_core.specs.Transactions.{Step, Gathered, numbers_from, locked_at, tell_end, prepare, short_cause, gather_by, gather, raised_or_new, widened, widen_by, widen_one, widen_all, to_widen, proceed, opened, heard_on, execute}
 use Rattle.rep_core.specs.declared.reply.Verdict.TheVariants as verdict
-use Rattle.file_exec.specs.declared.executor.Outcome.{Outcome as Executed}
 use Rattle.file_exec.specs.declared.executor.Outcome.TheVariants as exec
 use Rattle.file_exec.specs.Known as known
 use Rattle.txn_core.specs.Doing as doing
-use Rattle.txn_core.specs.Transactions.{Step}
 use Rattle.law_run_recovers.proofs.Asking.{known_in, known_if_first, known_is}
 use Rattle.law_run_recovers.proofs.Polled.{Sight}
 use Rattle.law_run_recovers.proofs.Stands.{Ground, asks_of, locks_on, Hints, IsReady}

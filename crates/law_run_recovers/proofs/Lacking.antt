@@ -1,7 +1,7 @@
 -- What comes of an own step of an agent that is not served, and of what tells it so.
 use Rattle.law_run_recovers.proofs.Vocabulary.{◌≡◌, ◌⊎◌, inl, inr, ℕ, Bool, true, false, cond, Option, Some, None, is_some, refl, sym, ap, subst, ◌∙◌, ◌==◌, not, false≢true, and_parts, eqb-true, none-some, same_Some, Opening, Request}
-use Rattle.law_run_recovers.proofs.Vocabulary.{Stamped, State, is_full, answer_of, Lacked, fixed_of, next_of, take, Served, Event, Step, Lack, Actor, World, Stepped, server_at, actor_at, quiet, serve}
-use Rattle.law_run_recovers.proofs.Vocabulary.{moved, outcome_of, answered, asks_at, asks, steps_once, lacks_for, lacks, step, puts_in, hinders_itself, not-true}
+use Rattle.law_run_recovers.proofs.Vocabulary.{Stamped, State, is_full, answer_of, Lacked, fixed_of, next_of, take, Served, Event, Step, Lack, Actor, World, Stepped, server_at, actor_at, quiet, serve, moved, outcome_of, answered, asks_at}
+use Rattle.law_run_recovers.proofs.Vocabulary.{asks, steps_once, lacks_for, lacks, step, puts_in, hinders_itself, not-true}
 use Rattle.rep_core.specs.declared.stamped.Lack.{Lack as Why}
 use Rattle.rep_core.specs.declared.stamped.Lack.TheVariants as lack
 

@@ -1,24 +1,16 @@
 -- Runs that the laws are about, by computation.
 use Rattle.law_run_recovers.proofs.Vocabulary.{◌≡◌, ⊎_elim, ℕ, zero, suc, ◌<◌, Bool, true, false, List, [], ◌∷◌, ◌++◌, Option, Some, None, is_some, refl, sym, ap, subst, ◌∙◌, arith, ◌==◌, ◌&&◌, ◌||◌, not, Contains, list_all, list_any}
-use Rattle.law_run_recovers.proofs.Vocabulary.{false≢true, and_parts, eqb-true, slice_get, nat_cmp, LockMode, Identity, Op, Opening, State, all_at, at_has, has_from, Transaction, Sweep, Event, Begin}
-use Rattle.law_run_recovers.proofs.Vocabulary.{Actor, World, server_at, actor_at, step, after, run, fixed_of, Fixed, owner, a, Cache, EventGivesValidVotes, CanBe, is_up, up_in, asks_for, way_in, way_at}
-use Rattle.law_run_recovers.proofs.Vocabulary.{is_way_met, in_its_way, StandsOpen, StandsStill, AreNear, is_running, Representative, hinders_itself, robs, begun_world, world_after}
-use Rattle.law_run_recovers.proofs.Vocabulary.{turns, puts, sweeps, GoesUnmet, GoesAmongLocks, SweepsAll, spoils, opening, not-true, some_of}
-use Rattle.std.proofs.Common.{lit<}
-use Rattle.std.proofs.lemmas.List.Elements.{All-from_recursion}
+use Rattle.law_run_recovers.proofs.Vocabulary.{false≢true, and_parts, eqb-true, slice_get, nat_cmp, LockMode, Identity, Op, Opening, State, all_at, at_has, has_from, Transaction, Sweep, Event, Begin, Actor, World, server_at, actor_at, step}
+use Rattle.law_run_recovers.proofs.Vocabulary.{after, run, fixed_of, Fixed, owner, a, Cache, EventGivesValidVotes, CanBe, is_up, up_in, asks_for, way_in, way_at, is_way_met, in_its_way, StandsOpen, StandsStill, AreNear, is_running}
+use Rattle.law_run_recovers.proofs.Vocabulary.{Representative, hinders_itself, robs, begun_world, world_after, turns, puts, sweeps, GoesUnmet, GoesAmongLocks, SweepsAll, spoils, opening, not-true, lit<, All-from_recursion, IsAccepted}
+use Rattle.law_run_recovers.proofs.Vocabulary.{WasItsHome, both_made, one_server, GoesAlone, SweepsAlone, in_the_dark, stopped, two_agents, valid_votes}
+use Rattle.law_run_machine.proofs.Decided.{some_of}
 use Rattle.std.specs.FinSet.{contains-empty}
 use Rattle.vote_core.proofs.Faults.{accepted_without_fault}
 use Rattle.vote_core.specs.Validity.{IsAccepted as VotesAccepted}
-use Rattle.suite_prefix.specs.SettingsRules.{IsAccepted}
-use Rattle.law_run_recovers.specs.Blocking.{WasItsHome}
-use Rattle.law_run_recovers.specs.Contending.{both_made, one_server}
-use Rattle.law_run_recovers.specs.Laws.{GoesAlone}
 use Rattle.law_run_recovers.specs.LawsWorked.{a_locked, at_the_first, b_locked, sweep_up, wants_a, IsAlone, IsAmongLocks, IsMetByNobody, DoubtsAreLeft}
-use Rattle.law_run_recovers.specs.Sweeping.{SweepsAlone}
-use Rattle.law_run_recovers.specs.Worked.{in_the_dark, stopped}
-use Rattle.law_runs.specs.Worked.{two_agents, so_many}
+use Rattle.law_runs.specs.Worked.{so_many}
 use Rattle.law_run_alone.proofs.Worked.{some_runs_go_alone}
-use Rattle.law_headline.proofs.Worked.{valid_votes}
 use Rattle.law_run_recovers.proofs.AloneLaws.{ends_are_by_votes}
 use Rattle.law_run_recovers.proofs.AmongCourse.{head_or, tail_or}
 use Rattle.law_run_recovers.proofs.AmongLaws.{among_locks_end_by_votes}

@@ -1,9 +1,9 @@
 -- Where a suite is led to: to a prefix that it had, of whose voting members that are up none shows a newer one.
-use Rattle.law_run_recovers.proofs.Vocabulary.{◌≡◌, inl, inr, ℕ, zero, suc, ◌<◌, ◌≤◌, Bool, true, false, cond, List, [], ◌∷◌, length, Option, Some, None, refl, sym, ap, subst, ◌∙◌, arith, ◌&&◌, nat_lt, filter, find, option_map}
-use Rattle.law_run_recovers.proofs.Vocabulary.{false≢true, and_parts, and_from, nat_tests, none-some, same_Some, Representative, Opening, Prefix, copy_of, State, find_some, Has, fixed_of, Fixed, server_at, WasPrefix, Inv, beginning}
-use Rattle.law_run_recovers.proofs.Vocabulary.{at_has, up_in, is_up, shown_at, shown_in, shows_newer_by, newer_by, led_on, led_so_far_by, led_to_by}
-use Rattle.run_core.specs.Worlds as worlds
+use Rattle.law_run_recovers.proofs.Vocabulary.{◌≡◌, inl, inr, ℕ, zero, suc, ◌<◌, ◌≤◌, Bool, true, false, cond, List, [], ◌∷◌, length, Option, Some, None, refl, sym, ap, subst, ◌∙◌, arith, ◌&&◌, nat_lt, filter, find, option_map, false≢true}
+use Rattle.law_run_recovers.proofs.Vocabulary.{and_parts, and_from, nat_tests, none-some, same_Some, Representative, Opening, Prefix, copy_of, State, find_some, Has, fixed_of, Fixed, server_at, WasPrefix, Inv, beginning, at_has, up_in}
+use Rattle.law_run_recovers.proofs.Vocabulary.{is_up, shown_at, shown_in, shows_newer_by, newer_by, led_on, led_so_far_by, led_to_by}
 use Rattle.law_suite_machine.specs.Machine.{World}
+use Rattle.run_core.specs.Worlds as worlds
 use Rattle.law_run_recovers.proofs.Found.{Answering}
 
 pub not_itself : (a : ℕ) → nat_lt a a ≡ false

@@ -1,8 +1,9 @@
 -- Where a collector ends to which servers stand as a sight says: at the prefix that its start leads to, with the votes of the servers that are open.
-use Rattle.law_run_recovers.proofs.Vocabulary.{◌≡◌, ◌⊎◌, inl, inr, ℕ, suc, ◌≤◌, Bool, true, false, cond, List, [], ◌∷◌, length, Option, Some, None, refl, sym, ap, subst, ◌∙◌, arith, ◌&&◌, not, nat_lt, nat_le, find, option_map}
-use Rattle.law_run_recovers.proofs.Vocabulary.{false≢true, and_parts, and_from, ltb-false, nat_tests, none-some, Representative, votes_in, votes_in-wider, Prefix, LockMode, Shared, Exclusive, serves, Reply, find_some, Has, Said, Held}
-use Rattle.law_run_recovers.proofs.Vocabulary.{Told, newer, newest, holds, has_refused, Collector, all_told, needed_of, is_left, tell, told_by, Current, Short, next, collect, raise, Opening, fixed_of, Fixed, World, row, WasPrefix}
-use Rattle.law_run_recovers.proofs.Vocabulary.{IsQuorum, Inv, beginning, shown_at, shows_newer_by, newer_by, led_so_far_by, led_to_by, serves_itself}
+use Rattle.law_run_recovers.proofs.Vocabulary.{◌≡◌, ◌⊎◌, inl, inr, ℕ, suc, ◌≤◌, Bool, true, false, cond, List, [], ◌∷◌, length, Option, Some, None, refl, sym, ap, subst, ◌∙◌, arith, ◌&&◌, not, nat_lt, nat_le, find, option_map, false≢true}
+use Rattle.law_run_recovers.proofs.Vocabulary.{and_parts, and_from, ltb-false, nat_tests, none-some, Representative, votes_in, votes_in-wider, Prefix, LockMode, Shared, Exclusive, serves, Reply, find_some, Has, Said, Told, newer, newest}
+use Rattle.law_run_recovers.proofs.Vocabulary.{holds, has_refused, Collector, all_told, needed_of, is_left, tell, told_by, Current, Short, next, collect, raise, Opening, fixed_of, Fixed, World, row, WasPrefix, IsQuorum, Inv, beginning}
+use Rattle.law_run_recovers.proofs.Vocabulary.{shown_at, shows_newer_by, newer_by, led_so_far_by, led_to_by, serves_itself}
+use Rattle.suite_collect.specs.declared.told.Said.TheVariants.{Held}
 use Rattle.law_suite_machine.specs.Machine as machine
 use Rattle.law_run_recovers.proofs.Found.{Answering, newest_is_row}
 use Rattle.law_run_recovers.proofs.Leading as leading

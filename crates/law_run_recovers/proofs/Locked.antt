@@ -1,10 +1,10 @@
 -- Where a transaction has a lock on a suite no other's exclusive one stands beside it, and the copy stays as it is while it has the lock.
-use Rattle.law_run_recovers.proofs.Vocabulary.{◌≡◌, ℕ, Bool, true, false, cond, Option, Some, None, refl, sym, ap, subst, ◌∙◌, arith, ◌==◌, ◌&&◌, ◌||◌, not, slice_get, slice_set, list_any, false≢true, eqb-true, eq-eqb, nat_tests}
-use Rattle.law_run_recovers.proofs.Vocabulary.{same_Some, Prefix, Replica, LockMode, Shared, is_exclusive, Lock, Verdict, Reply, IsConsistent, conflicts, in_the_way, released, copy_of, State, after_locking, after_up, after_down, held}
-use Rattle.law_run_recovers.proofs.Vocabulary.{locking_reply, reply_of, served, find_some, Has, contains_from, has_filter, Fixed, Event, World, server_at, step, puts_in}
+use Rattle.law_run_recovers.proofs.Vocabulary.{◌≡◌, ℕ, Bool, true, false, cond, Option, Some, None, refl, sym, ap, subst, ◌∙◌, arith, ◌==◌, ◌&&◌, ◌||◌, not, slice_get, slice_set, list_any, false≢true, eqb-true, eq-eqb, nat_tests, same_Some}
+use Rattle.law_run_recovers.proofs.Vocabulary.{Prefix, Replica, LockMode, Shared, is_exclusive, Lock, Verdict, Reply, IsConsistent, conflicts, in_the_way, released, copy_of, State, after_locking, after_up, after_down, held, locking_reply}
+use Rattle.law_run_recovers.proofs.Vocabulary.{reply_of, served, find_some, Has, contains_from, has_filter, Fixed, Event, World, server_at, step, puts_in}
+use Rattle.rep_core.specs.Service.{after}
 use Rattle.rep_core.specs.declared.reply.Reply.TheVariants as reply
 use Rattle.rep_core.specs.declared.request.Request.TheVariants as request
-use Rattle.rep_core.specs.Service.{after}
 use Rattle.law_run_recovers.proofs.Serves.{On, Serves}
 use Rattle.law_run_recovers.proofs.Stand.{Spares, event_stands}
 

@@ -1,13 +1,13 @@
 -- A transaction that had a lock at a server, and has none there any more, is not decided from then on.
 use Rattle.law_run_recovers.proofs.Vocabulary.{◌≡◌, ◌⊎◌, inl, inr, ⊎_elim, ℕ, zero, suc, ◌+◌, true, false, List, [], ◌∷◌, ◌++◌, append_assoc, Option, Some, None, refl, sym, ap, subst, ◌∙◌, ◌==◌, ◌&&◌, ◌||◌, unwrap_or, slice_get}
-use Rattle.law_run_recovers.proofs.Vocabulary.{cons_option, false≢true, and_parts, cases_Bool, eqb-true, eq-eqb, none-some, Opening, serves, Lock, State, is_own, Has, any_has, can_front, fixed_of, Event, Step}
-use Rattle.law_run_recovers.proofs.Vocabulary.{World, opening, server_at, servers_from, step, after, run, Decided, decided, decisions, decisions_from, decisions_from-append, servers_of, no_task, CanBe, TellsOfLock}
-use Rattle.law_run_recovers.proofs.Vocabulary.{has_lock_after, locks_stand, locks_in, locks_at, stands, Always, TakenAwayAreNeverDecidedAt}
+use Rattle.law_run_recovers.proofs.Vocabulary.{cons_option, false≢true, and_parts, cases_Bool, eqb-true, eq-eqb, none-some, Opening, serves, Lock, State, is_own, Has, any_has, can_front, fixed_of, Event, Step, World, opening, server_at}
+use Rattle.law_run_recovers.proofs.Vocabulary.{servers_from, step, after, run, Decided, decided, decisions, decisions_from, servers_of, no_task, CanBe, locks_stand, locks_in, locks_at, stands, Always, TakenAwayAreNeverDecidedAt}
+use Rattle.law_headline.specs.Laws.{TellsOfLock, has_lock_after}
+use Rattle.run_core.proofs.Appending.{after-append, decisions_from-append}
+use Rattle.law_run_recovers.specs.Sweeping.{has_any}
 use Rattle.rep_core.specs.State as state
 use Rattle.rep_core.proofs.Members as members
 use Rattle.rep_core.specs.declared.request.Request.TheVariants as request
-use Rattle.run_core.proofs.Appending.{after-append}
-use Rattle.law_run_recovers.specs.Sweeping.{has_any}
 use Rattle.law_run_recovers.proofs.Serves.{Was, Told, lock_told}
 
 module _ (given : Opening) where

@@ -1,9 +1,9 @@
 -- Where two alone begin nobody is beside: so what is promised to two that meet while others are beside is promised to them.
-use Rattle.law_run_recovers.proofs.Vocabulary.{Bool, Contains, List, None, Option, Some, [], ap, append-nil, false, inl, inr, is_some, not, refl, subst, sym, true, ℕ, ⊎_elim, ◌&&◌, ◌++◌, ◌==◌, ◌||◌, ◌∙◌, ◌∷◌, ◌≡◌, ◌⊎◌}
-use Rattle.law_run_recovers.proofs.Vocabulary.{eqb-true, false≢true, list_any, Row, row_of, is_decided, IsNotDecided, find_some, Has, contains_from, has_from, State, Lock, decisions, run, table_of, World, actor_at, has_no_job, server_at}
-use Rattle.law_run_recovers.proofs.Vocabulary.{step, EndedJob, Event, Begin, Crash, Lack, Step, Opening, LockMode, Exclusive, fixed_of, Sweep, Configuration, Begun, clashes, its_asks, spoils, votes_of_row, votes_set}
-use Rattle.law_run_recovers.proofs.Vocabulary.{HasFirstVotes, EndsThen, VotesNeverMovedOf, AreTight, TheyMeet, first_clash, its_votes, SetsApart, TheyMeetByRows, votes_now}
-use Rattle.law_run_recovers.proofs.Vocabulary.{and_parts, list_all, is_idle, Doing, Actor, hinders_itself, locks_at, locks_in, Always, OneThatMeetsByRowsIsDecidedAt, OneThatMeetsIsDecidedAt}
+use Rattle.law_run_recovers.proofs.Vocabulary.{Bool, Contains, List, None, Option, Some, [], ap, append-nil, false, inl, inr, is_some, not, refl, subst, sym, true, ℕ, ⊎_elim, ◌&&◌, ◌++◌, ◌==◌, ◌||◌, ◌∙◌, ◌∷◌, ◌≡◌, ◌⊎◌, eqb-true, false≢true}
+use Rattle.law_run_recovers.proofs.Vocabulary.{list_any, Row, row_of, is_decided, IsNotDecided, find_some, Has, contains_from, has_from, State, Lock, decisions, run, table_of, World, actor_at, has_no_job, server_at, step, EndedJob, Event}
+use Rattle.law_run_recovers.proofs.Vocabulary.{Begin, Crash, Lack, Step, Opening, LockMode, Exclusive, fixed_of, Sweep, Configuration, Begun, clashes, its_asks, spoils, votes_of_row, votes_set, HasFirstVotes, EndsThen, VotesNeverMovedOf}
+use Rattle.law_run_recovers.proofs.Vocabulary.{AreTight, TheyMeet, first_clash, its_votes, SetsApart, votes_now, and_parts, list_all, is_idle, Doing, Actor, hinders_itself, locks_at, locks_in, Always, OneThatMeetsIsDecidedAt}
+use Rattle.law_run_recovers.specs.MeetsByRows.{TheyMeetByRows, OneThatMeetsByRowsIsDecidedAt}
 use Rattle.law_run_recovers.specs.MeetsBeside.{GoesOn, IsServed, TheyMeetBeside, first_asks, sweeps_now, upsets}
 use Rattle.law_run_recovers.proofs.BesideAll.{not_both}
 use Rattle.law_run_recovers.proofs.MeetAsks.{sets_asked}

@@ -1,8 +1,8 @@
 -- What a transaction sets votes of it asks for exclusively.
-use Rattle.law_run_recovers.proofs.Vocabulary.{◌≡◌, ◌⊎◌, inl, inr, ⊎_elim, ℕ, Bool, true, false, cond, List, [], ◌∷◌, Option, Some, None, Result, Ok, Err, Less, Equal, Greater, refl, ap, subst, ◌∙◌, ◌==◌, ◌&&◌, ◌||◌, filter}
-use Rattle.law_run_recovers.proofs.Vocabulary.{list_any, nat_cmp, match_ordering, Ordering, false≢true, eqb-true, eq-eqb, insert, Identity, Configuration, LockMode, Exclusive, serves, Answer, Op, Refusal, PlainTable}
-use Rattle.law_run_recovers.proofs.Vocabulary.{Row, row_of, Change, Edit, Need, Hold, Know, with_change, changes_at, Course, Give, Refuse, Look, Read, Set, Edits, Ended, is_set, unless_set, looked, content_read, needs, ending}
-use Rattle.law_run_recovers.proofs.Vocabulary.{transaction, Has, has_filter, has_map, has_asked, not_asked, locks_asked, change_in, changes_on, votes_set, or_right, or_cases, serves_itself, tied}
+use Rattle.law_run_recovers.proofs.Vocabulary.{◌≡◌, ◌⊎◌, inl, inr, ⊎_elim, ℕ, Bool, true, false, cond, List, [], ◌∷◌, Option, Some, None, Result, Ok, Err, Less, Equal, Greater, refl, ap, subst, ◌∙◌, ◌==◌, ◌&&◌, ◌||◌, filter, list_any}
+use Rattle.law_run_recovers.proofs.Vocabulary.{nat_cmp, match_ordering, Ordering, false≢true, eqb-true, eq-eqb, insert, Identity, Configuration, LockMode, Exclusive, serves, Answer, Op, Refusal, PlainTable, Row, row_of, Change, Edit, Need}
+use Rattle.law_run_recovers.proofs.Vocabulary.{Hold, Know, with_change, changes_at, Course, Give, Refuse, Look, Read, Set, Edits, Ended, is_set, unless_set, looked, content_read, needs, ending, transaction, Has, has_filter, has_map}
+use Rattle.law_run_recovers.proofs.Vocabulary.{has_asked, not_asked, locks_asked, change_in, changes_on, votes_set, or_right, or_cases, serves_itself, tied}
 use Rattle.law_run_recovers.proofs.Asked.{asked_exclusive}
 use Rattle.law_run_recovers.proofs.Asking.{suite_in, mode_in, is_hold}
 

@@ -1,8 +1,7 @@
 -- One that meets another and is refused a lock: it asked for it, and a lock of the other was in the way there.
-use Rattle.law_run_recovers.proofs.Vocabulary.{Bool, List, None, Option, Some, ap, append_assoc, cond, false, is_some, not, refl, subst, sym, true, ℕ, ◌&&◌, ◌++◌, ◌==◌, ◌||◌, ◌∙◌, ◌∷◌, ◌≡◌, and_from, and_parts, eq-eqb, eqb-true}
-use Rattle.law_run_recovers.proofs.Vocabulary.{false≢true, same_Some, find_some, Has, conflicts, has_lock, in_the_way, locking_reply, reply_down, reply_of, reply_up, answer_of, State, copy_of, Lock, Request, Stamped, run, Actor}
-use Rattle.law_run_recovers.proofs.Vocabulary.{World, actor_at, server_at, step, Served, Event, Begin, Step, mode_of, is_exclusive, serves, Opening, LockMode, Exclusive, fixed_of, next_of, Transaction, Begun, clashes, votes_now}
-use Rattle.law_run_recovers.proofs.Vocabulary.{asks_for, begun_world}
+use Rattle.law_run_recovers.proofs.Vocabulary.{Bool, List, None, Option, Some, ap, append_assoc, cond, false, is_some, not, refl, subst, sym, true, ℕ, ◌&&◌, ◌++◌, ◌==◌, ◌||◌, ◌∙◌, ◌∷◌, ◌≡◌, and_from, and_parts, eq-eqb, eqb-true, false≢true}
+use Rattle.law_run_recovers.proofs.Vocabulary.{same_Some, find_some, Has, conflicts, has_lock, in_the_way, locking_reply, reply_down, reply_of, reply_up, answer_of, State, copy_of, Lock, Request, Stamped, run, Actor, World, actor_at}
+use Rattle.law_run_recovers.proofs.Vocabulary.{server_at, step, Served, Event, Begin, Step, mode_of, is_exclusive, serves, Opening, LockMode, Exclusive, fixed_of, next_of, Transaction, Begun, clashes, votes_now, asks_for, begun_world}
 use Rattle.rep_core.specs.declared.request.Request.TheVariants as request
 use Rattle.rep_core.specs.declared.reply.Reply.TheVariants as reply
 use Rattle.law_run_recovers.proofs.Keeps.{step_asks}

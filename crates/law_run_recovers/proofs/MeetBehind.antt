@@ -1,7 +1,7 @@
 -- Votes of a suite that were found are the row's, or some of them is of a server that shows a newer prefix; and in every quorum of the row's votes some server shows the
 -- row's prefix. So it is where all servers are up and what is stored is in effect.
-use Rattle.law_run_recovers.proofs.Vocabulary.{◌≡◌, ◌⊎◌, inl, inr, ⊎_elim, ℕ, ◌+◌, ◌<◌, ◌≤◌, Bool, true, false, cond, List, [], ◌∷◌, length, Option, Some, None, refl, sym, ap, subst, ◌∙◌, arith, ◌==◌, ◌&&◌, nat_lt, All}
-use Rattle.law_run_recovers.proofs.Vocabulary.{false≢true, and_parts, and_from, or_cases, eqb-true, le-leb, nat_tests, slice_get_within, Representative, Configuration, votes_in, votes_at, total_votes, IsValid, Opening, Prefix, LockMode, Shared}
+use Rattle.law_run_recovers.proofs.Vocabulary.{◌≡◌, ◌⊎◌, inl, inr, ⊎_elim, ℕ, ◌+◌, ◌<◌, ◌≤◌, Bool, true, false, cond, List, [], ◌∷◌, length, Option, Some, None, refl, sym, ap, subst, ◌∙◌, arith, ◌==◌, ◌&&◌, nat_lt, All, false≢true}
+use Rattle.law_run_recovers.proofs.Vocabulary.{and_parts, and_from, or_cases, eqb-true, le-leb, nat_tests, slice_get_within, Representative, Configuration, votes_in, votes_at, total_votes, IsValid, Opening, Prefix, LockMode, Shared}
 use Rattle.law_run_recovers.proofs.Vocabulary.{Exclusive, State, Has, contains_from, All-contains, needed_of, fixed_of, Event, server_at, run, row, prefix_at, WasPrefix, IsQuorum, effect, Inv, beginning, machine_of, row_at, CanBe, all_keep}
 use Rattle.law_run_recovers.proofs.Vocabulary.{all_up, so_many, is_up, shown_at, shown_in, newer_by, votes_now}
 use Rattle.law_one_table.proofs.Effects as effects

@@ -1,18 +1,15 @@
 -- Transactions that begin in a calm run: where each asks for a lock, what it had before, and that each lock in its name was granted to it.
-use Rattle.law_run_recovers.proofs.Vocabulary.{◌*◌, false≢true, all_idle, no_locks, holds_of, ◌<◌, Bool, ◌+◌, CanBe, agent_of, agent_at, Agent, List, None, Option, Some, [], ap, append-nil, append_assoc, arith, false, length, refl, subst, suc, sym, true, ℕ, ⊎_elim, ◌++◌, ◌==◌, ◌∙◌, ◌∷◌, ◌≡◌, ◌⊎◌, eq-eqb}
-use Rattle.law_run_recovers.proofs.Vocabulary.{after, eqb-true, none-some, same_Some, cons_option, at_has, begins_job, has_append, IsNotDecided, Has, all_at, has_from, State, Lock, decisions_from-append, Decided, answer_in, decided}
-use Rattle.law_run_recovers.proofs.Vocabulary.{decided_as, decided_at, decided_by, decisions, decisions_from, task_at, run, Actor, World, actor_at, opening, server_at, step, Served, Event, Begin, Crash, Forget, Lack, Return}
-use Rattle.law_run_recovers.proofs.Vocabulary.{Step, mode_of, serves, Opening, LockMode, fixed_of, next_of, is_decide, Job, Transaction, Begun, votes_now, asks_for, begun_world, world_after, serves_itself}
+use Rattle.law_run_recovers.proofs.Vocabulary.{◌*◌, false≢true, all_idle, no_locks, holds_of, ◌<◌, Bool, ◌+◌, CanBe, agent_of, agent_at, Agent, List, None, Option, Some, [], ap, append-nil, append_assoc, arith, false, length, refl, subst}
+use Rattle.law_run_recovers.proofs.Vocabulary.{suc, sym, true, ℕ, ⊎_elim, ◌++◌, ◌==◌, ◌∙◌, ◌∷◌, ◌≡◌, ◌⊎◌, eq-eqb, after, eqb-true, none-some, same_Some, cons_option, at_has, begins_job, has_append, IsNotDecided, Has, all_at, has_from}
+use Rattle.law_run_recovers.proofs.Vocabulary.{State, Lock, decisions_from-append, Decided, answer_in, decided, decided_as, decided_at, decided_by, decisions, decisions_from, task_at, run, Actor, World, actor_at, opening, server_at, step}
+use Rattle.law_run_recovers.proofs.Vocabulary.{Served, Event, Begin, Crash, Forget, Lack, Return, Step, mode_of, serves, Opening, LockMode, fixed_of, next_of, is_decide, Job, Transaction, Begun, votes_now, asks_for, begun_world}
+use Rattle.law_run_recovers.proofs.Vocabulary.{world_after, serves_itself, Rises, agents_ask_for_themselves, counts_rise, AsksForItself, AsksToSweep, all_named, not_begun, no_decide}
 use Rattle.law_run_recovers.proofs.AmongCourse.{head_or, tail_or}
 use Rattle.law_run_recovers.proofs.BesideUnmet.{begins_there}
 use Rattle.law_run_recovers.proofs.Busy.{busy_one, one_named}
 use Rattle.law_run_recovers.proofs.Keeps.{IsAtWork, after_append, step_asks}
 use Rattle.law_run_recovers.proofs.Open.{its_begin}
 use Rattle.law_run_recovers.proofs.Sides.{compared, its_agent, names_one}
-use Rattle.law_runs.proofs.Begun.{Rises, agents_ask_for_themselves, counts_rise}
-use Rattle.law_runs.specs.Numbers.{AsksForItself, AsksToSweep}
-use Rattle.law_run_alone.proofs.Named.{all_named, not_begun}
-use Rattle.law_runs.proofs.Turns.{no_decide}
 use Rattle.law_run_recovers.proofs.MeetCalm.{Fair, Calm, IsOurs, calm_front, ours_front, unswept}
 use Rattle.law_run_recovers.proofs.MeetLocks.{owned_at}
 use Rattle.law_run_recovers.proofs.MeetQuiet.{GoesQuietly}

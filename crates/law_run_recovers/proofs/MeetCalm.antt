@@ -1,11 +1,9 @@
 -- A run in which all servers are up and nothing upsets it. It is calm where rows, prefixes and stored copies of some suites stand still meanwhile.
-use Rattle.law_run_recovers.proofs.Vocabulary.{List, None, Option, Some, [], ap, append-nil, append_assoc, false, inl, Bool, is_some, refl, subst, sym, true, ℕ, ◌++◌, ◌∙◌, ◌∷◌, ◌≡◌, false≢true}
-use Rattle.law_run_recovers.proofs.Vocabulary.{cons_option, Identity, Op, CanBe, all_at, at_has, has_any, Running, RunningSweep, eq-eqb, is_up, can_front, run_more, AllAt}
-use Rattle.law_run_recovers.proofs.Vocabulary.{begins_job, machine_of, append_has_left, append_has_right, beginning, WasPrefix, Has}
-use Rattle.law_run_recovers.proofs.Vocabulary.{State, copy_of, row_of, decisions_from-append, Decided, decided, decisions, decisions_from, run, table_of, Actor}
-use Rattle.law_run_recovers.proofs.Vocabulary.{actor_at, opening, server_at, step, Event, Begin, IsAccepted, Opening, Prefix, fixed_of, is_idle, Doing, Sweep}
-use Rattle.law_run_recovers.proofs.Vocabulary.{Begun, asks_for, hinders_itself, is_running, runs}
-use Rattle.law_run_recovers.specs.MeetsBeside.{GoesOn, sweeps_now, upsets}
+use Rattle.law_run_recovers.proofs.Vocabulary.{List, None, Option, Some, [], ap, append-nil, append_assoc, false, inl, Bool, is_some, refl, subst, sym, true, ℕ, ◌++◌, ◌∙◌, ◌∷◌, ◌≡◌, false≢true, cons_option, Identity, Op, CanBe, all_at}
+use Rattle.law_run_recovers.proofs.Vocabulary.{at_has, has_any, Running, RunningSweep, eq-eqb, is_up, can_front, run_more, AllAt, begins_job, machine_of, append_has_left, append_has_right, beginning, WasPrefix, Has, State, copy_of, row_of}
+use Rattle.law_run_recovers.proofs.Vocabulary.{decisions_from-append, Decided, decided, decisions, decisions_from, run, table_of, Actor, actor_at, opening, server_at, step, Event, Begin, IsAccepted, Opening, Prefix, fixed_of, is_idle}
+use Rattle.law_run_recovers.proofs.Vocabulary.{Doing, Sweep, Begun, asks_for, hinders_itself, is_running, runs, sweeps_now, upsets}
+use Rattle.law_run_recovers.specs.MeetsBeside.{GoesOn}
 use Rattle.law_run_recovers.proofs.Busy.{BusyWith, busy_by}
 use Rattle.law_run_recovers.proofs.Found.{Answering}
 use Rattle.law_run_recovers.proofs.Sides.{AllUp, up_unless}

@@ -1,11 +1,9 @@
 -- A run is calm, whatever the suite, where each transaction that begins is never decided, or asks for nothing exclusively: so nobody who is decided has an exclusive lock.
-use Rattle.law_run_recovers.proofs.Vocabulary.{all_idle, no_locks, Contains, List, Option, Some, Result, Ok, Err, [], ap, append-nil, append_assoc, option_map, filter, map, inl, inr, refl, subst, sym, true, ℕ, ⊎_elim, ◌++◌, ◌∙◌, ◌∷◌, ◌≡◌, ◌⊎◌}
-use Rattle.law_run_recovers.proofs.Vocabulary.{PlainTable, Row, row_of, service_stays, IsNotDecided, Has, contains_from, has_from, State, Lock, decisions, run, table_of, server_at, Event, Begin, Opening, LockMode, Exclusive, Transaction}
-use Rattle.law_run_recovers.proofs.Vocabulary.{Begun, its_asks, votes_set, its_votes, asks_for, not_asked, needs, ending, Edits, Ended, Course, Look, Read, Set, Hold, unless_set, is_set, looked, content_read, transaction}
-use Rattle.law_run_recovers.proofs.Vocabulary.{Answer, Refusal, Change, change_in, changes_on, changes_at, with_change, seen, head, makes, sets_acl, sets_votes, some}
+use Rattle.law_run_recovers.proofs.Vocabulary.{all_idle, no_locks, Contains, List, Option, Some, Result, Ok, Err, [], ap, append-nil, append_assoc, option_map, filter, map, inl, inr, refl, subst, sym, true, ℕ, ⊎_elim, ◌++◌, ◌∙◌, ◌∷◌, ◌≡◌}
+use Rattle.law_run_recovers.proofs.Vocabulary.{◌⊎◌, PlainTable, Row, row_of, service_stays, IsNotDecided, Has, contains_from, has_from, State, Lock, decisions, run, table_of, server_at, Event, Begin, Opening, LockMode, Exclusive}
+use Rattle.law_run_recovers.proofs.Vocabulary.{Transaction, Begun, its_asks, votes_set, its_votes, asks_for, not_asked, needs, ending, Edits, Ended, Course, Look, Read, Set, Hold, unless_set, is_set, looked, content_read, transaction}
+use Rattle.law_run_recovers.proofs.Vocabulary.{Answer, Refusal, Change, change_in, changes_on, changes_at, with_change, seen, head, makes, sets_acl, sets_votes, some, content_in, IsServed}
 use Rattle.file_ops.specs.Rows as rows
-use Rattle.file_exec.specs.Following.{content_in}
-use Rattle.law_run_recovers.specs.MeetsBeside.{IsServed}
 use Rattle.law_run_recovers.proofs.AmongCourse.{nil_cons, parted}
 use Rattle.law_run_recovers.proofs.MeetAsked.{all_asked}
 use Rattle.law_run_recovers.proofs.MeetBoth.{none_first}

@@ -1,31 +1,24 @@
 -- A run is calm at suites at which each exclusive lock that there ever is belongs to one that is never decided: who writes a suite has it locked exclusively as it is decided.
-use Rattle.law_run_recovers.proofs.Vocabulary.{home_in, ◌≡◌, ◌⊎◌, inl, inr, ℕ, ◌<◌, ◌≤◌, true, List, [], ◌∷◌, ◌++◌, append-nil, append_assoc, Option, Some, None, Ok, Err, refl, sym, ap, subst, ◌∙◌}
-use Rattle.law_run_recovers.proofs.Vocabulary.{arith, ◌==◌, unwrap_or, nat_cmp, and_parts, eqb-true, false≢true, leb-true, none-some, same_Some, find_some}
-use Rattle.law_run_recovers.proofs.Vocabulary.{votes_in, IsValid, Opening, Prefix, LockMode, Exclusive, Shared, is_exclusive, get, Intention, Lock, Verdict, State, copy_of, is_own, is_answered}
-use Rattle.law_run_recovers.proofs.Vocabulary.{HasPreparedLock, served, Has, contains_from, has_from, fixed_of, Proposal, GatheredSuite, ReadPoint, suite_of}
-use Rattle.law_run_recovers.proofs.Vocabulary.{Event, Step, Served, World, server_at, step, opening, run, after, Decided, decided, decisions, finish_is_after, EndedSo, IsNotDecided, answers_follow_knowledge}
-use Rattle.law_run_recovers.proofs.Vocabulary.{IsAnsweredAsKnown, row, prefix_at, beginning, servers_of, machine_of, to_write, known_by, LogIs, decision_at, event_log, machine_one, all_shown, row_shown, Together}
-use Rattle.law_run_recovers.proofs.Vocabulary.{holds_after, all_keep, undecided, Replica, Shows, effect, plan_of, is_up, up_in, shown_at, shown_in, CanBe, can_front, all_consistent, AllAt, Fixed, at_puts, puts_in, slice_get, slice_set, Begun, locks_at, locks_in, ⊎_elim}
+use Rattle.law_run_recovers.proofs.Vocabulary.{home_in, ◌≡◌, ◌⊎◌, inl, inr, ℕ, ◌<◌, ◌≤◌, true, List, [], ◌∷◌, ◌++◌, append-nil, append_assoc, Option, Some, None, Ok, Err, refl, sym, ap, subst, ◌∙◌, arith, ◌==◌, unwrap_or, nat_cmp}
+use Rattle.law_run_recovers.proofs.Vocabulary.{and_parts, eqb-true, false≢true, leb-true, none-some, same_Some, find_some, votes_in, IsValid, Opening, Prefix, LockMode, Exclusive, Shared, is_exclusive, get, Intention, Lock, Verdict, State}
+use Rattle.law_run_recovers.proofs.Vocabulary.{copy_of, is_own, is_answered, HasPreparedLock, served, Has, contains_from, has_from, fixed_of, Proposal, GatheredSuite, ReadPoint, suite_of, Event, Step, Served, World, server_at, step}
+use Rattle.law_run_recovers.proofs.Vocabulary.{opening, run, after, Decided, decided, decisions, finish_is_after, EndedSo, IsNotDecided, answers_follow_knowledge, IsAnsweredAsKnown, row, prefix_at, beginning, servers_of, machine_of}
+use Rattle.law_run_recovers.proofs.Vocabulary.{to_write, known_by, LogIs, decision_at, event_log, machine_one, all_shown, row_shown, Together, holds_after, all_keep, undecided, Replica, Shows, effect, plan_of, is_up, up_in, shown_at}
+use Rattle.law_run_recovers.proofs.Vocabulary.{shown_in, CanBe, can_front, all_consistent, AllAt, Fixed, at_puts, puts_in, slice_get, slice_set, Begun, locks_at, locks_in, ⊎_elim, lock_at, hold_of, decides_first, decides_on, decision_by}
+use Rattle.law_run_recovers.proofs.Vocabulary.{decision_in, decision_with, AreOwed, Owed, Owes, OwesFirst, OwesWritten, decision_of_actor, agents_owe, AllOthers}
+use Rattle.law_suite_machine.proofs.Knowing.{still_locked}
+use Rattle.law_headline.proofs.Beside.{is_ready_now}
+use Rattle.law_headline.proofs.Unbroken.{AllAsTold, AsTold, as_told}
 use Rattle.rep_core.specs.declared.request.Request.TheVariants as request
 use Rattle.rep_core.specs.declared.reply.Verdict.TheVariants as verdict
-use Rattle.rep_core.specs.Locks.{lock_at}
 use Rattle.rep_core.specs.State as state
 use Rattle.law_suite_machine.specs.Events as events_of_suite
 use Rattle.law_suite_machine.specs.Machine as machine
 use Rattle.law_suite_machine.specs.Conditions as conditions
 use Rattle.law_suite_machine.specs.Registers as registers
-use Rattle.law_suite_machine.proofs.Knowing.{still_locked}
-use Rattle.law_server_moves.specs.Views.{hold_of}
 use Rattle.law_run_machine.specs.Machines as machines
-use Rattle.law_run_machine.specs.Deciding.{decides_first, decides_on, decision_by, decision_in, decision_with}
-use Rattle.law_run_machine.specs.Owed.{AreOwed, Owed, Owes, OwesFirst, OwesWritten}
-use Rattle.law_one_table.proofs.Logs.{decision_of_actor}
 use Rattle.law_one_table.proofs.Effects as effects
-use Rattle.law_headline.proofs.Beside.{is_ready_now}
-use Rattle.law_headline.proofs.Keeping.{agents_owe}
-use Rattle.law_headline.proofs.Unbroken.{AllAsTold, AsTold, as_told}
 use Rattle.law_run_recovers.proofs.Serves.{Serves, event_serves}
-use Rattle.law_run_recovers.specs.MeetsBeside.{AllOthers}
 use Rattle.law_run_recovers.proofs.MeetBoth.{none_yet as none_begun}
 use Rattle.law_run_recovers.proofs.MeetCalm.{Fair, Calm, accepted, can_at, run_next, decided_has, decided_on}
 use Rattle.law_run_recovers.proofs.Stand.{copy_served, finished_none}

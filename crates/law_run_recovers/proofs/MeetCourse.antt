@@ -1,25 +1,23 @@
 -- How a transaction stands in whose run nothing is decided, at each moment at which it is at work: servers are open to it that a sight says, as long as this fits what
 -- it is told; and where its end is fixed some want of it is not met by these.
-use Rattle.law_run_recovers.proofs.Vocabulary.{◌≡◌, ◌≢◌, ◌⊎◌, inl, inr, ⊎_elim, ℕ, Bool, true, false, cond, List, [], ◌∷◌, ◌++◌, append-nil, append_assoc, Option, Some, None, is_some, refl, sym, ap, subst, ◌∙◌, ◌*◌, ◌+◌, nat_cmp}
-use Rattle.law_run_recovers.proofs.Vocabulary.{eq-eqb, none-some, same_Some, IsOrdered, Identity, IsValid, Opening, Prefix, LockMode, Shared, Exclusive, Op, row_of, IsSoAt, Lock, Request, Reply, is_prepared}
-use Rattle.law_run_recovers.proofs.Vocabulary.{in_the_way, copy_of, State, record_of, reply_of, reply_up, reply_down, poll_reply, locking_reply, stands_prepared, can_prepare, recorded, verdict_of, Asked, Poll, Upgrade, request_for}
-use Rattle.law_run_recovers.proofs.Vocabulary.{mode_asked, Cache, forgotten, Ending, Undecided, Cause, Transaction, Replied, Suites, suite_of, known_of, parts_at, Task, Phase, Gathering, Fetching, Preparing, Deciding, Finishing}
-use Rattle.law_run_recovers.proofs.Vocabulary.{TransactionRun, Running, After, GoesOn, Ends, home_of, execute, given_in, changes_of, decision_of, request_in, after_reply, Agent, Taken, fixed_of, is_idle, next_in, next_of}
-use Rattle.law_run_recovers.proofs.Vocabulary.{left, with_step, take_in, take, begins, begin, started, exchanges, is_decide, said_by, asks_same, Keeps, nothing_held, plus_all, begin_keeps, after-append, Served, Event, Begin}
-use Rattle.law_run_recovers.proofs.Vocabulary.{Step, Actor, World, server_at, actor_at, step, run, decisions, table_of, holds_of, service_stays, agent_of, WasPrefix, beginning, machine_of, CanBe, all_keep, IsMine, can_front, Finds}
-use Rattle.law_run_recovers.proofs.Vocabulary.{Stands, has_any, ◌==◌, is_resolve, never_resolves, is_up, locks_asked, asks_for, first_mode, runs, world_after, or_right}
+use Rattle.law_run_recovers.proofs.Vocabulary.{◌≡◌, ◌≢◌, ◌⊎◌, inl, inr, ⊎_elim, ℕ, Bool, true, false, cond, List, [], ◌∷◌, ◌++◌, append-nil, append_assoc, Option, Some, None, is_some, refl, sym, ap, subst, ◌∙◌, ◌*◌, ◌+◌, nat_cmp, eq-eqb}
+use Rattle.law_run_recovers.proofs.Vocabulary.{none-some, same_Some, IsOrdered, Identity, IsValid, Opening, Prefix, LockMode, Shared, Exclusive, Op, row_of, IsSoAt, Lock, Request, Reply, is_prepared, in_the_way, copy_of, State, record_of}
+use Rattle.law_run_recovers.proofs.Vocabulary.{reply_of, reply_up, reply_down, poll_reply, locking_reply, stands_prepared, can_prepare, recorded, verdict_of, Asked, Poll, Upgrade, request_for, mode_asked, Cache, forgotten, Ending}
+use Rattle.law_run_recovers.proofs.Vocabulary.{Undecided, Cause, Transaction, Replied, Suites, suite_of, known_of, parts_at, Task, Phase, Gathering, Fetching, Preparing, Deciding, Finishing, TransactionRun, Running, After, GoesOn, Ends}
+use Rattle.law_run_recovers.proofs.Vocabulary.{home_of, execute, given_in, changes_of, decision_of, request_in, after_reply, Agent, Taken, fixed_of, is_idle, next_in, next_of, left, with_step, take_in, take, begins, begin, started}
+use Rattle.law_run_recovers.proofs.Vocabulary.{exchanges, is_decide, said_by, asks_same, Keeps, nothing_held, plus_all, begin_keeps, after-append, Served, Event, Begin, Step, Actor, World, server_at, actor_at, step, run, decisions}
+use Rattle.law_run_recovers.proofs.Vocabulary.{table_of, holds_of, service_stays, agent_of, WasPrefix, beginning, machine_of, CanBe, all_keep, IsMine, can_front, Finds, Stands, has_any, ◌==◌, is_resolve, never_resolves, is_up, locks_asked}
+use Rattle.law_run_recovers.proofs.Vocabulary.{asks_for, first_mode, runs, world_after, or_right, given as gives, Answered as AnsweredVerdict}
+use Rattle.txn_core.specs.Transactions.{Step as CourseStep}
 use Rattle.file_ops.specs.Rows as rows
 use Rattle.file_exec.specs.Known as known
 use Rattle.rep_core.specs.declared.request.Request.TheVariants as request
 use Rattle.rep_core.specs.declared.reply.Reply.TheVariants as reply
 use Rattle.rep_core.specs.declared.reply.Verdict.TheVariants as verdict
-use Rattle.rep_core.specs.Service.{given as gives}
 use Rattle.txn_core.specs.Doing as doing
-use Rattle.txn_core.specs.Transactions.{Step as CourseStep}
 use Rattle.txn_core.specs.Agents as agents
 use Rattle.txn_core.proofs.Locks as keeping
 use Rattle.law_runs.proofs.Words as words
-use Rattle.law_suite_machine.specs.Machine.{Answered as AnsweredVerdict}
 use Rattle.law_one_table.proofs.Effects as effects
 use Rattle.law_run_recovers.proofs.Apart.{Apart, hint_forgotten}
 use Rattle.law_run_recovers.proofs.Asked.{asked_exclusive, onto_so_far}

@@ -1,7 +1,7 @@
 -- One that ended undecided stands nowhere among the decisions; and the moment at which the end of one is fixed.
-use Rattle.law_run_recovers.proofs.Vocabulary.{Bool, List, [], ap, append-nil, append_assoc, false, inl, inr, refl, subst, sym, true, ℕ, ⊎_elim, ◌++◌, ◌∙◌, ◌∷◌, ◌≡◌, ◌⊎◌, false≢true, is_decided, EndStands, holds_of, NotIn}
-use Rattle.law_run_recovers.proofs.Vocabulary.{append_has_right, IsNotDecided, ended, number_of, Has, has_from, finished, dones-append, outcomes-append, Decided, decisions, done_in, dones, outcomes, run, World, opening, step}
-use Rattle.law_run_recovers.proofs.Vocabulary.{EndedJob, Event, Begin, Opening, fixed_of, left, Ending, Swept, Undecided, Transaction, Begun, EndsThen, stands, begun_world, is_running, is_telling, world_after}
+use Rattle.law_run_recovers.proofs.Vocabulary.{Bool, List, [], ap, append-nil, append_assoc, false, inl, inr, refl, subst, sym, true, ℕ, ⊎_elim, ◌++◌, ◌∙◌, ◌∷◌, ◌≡◌, ◌⊎◌, false≢true, is_decided, EndStands, holds_of, NotIn, append_has_right}
+use Rattle.law_run_recovers.proofs.Vocabulary.{IsNotDecided, ended, number_of, Has, has_from, finished, dones-append, outcomes-append, Decided, decisions, done_in, dones, outcomes, run, World, opening, step, EndedJob, Event, Begin, Opening}
+use Rattle.law_run_recovers.proofs.Vocabulary.{fixed_of, left, Ending, Swept, Undecided, Transaction, Begun, EndsThen, stands, begun_world, is_running, is_telling, world_after}
 use Rattle.law_run_recovers.proofs.AmongCourse.{head_or, tail_or, parted}
 use Rattle.law_run_recovers.proofs.AmongOver.{has_after}
 use Rattle.law_run_recovers.proofs.Keeps.{IsAtWork}

@@ -1,12 +1,12 @@
 -- Whoever granted a transaction a lock in its run stands among those that told it of one, in the suites that it had gathered as its end was fixed.
-use Rattle.law_run_recovers.proofs.Vocabulary.{◌≡◌, ◌⊎◌, inl, inr, ⊎_elim, ℕ, ◌+◌, ◌≤◌, ◌<◌, true, false, List, [], ◌∷◌, ◌++◌, length, Some, is_some, refl, sym, ap, subst, ◌∙◌, arith, ◌==◌, ◌&&◌, false≢true, and_from}
-use Rattle.law_run_recovers.proofs.Vocabulary.{eq-eqb, same_Some, slice_get_within, max_servers, Identity, Opening, Shared, Op, Request, Reply, reply_of, Has, contains_from, filter_has, has_any, has_append, append_has_left, append_has_right, holds}
+use Rattle.law_run_recovers.proofs.Vocabulary.{◌≡◌, ◌⊎◌, inl, inr, ⊎_elim, ℕ, ◌+◌, ◌≤◌, ◌<◌, true, false, List, [], ◌∷◌, ◌++◌, length, Some, is_some, refl, sym, ap, subst, ◌∙◌, arith, ◌==◌, ◌&&◌, false≢true, and_from, eq-eqb, same_Some}
+use Rattle.law_run_recovers.proofs.Vocabulary.{slice_get_within, max_servers, Identity, Opening, Shared, Op, Request, Reply, reply_of, Has, contains_from, filter_has, has_any, has_append, append_has_left, append_has_right, holds}
 use Rattle.law_run_recovers.proofs.Vocabulary.{Transaction, Replied, numbers_from, Suites, TransactionRun, Running, is_finish, Agent, fixed_of, is_idle, next_of, take, begin, after-append, Exchange, exchange_of, exchanges, exchanges-take}
-use Rattle.law_run_recovers.proofs.Vocabulary.{locks, says_held, was_held, Keeps, nothing_held, plus_all, begin_keeps, Served, Event, Begin, Step, Actor, World, server_at, actor_at, step, so_many, stage, was_locked, locked, stages_rise}
-use Rattle.law_run_recovers.proofs.Vocabulary.{all_finish, world_after}
+use Rattle.law_run_recovers.proofs.Vocabulary.{locks, says_held, was_held, Keeps, nothing_held, plus_all, begin_keeps, Served, Event, Begin, Step, Actor, World, server_at, actor_at, step, so_many, stage, was_locked, locked, world_after}
+use Rattle.law_agents.proofs.Orders.{stages_rise, all_finish}
+use Rattle.txn_core.specs.Suites.{told_at}
 use Rattle.rep_core.specs.declared.request.Request.TheVariants as request
 use Rattle.txn_core.specs.Agents as agents
-use Rattle.txn_core.specs.Suites.{told_at}
 use Rattle.txn_core.proofs.Locks as keeping
 use Rattle.law_run_recovers.proofs.AmongCourse.{head_or, tail_or, parted}
 use Rattle.law_run_recovers.proofs.AmongLeft.{none_done, done_of, locked_of}

@@ -1,11 +1,10 @@
 -- Of two that meet at one suite, by votes that are tight, one is decided, whatever others do beside: else each had been refused by the other, and had votes that the other wanted.
-use Rattle.law_run_recovers.proofs.Vocabulary.{Bool, Contains, List, Some, [], ap, append-nil, append_assoc, arith, false, inl, inr, refl, subst, sym, true, ℕ, ⊎_elim, ◌++◌, ◌<◌, ◌==◌, ◌||◌, ◌∙◌, ◌∷◌, ◌≡◌, ◌⊎◌}
-use Rattle.law_run_recovers.proofs.Vocabulary.{eq-eqb, eqb-true, false≢true, list_any, is_decided, machine_of, IsNotDecided, beginning, row, find_some, Has, contains_from, has_any, has_from, State, Lock, decisions}
-use Rattle.law_run_recovers.proofs.Vocabulary.{run, table_of, server_at, step, EndedJob, Served, Event, Begin, Step, mode_of, Opening, LockMode, Exclusive, fixed_of, has_vote, Transaction, Configuration, votes_at, Begun, clashes}
-use Rattle.law_run_recovers.proofs.Vocabulary.{any_has, append_has_left, append_has_right, has_append, CanBe, ◌&&◌, votes_set, EndsThen, AreTight, first_clash, locks_at, locks_in, SetsApart, votes_now, asks_for, shown_at, world_after}
-use Rattle.law_run_recovers.proofs.Vocabulary.{IsTrue, not, ◌≤◌, World, begun_world, needed_of, shared_member, total_votes, votes_in, Always, OneThatMeetsBesideIsDecidedAt}
+use Rattle.law_run_recovers.proofs.Vocabulary.{Bool, Contains, List, Some, [], ap, append-nil, append_assoc, arith, false, inl, inr, refl, subst, sym, true, ℕ, ⊎_elim, ◌++◌, ◌<◌, ◌==◌, ◌||◌, ◌∙◌, ◌∷◌, ◌≡◌, ◌⊎◌, eq-eqb, eqb-true, false≢true}
+use Rattle.law_run_recovers.proofs.Vocabulary.{list_any, is_decided, machine_of, IsNotDecided, beginning, row, find_some, Has, contains_from, has_any, has_from, State, Lock, decisions, run, table_of, server_at, step, EndedJob, Served}
+use Rattle.law_run_recovers.proofs.Vocabulary.{Event, Begin, Step, mode_of, Opening, LockMode, Exclusive, fixed_of, has_vote, Transaction, Configuration, votes_at, Begun, clashes, any_has, append_has_left, append_has_right, has_append}
+use Rattle.law_run_recovers.proofs.Vocabulary.{CanBe, ◌&&◌, votes_set, EndsThen, AreTight, first_clash, locks_at, locks_in, SetsApart, votes_now, asks_for, shown_at, world_after, IsTrue, not, ◌≤◌, World, begun_world, needed_of}
+use Rattle.law_run_recovers.proofs.Vocabulary.{shared_member, total_votes, votes_in, Always, OneThatMeetsBesideIsDecidedAt, AllOthers, TheyMeetBeside, first_asks, meets_some}
 use Rattle.txn_core.specs.Doing as doing
-use Rattle.law_run_recovers.specs.MeetsBeside.{AllOthers, TheyMeetBeside, first_asks, meets_some}
 use Rattle.law_run_recovers.proofs.AmongCourse.{head_or, tail_or}
 use Rattle.law_run_recovers.proofs.Keeps.{IsAtWork, at_work_before}
 use Rattle.law_run_recovers.proofs.MeetApart.{clashes_back, Room, granted_since, stand_apart}

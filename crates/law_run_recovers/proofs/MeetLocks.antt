@@ -1,14 +1,13 @@
 -- Locks in a calm run: one that was granted stands while its transaction is at work, and keeps out what clashes; and each that there is was granted.
-use Rattle.law_run_recovers.proofs.Vocabulary.{◌≡◌, inl, inr, ⊎_elim, ℕ, Bool, true, false, cond, List, [], ◌∷◌, ◌++◌, append_assoc, append-nil, Option, Some, None, is_some, refl, sym, ap, subst, ◌∙◌, arith, ◌==◌, ◌&&◌, ◌||◌, not}
-use Rattle.law_run_recovers.proofs.Vocabulary.{filter, map, slice_get, slice_set, list_any, false≢true, and_parts, and_from, eqb-true, eq-eqb, nat_tests, Identity, Opening, LockMode, Shared, Exclusive, is_exclusive, serves, stronger}
-use Rattle.law_run_recovers.proofs.Vocabulary.{AuditItem, Op, Lock, Request, Verdict, Stamped, in_the_way, conflicts, has_lock, is_own, raised, raised_lock, with_lock, before, prepared_lock, copy_of, intended, State, record_of}
-use Rattle.law_run_recovers.proofs.Vocabulary.{reply_of, reply_up, reply_down, locking_reply, after_up, after_down, after_locking, after_record, prepares, served, Has, filter_has, between_has, map_has, any_has, has_any, find_none}
-use Rattle.law_run_recovers.proofs.Vocabulary.{mode_of, Transaction, fixed_of, Served, Event, Begin, Step, Crash, Return, Forget, Lack, Actor, World, server_at, actor_at, step, run, same_or, at_puts, step_is, puts_in, AllAt, MayAsk}
-use Rattle.law_run_recovers.proofs.Vocabulary.{asks_servers, clashes, locks_in, locks_at, takes, robs, hinders_itself, world_after, drops, bereaves, serves_itself}
+use Rattle.law_run_recovers.proofs.Vocabulary.{◌≡◌, inl, inr, ⊎_elim, ℕ, Bool, true, false, cond, List, [], ◌∷◌, ◌++◌, append_assoc, append-nil, Option, Some, None, is_some, refl, sym, ap, subst, ◌∙◌, arith, ◌==◌, ◌&&◌, ◌||◌, not, filter}
+use Rattle.law_run_recovers.proofs.Vocabulary.{map, slice_get, slice_set, list_any, false≢true, and_parts, and_from, eqb-true, eq-eqb, nat_tests, Identity, Opening, LockMode, Shared, Exclusive, is_exclusive, serves, stronger, AuditItem, Op}
+use Rattle.law_run_recovers.proofs.Vocabulary.{Lock, Request, Verdict, Stamped, copy_of, intended, State, record_of, reply_of, reply_up, reply_down, locking_reply, after_up, after_down, after_locking, after_record, prepares, served, Has}
+use Rattle.law_run_recovers.proofs.Vocabulary.{filter_has, between_has, map_has, any_has, has_any, find_none, mode_of, Transaction, fixed_of, Served, Event, Begin, Step, Crash, Return, Forget, Lack, Actor, World, server_at, actor_at, step}
+use Rattle.law_run_recovers.proofs.Vocabulary.{run, same_or, at_puts, step_is, puts_in, AllAt, MayAsk, asks_servers, clashes, locks_in, locks_at, takes, robs, hinders_itself, world_after, drops, bereaves, serves_itself}
+use Rattle.rep_core.specs.Locks.{locked, in_the_way, conflicts, has_lock, is_own, raised, raised_lock, with_lock, before, prepared_lock}
+use Rattle.rep_core.specs.Service.{after}
 use Rattle.rep_core.specs.declared.request.Request.TheVariants as request
 use Rattle.rep_core.specs.declared.reply.Reply.TheVariants as reply
-use Rattle.rep_core.specs.Locks.{locked}
-use Rattle.rep_core.specs.Service.{after}
 use Rattle.rep_core.specs.Serving as serving
 use Rattle.law_run_recovers.proofs.AtWork.{takes_nothing}
 use Rattle.law_run_recovers.proofs.Keeps.{IsAtWork, run_at, step_asks}

@@ -1,13 +1,15 @@
 -- A transaction in whose run nothing is decided that touches it: no server is down or crashes, nobody takes a lock of it, and of what it asks for stored copies and rows stand still.
-use Rattle.law_run_recovers.proofs.Vocabulary.{◌≡◌, ◌⊎◌, inl, ⊎_elim, ℕ, Bool, true, false, cond, List, [], ◌∷◌, ◌++◌, Some, None, is_some, refl, sym, ap, subst, ◌∙◌, ◌==◌, ◌&&◌, ◌||◌, not, nat_lt, false≢true, and_parts, or_parts}
-use Rattle.law_run_recovers.proofs.Vocabulary.{and_from, eq-eqb, same_Some, Identity, Opening, Prefix, LockMode, Shared, Exclusive, serves, Op, Request, reply_of, copy_of, State, Has, has_any, find_some, Said, is_held}
-use Rattle.law_run_recovers.proofs.Vocabulary.{mode_of, Transaction, Replied, Agent, fixed_of, is_idle, has_sense, max_jobs, next_of, take, begin, forget, after_all, Exchange, exchange_of, of_job, locks, has_said, is_said, holding}
-use Rattle.law_run_recovers.proofs.Vocabulary.{refusing, heard_in, after-append, exchanges-take, exchanges-forget, Served, Event, Begin, Step, Actor, World, server_at, actor_at, step, run, table_of, gathers_in_order, WasPrefix}
-use Rattle.law_run_recovers.proofs.Vocabulary.{beginning, machine_of, append_has_left, append_has_right, CanBe, begins_job, is_up, shown_at, asks_for, row_of, MayStart, begun_world, world_after, robs, hinders_itself, bereaves, not-true}
+use Rattle.law_run_recovers.proofs.Vocabulary.{◌≡◌, ◌⊎◌, inl, ⊎_elim, ℕ, Bool, true, false, cond, List, [], ◌∷◌, ◌++◌, Some, None, is_some, refl, sym, ap, subst, ◌∙◌, ◌==◌, ◌&&◌, ◌||◌, not, nat_lt, false≢true, and_parts, or_parts, and_from}
+use Rattle.law_run_recovers.proofs.Vocabulary.{eq-eqb, same_Some, Identity, Opening, Prefix, LockMode, Shared, Exclusive, serves, Op, Request, reply_of, copy_of, State, Has, has_any, find_some, Said, mode_of, Transaction, Replied, Agent}
+use Rattle.law_run_recovers.proofs.Vocabulary.{fixed_of, is_idle, has_sense, max_jobs, next_of, take, begin, forget, after_all, Exchange, exchange_of, of_job, locks, has_said, is_said, holding, refusing, heard_in, after-append}
+use Rattle.law_run_recovers.proofs.Vocabulary.{exchanges-take, exchanges-forget, Served, Event, Begin, Step, Actor, World, server_at, actor_at, step, run, table_of, WasPrefix, beginning, machine_of, append_has_left, append_has_right, CanBe}
+use Rattle.law_run_recovers.proofs.Vocabulary.{begins_job, is_up, shown_at, asks_for, row_of, MayStart, begun_world, world_after, robs, hinders_itself, bereaves, not-true}
+use Rattle.suite_collect.specs.Telling.{is_held}
+use Rattle.law_agents.proofs.Gathered.{gathers_in_order}
+use Rattle.law_agents.specs.Orders.{number_of}
 use Rattle.rep_core.specs.declared.request.Request.TheVariants as request
 use Rattle.txn_core.specs.Agents as agents
 use Rattle.law_agents.specs.Gathers as gathers
-use Rattle.law_agents.specs.Orders.{number_of}
 use Rattle.law_run_recovers.proofs.AmongCourse.{parted}
 use Rattle.law_run_recovers.proofs.Apart.{Apart, event_apart}
 use Rattle.law_run_recovers.proofs.Found.{Answering}

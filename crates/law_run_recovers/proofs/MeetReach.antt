@@ -1,16 +1,16 @@
 -- A transaction in whose run nothing is decided: whatever lock it asks for, it has had all those before, by the votes of the rows; and where its end is fixed, too few votes
 -- were open of one, as they are found.
 use Rattle.law_run_recovers.proofs.Vocabulary.{◌≡◌, ◌⊎◌, inl, inr, ⊎_elim, ℕ, ◌≤◌, ◌<◌, Bool, true, false, cond, List, [], ◌∷◌, ◌++◌, Option, Some, None, Result, Ok, Err, refl, sym, ap, subst, ◌∙◌, arith, ◌==◌, not, nat_le, map, find}
-use Rattle.law_run_recovers.proofs.Vocabulary.{Contains, false≢true, and_parts, eq-eqb, eqb-true, has_any, ltb-false, nat_tests, none-some, same_Some, Identity, Configuration, votes_in, votes_in-wider, Opening, Prefix, LockMode, Shared, Exclusive, serves, Answer, Op}
-use Rattle.law_run_recovers.proofs.Vocabulary.{Refusal, Request, Reply, row_of, needs, transaction, find_some, Has, has_from, has_map, contains_from, holds, newest, Collector, all_told, Asked, Poll, Upgrade, needed_of, wanted, mode_of, mode_asked, request_for, Cache, Undecided, Replied, Suites, suite_of, parts_at}
-use Rattle.law_run_recovers.proofs.Vocabulary.{Phase, Gathering, Fetching, Preparing, Deciding, Finishing, home_of, request_in, asked_for, changes_of, decision_of, fixed_of, next_in, next_of, is_decide, asks_same, Served, Event, Step}
-use Rattle.law_run_recovers.proofs.Vocabulary.{Actor, actor_at, step, run, table_of, WasPrefix, IsQuorum, beginning, machine_of, row_at, all_keep, is_up, shown_at, newer_by, locks_asked, votes_set, is_met, demand_by, led_to_by, MayStart, ending_by, ending_of, answer_on}
-use Rattle.law_run_recovers.proofs.Vocabulary.{asks_for, Want, first_mode, world_after, says_held, votes_now, same_mode}
+use Rattle.law_run_recovers.proofs.Vocabulary.{Contains, false≢true, and_parts, eq-eqb, eqb-true, has_any, ltb-false, nat_tests, none-some, same_Some, Identity, Configuration, votes_in, votes_in-wider, Opening, Prefix, LockMode, Shared}
+use Rattle.law_run_recovers.proofs.Vocabulary.{Exclusive, serves, Answer, Op, Refusal, Request, Reply, row_of, needs, transaction, find_some, Has, has_from, has_map, contains_from, holds, newest, Cache, Undecided, Replied, Suites, suite_of}
+use Rattle.law_run_recovers.proofs.Vocabulary.{parts_at, Phase, Gathering, Fetching, Preparing, Deciding, Finishing, home_of, request_in, asked_for, changes_of, decision_of, fixed_of, next_in, next_of, is_decide, asks_same, Served, Event}
+use Rattle.law_run_recovers.proofs.Vocabulary.{Step, Actor, actor_at, step, run, table_of, WasPrefix, IsQuorum, beginning, machine_of, row_at, all_keep, is_up, shown_at, newer_by, locks_asked, votes_set, is_met, demand_by, led_to_by}
+use Rattle.law_run_recovers.proofs.Vocabulary.{MayStart, ending_by, ending_of, answer_on, asks_for, Want, first_mode, world_after, says_held, votes_now, same_mode}
+use Rattle.suite_collect.specs.Collecting.{mode_or, Collector, all_told, Asked, Poll, Upgrade, needed_of, wanted, mode_of, mode_asked, request_for}
+use Rattle.txn_core.specs.Suites.{told_in}
 use Rattle.rep_core.specs.declared.request.Request.TheVariants as request
 use Rattle.rep_core.specs.declared.reply.Reply.TheVariants as reply
-use Rattle.suite_collect.specs.Collecting.{mode_or}
 use Rattle.txn_core.specs.Doing as doing
-use Rattle.txn_core.specs.Suites.{told_in}
 use Rattle.law_one_table.proofs.Effects as effects
 use Rattle.law_run_recovers.proofs.Asked.{onto_left, onto_so_far, asked_exclusive, next_mode}
 use Rattle.law_run_recovers.proofs.Asking.{onto}

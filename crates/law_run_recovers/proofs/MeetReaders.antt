@@ -1,10 +1,9 @@
 -- One that writes and one that only reads, whatever others do beside: a reader that ends undecided was refused by locks of the writer that are enough to write, and so the writer was not.
-use Rattle.law_run_recovers.proofs.Vocabulary.{Contains, List, Some, [], ap, append-nil, append_assoc, arith, false, inl, inr, not, refl, subst, sym, true, ℕ, ⊎_elim, ◌&&◌, ◌++◌, ◌+◌, ◌<◌, ◌==◌, ◌||◌, ◌∙◌, ◌∷◌, ◌≡◌}
-use Rattle.law_run_recovers.proofs.Vocabulary.{◌⊎◌, eq-eqb, false≢true, CanBe, can_front, is_decided, machine_of, IsNotDecided, beginning, WasPrefix, Has, has_any, has_from, State, Lock, decisions, run, table_of}
-use Rattle.law_run_recovers.proofs.Vocabulary.{server_at, step, EndedJob, Served, Event, Begin, Step, mode_of, needed_of, is_exclusive, serves, Opening, Prefix, LockMode, Exclusive, Shared, fixed_of, Transaction}
-use Rattle.law_run_recovers.proofs.Vocabulary.{shared_member, Configuration, total_votes, votes_at, votes_in, Begun, clashes, votes_set, EndsThen, votes_now, asks_for, any_has, contains_from, has_append, list_any, locks_at, locks_in}
-use Rattle.law_run_recovers.proofs.Vocabulary.{only_reads, begun_world, Always, WriterOrReaderBesideIsDecidedAt, serves_itself}
-use Rattle.law_run_recovers.specs.MeetsBeside.{ReaderMeetsBeside, ReadsToo, first_sets}
+use Rattle.law_run_recovers.proofs.Vocabulary.{Contains, List, Some, [], ap, append-nil, append_assoc, arith, false, inl, inr, not, refl, subst, sym, true, ℕ, ⊎_elim, ◌&&◌, ◌++◌, ◌+◌, ◌<◌, ◌==◌, ◌||◌, ◌∙◌, ◌∷◌, ◌≡◌, ◌⊎◌, eq-eqb, false≢true}
+use Rattle.law_run_recovers.proofs.Vocabulary.{CanBe, can_front, is_decided, machine_of, IsNotDecided, beginning, WasPrefix, Has, has_any, has_from, State, Lock, decisions, run, table_of, server_at, step, EndedJob, Served, Event, Begin}
+use Rattle.law_run_recovers.proofs.Vocabulary.{Step, mode_of, needed_of, is_exclusive, serves, Opening, Prefix, LockMode, Exclusive, Shared, fixed_of, Transaction, shared_member, Configuration, total_votes, votes_at, votes_in, Begun}
+use Rattle.law_run_recovers.proofs.Vocabulary.{clashes, votes_set, EndsThen, votes_now, asks_for, any_has, contains_from, has_append, list_any, locks_at, locks_in, only_reads, begun_world, Always, WriterOrReaderBesideIsDecidedAt}
+use Rattle.law_run_recovers.proofs.Vocabulary.{serves_itself, ReaderMeetsBeside, ReadsToo, first_sets}
 use Rattle.law_run_recovers.proofs.AmongCourse.{tail_or}
 use Rattle.law_run_recovers.proofs.Unmoved.{first_votes_at}
 use Rattle.law_run_recovers.proofs.MeetApart.{clashes_back}

@@ -1,14 +1,12 @@
 -- A transaction that begins in a calm run goes quietly: nobody hinders or robs it, servers stay up and show what they showed of what it asks for, and it never asks to be decided.
-use Rattle.law_run_recovers.proofs.Vocabulary.{Bool, Err, List, None, Ok, Option, Some, [], ap, append-nil, append_assoc, arith, cond, false, is_some, not, refl, subst, sym, true, ℕ, ◌%◌, ◌&&◌, ◌++◌, ◌==◌, ◌||◌, ◌∙◌, ◌∷◌}
-use Rattle.law_run_recovers.proofs.Vocabulary.{◌≡◌, eq-eqb, eqb-true, false≢true, nat_tests, same_Some, undecided, CanBe, decides, IsNotDecided, names, contains_from, recorded, reply_down, reply_of}
-use Rattle.law_run_recovers.proofs.Vocabulary.{reply_up, verdict_of, State, record_of, copy_of, Request, Decided, answer_in, decided, decided_as, decided_at, decided_by, decisions, task_at, task_of, to_decide, run, table_of}
-use Rattle.law_run_recovers.proofs.Vocabulary.{Actor, World, actor_at, server_at, step, Served, Event, Begin, Crash, Step, next, Opening, Replica, fixed_of, next_in, next_of, Doing, Running}
-use Rattle.law_run_recovers.proofs.Vocabulary.{◌*◌, ◌+◌, ◌<◌, zero, suc, agent_of, answers_follow_knowledge, holds_of, names_mine, rest_of, Task, is_decide, decision_of, Transaction, Begun, row_of, is_up, shown_at, shown_in, up_in, bereaves, hinders_itself, is_running, is_telling, of_up, robs, running_in}
-use Rattle.law_run_recovers.proofs.Vocabulary.{runs, takes, up_and, world_after}
+use Rattle.law_run_recovers.proofs.Vocabulary.{Bool, Err, List, None, Ok, Option, Some, [], ap, append-nil, append_assoc, arith, cond, false, is_some, not, refl, subst, sym, true, ℕ, ◌%◌, ◌&&◌, ◌++◌, ◌==◌, ◌||◌, ◌∙◌, ◌∷◌, ◌≡◌, eq-eqb}
+use Rattle.law_run_recovers.proofs.Vocabulary.{eqb-true, false≢true, nat_tests, same_Some, undecided, CanBe, decides, IsNotDecided, names, contains_from, recorded, reply_down, reply_of, reply_up, verdict_of, State, record_of, copy_of}
+use Rattle.law_run_recovers.proofs.Vocabulary.{Request, Decided, answer_in, decided, decided_as, decided_at, decided_by, decisions, task_at, task_of, to_decide, run, table_of, Actor, World, actor_at, server_at, step, Served, Event, Begin}
+use Rattle.law_run_recovers.proofs.Vocabulary.{Crash, Step, next, Opening, Replica, fixed_of, next_in, next_of, Doing, Running, ◌*◌, ◌+◌, ◌<◌, zero, suc, agent_of, answers_follow_knowledge, holds_of, names_mine, rest_of, Task, is_decide}
+use Rattle.law_run_recovers.proofs.Vocabulary.{decision_of, Transaction, Begun, row_of, is_up, shown_at, shown_in, up_in, bereaves, hinders_itself, is_running, is_telling, of_up, robs, running_in, runs, takes, up_and, world_after, upsets}
 use Rattle.rep_core.specs.declared.request.Request.TheVariants as request
 use Rattle.rep_core.specs.declared.reply.Reply.TheVariants as reply
 use Rattle.txn_core.specs.Doing as doing
-use Rattle.law_run_recovers.specs.MeetsBeside.{upsets}
 use Rattle.law_run_recovers.proofs.BesideUnmet.{then_is, begins_there}
 use Rattle.law_run_recovers.proofs.AtWork.{mine_where}
 use Rattle.law_run_recovers.proofs.Busy.{asks_busy}

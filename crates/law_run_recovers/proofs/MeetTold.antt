@@ -1,8 +1,9 @@
 -- Which servers granted a transaction a lock in its run, and which refused one: a server never does both, of one mode. So sights go by either.
-use Rattle.law_run_recovers.proofs.Vocabulary.{◌≡◌, ⊎_elim, ℕ, Bool, true, false, List, [], ◌∷◌, ◌++◌, Option, Some, None, is_some, refl, sym, ap, subst, ◌∙◌, ◌==◌, ◌&&◌, ◌||◌, not, false≢true, and_parts, and_from, eqb-true}
-use Rattle.law_run_recovers.proofs.Vocabulary.{eq-eqb, none-some, same_Some, Identity, Opening, Prefix, LockMode, Shared, Exclusive, serves, Op, Request, Reply, Said, is_held, Asked, Poll, Upgrade, mode_of, mode_asked}
-use Rattle.law_run_recovers.proofs.Vocabulary.{request_for, Transaction, Replied, Fixed, Doing, Running, RunningSweep, fixed_of, next_in, next_of, Exchange, locks, heard_in, is_finish, Served, Event, Begin, Step}
-use Rattle.law_run_recovers.proofs.Vocabulary.{Actor, World, actor_at, step, after, run, task_of, names, may_sweep, agents_ask_for_themselves, names_mine, is_up, runs, begun_world, world_after, serves_itself, same_mode, or_right}
+use Rattle.law_run_recovers.proofs.Vocabulary.{◌≡◌, ⊎_elim, ℕ, Bool, true, false, List, [], ◌∷◌, ◌++◌, Option, Some, None, is_some, refl, sym, ap, subst, ◌∙◌, ◌==◌, ◌&&◌, ◌||◌, not, false≢true, and_parts, and_from, eqb-true, eq-eqb}
+use Rattle.law_run_recovers.proofs.Vocabulary.{none-some, same_Some, Identity, Opening, Prefix, LockMode, Shared, Exclusive, serves, Op, Request, Reply, Said, Asked, Poll, Upgrade, mode_of, mode_asked, request_for, Transaction, Replied}
+use Rattle.law_run_recovers.proofs.Vocabulary.{Fixed, Doing, Running, RunningSweep, fixed_of, next_in, next_of, Exchange, locks, heard_in, is_finish, Served, Event, Begin, Step, Actor, World, actor_at, step, after, run, task_of, names}
+use Rattle.law_run_recovers.proofs.Vocabulary.{may_sweep, agents_ask_for_themselves, names_mine, is_up, runs, begun_world, world_after, serves_itself, same_mode, or_right}
+use Rattle.suite_collect.specs.Telling.{is_held}
 use Rattle.rep_core.specs.declared.request.Request.TheVariants as request
 use Rattle.rep_core.specs.declared.reply.Reply.TheVariants as reply
 use Rattle.suite_collect.specs.declared.told.Said.TheVariants as said

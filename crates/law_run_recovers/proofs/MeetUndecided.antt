@@ -1,11 +1,9 @@
 -- A transaction that is at work was not decided, nor is it where it asks for a lock.
-use Rattle.law_run_recovers.proofs.Vocabulary.{List, Option, Some, ap, false, refl, subst, sym, true, ℕ, ◌++◌, ◌∙◌, ◌∷◌, ◌≡◌, eqb-true, false≢true, Identity, Op, CanBe, begins_job, IsAt, holds_of, agent_of, Has}
-use Rattle.law_run_recovers.proofs.Vocabulary.{Verdict, Request, Decided, decisions, run, Actor, actor_at, Event, Begin, Opening, Doing, Finishing, Phase, Running}
-use Rattle.law_run_recovers.proofs.Vocabulary.{is_decide, Transaction, runs, world_after}
+use Rattle.law_run_recovers.proofs.Vocabulary.{List, Option, Some, ap, false, refl, subst, sym, true, ℕ, ◌++◌, ◌∙◌, ◌∷◌, ◌≡◌, eqb-true, false≢true, Identity, Op, CanBe, begins_job, IsAt, holds_of, agent_of, Has, Verdict, Request, Decided}
+use Rattle.law_run_recovers.proofs.Vocabulary.{decisions, run, Actor, actor_at, Event, Begin, Opening, Doing, Finishing, Phase, Running, is_decide, Transaction, runs, world_after, Tells}
 use Rattle.rep_core.specs.declared.request.Request.TheVariants as request
 use Rattle.rep_core.specs.declared.reply.Verdict.TheVariants as verdict
 use Rattle.law_runs.proofs.Standing as standing
-use Rattle.law_runs.proofs.Words.{Tells}
 use Rattle.law_run_recovers.proofs.Keeps.{IsAtWork, Works, works, run_at}
 use Rattle.law_run_recovers.proofs.Still.{IsOpen, IsOpenPhase}
 use Rattle.law_run_recovers.proofs.MeetTold.{for_lock}

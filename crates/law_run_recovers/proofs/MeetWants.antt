@@ -1,8 +1,8 @@
 -- One that meets another and is not decided wants votes: it asked for a lock, and of who has a vote too few did not refuse it.
-use Rattle.law_run_recovers.proofs.Vocabulary.{Bool, Contains, List, [], ap, append_assoc, arith, false, inl, inr, not, refl, subst, sym, true, ℕ, ⊎_elim, ◌%◌, ◌&&◌, ◌++◌, ◌+◌, ◌/◌, ◌<◌, ◌==◌, ◌∙◌, ◌∷◌, ◌≡◌, ◌≤◌, ◌⊎◌, mod-lt}
-use Rattle.law_run_recovers.proofs.Vocabulary.{eqb-true, false≢true, AllByRecursion, Service, EventGivesValidVotes, machine_of, append_has_left, service_stays, IsNotDecided, beginning, WasPrefix, Has, contains_from, has_from}
-use Rattle.law_run_recovers.proofs.Vocabulary.{decisions_from-append, decisions, decisions_from, run, table_of, Actor, opening, Event, Begin, mode_of, needed_of, serves, Opening, Prefix, LockMode, Exclusive, Shared, fixed_of}
-use Rattle.law_run_recovers.proofs.Vocabulary.{home_of, Transaction, Configuration, total_votes, votes_at, votes_in, IsValid, Begun, votes_set, SetsApart, votes_now, asks_for, first_mode, is_up, shown_at, begun_world}
+use Rattle.law_run_recovers.proofs.Vocabulary.{Bool, Contains, List, [], ap, append_assoc, arith, false, inl, inr, not, refl, subst, sym, true, ℕ, ⊎_elim, ◌%◌, ◌&&◌, ◌++◌, ◌+◌, ◌/◌, ◌<◌, ◌==◌, ◌∙◌, ◌∷◌, ◌≡◌, ◌≤◌, ◌⊎◌, mod-lt, eqb-true}
+use Rattle.law_run_recovers.proofs.Vocabulary.{false≢true, AllByRecursion, Service, EventGivesValidVotes, machine_of, append_has_left, service_stays, IsNotDecided, beginning, WasPrefix, Has, contains_from, has_from, decisions_from-append}
+use Rattle.law_run_recovers.proofs.Vocabulary.{decisions, decisions_from, run, table_of, Actor, opening, Event, Begin, mode_of, needed_of, serves, Opening, Prefix, LockMode, Exclusive, Shared, fixed_of, home_of, Transaction, Configuration}
+use Rattle.law_run_recovers.proofs.Vocabulary.{total_votes, votes_at, votes_in, IsValid, Begun, votes_set, SetsApart, votes_now, asks_for, first_mode, is_up, shown_at, begun_world}
 use Rattle.file_ops.specs.Rows as rows
 use Rattle.law_run_recovers.proofs.Free.{is_up_of}
 use Rattle.law_run_recovers.proofs.MeetCalm.{Calm, IsOurs, Ours, calm_front, ours_front}

@@ -1,17 +1,14 @@
 -- Two users meet, by computation.
 use Rattle.law_run_recovers.proofs.Vocabulary.{◌≡◌, ◌⊎◌, inl, inr, ℕ, List, [], ◌∷◌, ◌++◌, refl, sym, ap, subst, ◌∙◌, ◌+◌, Contains, list_all, LockMode, Shared, Exclusive, Configuration, total_votes, needed_of, row_of, has_from}
 use Rattle.law_run_recovers.proofs.Vocabulary.{Transaction, fixed_of, owner, a, Event, Begin, opening, run, Decided, decisions, decisions_from, table_after_all, decisions_from-append, EventGivesValidVotes, CanBe, with_caches}
-use Rattle.law_run_recovers.proofs.Vocabulary.{some_run_revokes, Begun, two_made, turns, puts, HasFirstVotes, VotesNeverMovedOf, two_meet, SomeRunsMeet, votes_moved, SomeRunsMeetByRows}
-use Rattle.law_run_recovers.proofs.Vocabulary.{⊎_elim, table_of, Opening}
+use Rattle.law_run_recovers.proofs.Vocabulary.{some_run_revokes, Begun, two_made, turns, puts, HasFirstVotes, VotesNeverMovedOf, ⊎_elim, table_of, Opening, event_fits, valid_event, at_the_last, TheyMeet}
+use Rattle.law_run_recovers.specs.MeetsWorked.{two_meet, SomeRunsMeet, votes_moved, SomeRunsMeetByRows}
+use Rattle.law_run_recovers.specs.MeetsByRows.{TheyMeetByRows}
 use Rattle.file_ops.specs.Rows as rows
 use Rattle.law_run_recovers.proofs.AmongCourse.{head_or, tail_or}
 use Rattle.law_run_recovers.proofs.BesideWorked.{is_step, none_begins, they_can}
 use Rattle.law_run_recovers.proofs.ValidEvents.{all_by}
 use Rattle.law_run_recovers.proofs.LawsWorked.{none_spoils_it}
-use Rattle.law_headline.proofs.Worked.{event_fits, valid_event}
-use Rattle.law_run_recovers.specs.Contending.{at_the_last}
-use Rattle.law_run_recovers.specs.Meets.{TheyMeet}
-use Rattle.law_run_recovers.specs.MeetsByRows.{TheyMeetByRows}
 use Rattle.law_run_recovers.proofs.MeetAlone.{one_that_meets_by_rows_is_decided, one_that_meets_is_decided}
 use Rattle.law_run_recovers.proofs.MeetCount.{Same}
 

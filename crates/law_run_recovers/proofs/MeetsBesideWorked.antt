@@ -1,14 +1,9 @@
 -- Two users meet, and one that sets a list and one that reads, while another begins again and again beside, by computation.
-use Rattle.law_run_recovers.proofs.Vocabulary.{◌≡◌, ◌⊎◌, inl, inr, ⊎_elim, ℕ, Bool, true, false, List, [], ◌∷◌, ◌++◌, refl, sym, subst, arith, ◌==◌, ◌&&◌, ◌||◌, not, Contains, list_all, and_parts, eqb-true}
-use Rattle.law_run_recovers.proofs.Vocabulary.{false≢true, all_at, at_has, LockMode, Shared, Exclusive, Lock, State, Transaction, fixed_of, owner, a, Event, Begin, Lack, World, opening, after, run}
-use Rattle.law_run_recovers.proofs.Vocabulary.{EventGivesValidVotes, CanBe, some_run_revokes, Begun, puts, b, locks_at, hinders_itself, is_running, not-true}
-use Rattle.rep_core.specs.declared.stamped.Lack.TheVariants as lack
-use Rattle.suite_prefix.specs.SettingsRules.{Opening}
-use Rattle.law_runs.specs.Worked.{close_a, read_a}
-use Rattle.txn_core.specs.Runs.{other}
-use Rattle.law_run_recovers.specs.MeetsBeside.{ReaderMeetsBeside, ReadsToo, TheyMeetBeside, meets_some, upsets}
+use Rattle.law_run_recovers.proofs.Vocabulary.{◌≡◌, ◌⊎◌, inl, inr, ⊎_elim, ℕ, Bool, true, false, List, [], ◌∷◌, ◌++◌, refl, sym, subst, arith, ◌==◌, ◌&&◌, ◌||◌, not, Contains, list_all, and_parts, eqb-true, false≢true, all_at, at_has}
+use Rattle.law_run_recovers.proofs.Vocabulary.{LockMode, Shared, Exclusive, Lock, State, Transaction, fixed_of, owner, a, Event, Begin, Lack, World, opening, after, run, EventGivesValidVotes, CanBe, some_run_revokes, Begun, puts, b}
+use Rattle.law_run_recovers.proofs.Vocabulary.{locks_at, hinders_itself, is_running, not-true, Opening, close_a, read_a, other, ReaderMeetsBeside, ReadsToo, TheyMeetBeside, meets_some, upsets, three_agents, turns_of_three}
 use Rattle.law_run_recovers.specs.MeetsBesideWorked.{SomeRunsMeetBeside, SomeRunsMeetReadersBeside, four_agents, fourth_writes, mid_write, reads_beside, turns_of_four, writes_beside}
-use Rattle.law_run_recovers.specs.ReadersWorked.{three_agents, turns_of_three}
+use Rattle.rep_core.specs.declared.stamped.Lack.TheVariants as lack
 use Rattle.law_run_recovers.proofs.Keeps.{after_append}
 use Rattle.law_run_recovers.proofs.LawsWorked.{happens_at, holds, holds_at, unless}
 use Rattle.law_run_recovers.proofs.MeetAlone.{lock_in}

@@ -1,8 +1,9 @@
 -- Which suites the requests of a transaction name, and how many requests it may make.
-use Rattle.law_run_recovers.proofs.Vocabulary.{◌≡◌, inl, ℕ, zero, suc, ◌+◌, ◌≤◌, true, List, [], ◌∷◌, length, Option, Some, None, refl, sym, ap, subst, ◌∙◌, arith, ◌*◌, ◌==◌, ◌&&◌, map, list_any, and_parts, eqb-true, eq-eqb}
-use Rattle.law_run_recovers.proofs.Vocabulary.{none-some, Identity, Opening, Prefix, LockMode, Shared, Exclusive, serves, Request, Has, any_has, has_any, map_has, Op, PlainTable, Asked, Poll, Upgrade, request_for, Cache, Transaction}
-use Rattle.law_run_recovers.proofs.Vocabulary.{ReadPoint, GatheredSuite, Suites, suite_of, Fixed, Task, Phase, Gathering, Fetching, Preparing, Deciding, Finishing, home_of, numbers_from, asked_for, fetched_at, fetched_for, request_in}
-use Rattle.law_run_recovers.proofs.Vocabulary.{changes_of, decision_of, parts_at, Agent, fixed_of, is_idle, begin, exchanges, among, asks_only, names_of, names_only, asks_same, ends_in_time, Event, World, table_of, has_asked, locks_asked}
+use Rattle.law_run_recovers.proofs.Vocabulary.{◌≡◌, inl, ℕ, zero, suc, ◌+◌, ◌≤◌, true, List, [], ◌∷◌, length, Option, Some, None, refl, sym, ap, subst, ◌∙◌, arith, ◌*◌, ◌==◌, ◌&&◌, map, list_any, and_parts, eqb-true, eq-eqb, none-some}
+use Rattle.law_run_recovers.proofs.Vocabulary.{Identity, Opening, Prefix, LockMode, Shared, Exclusive, serves, Request, Has, any_has, has_any, map_has, Op, PlainTable, Asked, Poll, Upgrade, request_for, Cache, Transaction, ReadPoint}
+use Rattle.law_run_recovers.proofs.Vocabulary.{GatheredSuite, Suites, suite_of, Fixed, Task, Phase, Gathering, Fetching, Preparing, Deciding, Finishing, home_of, numbers_from, asked_for, fetched_at, fetched_for, request_in, changes_of}
+use Rattle.law_run_recovers.proofs.Vocabulary.{decision_of, parts_at, Agent, fixed_of, is_idle, begin, exchanges, among, asks_only, names_of, names_only, asks_same, Event, World, table_of, has_asked, locks_asked}
+use Rattle.txn_core.proofs.Bound.{ends_in_time}
 use Rattle.rep_core.specs.declared.request.Request.TheVariants as request
 use Rattle.txn_core.specs.Doing as doing
 use Rattle.txn_core.specs.Agents as agents

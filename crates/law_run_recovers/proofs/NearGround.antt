@@ -1,8 +1,8 @@
 -- What a transaction stands on that goes steadily: near servers that are open to it answer what is in effect, and prefixes that are found name
 -- near servers.
-use Rattle.law_run_recovers.proofs.Vocabulary.{◌≡◌, ℕ, Bool, true, false, List, [], ◌∷◌, Option, Some, refl, sym, ap, subst, ◌*◌, ◌+◌, ◌==◌, ◌&&◌, Contains, list_any, and_parts, and_from, eqb-true, Identity, IsValid, Opening}
-use Rattle.law_run_recovers.proofs.Vocabulary.{Prefix, LockMode, Shared, Exclusive, Op, row_of, needs, transaction, Has, any_has, has_from, contains_from, Transaction, has_vote, Task, fixed_of, Event, Begin, Actor, server_at, run}
-use Rattle.law_run_recovers.proofs.Vocabulary.{table_of, WasPrefix, beginning, machine_of, CanBe, all_keep, no_lock, can_front, all_consistent, is_up, locks_asked, MayStart, asks_for, way_at, is_open_at, first_mode}
+use Rattle.law_run_recovers.proofs.Vocabulary.{◌≡◌, ℕ, Bool, true, false, List, [], ◌∷◌, Option, Some, refl, sym, ap, subst, ◌*◌, ◌+◌, ◌==◌, ◌&&◌, Contains, list_any, and_parts, and_from, eqb-true, Identity, IsValid, Opening, Prefix}
+use Rattle.law_run_recovers.proofs.Vocabulary.{LockMode, Shared, Exclusive, Op, row_of, needs, transaction, Has, any_has, has_from, contains_from, Transaction, has_vote, Task, fixed_of, Event, Begin, Actor, server_at, run, table_of}
+use Rattle.law_run_recovers.proofs.Vocabulary.{WasPrefix, beginning, machine_of, CanBe, all_keep, no_lock, can_front, all_consistent, is_up, locks_asked, MayStart, asks_for, way_at, is_open_at, first_mode}
 use Rattle.law_one_table.proofs.Effects as effects
 use Rattle.law_run_recovers.proofs.Steady.{GoesSteadily}
 use Rattle.law_run_recovers.proofs.Found.{Answering}

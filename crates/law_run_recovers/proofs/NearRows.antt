@@ -1,9 +1,9 @@
 -- Where nothing is in the way at near servers, its votes as it finds them are those of the rows.
 use Rattle.law_run_recovers.proofs.Vocabulary.{◌≡◌, inl, inr, ℕ, Bool, true, false, cond, List, [], ◌∷◌, Option, Some, None, refl, sym, ap, subst, ◌∙◌, ◌==◌, ◌&&◌, nat_lt, nat_le, find, map, option_map, length, zero, suc, Contains}
-use Rattle.law_run_recovers.proofs.Vocabulary.{list_all, false≢true, and_parts, eqb-true, eq-eqb, list_all-append, none-some, same_Some, Identity, Representative, Configuration, votes_in, votes_in-wider, Opening, Prefix, LockMode}
-use Rattle.law_run_recovers.proofs.Vocabulary.{Shared, Op, row_of, needs, transaction, find_some, Has, has_any, contains_from, find_none, needed_of, has_vote, fixed_of, Transaction, Event, Begin, Actor, World, actor_at, server_at, run}
-use Rattle.law_run_recovers.proofs.Vocabulary.{table_of, CanBe, begins_job, up_in, is_up, shown_at, Demand, demand, is_met, led_on, led_to, led_so_far_by, newer_by, shows_newer_by, locks_asked, votes_set, votes_of_row, MayStart}
-use Rattle.law_run_recovers.proofs.Vocabulary.{AreNear, asks_for, is_open_way, is_open_at, in_its_way, mode_or, first_mode, NearVotesAreRows}
+use Rattle.law_run_recovers.proofs.Vocabulary.{list_all, false≢true, and_parts, eqb-true, eq-eqb, list_all-append, none-some, same_Some, Identity, Representative, Configuration, votes_in, votes_in-wider, Opening, Prefix, LockMode, Shared}
+use Rattle.law_run_recovers.proofs.Vocabulary.{Op, row_of, needs, transaction, find_some, Has, has_any, contains_from, find_none, needed_of, has_vote, fixed_of, Transaction, Event, Begin, Actor, World, actor_at, server_at, run, table_of}
+use Rattle.law_run_recovers.proofs.Vocabulary.{CanBe, begins_job, up_in, is_up, shown_at, Demand, demand, is_met, led_on, led_to, led_so_far_by, newer_by, shows_newer_by, locks_asked, votes_set, votes_of_row, MayStart, AreNear, asks_for}
+use Rattle.law_run_recovers.proofs.Vocabulary.{is_open_way, is_open_at, in_its_way, mode_or, first_mode, NearVotesAreRows}
 use Rattle.law_run_recovers.proofs.Open.{plain_way}
 use Rattle.law_run_recovers.proofs.OpenRows.{open_row, weaker_first, up_of, up_to}
 use Rattle.law_run_recovers.proofs.Picks.{votes_alike}

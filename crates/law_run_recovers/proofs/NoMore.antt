@@ -1,6 +1,6 @@
 -- An agent that nobody hinders begins no more: its count stays, each job of it that ends is its last, and what is decided is decided in a step of it.
-use Rattle.law_run_recovers.proofs.Vocabulary.{◌≡◌, ⊎_elim, ℕ, Bool, true, false, List, [], ◌∷◌, Option, Some, None, is_some, refl, sym, ap, subst, ◌∙◌, ◌==◌, ◌&&◌, ◌-◌, not, cons_option, and_parts, not-true, eqb-true, false≢true, none-some, same_Some}
-use Rattle.law_run_recovers.proofs.Vocabulary.{Opening, reply_of, Replied, Ending, Doing, Agent, fixed_of, is_idle, next_of, take, take_keeps, Event, Step, Served, EndedJob, Actor, World, actor_at, outcome_of, step}
+use Rattle.law_run_recovers.proofs.Vocabulary.{◌≡◌, ⊎_elim, ℕ, Bool, true, false, List, [], ◌∷◌, Option, Some, None, is_some, refl, sym, ap, subst, ◌∙◌, ◌==◌, ◌&&◌, ◌-◌, not, cons_option, and_parts, not-true, eqb-true, false≢true}
+use Rattle.law_run_recovers.proofs.Vocabulary.{none-some, same_Some, Opening, reply_of, Replied, Ending, Doing, Agent, fixed_of, is_idle, next_of, take, take_keeps, Event, Step, Served, EndedJob, Actor, World, actor_at, outcome_of, step}
 use Rattle.law_run_recovers.proofs.Vocabulary.{has_no_job, dones, outcomes, Decided, decided, decided_by, task_at, task_of, Has, no_task, hinders, unhindered_from}
 use Rattle.law_run_recovers.proofs.Aside.{Aside, event_aside}
 use Rattle.law_run_recovers.proofs.StepsServed.{own_took}

@@ -1,11 +1,12 @@
 -- Who goes alone is left alone where it asks; and who meets no lock is among locks that stay.
 use Rattle.law_run_recovers.proofs.Vocabulary.{◌≡◌, ⊎_elim, ℕ, ◌+◌, Bool, true, false, cond, List, [], ◌∷◌, ◌++◌, Option, Some, None, is_some, refl, sym, ap, subst, ◌∙◌, arith, ◌*◌, ◌==◌, ◌&&◌, ◌||◌, not, nat_lt, option_map, length}
-use Rattle.law_run_recovers.proofs.Vocabulary.{slice_get, slice_set, Contains, false≢true, and_parts, eqb-true, eq-eqb, false_from_ne_true, nat_tests, none-some, same_Some, Identity, Opening, LockMode, Op, Lock, Verdict, in_the_way}
-use Rattle.law_run_recovers.proofs.Vocabulary.{State, served, all_at, Job, Transaction, Fixed, Task, Doing, Running, TransactionRun, After, GoesOn, Ends, execute, fixed_of, is_idle, has_sense, max_jobs, begins, begin}
-use Rattle.law_run_recovers.proofs.Vocabulary.{started, next_in, next_of, left, Event, Begin, Step, Forget, Lack, Actor, World, server_at, actor_at, has_no_job, becomes, asks, steps_once, step, after, run, begins_now}
-use Rattle.law_run_recovers.proofs.Vocabulary.{same_or, holds_of, Leaves, leaves_begin, agent_of, puts_in, CanBe, begins_job, IsOwnAt, nothing_in_the_way, with_job, at_has, none_own, no_lock, IsCalm, busy, can_front, starts}
-use Rattle.law_run_recovers.proofs.Vocabulary.{cache_valid, up_in, is_up, hinders, unhindered_from, GoesAlone, asks_for, way_in, is_way_met, in_its_way, runs, running_in, is_running, is_telling, begun_world, world_after, takes, of_up}
-use Rattle.law_run_recovers.proofs.Vocabulary.{robs, hinders_itself, StandsOpen, GoesUnmet, StandsStill, GoesAmongLocks, not-true, up_as}
+use Rattle.law_run_recovers.proofs.Vocabulary.{slice_get, slice_set, Contains, false≢true, and_parts, eqb-true, eq-eqb, false_from_ne_true, nat_tests, none-some, same_Some, Identity, Opening, LockMode, Op, Lock, Verdict, in_the_way, State}
+use Rattle.law_run_recovers.proofs.Vocabulary.{served, all_at, Job, Transaction, Fixed, Task, Doing, Running, TransactionRun, After, GoesOn, Ends, execute, fixed_of, is_idle, has_sense, max_jobs, begins, begin, started, next_in, next_of}
+use Rattle.law_run_recovers.proofs.Vocabulary.{left, Event, Begin, Step, Forget, Lack, Actor, World, server_at, actor_at, has_no_job, becomes, asks, steps_once, step, after, run, begins_now, same_or, holds_of, Leaves, leaves_begin}
+use Rattle.law_run_recovers.proofs.Vocabulary.{agent_of, puts_in, CanBe, begins_job, IsOwnAt, nothing_in_the_way, with_job, at_has, none_own, no_lock, IsCalm, busy, can_front, cache_valid, up_in, is_up, hinders, unhindered_from, GoesAlone}
+use Rattle.law_run_recovers.proofs.Vocabulary.{asks_for, way_in, is_way_met, in_its_way, runs, running_in, is_running, is_telling, begun_world, world_after, takes, of_up, robs, hinders_itself, StandsOpen, GoesUnmet, StandsStill}
+use Rattle.law_run_recovers.proofs.Vocabulary.{GoesAmongLocks, not-true, up_as}
+use Rattle.law_run_alone.proofs.Starts.{starts}
 use Rattle.rep_core.specs.declared.reply.Verdict.TheVariants as verdict
 use Rattle.law_run_alone.proofs.Goes as alone
 use Rattle.law_run_recovers.proofs.Serves.{Serves, event_serves}

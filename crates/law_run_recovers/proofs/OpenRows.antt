@@ -1,14 +1,14 @@
 -- What servers show that are open to a transaction is in effect. So its votes as it finds them are those of the rows, whatever locks others have.
 use Rattle.law_run_recovers.proofs.Vocabulary.{◌≡◌, inl, inr, ⊎_elim, ℕ, ◌≤◌, Bool, true, false, cond, List, [], ◌∷◌, ◌++◌, Option, Some, None, refl, sym, ap, subst, ◌∙◌, arith, ◌==◌, ◌&&◌, ◌||◌, not, nat_le, find, map, option_map}
-use Rattle.law_run_recovers.proofs.Vocabulary.{unwrap_or, list_all, nat_cmp, false≢true, and_parts, eqb-true, eq-eqb, nat_tests, get, Identity, Configuration, votes_in, votes_in-wider, Opening, Prefix, Replica, LockMode, Shared}
-use Rattle.law_run_recovers.proofs.Vocabulary.{Exclusive, is_exclusive, serves, Op, row_of, Need, Hold, Know, needs, transaction, Lock, IsConsistent, conflicts, in_the_way, State, copy_of, Has, has_from, find_none, needed_of, fixed_of}
-use Rattle.law_run_recovers.proofs.Vocabulary.{Event, Begin, Transaction, Actor, actor_at, server_at, run, table_of, IsQuorum, in_effect, effect, plan_of, Shows, servers_of, home_in, machine_of, AllKeepSides, row_at, CanBe, all_keep}
-use Rattle.law_run_recovers.proofs.Vocabulary.{begins_job, no_lock, all_consistent, up_in, shown_at, shown_in, demand_by, is_met, led_to_by, has_asked, not_asked, locks_asked, votes_set, votes_of_row, MayStart, is_open_way, way_in}
-use Rattle.law_run_recovers.proofs.Vocabulary.{is_open_at, Want, mode_or, first_mode, open_demand, OpenVotesAreRows, or_parts, serves_itself}
+use Rattle.law_run_recovers.proofs.Vocabulary.{unwrap_or, list_all, nat_cmp, false≢true, and_parts, eqb-true, eq-eqb, nat_tests, get, Identity, Configuration, votes_in, votes_in-wider, Opening, Prefix, Replica, LockMode, Shared, Exclusive}
+use Rattle.law_run_recovers.proofs.Vocabulary.{is_exclusive, serves, Op, row_of, Need, Hold, Know, needs, transaction, Lock, IsConsistent, conflicts, in_the_way, State, copy_of, Has, has_from, find_none, needed_of, fixed_of, Event, Begin}
+use Rattle.law_run_recovers.proofs.Vocabulary.{Transaction, Actor, actor_at, server_at, run, table_of, IsQuorum, in_effect, effect, plan_of, Shows, servers_of, home_in, machine_of, AllKeepSides, row_at, CanBe, all_keep, begins_job, no_lock}
+use Rattle.law_run_recovers.proofs.Vocabulary.{all_consistent, up_in, shown_at, shown_in, demand_by, is_met, led_to_by, has_asked, not_asked, locks_asked, votes_set, votes_of_row, MayStart, is_open_way, way_in, is_open_at, Want, mode_or}
+use Rattle.law_run_recovers.proofs.Vocabulary.{first_mode, open_demand, OpenVotesAreRows, or_parts, serves_itself}
+use Rattle.law_suite_machine.specs.Machine.{World}
 use Rattle.rep_core.specs.Intentions as server
 use Rattle.rep_core.specs.State as state
 use Rattle.run_core.specs.Worlds as worlds
-use Rattle.law_suite_machine.specs.Machine.{World}
 use Rattle.law_one_table.proofs.Effects as effects
 use Rattle.law_run_recovers.proofs.Found.{Answering, found_is_row}
 use Rattle.law_run_recovers.proofs.Leading.{led}

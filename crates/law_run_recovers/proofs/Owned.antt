@@ -1,9 +1,9 @@
 -- Of a server each of whose locks is of some kind: so it stays, where all that is asked for is of that kind.
 use Rattle.law_run_recovers.proofs.Vocabulary.{◌≡◌, ⊎_elim, ℕ, Bool, true, false, cond, List, refl, sym, subst, ◌==◌, ◌&&◌, not, filter, map, and_parts, eqb-true, LockMode, Shared, Exclusive, stronger, Lock, Request, Stamped, has_lock}
 use Rattle.law_run_recovers.proofs.Vocabulary.{raised, raised_lock, with_lock, before, prepared_lock, is_own, State, Has, has_filter, has_between, has_map, Ways, by_step}
-use Rattle.rep_core.specs.declared.request.Request.TheVariants as request
 use Rattle.rep_core.specs.Locks.{locked}
 use Rattle.rep_core.specs.Serving.{step}
+use Rattle.rep_core.specs.declared.request.Request.TheVariants as request
 
 module _ (O : ℕ → ℕ → LockMode → Type 0) where
   abbrev pub AllOwned : List Lock → Type 0

@@ -1,9 +1,10 @@
 -- A collector of a transaction to which servers stand as a sight says: what it is told, and what it asks next.
 use Rattle.law_run_recovers.proofs.Vocabulary.{◌≡◌, ◌⊎◌, inl, inr, ℕ, ◌≤◌, Bool, true, false, cond, List, [], ◌∷◌, Option, Some, None, refl, sym, ap, subst, ◌∙◌, arith, ◌==◌, ◌&&◌, not, nat_lt, nat_le, max, find, option_map, false≢true}
 use Rattle.law_run_recovers.proofs.Vocabulary.{and_parts, or_cases, false_from_ne_true, eqb-true, nat_tests, none-some, same_Some, Representative, votes_in, Prefix, LockMode, Shared, Exclusive, serves, Lock, Reply, in_the_way, has_lock}
-use Rattle.law_run_recovers.proofs.Vocabulary.{locking_reply, poll_reply, reply_up, reply_of, copy_of, Said, Held, Busy, Down, Told, is_held, newer, newest, holds, has_refused, busy_in, first_busy, version_in, greatest, Collector}
-use Rattle.law_run_recovers.proofs.Vocabulary.{Asked, Poll, Upgrade, request_for, mode_asked, said_to, all_told, counted, needed, got, is_member, is_left, members_of, version, ask_or_short, told_by, Next, Current, Ask, Short, next}
-use Rattle.law_run_recovers.proofs.Vocabulary.{State, Has, Fixed, World, server_at, is_up, shown_at, way_in, is_open_way, shows_newer_by, newer_by}
+use Rattle.law_run_recovers.proofs.Vocabulary.{locking_reply, poll_reply, reply_up, reply_of, copy_of, Said, Told, Collector, Asked, Poll, Upgrade, request_for, mode_asked, said_to, all_told, counted, needed, got, is_member, is_left}
+use Rattle.law_run_recovers.proofs.Vocabulary.{members_of, version, ask_or_short, told_by, Next, Current, Ask, Short, next, State, Has, Fixed, World, server_at, is_up, shown_at, way_in, is_open_way, shows_newer_by, newer_by}
+use Rattle.suite_collect.specs.declared.told.Said.TheVariants.{Held, Busy, Down}
+use Rattle.suite_collect.specs.Telling.{is_held, newer, newest, holds, has_refused, busy_in, first_busy, version_in, greatest}
 use Rattle.rep_core.specs.declared.reply.Reply.TheVariants as reply
 use Rattle.suite_collect.specs.Telling as telling
 use Rattle.law_run_recovers.proofs.Leading.{not_itself}

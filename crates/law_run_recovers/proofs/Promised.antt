@@ -1,6 +1,12 @@
 -- What a world lends, from the laws of its run.
-use Rattle.law_run_recovers.proofs.Vocabulary.{List, Opening, Event, Opened, RunsKeepToSites, jobs_end, CanBe, front, undisturbed_endings_are_one, nothing_is_in_the_way, undisturbed_are_decided, endings_are_the_tables, endings_are_one}
-use Rattle.law_run_recovers.proofs.Vocabulary.{IsAvailable, Lends}
+use Rattle.law_run_recovers.proofs.Vocabulary.{List, Opening, Event, jobs_end, CanBe, front, nothing_is_in_the_way}
+use Rattle.run_core.specs.Opened.{Opened}
+use Rattle.law_agents.specs.Sites.{RunsKeepToSites}
+use Rattle.law_run_alone.proofs.Alike.{undisturbed_endings_are_one}
+use Rattle.law_run_alone.proofs.Decided.{undisturbed_are_decided}
+use Rattle.law_run_alone.proofs.Endings.{endings_are_the_tables}
+use Rattle.law_run_alone.proofs.Same.{endings_are_one}
+use Rattle.law_run_recovers.specs.Promises.{IsAvailable, Lends}
 use Rattle.law_run_recovers.proofs.Again.{one_of_them_is_decided}
 use Rattle.law_run_recovers.proofs.AloneLaws.{ends_are_by_votes, they_end_in_time, decided_where_votes_are}
 use Rattle.law_run_recovers.proofs.AmongLaws.{among_locks_end_by_votes, among_locks_are_decided_where_votes_are}

@@ -1,19 +1,24 @@
 -- Events that decide nothing change nothing that is in effect.
 use Rattle.law_run_recovers.proofs.Vocabulary.{◌≡◌, ℕ, Bool, true, false, cond, List, [], ◌∷◌, ◌++◌, append-nil, Option, Some, None, refl, sym, ap, subst, ◌∙◌, ◌==◌, ◌&&◌, list_all, false≢true, and_parts, Opening, is_exclusive, Part}
-use Rattle.law_run_recovers.proofs.Vocabulary.{Request, Reply, State, reply_of, is_full, answer_of, Job, Response, Replied, Lacked, Suites, Proposal, Doing, Running, RunningSweep, SweepRun, asked_now, is_decide, Taken, fixed_of}
-use Rattle.law_run_recovers.proofs.Vocabulary.{next_in, next_of, take, begin, Actor, opening, server_at, decisions, decisions_from, decisions_from-append, sweep_decides_none, Beginning, Aborted, effect, begun, Prepare, DecideRead}
-use Rattle.law_run_recovers.proofs.Vocabulary.{DecideRefused, DecideWrite, DecideElsewhere, Overrule, GiveUp, Finish, Lose, happens, May, Obeys, Inv, prepared_effect, finished_effect, decided_effect, part_of, moves, first_verdict}
-use Rattle.law_run_recovers.proofs.Vocabulary.{prepare_of, left_by_break, beginning, to_write, decision_by, fixed_in, aim_of, aims_once, aims, is_finishing, is_at_an_end, gives_up, tells_aborted, begun_events, own_events, home_in}
-use Rattle.law_run_recovers.proofs.Vocabulary.{begin_events, answered_events, asked_at_events, asked_events, lacks_for_events, lack_events, history_from, machine_of, history_of, run-append, AllKeepSides, copy_at, earlier, CanBe, all_keep}
+use Rattle.law_run_recovers.proofs.Vocabulary.{Request, Reply, State, reply_of, is_full, answer_of, Job, Response, Replied, Lacked, Suites, Proposal, Doing, Running, RunningSweep, SweepRun, asked_now, is_decide, Taken, fixed_of, next_in}
+use Rattle.law_run_recovers.proofs.Vocabulary.{next_of, take, begin, Actor, opening, server_at, decisions, decisions_from, decisions_from-append, sweep_decides_none, Beginning, Aborted, effect, begun, Inv, beginning, to_write, decision_by}
+use Rattle.law_run_recovers.proofs.Vocabulary.{fixed_in, aim_of, aims_once, aims, is_finishing, is_at_an_end, gives_up, tells_aborted, begun_events, own_events, home_in, begin_events, answered_events, asked_at_events, asked_events}
+use Rattle.law_run_recovers.proofs.Vocabulary.{lacks_for_events, lack_events, history_from, machine_of, history_of, run-append, AllKeepSides, copy_at, earlier, CanBe, all_keep}
+use Rattle.law_suite_machine.specs.Events.{Prepare, DecideRead, DecideRefused, DecideWrite, DecideElsewhere, Overrule, GiveUp, Finish, Lose, happens, Event, Held, Upgrade, run}
+use Rattle.law_suite_machine.specs.Conditions.{May, Obeys}
+use Rattle.law_suite_machine.proofs.Preparing.{prepared_effect}
+use Rattle.law_suite_machine.proofs.Finishing.{finished_effect}
+use Rattle.law_suite_machine.proofs.Deciding.{decided_effect}
+use Rattle.law_server_moves.specs.Preparing.{part_of}
+use Rattle.law_server_moves.specs.Moves.{moves, first_verdict, prepare_of, left_by_break}
+use Rattle.law_suite_machine.specs.Registers.{Change}
+use Rattle.law_suite_machine.specs.Machine.{Verdict, World}
 use Rattle.rep_core.specs.declared.request.Request.TheVariants as request
 use Rattle.rep_core.specs.declared.reply.Reply.TheVariants as reply
 use Rattle.rep_core.specs.declared.stamped.Lack.TheVariants as lack
 use Rattle.run_core.specs.declared.event.Event as happening
 use Rattle.run_core.specs.Worlds as worlds
 use Rattle.run_core.specs.Runs as runs
-use Rattle.law_suite_machine.specs.Registers.{Change}
-use Rattle.law_suite_machine.specs.Machine.{Verdict, World}
-use Rattle.law_suite_machine.specs.Events.{Event, Held, Upgrade, run}
 use Rattle.law_suite_machine.proofs.Steps as steps
 use Rattle.law_one_table.proofs.Effects as effects
 

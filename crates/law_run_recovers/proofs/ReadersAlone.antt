@@ -1,7 +1,7 @@
 -- Where all that begin but one only read nobody else is beside: so what is promised to one that writes and one that reads while others are beside is promised to them.
-use Rattle.law_run_recovers.proofs.Vocabulary.{Bool, Contains, List, ap, false, inl, inr, refl, subst, sym, true, ℕ, ⊎_elim, ◌++◌, ◌==◌, ◌||◌, ◌∙◌, ◌≡◌, ◌⊎◌, WriterOrReadersAreDecidedAt}
-use Rattle.law_run_recovers.proofs.Vocabulary.{and_parts, eqb-true, false≢true, list_any, is_decided, IsNotDecided, Has, any_has, contains_from, has_any, has_from, Lock, decisions, run, EndedJob, Event, is_exclusive}
-use Rattle.law_run_recovers.proofs.Vocabulary.{Opening, LockMode, Exclusive, Shared, Begun, clashes, its_asks, EndsThen, asks_for, ReadersMeet, only_reads, Always}
+use Rattle.law_run_recovers.proofs.Vocabulary.{Bool, Contains, List, ap, false, inl, inr, refl, subst, sym, true, ℕ, ⊎_elim, ◌++◌, ◌==◌, ◌||◌, ◌∙◌, ◌≡◌, ◌⊎◌, and_parts, eqb-true, false≢true, list_any, is_decided, IsNotDecided, Has, any_has}
+use Rattle.law_run_recovers.proofs.Vocabulary.{contains_from, has_any, has_from, Lock, decisions, run, EndedJob, Event, is_exclusive, Opening, LockMode, Exclusive, Shared, Begun, clashes, its_asks, EndsThen, asks_for, only_reads, Always}
+use Rattle.law_run_recovers.specs.Readers.{WriterOrReadersAreDecidedAt, ReadersMeet}
 use Rattle.law_run_recovers.specs.MeetsBeside.{GoesOn, ReaderMeetsBeside, ReadsToo, first_asks, meets_some}
 use Rattle.law_run_recovers.proofs.BesideNext.{clash_back}
 use Rattle.law_run_recovers.proofs.MeetAlone.{all_served, idle_unswept, lock_in, never_upset}

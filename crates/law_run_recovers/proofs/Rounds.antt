@@ -1,8 +1,8 @@
 -- Sweeps of servers one after the other.
-use Rattle.law_run_recovers.proofs.Vocabulary.{◌≡◌, ◌≢◌, ◌⊎◌, inl, inr, ⊎_elim, ℕ, ◌+◌, Bool, true, false, cond, List, [], ◌∷◌, ◌++◌, append_assoc, append-nil, Option, Some, None, is_some, refl, sym, ap, subst, ◌∙◌, ◌*◌, ◌==◌, ◌&&◌}
-use Rattle.law_run_recovers.proofs.Vocabulary.{not, nat_lt, list_all, list_any, false≢true, and_parts, cases_Bool, eqb-true, and_from, Opening, Lock, has_prepared, rise, has_filter, filter_has, any_has, has_any, Job, Sweep, Fixed}
-use Rattle.law_run_recovers.proofs.Vocabulary.{Doing, RunningSweep, home_of, fixed_of, is_idle, has_sense, max_jobs, Event, Begin, Actor, World, opening, actor_at, has_no_job, step, after, run, begins_now, same_or, begins_job, with_job}
-use Rattle.law_run_recovers.proofs.Vocabulary.{is_up, locks_at, is_in_doubt, in_doubt, unhindered_from, sweeps, goes_round, Always, OnlyDoubtsAreLeftAt}
+use Rattle.law_run_recovers.proofs.Vocabulary.{◌≡◌, ◌≢◌, ◌⊎◌, inl, inr, ⊎_elim, ℕ, ◌+◌, Bool, true, false, cond, List, [], ◌∷◌, ◌++◌, append_assoc, append-nil, Option, Some, None, is_some, refl, sym, ap, subst, ◌∙◌, ◌*◌, ◌==◌, ◌&&◌, not}
+use Rattle.law_run_recovers.proofs.Vocabulary.{nat_lt, list_all, list_any, false≢true, and_parts, cases_Bool, eqb-true, and_from, Opening, Lock, has_prepared, rise, has_filter, filter_has, any_has, has_any, Job, Sweep, Fixed, Doing}
+use Rattle.law_run_recovers.proofs.Vocabulary.{RunningSweep, home_of, fixed_of, is_idle, has_sense, max_jobs, Event, Begin, Actor, World, opening, actor_at, has_no_job, step, after, run, begins_now, same_or, begins_job, with_job, is_up}
+use Rattle.law_run_recovers.proofs.Vocabulary.{locks_at, is_in_doubt, in_doubt, unhindered_from, sweeps, goes_round, Always, OnlyDoubtsAreLeftAt}
 use Rattle.run_core.proofs.Appending.{after-append}
 use Rattle.law_run_recovers.proofs.Doubts.{filter_alike, filter_all}
 use Rattle.law_run_recovers.proofs.Found.{or_rest}

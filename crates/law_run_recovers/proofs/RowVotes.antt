@@ -1,25 +1,19 @@
 -- The votes that the rows of a run's table have, and those that a transaction sets on it, are valid and list servers that there are.
-use Rattle.law_run_recovers.proofs.Vocabulary.{◌≡◌, inl, inr, ⊎_elim, ℕ, ◌<◌, Bool, true, false, cond, List, [], ◌∷◌, All, Option, Some, None, Result, Ok, Err, refl, sym, ap, subst, ◌∙◌, arith, ◌==◌, ◌&&◌, ◌||◌}
-use Rattle.law_run_recovers.proofs.Vocabulary.{not, nat_le, list_any, option_map, map, filter, AllByRecursion, nat_cmp, is_eq, insert, nat_cmp_total, false≢true, eqb-true, eq-eqb, nat_tests, none-some, same_Some, Identity}
-use Rattle.law_run_recovers.proofs.Vocabulary.{Representative, Configuration, IsValid, Opening, Prefix, Exclusive, Answer, Op, Refusal, PlainTable, Service, Row, Rows, row_of, Change, Edit, Need, Hold, Know, some, makes, sets_acl, sets_votes}
-use Rattle.law_run_recovers.proofs.Vocabulary.{Edits, Ended, seen, is_set, needs, ending, transaction, Known, known_rows, is_opened, Done, heard, exec_of, first_unmet, AgreesWith, IsSoAt, goes_alike, on_table, on_transaction, Has, has_any, has_filter, has_map}
-use Rattle.law_run_recovers.proofs.Vocabulary.{Event, Decided, decisions, table_of, table_after_all, WasPrefix, none_or_some, beginning, machine_of, CanBe, all_keep, change_in, changes_on, votes_set, votes_of_row, fixed_of, listed}
-use Rattle.std.proofs.lemmas.List.Elements.{All-from_recursion}
+use Rattle.law_run_recovers.proofs.Vocabulary.{◌≡◌, inl, inr, ⊎_elim, ℕ, ◌<◌, Bool, true, false, cond, List, [], ◌∷◌, All, Option, Some, None, Result, Ok, Err, refl, sym, ap, subst, ◌∙◌, arith, ◌==◌, ◌&&◌, ◌||◌, not, nat_le, list_any}
+use Rattle.law_run_recovers.proofs.Vocabulary.{option_map, map, filter, AllByRecursion, nat_cmp, is_eq, insert, nat_cmp_total, false≢true, eqb-true, eq-eqb, nat_tests, none-some, same_Some, Identity, Representative, Configuration, IsValid}
+use Rattle.law_run_recovers.proofs.Vocabulary.{Opening, Prefix, Exclusive, Answer, Op, Refusal, PlainTable, Service, Row, Rows, row_of, Change, Edit, Need, Hold, Know, some, makes, sets_acl, sets_votes, Edits, Ended, seen, is_set, needs}
+use Rattle.law_run_recovers.proofs.Vocabulary.{ending, transaction, on_transaction, Has, has_any, has_filter, has_map, Event, Decided, decisions, table_of, table_after_all, WasPrefix, beginning, machine_of, CanBe, all_keep, change_in}
+use Rattle.law_run_recovers.proofs.Vocabulary.{changes_on, votes_set, votes_of_row, fixed_of, listed, All-from_recursion, changed, KnownSuite, get-insert, Played, table_after, table_with, played_on, AllGiveValidVotes, listed}
+use Rattle.file_exec.proofs.Alike.{goes_alike}
+use Rattle.law_suite_machine.proofs.Rows.{none_or_some}
 use Rattle.std.specs.Cmp.{unsigned_tied}
 use Rattle.file_exec.proofs.StepOnTable.{row_of-with_edits}
-use Rattle.file_exec.specs.Following.{changed}
-use Rattle.file_exec.specs.Known.{known_of, is_held, is_met}
-use Rattle.file_exec.specs.KnownSuites.{KnownSuite}
-use Rattle.file_exec.specs.declared.edit_log.Edit.TheVariants as edit
-use Rattle.sorted_map.specs.Laws.{get-insert}
-use Rattle.file_ops.specs.Rows as rows
-use Rattle.file_ops.specs.Transactions.{Played, table_after}
-use Rattle.file_ops.specs.Transactions as plain
-use Rattle.run_core.specs.TableOfRun.{table_with, played_on}
+use Rattle.file_exec.specs.Known.{known_of, is_met, Known, known_rows, is_opened, Done, heard, exec_of, first_unmet, AgreesWith, IsSoAt, on_table, is_held}
 use Rattle.law_agents.proofs.Courses.{Sets, AllSet, edits_set}
 use Rattle.law_headline.proofs.Editing.{FitsRow, AllFit, edits_fit}
-use Rattle.law_headline.specs.Premises.{AllGiveValidVotes}
-use Rattle.law_run_alone.proofs.Votes.{listed}
+use Rattle.file_exec.specs.declared.edit_log.Edit.TheVariants as edit
+use Rattle.file_ops.specs.Rows as rows
+use Rattle.file_ops.specs.Transactions as plain
 use Rattle.law_one_table.proofs.Versions as versions
 
 -- ---- on a table a transaction sets what an executor sets that knows all that it needs

@@ -1,8 +1,9 @@
 -- Where a transaction's demands are met, those by the votes of the table's own rows are.
-use Rattle.law_run_recovers.proofs.Vocabulary.{◌≡◌, inl, inr, ℕ, Bool, true, List, [], ◌∷◌, Option, Some, None, refl, sym, ap, subst, ◌∙◌, arith, ◌&&◌, map, option_map, list_all, and_parts, nat_tests, list_all-append, none-some}
-use Rattle.law_run_recovers.proofs.Vocabulary.{same_Some, Configuration, votes_in, Opening, Prefix, LockMode, Shared, Exclusive, Row, row_of, find_some, contains_from, Entry, is_of, entry_of, fixed_of, Event, Actor, actor_at, run}
-use Rattle.law_run_recovers.proofs.Vocabulary.{table_of, prefix_at, WasPrefix, IsQuorum, Inv, beginning, machine_of, knowledge_was, AllKeepSides, register, row_at, CanBe, all_keep, all_consistent, is_up, up_free, Demand, demand, is_met}
-use Rattle.law_run_recovers.proofs.Vocabulary.{led_to, votes_of_row, locks_asked, votes_set, MayStart, MetDemandsAreRows}
+use Rattle.law_run_recovers.proofs.Vocabulary.{◌≡◌, inl, inr, ℕ, Bool, true, List, [], ◌∷◌, Option, Some, None, refl, sym, ap, subst, ◌∙◌, arith, ◌&&◌, map, option_map, list_all, and_parts, nat_tests, list_all-append, none-some, same_Some}
+use Rattle.law_run_recovers.proofs.Vocabulary.{Configuration, votes_in, Opening, Prefix, LockMode, Shared, Exclusive, Row, row_of, find_some, contains_from, Entry, is_of, entry_of, fixed_of, Event, Actor, actor_at, run, table_of, prefix_at}
+use Rattle.law_run_recovers.proofs.Vocabulary.{WasPrefix, IsQuorum, Inv, beginning, machine_of, AllKeepSides, register, row_at, CanBe, all_keep, all_consistent, is_up, up_free, Demand, demand, is_met, led_to, votes_of_row, locks_asked}
+use Rattle.law_run_recovers.proofs.Vocabulary.{votes_set, MayStart, MetDemandsAreRows}
+use Rattle.law_run_knowledge.proofs.Events.{knowledge_was}
 use Rattle.law_one_table.proofs.Effects as effects
 use Rattle.law_one_table.proofs.Versions as versions
 use Rattle.law_run_recovers.proofs.Found.{all_answer, found_is_row}

@@ -1,12 +1,11 @@
 -- What an event serves, if anything; and that whoever has a lock at a server was told so there.
-use Rattle.law_run_recovers.proofs.Vocabulary.{◌≡◌, ◌⊎◌, inl, inr, ⊎_elim, ℕ, Bool, true, false, cond, List, Option, Some, None, refl, sym, ap, subst, ◌∙◌, ◌==◌, ◌&&◌, not, filter, map, slice_get, slice_set, LockMode, Exclusive}
-use Rattle.law_run_recovers.proofs.Vocabulary.{Replica, Lock, Request, Reply, Verdict, Stamped, AuditItem, in_the_way, has_lock, raised, raised_lock, with_lock, before, prepared_lock, is_own, copy_of, intended, State, record_of}
-use Rattle.law_run_recovers.proofs.Vocabulary.{reply_of, reply_up, reply_down, after_up, after_down, after_locking, locking_reply, held, after_record, prepares, is_full, served, answer_of, Has, has_filter, has_between, has_map, Lacked}
-use Rattle.law_run_recovers.proofs.Vocabulary.{Fixed, Agent, next_of, begin, forget, Event, Begin, Step, Crash, Return, Forget, Lack, Served, Actor, World, Stepped, server_at, actor_at, serve, answered, becomes, asks_at, asks}
-use Rattle.law_run_recovers.proofs.Vocabulary.{steps_once, lacks_for, lacks, operated, operates, step, same_or, puts_in, locks_in, locks_at}
-use Rattle.rep_core.specs.declared.request.Request.TheVariants as request
+use Rattle.law_run_recovers.proofs.Vocabulary.{◌≡◌, ◌⊎◌, inl, inr, ⊎_elim, ℕ, Bool, true, false, cond, List, Option, Some, None, refl, sym, ap, subst, ◌∙◌, ◌==◌, ◌&&◌, not, filter, map, slice_get, slice_set, LockMode, Exclusive, Replica}
+use Rattle.law_run_recovers.proofs.Vocabulary.{Lock, Request, Reply, Verdict, Stamped, AuditItem, in_the_way, has_lock, raised, raised_lock, with_lock, before, prepared_lock, is_own, copy_of, intended, State, record_of, is_full, served}
+use Rattle.law_run_recovers.proofs.Vocabulary.{answer_of, Has, has_filter, has_between, has_map, Lacked, Fixed, Agent, next_of, begin, forget, Event, Begin, Step, Crash, Return, Forget, Lack, Served, Actor, World, Stepped, server_at}
+use Rattle.law_run_recovers.proofs.Vocabulary.{actor_at, serve, answered, becomes, asks_at, asks, steps_once, lacks_for, lacks, operated, operates, step, same_or, puts_in, locks_in, locks_at}
 use Rattle.rep_core.specs.declared.stamped.Lack.{Lack as Why}
-use Rattle.rep_core.specs.Service.{after}
+use Rattle.rep_core.specs.Service.{after, reply_of, reply_up, reply_down, after_up, after_down, after_locking, locking_reply, held, after_record, prepares}
+use Rattle.rep_core.specs.declared.request.Request.TheVariants as request
 
 -- ---- one server
 

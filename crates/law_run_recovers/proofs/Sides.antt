@@ -1,9 +1,9 @@
 -- What is so of any run: who runs has not ended, a number is its agent's, nobody asks a server to crash, and servers that are up stay so.
 use Rattle.law_run_recovers.proofs.Vocabulary.{◌≡◌, ◌⊎◌, inl, inr, ⊎_elim, ℕ, zero, suc, ◌+◌, true, false, List, [], ◌∷◌, ◌++◌, length, Option, Some, None, is_some, refl, sym, ap, subst, ◌∙◌, arith, ◌%◌, ◌==◌, slice_get, false≢true}
-use Rattle.law_run_recovers.proofs.Vocabulary.{and_parts, eqb-true, none-some, same_Some, Opening, IsAccepted, Request, State, Has, Job, Agent, fixed_of, EndedJob, Event, Begin, Step, Crash, Return, Actor, World, opening}
-use Rattle.law_run_recovers.proofs.Vocabulary.{server_at, actor_at, step, dones, done_in, outcomes, run, decisions, dones-append, outcomes-append, ended, names, may_sweep, number_of, begins_at, same_place, agents_ask_for_themselves}
-use Rattle.law_run_recovers.proofs.Vocabulary.{each_is_begun_once, holds_of, so_many, append_has_left, agent_of, agent_at, begins_job, is_crash, up_stays, with_job, AllServers, MayAsk, asks_servers, spoils, up_in, is_up, runs}
-use Rattle.law_run_recovers.proofs.Vocabulary.{running_in, is_running, takes}
+use Rattle.law_run_recovers.proofs.Vocabulary.{and_parts, eqb-true, none-some, same_Some, Opening, IsAccepted, Request, State, Has, Job, Agent, fixed_of, EndedJob, Event, Begin, Step, Crash, Return, Actor, World, opening, server_at}
+use Rattle.law_run_recovers.proofs.Vocabulary.{actor_at, step, dones, done_in, outcomes, run, decisions, dones-append, outcomes-append, ended, names, may_sweep, number_of, begins_at, same_place, agents_ask_for_themselves}
+use Rattle.law_run_recovers.proofs.Vocabulary.{each_is_begun_once, holds_of, so_many, append_has_left, agent_of, agent_at, begins_job, is_crash, up_stays, with_job, AllServers, MayAsk, asks_servers, spoils, up_in, is_up, runs, running_in}
+use Rattle.law_run_recovers.proofs.Vocabulary.{is_running, takes}
 use Rattle.rep_core.specs.declared.request.Request.TheVariants as request
 use Rattle.law_run_recovers.proofs.AmongCourse.{head_or, tail_or}
 use Rattle.law_run_recovers.proofs.Keeps.{last_of}

@@ -1,10 +1,10 @@
 -- What an open server has stored of a suite stands still, unless something is taken from the transaction to which it is open.
 use Rattle.law_run_recovers.proofs.Vocabulary.{◌≡◌, ⊎_elim, ℕ, Bool, true, false, cond, Option, Some, None, refl, sym, ap, subst, ◌∙◌, arith, ◌==◌, ◌&&◌, ◌||◌, not, option_map, slice_get, slice_set, list_any, nat_cmp, false≢true, eqb-true}
-use Rattle.law_run_recovers.proofs.Vocabulary.{eq-eqb, nat_tests, same_Some, get, LockMode, is_exclusive, Lock, Verdict, Request, Intention, IsConsistent, HasPreparedLock, conflicts, in_the_way}
-use Rattle.law_run_recovers.proofs.Vocabulary.{copy_of, left_by, finished, State, is_answered, Ways, by_request, room, Stepped}
-use Rattle.law_run_recovers.proofs.Vocabulary.{served, Has, has_from, has_any, find_none, copy_in-with_copies, Fixed, Event, World, server_at, step, same_or, puts_in, is_open_way, way_in}
-use Rattle.rep_core.specs.declared.request.Request.TheVariants as request
+use Rattle.law_run_recovers.proofs.Vocabulary.{eq-eqb, nat_tests, same_Some, get, LockMode, is_exclusive, Lock, Verdict, Request, Intention, IsConsistent, HasPreparedLock, conflicts, in_the_way, copy_of, left_by, finished, State}
+use Rattle.law_run_recovers.proofs.Vocabulary.{is_answered, Ways, by_request, room, Stepped, served, Has, has_from, has_any, find_none, Fixed, Event, World, server_at, step, same_or, puts_in, is_open_way, way_in}
+use Rattle.rep_core.proofs.Intentions.{copy_in-with_copies}
 use Rattle.rep_core.specs.Store.{in_effect}
+use Rattle.rep_core.specs.declared.request.Request.TheVariants as request
 use Rattle.law_run_recovers.proofs.Serves.{Serves, event_serves}
 
 -- a Finish of the transaction finds no lock of it

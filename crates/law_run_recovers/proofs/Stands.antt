@@ -1,14 +1,13 @@
 -- How a transaction stands to which servers stand as a sight says: what it has asked for so far and how that was found, and how it ends.
 use Rattle.law_run_recovers.proofs.Vocabulary.{◌≡◌, ◌⊎◌, inl, inr, ℕ, ◌≤◌, Bool, true, false, cond, List, [], ◌∷◌, ◌++◌, append-nil, Option, Some, None, is_some, Result, Ok, Err, refl, sym, ap, subst, ◌∙◌, ◌==◌, not, nat_lt, find, map}
-use Rattle.law_run_recovers.proofs.Vocabulary.{list_any, nat_cmp, eqb-true, nat_cmp_total, same_Some, IsOrdered, IsOrdered-insert, Identity, Representative, Configuration, IsValid, max_servers, absent_prefix, Prefix, LockMode, Shared, Exclusive}
-use Rattle.law_run_recovers.proofs.Vocabulary.{serves, Has, Verdict, Answer, Refusal, Op, PlainTable, row_of, Need, Ended, needs, ending, transaction, newest, holds, Collector, all_told, Cache, hint, Ending, Undecided, Unavailable}
-use Rattle.law_run_recovers.proofs.Vocabulary.{ReadPoint, GatheredSuite, Suites, suite_of, with_suite, Fixed, Task, Granted, Phase, Gathering, Fetching, Preparing, Deciding, Finishing, TransactionRun, After, GoesOn, Ends, home_of}
-use Rattle.law_run_recovers.proofs.Vocabulary.{short_cause, tell_end, prepare, Each, EachBut, with_at, each_but, each_with, World, is_up, Demand, demand_by, is_met, newer_by, led_to_by, has_asked, not_asked, locks_asked, votes_set}
-use Rattle.law_run_recovers.proofs.Vocabulary.{MayStart, MayStartAll, ending_by, answer_on, Want, first_mode}
-use Rattle.suite_collect.specs.Collecting.{Widening}
+use Rattle.law_run_recovers.proofs.Vocabulary.{list_any, nat_cmp, eqb-true, nat_cmp_total, same_Some, IsOrdered, IsOrdered-insert, Identity, Representative, Configuration, IsValid, max_servers, absent_prefix, Prefix, LockMode, Shared}
+use Rattle.law_run_recovers.proofs.Vocabulary.{Exclusive, serves, Has, Verdict, Answer, Refusal, Op, PlainTable, row_of, Need, Ended, needs, ending, transaction, newest, holds, Collector, all_told, Cache, hint, Ending, Undecided}
+use Rattle.law_run_recovers.proofs.Vocabulary.{Unavailable, ReadPoint, GatheredSuite, Suites, suite_of, with_suite, Fixed, Task, Granted, Phase, Gathering, Fetching, Preparing, Deciding, Finishing, TransactionRun, After, GoesOn, Ends}
+use Rattle.law_run_recovers.proofs.Vocabulary.{home_of, short_cause, tell_end, prepare, Each, EachBut, with_at, each_but, each_with, World, is_up, Demand, demand_by, is_met, newer_by, led_to_by, has_asked, not_asked, locks_asked, votes_set}
+use Rattle.law_run_recovers.proofs.Vocabulary.{MayStart, MayStartAll, ending_by, answer_on, Want, first_mode, Widening}
 use Rattle.txn_core.specs.declared.ending.Cause.TheVariants.{Busy}
-use Rattle.txn_core.specs.Doing as doing
 use Rattle.txn_core.specs.Transactions.{Step}
+use Rattle.txn_core.specs.Doing as doing
 use Rattle.law_run_recovers.proofs.Asking.{onto, find_past, held_if, held_in}
 use Rattle.law_run_recovers.proofs.Led.{Rules, Reached}
 use Rattle.law_run_recovers.proofs.Polled.{Sight, finds_at, serves_all, AllRight, all_wider, AllBelow, Refusing}

@@ -1,11 +1,10 @@
 -- What the course of a transaction stands on, be it among locks that stay, or told what it would have been told as it began.
 use Rattle.law_run_recovers.proofs.Vocabulary.{◌≡◌, ℕ, Bool, true, false, cond, List, [], ◌∷◌, ◌++◌, append_assoc, Option, Some, None, refl, sym, ap, subst, ◌∙◌, arith, ◌==◌, ◌&&◌, ◌||◌, not, slice_get, false≢true, and_parts, eqb-true}
 use Rattle.law_run_recovers.proofs.Vocabulary.{nat_tests, none-some, same_Some, Identity, Opening, Op, Lock, Request, Stamped, State, after_up, after_down, is_full, served, answer_of, Has, any_has, Transaction, Fixed, fixed_of, next_of}
-use Rattle.law_run_recovers.proofs.Vocabulary.{Served, Event, Begin, Step, Crash, Actor, World, server_at, actor_at, operates, operated, step, run, CanBe, begins_job, puts_in, up_in, is_up, locks_in, locks_at}
-use Rattle.law_run_recovers.proofs.Vocabulary.{AreNear, asks_for, running_in, is_running, is_telling, begun_world, world_after, up_and, of_up, robs, hinders_itself, GoesAmongLocks, AsAtItsBegin, ToldAsAtItsBegin, bereaves, drops}
-use Rattle.law_run_recovers.proofs.Vocabulary.{everywhere, and_right}
-use Rattle.rep_core.specs.declared.request.Request.TheVariants as request
+use Rattle.law_run_recovers.proofs.Vocabulary.{Served, Event, Begin, Step, Crash, Actor, World, server_at, actor_at, operates, operated, step, run, CanBe, begins_job, puts_in, up_in, is_up, locks_in, locks_at, AreNear, asks_for, running_in}
+use Rattle.law_run_recovers.proofs.Vocabulary.{is_running, is_telling, begun_world, world_after, up_and, of_up, robs, hinders_itself, GoesAmongLocks, AsAtItsBegin, ToldAsAtItsBegin, bereaves, drops, everywhere, and_right}
 use Rattle.rep_core.specs.Service.{after}
+use Rattle.rep_core.specs.declared.request.Request.TheVariants as request
 use Rattle.law_run_recovers.proofs.Keeps.{IsAtWork, OfAsks, after_append, as_at_its_begin, operates_it}
 use Rattle.law_run_recovers.proofs.Serves.{On}
 

@@ -1,6 +1,6 @@
 -- A step of an agent that was served: what it asked, of which server, and what it made of the reply.
-use Rattle.law_run_recovers.proofs.Vocabulary.{◌≡◌, ℕ, true, false, cond, Option, Some, None, is_some, refl, sym, subst, slice_set, false≢true, Request, Stamped, State, reply_of, is_full, served, answer_of, Replied, Fixed, next_of}
-use Rattle.law_run_recovers.proofs.Vocabulary.{take, Step, Served, Actor, World, Stepped, server_at, actor_at, serve, moved, outcome_of, answered, asks_at, asks, steps_once, step, puts_in}
+use Rattle.law_run_recovers.proofs.Vocabulary.{◌≡◌, ℕ, true, false, cond, Option, Some, None, is_some, refl, sym, subst, slice_set, false≢true, Request, Stamped, State, reply_of, is_full, served, answer_of, Replied, Fixed, next_of, take}
+use Rattle.law_run_recovers.proofs.Vocabulary.{Step, Served, Actor, World, Stepped, server_at, actor_at, serve, moved, outcome_of, answered, asks_at, asks, steps_once, step, puts_in}
 
 module _ (fixed : Fixed) (w : World) (agent : ℕ) (here : Actor) (there : actor_at w agent ≡ Some here) where
   abbrev pub with_stamp : Request → Stamped Request

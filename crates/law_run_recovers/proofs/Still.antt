@@ -1,13 +1,12 @@
 -- Until a transaction tells how it ended nothing that it asks finishes anything; and until it is decided nothing records how it ended.
-use Rattle.law_run_recovers.proofs.Vocabulary.{◌≡◌, ℕ, false, List, [], ◌∷◌, Option, Some, None, refl, sym, ap, ◌∙◌, false≢true, Request, Verdict, Stamped, State, record_of, Ways, by_step, Cache, Ending, Response, Replied, Lacked}
-use Rattle.law_run_recovers.proofs.Vocabulary.{Suites, suite_of, parts_at, Fixed, Task, Phase, Gathering, Fetching, Widening, Preparing, Deciding, Finishing, TransactionRun, SweepRun, Doing, Running, RunningSweep, After, GoesOn, Ends}
-use Rattle.law_run_recovers.proofs.Vocabulary.{home_of, tell_end, locked_at, lack_cause, after_response, request_in, changes_of, decision_of, verdict_in, cause_of_abort, Undecided, is_decide, is_resolve, is_finish, Agent, next_in, left}
-use Rattle.law_run_recovers.proofs.Vocabulary.{take_in, asks_same, asked_as, fetched_as}
+use Rattle.law_run_recovers.proofs.Vocabulary.{◌≡◌, ℕ, false, List, [], ◌∷◌, Option, Some, None, refl, sym, ap, ◌∙◌, false≢true, Request, Verdict, Stamped, State, record_of, Ways, by_step, Cache, Ending, Response, Replied, Lacked, Suites}
+use Rattle.law_run_recovers.proofs.Vocabulary.{suite_of, parts_at, Undecided, is_decide, is_resolve, is_finish, Agent, next_in, left, take_in, asks_same, asked_as, fetched_as}
+use Rattle.txn_core.specs.Doing.{Widening, Fixed, Task, Phase, Gathering, Fetching, Preparing, Deciding, Finishing, TransactionRun, SweepRun, Doing, Running, RunningSweep, After, GoesOn, Ends, home_of}
+use Rattle.rep_core.specs.Serving.{step}
+use Rattle.txn_core.specs.Transactions.{ending_by, tell_end, locked_at, lack_cause, after_response, request_in, changes_of, decision_of, verdict_in, cause_of_abort}
 use Rattle.rep_core.specs.declared.request.Request.TheVariants as request
 use Rattle.rep_core.specs.declared.reply.Verdict.TheVariants as verdict
-use Rattle.rep_core.specs.Serving.{step}
 use Rattle.txn_core.specs.Sweeps as sweep
-use Rattle.txn_core.specs.Transactions.{ending_by}
 
 -- ---- a server
 

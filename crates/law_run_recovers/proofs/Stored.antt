@@ -1,6 +1,7 @@
 -- Once all servers were swept, what is stored is in effect, and was before.
 use Rattle.law_run_recovers.proofs.Vocabulary.{◌≡◌, ℕ, true, List, [], ◌++◌, length, Option, Some, None, refl, sym, ap, subst, ◌∙◌, ◌==◌, unwrap_or, nat_cmp, get, Opening, Intention, IsConsistent, copy_of, State, Has, has_from, all_at}
-use Rattle.law_run_recovers.proofs.Vocabulary.{World, server_at, run, servers_of, servers_are_consistent, Event, answered_in, copy_at, at_has, all_free, sweeps, AllIsStoredAt, Always}
+use Rattle.law_run_recovers.proofs.Vocabulary.{World, server_at, run, servers_of, Event, answered_in, copy_at, at_has, all_free, sweeps, AllIsStoredAt, Always}
+use Rattle.law_run_machine.proofs.Consistent.{servers_are_consistent}
 use Rattle.rep_core.specs.Store as store
 use Rattle.rep_core.specs.State as state
 use Rattle.law_run_recovers.proofs.Found.{no_locks}

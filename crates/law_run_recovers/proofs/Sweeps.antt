@@ -1,12 +1,12 @@
 -- A sweep alone: how the locks at its server and what it has left go together.
-use Rattle.law_run_recovers.proofs.Vocabulary.{◌≡◌, ◌≢◌, ◌⊎◌, inl, inr, ⊎_elim, ℕ, ◌+◌, Bool, true, false, cond, List, [], ◌∷◌, Option, Some, None, refl, sym, ap, subst, ◌∙◌, arith, ◌==◌, ◌&&◌, not, filter, slice_get, slice_set}
-use Rattle.law_run_recovers.proofs.Vocabulary.{false≢true, and_parts, cases_Bool, eqb-true, eq-eqb, and_from, Lock, Request, Verdict, has_prepared, is_own, rise, State, record_of, reply_of, reply_up, reply_down, after_up, after_down}
-use Rattle.law_run_recovers.proofs.Vocabulary.{after_record, served, Has, has_filter, filter_has, any_has, has_any, Ending, Swept, home_of, Fixed, Sweeping, Listing, Resolving, Telling, Breaking, SweepRun, After, GoesOn, Ends, rising}
-use Rattle.law_run_recovers.proofs.Vocabulary.{others, sweep_on, after_answer, asked_now, World, server_at, same_or, puts_in, up_in, is_up, locks_in, locks_at, is_in_doubt, one_if, holders}
-use Rattle.rep_core.specs.declared.request.Request.TheVariants as request
-use Rattle.rep_core.specs.declared.reply.Verdict.TheVariants as verdict
+use Rattle.law_run_recovers.proofs.Vocabulary.{◌≡◌, ◌≢◌, ◌⊎◌, inl, inr, ⊎_elim, ℕ, ◌+◌, Bool, true, false, cond, List, [], ◌∷◌, Option, Some, None, refl, sym, ap, subst, ◌∙◌, arith, ◌==◌, ◌&&◌, not, filter, slice_get, slice_set, false≢true}
+use Rattle.law_run_recovers.proofs.Vocabulary.{and_parts, cases_Bool, eqb-true, eq-eqb, and_from, Lock, Request, Verdict, has_prepared, is_own, rise, State, record_of, reply_of, reply_up, reply_down, after_up, after_down, after_record}
+use Rattle.law_run_recovers.proofs.Vocabulary.{served, Has, has_filter, filter_has, any_has, has_any, Ending, Swept, home_of, Fixed, Sweeping, Listing, Resolving, Telling, Breaking, SweepRun, After, GoesOn, Ends, rising, others, sweep_on}
+use Rattle.law_run_recovers.proofs.Vocabulary.{after_answer, asked_now, World, server_at, same_or, puts_in, up_in, is_up, locks_in, locks_at, is_in_doubt, one_if, holders}
 use Rattle.rep_core.specs.Service.{after}
 use Rattle.txn_core.specs.Sweeps.{lost}
+use Rattle.rep_core.specs.declared.request.Request.TheVariants as request
+use Rattle.rep_core.specs.declared.reply.Verdict.TheVariants as verdict
 use Rattle.law_run_recovers.proofs.Doubts.{filter_twice, filter_alike, filter_all, rising_same, holders_of}
 
 -- ---- tests

@@ -1,8 +1,8 @@
 -- A sweep alone, from its begin on: as long as it goes on, and where it ended.
-use Rattle.law_run_recovers.proofs.Vocabulary.{◌≡◌, ◌⊎◌, inl, inr, ⊎_elim, ℕ, ◌+◌, true, false, cond, List, [], ◌∷◌, Option, Some, None, is_some, refl, sym, ap, subst, ◌∙◌, arith, ◌*◌, ◌&&◌, not, nat_lt, slice_get, slice_set}
-use Rattle.law_run_recovers.proofs.Vocabulary.{cons_option, false≢true, and_parts, not-true, none-some, same_Some, Opening, rise, State, Has, has_from, Ending, Sweep, Fixed, Listing, SweepRun, RunningSweep, After, GoesOn, Ends, Agent}
-use Rattle.law_run_recovers.proofs.Vocabulary.{fixed_of, is_idle, has_sense, max_jobs, next_in, left, end_of, begin, started, Event, Begin, Step, EndedJob, Actor, World, Stepped, opening, server_at, actor_at, outcome_of, becomes, asks}
-use Rattle.law_run_recovers.proofs.Vocabulary.{steps_once, step, after, dones, outcomes, run, begins_now, puts_in, begins_job, with_job, all_consistent, up_in, is_up, locks_in, locks_at, hinders, unhindered_from, Always, SweepsLeaveDoubtsAt}
+use Rattle.law_run_recovers.proofs.Vocabulary.{◌≡◌, ◌⊎◌, inl, inr, ⊎_elim, ℕ, ◌+◌, true, false, cond, List, [], ◌∷◌, Option, Some, None, is_some, refl, sym, ap, subst, ◌∙◌, arith, ◌*◌, ◌&&◌, not, nat_lt, slice_get, slice_set, cons_option}
+use Rattle.law_run_recovers.proofs.Vocabulary.{false≢true, and_parts, not-true, none-some, same_Some, Opening, rise, State, Has, has_from, Ending, Sweep, Fixed, Listing, SweepRun, RunningSweep, After, GoesOn, Ends, Agent, fixed_of, is_idle}
+use Rattle.law_run_recovers.proofs.Vocabulary.{has_sense, max_jobs, next_in, left, end_of, begin, started, Event, Begin, Step, EndedJob, Actor, World, Stepped, opening, server_at, actor_at, outcome_of, becomes, asks, steps_once, step}
+use Rattle.law_run_recovers.proofs.Vocabulary.{after, dones, outcomes, run, begins_now, puts_in, begins_job, with_job, all_consistent, up_in, is_up, locks_in, locks_at, hinders, unhindered_from, Always, SweepsLeaveDoubtsAt}
 use Rattle.run_core.proofs.Appending.{after-append}
 use Rattle.law_run_recovers.proofs.Aside.{Aside, event_aside}
 use Rattle.law_run_recovers.proofs.Doubts.{filter_all}

@@ -1,6 +1,7 @@
 -- What is promised to a transaction that is told what it would have been told as it began; and one that goes among locks that stay is told so.
-use Rattle.law_run_recovers.proofs.Vocabulary.{◌≡◌, ⊎_elim, ℕ, true, false, List, ◌∷◌, ◌++◌, Some, is_some, refl, sym, ap, subst, ◌∙◌, same_Some, Identity, Opening, Op, Request, Transaction, fixed_of, AreAnsweredAsBegun, EndInTime, HadVotesOpen, ToldEndByVotesAt}
-use Rattle.law_run_recovers.proofs.Vocabulary.{next_of, Event, Begin, Step, Actor, World, actor_at, step, run, is_running, world_after, robs, hinders_itself, GoesAmongLocks, AsAtItsBegin, bereaves, AmongLocksAreToldAsBegun, Always, AreDecidedWhereOpen, GatherTheirAsks, ToldAsAtItsBegin}
+use Rattle.law_run_recovers.proofs.Vocabulary.{◌≡◌, ⊎_elim, ℕ, true, false, List, ◌∷◌, ◌++◌, Some, is_some, refl, sym, ap, subst, ◌∙◌, same_Some, Identity, Opening, Op, Request, Transaction, fixed_of, AreAnsweredAsBegun, EndInTime}
+use Rattle.law_run_recovers.proofs.Vocabulary.{HadVotesOpen, ToldEndByVotesAt, next_of, Event, Begin, Step, Actor, World, actor_at, step, run, is_running, world_after, robs, hinders_itself, GoesAmongLocks, AsAtItsBegin, bereaves}
+use Rattle.law_run_recovers.proofs.Vocabulary.{AmongLocksAreToldAsBegun, Always, AreDecidedWhereOpen, GatherTheirAsks, ToldAsAtItsBegin}
 use Rattle.law_run_recovers.proofs.AmongAsks.{of_its_asks}
 use Rattle.law_run_recovers.proofs.AmongCourse.{Course, RunsIt, runs_it, both_so}
 use Rattle.law_run_recovers.proofs.AmongDecided.{answered_begun, was_gathered, was_had}

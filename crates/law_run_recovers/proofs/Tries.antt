@@ -1,8 +1,8 @@
 -- One try of a transaction where its votes are up: it is decided where its home is up, and leaves all as it was where it is not.
-use Rattle.law_run_recovers.proofs.Vocabulary.{◌≡◌, ◌⊎◌, inl, inr, ⊎_elim, ℕ, ◌+◌, true, false, cond, List, [], ◌∷◌, ◌++◌, append-nil, length, Some, None, is_some, refl, sym, ap, subst, ◌∙◌, ◌&&◌, not, none_of as idle_none}
-use Rattle.law_run_recovers.proofs.Vocabulary.{false≢true, none-some, same_Some, Identity, Opening, Prefix, Op, reply_of, Cache, Transaction, home_of, after_reply, Agent, fixed_of, next_in, begin}
-use Rattle.law_run_recovers.proofs.Vocabulary.{started, Event, Begin, Step, Actor, World, server_at, actor_at, has_no_job, step, dones, outcomes, run, table_of, machine_of, all_keep, is_decided, all_consistent, is_up, up_free, Demand}
-use Rattle.law_run_recovers.proofs.Vocabulary.{demands, first_short, is_met, all_met, led_to, led_to_by, newer_from, MayStart, VotesAreUp, GoesAlone, answer_on, OneIsDecided, is_open_at, way_at, begun_world, world_after}
+use Rattle.law_run_recovers.proofs.Vocabulary.{◌≡◌, ◌⊎◌, inl, inr, ⊎_elim, ℕ, ◌+◌, true, false, cond, List, [], ◌∷◌, ◌++◌, append-nil, length, Some, None, is_some, refl, sym, ap, subst, ◌∙◌, ◌&&◌, not, none_of as idle_none, false≢true}
+use Rattle.law_run_recovers.proofs.Vocabulary.{none-some, same_Some, Identity, Opening, Prefix, Op, reply_of, Cache, Transaction, home_of, after_reply, Agent, fixed_of, next_in, begin, started, Event, Begin, Step, Actor, World, server_at}
+use Rattle.law_run_recovers.proofs.Vocabulary.{actor_at, has_no_job, step, dones, outcomes, run, table_of, machine_of, all_keep, is_decided, all_consistent, is_up, up_free, Demand, demands, first_short, is_met, all_met, led_to, led_to_by}
+use Rattle.law_run_recovers.proofs.Vocabulary.{newer_from, MayStart, VotesAreUp, GoesAlone, answer_on, OneIsDecided, is_open_at, way_at, begun_world, world_after}
 use Rattle.law_one_table.proofs.Effects as effects
 use Rattle.law_run_recovers.specs.Ends as laws
 use Rattle.law_run_recovers.proofs.AloneKept.{up_same, many, free_then, table_same, shown_then}

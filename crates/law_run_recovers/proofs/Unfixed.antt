@@ -1,12 +1,12 @@
 -- A transaction that nobody robs: until its end is fixed no server has it recorded.
 use Rattle.law_run_recovers.proofs.Vocabulary.{◌≡◌, ⊎_elim, ℕ, ◌+◌, Bool, true, false, cond, List, Option, Some, None, is_some, refl, sym, ap, subst, ◌∙◌, arith, ◌*◌, ◌==◌, ◌&&◌, ◌||◌, not, slice_get, slice_set, false≢true, eqb-true}
-use Rattle.law_run_recovers.proofs.Vocabulary.{eq-eqb, false_from_ne_true, none-some, same_Some, Opening, IsAccepted, LockMode, Exclusive, AuditItem, Lock, Verdict, Request, in_the_way, has_lock, with_prepared, intended, State}
-use Rattle.law_run_recovers.proofs.Vocabulary.{record_of, after_locking, after_poll, after_record, after_up, after_down, prepares, verdict_of, audit_of, reply_of, served, record_apart, Replied, is_decide, Agent, fixed_of, begin, forget}
-use Rattle.law_run_recovers.proofs.Vocabulary.{take_in, next_of, Served, Event, Begin, Step, Crash, Return, Forget, Lack, Actor, World, server_at, actor_at, step, decisions, run, names, may_sweep, same_place, agents_ask_for_themselves}
-use Rattle.law_run_recovers.proofs.Vocabulary.{holds_of, same_or, agent_of, puts_in, takes, robs, hinders_itself, bereaves}
+use Rattle.law_run_recovers.proofs.Vocabulary.{eq-eqb, false_from_ne_true, none-some, same_Some, Opening, IsAccepted, LockMode, Exclusive, AuditItem, Lock, Verdict, Request, in_the_way, has_lock, with_prepared, intended, State, record_of}
+use Rattle.law_run_recovers.proofs.Vocabulary.{served, Replied, is_decide, Agent, fixed_of, begin, forget, take_in, next_of, Served, Event, Begin, Step, Crash, Return, Forget, Lack, Actor, World, server_at, actor_at, step, decisions, run}
+use Rattle.law_run_recovers.proofs.Vocabulary.{names, may_sweep, same_place, agents_ask_for_themselves, holds_of, same_or, agent_of, puts_in, takes, robs, hinders_itself, bereaves}
+use Rattle.rep_core.proofs.Records.{record_apart}
+use Rattle.rep_core.specs.Service.{after, after_locking, after_poll, after_record, after_up, after_down, prepares, verdict_of, audit_of, reply_of}
 use Rattle.rep_core.specs.declared.reply.Verdict.TheVariants as verdict
 use Rattle.rep_core.specs.declared.request.Request.TheVariants as request
-use Rattle.rep_core.specs.Service.{after}
 use Rattle.law_run_recovers.proofs.AtWork.{takes_nothing}
 use Rattle.law_run_recovers.proofs.Keeps.{IsAtWork, Works, works, last_of, step_asks, operates_it, becomes_none, lacks_none}
 use Rattle.law_run_recovers.proofs.Serves.{Serves, event_serves}

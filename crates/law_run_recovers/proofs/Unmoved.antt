@@ -1,6 +1,7 @@
 -- How a transaction ends by what it demands decides whether it is decided; and where votes were never moved each prefix has the first ones.
-use Rattle.law_run_recovers.proofs.Vocabulary.{◌≡◌, ⊎_elim, ℕ, Bool, true, false, cond, List, [], ◌∷◌, ◌++◌, Some, Result, Ok, Err, refl, ap, subst, ◌∙◌, ◌&&◌, not, map, Opening, Prefix, Answer, Refusal, row_of, Event, table_of}
-use Rattle.law_run_recovers.proofs.Vocabulary.{WasPrefix, none_or_some, beginning, machine_of, CanBe, all_keep, is_decided, Demand, is_met, all_met, first_short, HasFirstVotes, ending_of, ending_by}
+use Rattle.law_run_recovers.proofs.Vocabulary.{◌≡◌, ⊎_elim, ℕ, Bool, true, false, cond, List, [], ◌∷◌, ◌++◌, Some, Result, Ok, Err, refl, ap, subst, ◌∙◌, ◌&&◌, not, map, Opening, Prefix, Answer, Refusal, row_of, Event, table_of, WasPrefix}
+use Rattle.law_run_recovers.proofs.Vocabulary.{beginning, machine_of, CanBe, all_keep, is_decided, Demand, is_met, all_met, first_short, HasFirstVotes, ending_of, ending_by}
+use Rattle.law_suite_machine.proofs.Rows.{none_or_some}
 use Rattle.law_one_table.proofs.Versions as versions
 
 pub map_alike : {X Y : Type 0} (f g : X → Y) → ((x : X) → f x ≡ g x) → (xs : List X) → map f xs ≡ map g xs

@@ -1,7 +1,8 @@
 -- What a transaction that nobody robs finds at each moment at which it is at work: no server has it recorded, its locks are there, and what it knows is so on the table of that moment.
-use Rattle.law_run_recovers.proofs.Vocabulary.{◌≡◌, ℕ, List, [], ◌∷◌, ◌++◌, append_assoc, Option, Some, None, refl, sym, ap, subst, ◌∙◌, true, false, ◌||◌, Identity, Opening, Op}
-use Rattle.law_run_recovers.proofs.Vocabulary.{Verdict, Request, State, record_of, Transaction, TransactionRun, Running, fixed_of, next_of, stands_on_locks, Event, Begin, Actor, World, server_at, actor_at, step, run}
-use Rattle.law_run_recovers.proofs.Vocabulary.{machine_of, CanBe, begins_job, PhaseStands, doing_any, no_record, Finds, HasSome, finds, stands_where, Stands, Carried, carried_by, world_after, robs, hinders_itself, bereaves}
+use Rattle.law_run_recovers.proofs.Vocabulary.{◌≡◌, ℕ, List, [], ◌∷◌, ◌++◌, append_assoc, Option, Some, None, refl, sym, ap, subst, ◌∙◌, true, false, ◌||◌, Identity, Opening, Op, Verdict, Request, State, record_of, Transaction}
+use Rattle.law_run_recovers.proofs.Vocabulary.{TransactionRun, Running, fixed_of, next_of, stands_on_locks, Event, Begin, Actor, World, server_at, actor_at, step, run, machine_of, CanBe, begins_job, no_record, Finds, HasSome, finds}
+use Rattle.law_run_recovers.proofs.Vocabulary.{stands_where, Stands, Carried, carried_by, world_after, robs, hinders_itself, bereaves}
+use Rattle.law_run_alone.proofs.Holding.{PhaseStands, doing_any}
 use Rattle.law_run_recovers.proofs.AtWork.{locks_stand}
 use Rattle.law_run_recovers.proofs.Keeps.{IsAtWork, after_append, run_at, at_work_before}
 use Rattle.law_run_recovers.proofs.Open.{begun_servers}

@@ -1,22 +1,21 @@
 -- An event that takes nothing of a transaction leaves the locks standing that it was told of, whoever asks for it.
-use Rattle.law_run_recovers.proofs.Vocabulary.{◌≡◌, ℕ, Bool, true, false, cond, List, [], ◌∷◌, Option, Some, None, refl, sym, ap, subst, ◌∙◌, ◌==◌, ◌&&◌, ◌||◌, not, find, unwrap_or, list_any, false≢true, and_parts, eqb-true}
-use Rattle.law_run_recovers.proofs.Vocabulary.{none-some, Opening, Lock, Request, Reply, Stamped, is_own, lock_at, State, reply_up, reply_down, reply_of, is_full, answer_of, find_some, has_any, Job, Replied, Lacked, fixed_of}
-use Rattle.law_run_recovers.proofs.Vocabulary.{next_of, take, begin, Served, Event, Begin, Step, Crash, Return, Forget, Lack, Actor, server_at, actor_at, answered, asks_at, asks, steps_once, operated, operates, step, Beginning, kept}
-use Rattle.law_run_recovers.proofs.Vocabulary.{lost, at2, left_by_break, left_by_crash, moves, ended_as, hold_of, ShowsAt, Shows, beginning, decision_by, own_events, home_in, servers_of, answered_events, asked_at_events, asked_events}
-use Rattle.law_run_recovers.proofs.Vocabulary.{step_events, lacks_for_events, lack_events, begin_events, operated_events, operator_events, run-append, StandsAs, Stands, Spares, AllSpare, stands_all, spare_begun, spare_own}
-use Rattle.law_run_recovers.proofs.Vocabulary.{spare_decision, spare_moves, takes, drops, and_from, or_parts, eq-eqb}
+use Rattle.law_run_recovers.proofs.Vocabulary.{◌≡◌, ℕ, Bool, true, false, cond, List, [], ◌∷◌, Option, Some, None, refl, sym, ap, subst, ◌∙◌, ◌==◌, ◌&&◌, ◌||◌, not, find, unwrap_or, list_any, false≢true, and_parts, eqb-true, none-some}
+use Rattle.law_run_recovers.proofs.Vocabulary.{Opening, Lock, Request, Reply, Stamped, is_own, lock_at, State, reply_up, reply_down, reply_of, is_full, answer_of, find_some, has_any, Job, Replied, Lacked, fixed_of, next_of, take, begin}
+use Rattle.law_run_recovers.proofs.Vocabulary.{Served, Event, Begin, Step, Crash, Return, Forget, Lack, Actor, server_at, actor_at, answered, asks_at, asks, steps_once, operated, operates, step, Beginning, ended_as, hold_of, ShowsAt, Shows}
+use Rattle.law_run_recovers.proofs.Vocabulary.{beginning, decision_by, own_events, run-append, StandsAs, Stands, Spares, AllSpare, stands_all, spare_begun, spare_own, spare_decision, spare_moves, takes, drops, and_from, or_parts, eq-eqb}
+use Rattle.law_suite_machine.specs.Events.{kept, lost, finished, run}
+use Rattle.law_suite_machine.proofs.Places.{at2}
+use Rattle.law_server_moves.specs.Moves.{left_by_break, left_by_crash, moves, is_prepared}
+use Rattle.rep_core.specs.declared.stamped.Lack.{Lack as Why}
+use Rattle.law_suite_machine.specs.Machine.{Hold, Verdict, World}
+use Rattle.law_run_machine.specs.Machines.{moved, home_in, servers_of, answered_events, asked_at_events, asked_events, step_events, lacks_for_events, lack_events, begin_events, operated_events, operator_events}
 use Rattle.rep_core.specs.declared.request.Request.TheVariants as request
 use Rattle.rep_core.specs.declared.reply.Reply.TheVariants as reply
 use Rattle.rep_core.specs.declared.reply.Verdict as replied
-use Rattle.rep_core.specs.declared.stamped.Lack.{Lack as Why}
 use Rattle.rep_core.specs.declared.stamped.Lack.TheVariants as lack
 use Rattle.rep_core.specs.State as state
 use Rattle.run_core.specs.Worlds as worlds
-use Rattle.law_suite_machine.specs.Machine.{Hold, Verdict, World}
 use Rattle.law_suite_machine.specs.Events as machine
-use Rattle.law_suite_machine.specs.Events.{finished, run}
-use Rattle.law_server_moves.specs.Moves.{is_prepared}
-use Rattle.law_run_machine.specs.Machines.{moved}
 use Rattle.law_run_recovers.proofs.Aside.{both_false}
 
 -- ---- locks at a server

@@ -1,6 +1,6 @@
 -- Events that give no votes of their own give valid ones.
-use Rattle.law_run_recovers.proofs.Vocabulary.{◌≡◌, Bool, true, false, List, [], ◌∷◌, Some, None, AllByRecursion, list_all, false≢true, and_parts, Action, Op, Transaction, Event, Begin, GivesValidVotes}
-use Rattle.law_run_recovers.proofs.Vocabulary.{EventGivesValidVotes}
+use Rattle.law_run_recovers.proofs.Vocabulary.{◌≡◌, Bool, true, false, List, [], ◌∷◌, Some, None, AllByRecursion, list_all, false≢true, and_parts, Op, Transaction, Event, Begin, GivesValidVotes, EventGivesValidVotes}
+use Rattle.file_ops.specs.declared.operation.Action.{Action}
 use Rattle.file_ops.specs.declared.operation.Action.TheVariants as action
 
 abbrev sets_none : Action → Bool

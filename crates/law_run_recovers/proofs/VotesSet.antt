@@ -1,11 +1,14 @@
 -- The votes that a transaction sets by what it knows are those that it sets on the table.
-use Rattle.law_run_recovers.proofs.Vocabulary.{◌≡◌, inl, inr, ℕ, Bool, true, false, cond, List, [], ◌∷◌, Option, Some, None, Ok, Greater, refl, sym, ap, ◌∙◌, map, filter, option_map, nat_cmp, match_ordering, Ordering}
-use Rattle.law_run_recovers.proofs.Vocabulary.{nat_cmp_total, eq_by_cmp_equiv, IsDistinct-from_sorted, lookup-from_Contains, none-some, same_Some, IsOrdered, insert, IsOrdered-insert, Identity, Configuration, Exclusive, Has, has_filter}
-use Rattle.law_run_recovers.proofs.Vocabulary.{has_map, contains_from, all_at, Answer, Op, Service, Row, Rows, row_of, Change, Edit, some, makes, sets_acl, sets_votes, with_change, changes_at, Edits, Ended, seen, is_set, emptied, head}
-use Rattle.law_run_recovers.proofs.Vocabulary.{Known, known_rows, is_held_for, Done, exec_of, AgreesWith, held_head, head_seen, sets_what_is_held, Changes, change_of, change_in, changes_on}
+use Rattle.law_run_recovers.proofs.Vocabulary.{◌≡◌, inl, inr, ℕ, Bool, true, false, cond, List, [], ◌∷◌, Option, Some, None, Ok, Greater, refl, sym, ap, ◌∙◌, map, filter, option_map, nat_cmp, match_ordering, Ordering, nat_cmp_total}
+use Rattle.law_run_recovers.proofs.Vocabulary.{eq_by_cmp_equiv, none-some, same_Some, IsOrdered, insert, IsOrdered-insert, Identity, Configuration, Exclusive, Has, has_filter, has_map, contains_from, all_at, Answer, Op, Service, Row, Rows}
+use Rattle.law_run_recovers.proofs.Vocabulary.{row_of, Change, Edit, some, makes, sets_acl, sets_votes, with_change, changes_at, Edits, Ended, seen, is_set, emptied, head, Changes, change_of, change_in, changes_on}
+use Rattle.std.proofs.lemmas.Map.Keys.{IsDistinct-from_sorted}
+use Rattle.std.proofs.lemmas.Map.Views.{lookup-from_Contains}
+use Rattle.file_exec.proofs.Alike.{held_head, head_seen}
+use Rattle.file_exec.proofs.Unmet.{sets_what_is_held}
 use Rattle.std.specs.List.Sorted.{IsStrictlySortedBy}
+use Rattle.file_exec.specs.Known.{known_of, Known, known_rows, is_held_for, Done, exec_of, AgreesWith, is_held}
 use Rattle.file_exec.specs.Changes as changes
-use Rattle.file_exec.specs.Known.{known_of, is_held}
 
 -- ---- what is seen of the values of a map
 

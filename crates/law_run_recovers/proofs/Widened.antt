@@ -1,8 +1,8 @@
 -- A collector of whatever votes to which servers stand as a sight says: what it hears, and where one that is widened ends.
-use Rattle.law_run_recovers.proofs.Vocabulary.{◌≡◌, ℕ, ◌≤◌, true, false, List, ◌++◌, Option, Some, None, refl, sym, ap, subst, ◌∙◌, arith, nat_le, nat_tests, Configuration, votes_in, votes_in-wider, absent_prefix, Prefix, Exclusive}
-use Rattle.law_run_recovers.proofs.Vocabulary.{Reply, Told, holds, Collector, Asked, Poll, Upgrade, request_for, said_to, all_told, tell, tell_at, told_by, Current, Ask, Short, next, all_told-tell, Fixed, World}
+use Rattle.law_run_recovers.proofs.Vocabulary.{◌≡◌, ℕ, ◌≤◌, true, false, List, ◌++◌, Option, Some, None, refl, sym, ap, subst, ◌∙◌, arith, nat_le, nat_tests, Configuration, votes_in, votes_in-wider, absent_prefix, Prefix, Exclusive, Reply}
+use Rattle.law_run_recovers.proofs.Vocabulary.{Told, holds, Collector, Asked, Poll, Upgrade, request_for, said_to, all_told, tell, tell_at, told_by, Current, Ask, Short, next, Fixed, World, Widening}
+use Rattle.suite_collect.proofs.Fewness.{all_told-tell}
 use Rattle.rep_core.specs.declared.reply.Reply.TheVariants as reply
-use Rattle.suite_collect.specs.Collecting.{Widening}
 use Rattle.txn_core.specs.Transactions as txn_run
 use Rattle.law_run_recovers.proofs.Polled.{Sight, serves_all, Answers, AllRight, right_wider, held_open, Refusing, refusing, told_is, held_are_open, at_current, at_short}
 

@@ -1,11 +1,10 @@
 -- A transaction that sets votes: one suite after the other is widened to them.
 use Rattle.law_run_recovers.proofs.Vocabulary.{◌≡◌, inl, inr, ⊎_elim, ℕ, Bool, true, false, cond, List, [], ◌∷◌, ◌++◌, Option, Some, None, is_some, Ok, refl, sym, ap, subst, ◌∙◌, ◌==◌, not, map, false≢true, eqb-true, same_Some}
 use Rattle.law_run_recovers.proofs.Vocabulary.{Configuration, Prefix, LockMode, Exclusive, PlainTable, Change, Collector, all_told, told_since, widen, Next, Current, Ask, Short, next, Cache, Undecided, GatheredSuite, Suites, suite_of}
-use Rattle.law_run_recovers.proofs.Vocabulary.{with_suite, Fixed, Task, Granted, short_cause, votes_then, widened, widen_by, widen_one, widen_all, locked_at, self, with_at, each_but, each_with, World, is_met, Has}
-use Rattle.rep_core.specs.declared.reply.Verdict.TheVariants as verdict
-use Rattle.suite_collect.specs.Collecting.{Widening}
-use Rattle.txn_core.specs.Doing as doing
+use Rattle.law_run_recovers.proofs.Vocabulary.{with_suite, Fixed, Task, Granted, short_cause, votes_then, widened, widen_by, widen_one, widen_all, locked_at, self, with_at, each_but, each_with, World, is_met, Has, Widening}
 use Rattle.txn_core.specs.Transactions.{Step}
+use Rattle.rep_core.specs.declared.reply.Verdict.TheVariants as verdict
+use Rattle.txn_core.specs.Doing as doing
 use Rattle.law_run_recovers.proofs.Polled.{Sight, AllRight}
 use Rattle.law_run_recovers.proofs.Widened.{WidenedShort, widened_short, widened_current}
 use Rattle.law_run_recovers.proofs.VotesSet.{IsSet}

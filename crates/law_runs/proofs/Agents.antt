@@ -1,8 +1,8 @@
 -- Where agents stand among the decisions so far.
 use Rattle.law_runs.proofs.Vocabulary.{◌≡◌, ◌≢◌, ◌⊎◌, inl, inr, ⊎_elim, ℕ, ◌+◌, ◌≤◌, ◌<◌, Bool, true, false, cond, List, [], ◌∷◌, ◌++◌, Option, Some, None, refl, sym, ap, subst, ◌∙◌, arith, ◌*◌, ◌==◌, ◌&&◌, nat_lt, Ok, Err, and_parts}
-use Rattle.law_runs.proofs.Vocabulary.{none-some, same_Some, Service, Lock, Reply, Replied, Lacked, Request, Verdict, Has, Response, Ending, Answered, Refused, Swept, Undecided, Job, Transaction, Sweep, home_of, Fixed, Task}
-use Rattle.law_runs.proofs.Vocabulary.{TransactionRun, SweepRun, Doing, Running, RunningSweep, After, GoesOn, Ends, Sweeping, Listing, Resolving, Telling, Breaking, is_decide, said_by, Agent, next_in, left, end_of, take_in, begin}
-use Rattle.law_runs.proofs.Vocabulary.{started, is_idle, has_sense, max_jobs, Decided}
+use Rattle.law_runs.proofs.Vocabulary.{none-some, same_Some, Service, Lock, Reply, Replied, Lacked, Request, Verdict, Has, Response, Ending, Answered, Refused, Job, Transaction, Sweep, home_of, Fixed, Task, TransactionRun, SweepRun, Doing}
+use Rattle.law_runs.proofs.Vocabulary.{Running, RunningSweep, After, GoesOn, Ends, Sweeping, Listing, Resolving, Telling, Breaking, is_decide, said_by, Agent, next_in, left, end_of, take_in, begin, started, is_idle, has_sense, max_jobs}
+use Rattle.law_runs.proofs.Vocabulary.{Decided}
 use Rattle.rep_core.specs.declared.reply.Reply.TheVariants as reply
 use Rattle.rep_core.specs.declared.reply.Verdict.TheVariants as verdict
 use Rattle.txn_core.specs.Sweeps as sweep
@@ -56,8 +56,7 @@ at_more ds more i count None new is = tt
 abbrev pub EndStands : List Decided → ℕ → Ending → Type 0
 EndStands ds t (Answered answers) = In ds t (Ok answers)
 EndStands ds t (Refused refusal) = In ds t (Err refusal)
-EndStands ds t (Swept broken finished left) = NotIn ds t
-EndStands ds t (Undecided cause) = NotIn ds t
+EndStands ds t _ = NotIn ds t
 
 end_stands : (ds : List Decided) (t : ℕ) (v : Verdict) (ending : Ending) → EndsAs v ending → Stands ds t v → EndStands ds t ending
 end_stands ds t (verdict.Answered answers) ending ends is = subst (EndStands ds t) (sym ends.1) is
@@ -66,8 +65,7 @@ end_stands ds t other ending ends is = subst (EndStands ds t) (sym ends.1) is
 pub end_more : (ds more : List Decided) (t : ℕ) (ending : Ending) → NotIn more t → EndStands ds t ending → EndStands (ds ++ more) t ending
 end_more ds more t (Answered answers) new is = in_more ds more t (Ok answers) is
 end_more ds more t (Refused refusal) new is = in_more ds more t (Err refusal) is
-end_more ds more t (Swept broken finished left) new is = not_in_more ds more t is new
-end_more ds more t (Undecided cause) new is = not_in_more ds more t is new
+end_more ds more t _ new is = not_in_more ds more t is new
 
 -- a job's ending, where it ended
 pub record EndsAt (ds : List Decided) (i count : ℕ) (ending : Ending) : Type 0 where

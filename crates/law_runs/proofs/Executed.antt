@@ -1,18 +1,25 @@
 -- What a transaction is to be decided with is what the executor came to on what is known.
-use Rattle.law_runs.proofs.Vocabulary.{◌≡◌, ℕ, zero, suc, true, false, cond, List, [], ◌∷◌, Option, Some, None, refl, sym, ap, subst, ◌∙◌, length, is_some, Result, Ok, Err, false≢true, Content, Prefix, LockMode, Shared, Exclusive}
-use Rattle.law_runs.proofs.Vocabulary.{serves, Answer, Refusal, Row, Request, Reply, Verdict, is_prepared, Hold, Know, Ended, KnownSuite, Known, IsSoAt, AgreesWith, Heard, Needs, Done, exec_of, IsMoreAt, MoreKnown}
-use Rattle.law_runs.proofs.Vocabulary.{more_known_changes_nothing, Told, Said, Collector, raised, tell, tell_at, mode_of, Next, Ask, Current, Short, next, Cache, ReadPoint, GatheredSuite, Suites, suite_of, with_suite, known_of, settled}
-use Rattle.law_runs.proofs.Vocabulary.{first_or, Response, Replied, Lacked, Cause, Lost, Ending, Undecided, Changes, Granted, Fixed, Task, Proposal, Phase, Gathering, Fetching, Widening, Preparing, Deciding, Finishing, TransactionRun}
-use Rattle.law_runs.proofs.Vocabulary.{After, GoesOn, Ends, changes_of, Gathered, tell_end, give_up, prepare, locked_at, short_cause, gather_by, widen_by, widen_one, widened, widen_all, to_widen, opened, or_all, open_needed, open_suite}
-use Rattle.law_runs.proofs.Vocabulary.{open_first, opened_with, free_content, heard_on, raised_or_new, keep_content, heard_of, said_to, proceed, execute, collected, hear, fetched, prepared, after_response, given_in, lack_cause}
-use Rattle.law_runs.proofs.Vocabulary.{verdict_in, ending_by, cause_of_abort, serves_itself}
-use Rattle.rep_core.specs.declared.reply.Verdict.TheVariants as verdict
+use Rattle.law_runs.proofs.Vocabulary.{◌≡◌, ℕ, zero, suc, true, false, cond, List, [], ◌∷◌, Option, Some, None, refl, sym, ap, subst, ◌∙◌, length, is_some, Result, Ok, Err, false≢true, serves, Answer, Refusal, Row, Request, Reply, Verdict}
+use Rattle.law_runs.proofs.Vocabulary.{is_prepared, Ended, IsMoreAt, MoreKnown, more_known_changes_nothing, Cache, ReadPoint, GatheredSuite, Suites, suite_of, with_suite, known_of, settled, first_or, Response, Replied, Lacked, Cause, Lost}
+use Rattle.law_runs.proofs.Vocabulary.{Ending, Undecided, Changes, Granted, Fixed, Task, Proposal, Phase, Gathering, Fetching, Widening, Preparing, Deciding, Finishing, TransactionRun, After, GoesOn, Ends, serves_itself}
+use Rattle.file_exec.specs.declared.need.Need.TheVariants.{Hold, Know}
+use Rattle.suite_content.specs.declared.content.Content.{Content}
+use Rattle.suite_prefix.specs.declared.copies.Prefix.{Prefix}
+use Rattle.suite_prefix.specs.declared.lock_mode.LockMode.{LockMode}
+use Rattle.suite_prefix.specs.declared.lock_mode.LockMode.TheVariants.{Shared, Exclusive}
+use Rattle.file_exec.specs.KnownSuites.{KnownSuite}
+use Rattle.file_exec.specs.Known.{Known, IsSoAt, AgreesWith, Heard, Needs, Done, exec_of}
+use Rattle.suite_collect.specs.declared.told.Told.{Told}
+use Rattle.suite_collect.specs.declared.told.Said.{Said}
+use Rattle.suite_collect.specs.Collecting.{Collector, raised, tell, tell_at, mode_of, Next, Ask, Current, Short, next, Widening as Wider}
 use Rattle.file_exec.specs.declared.executor.Outcome.{Outcome as Executed}
+use Rattle.txn_core.specs.Transactions.{Step, changes_of, Gathered, tell_end, give_up, prepare, locked_at, short_cause, gather_by, widen_by, widen_one, widened, widen_all, to_widen, opened, or_all, open_needed, open_suite, open_first}
+use Rattle.txn_core.specs.Transactions.{opened_with, free_content, heard_on, raised_or_new, keep_content, heard_of, said_to, proceed, execute, collected, hear, fetched, prepared, after_response, given_in, lack_cause, verdict_in, ending_by}
+use Rattle.txn_core.specs.Transactions.{cause_of_abort}
+use Rattle.rep_core.specs.declared.reply.Verdict.TheVariants as verdict
 use Rattle.file_exec.specs.declared.executor.Outcome.TheVariants as exec
 use Rattle.file_exec.specs.Changes as changes
 use Rattle.file_exec.specs.Known as known
-use Rattle.suite_collect.specs.Collecting.{Widening as Wider}
-use Rattle.txn_core.specs.Transactions.{Step}
 use Rattle.law_runs.proofs.Standing.{Answer'}
 use Rattle.law_runs.proofs.Knowing.{AreFit, with_fit, more_after}
 
@@ -80,18 +87,15 @@ came_more fixed task less more outcome goes fit came = record {
 
 answers_in : List Answer → Executed → List Answer
 answers_in before (exec.Done answers changes) = answers
-answers_in before (exec.Need need) = before
-answers_in before (exec.Refused refusal) = before
+answers_in before _ = before
 
 set_in : Changes → Executed → Changes
 set_in before (exec.Done answers changes) = changes
-set_in before (exec.Need need) = before
-set_in before (exec.Refused refusal) = before
+set_in before _ = before
 
 refusal_in : Refusal → Executed → Refusal
 refusal_in before (exec.Refused refusal) = refusal
-refusal_in before (exec.Done answers changes) = before
-refusal_in before (exec.Need need) = before
+refusal_in before _ = before
 
 came_done : (fixed : Fixed) (task : Task) (suites : Suites) (answers : List Answer) (set : Changes) → AreFit suites → heard_on fixed task suites ≡ exec.Done answers set
     → Came fixed task suites (Ok (record { answers = answers; changes = set }))
@@ -134,12 +138,11 @@ came_refused fixed task suites why fit = of (exec_of fixed.service (known_of sui
 -- ---- what a phase keeps
 
 abbrev pub Keeps : Fixed → Task → Suites → Phase → Type 0
-Keeps fixed task suites (Gathering number) = AreFit suites
-Keeps fixed task suites (Fetching number) = AreFit suites
 Keeps fixed task suites (Widening left granted) = AreFit suites × Came fixed task suites (Ok granted)
 Keeps fixed task suites (Preparing left outcome) = Came fixed task suites outcome
 Keeps fixed task suites (Deciding outcome) = Came fixed task suites outcome
 Keeps fixed task suites (Finishing servers v ending) = Unit {0}
+Keeps fixed task suites _ = AreFit suites
 
 abbrev pub Left : Fixed → After TransactionRun → Type 0
 Left fixed (GoesOn txn_run) = Keeps fixed txn_run.task txn_run.suites txn_run.phase
@@ -186,8 +189,7 @@ left_widen fixed task cache granted (number ∷ left) suites fit came =
 
 left_gather : (fixed : Fixed) (task : Task) (cache : Cache) (suites : Suites) (number : ℕ) (next : Next) → AreFit suites → Left fixed (gather_by task cache suites number next).after
 left_gather fixed task cache suites number (Short got needed busy) fit = left_give_up fixed task cache suites (short_cause number got needed busy)
-left_gather fixed task cache suites number (Ask server asked) fit = fit
-left_gather fixed task cache suites number (Current prefix dver members) fit = fit
+left_gather fixed task cache suites number _ fit = fit
 
 raised_serves : (widening : Option Wider) (mode before : LockMode) → serves mode before ≡ true → serves (raised widening mode) before ≡ true
 raised_serves (Some wider) mode before is = is

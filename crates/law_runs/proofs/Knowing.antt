@@ -1,6 +1,9 @@
 -- Suites in order, each collected in its mode or a stronger one; and what is known of them grows with them.
-use Rattle.law_runs.proofs.Vocabulary.{◌≡◌, ⊎_elim, ℕ, true, [], Some, sym, ap, subst, ◌∙◌, nat_cmp, nat_cmp_total, none-some, same_Some, IsOrdered, IsOrdered-insert, get_insert_here, get_insert_apart, serves, MoreKnown, GatheredSuite}
-use Rattle.law_runs.proofs.Vocabulary.{Suites, suite_of, with_suite, known_of, GoesOnFrom, more_known}
+use Rattle.law_runs.proofs.Vocabulary.{◌≡◌, ⊎_elim, ℕ, true, [], Some, sym, ap, subst, ◌∙◌, nat_cmp, none-some, same_Some, serves, MoreKnown, GatheredSuite, Suites, suite_of, with_suite, known_of, GoesOnFrom, more_known}
+use Rattle.std.proofs.lemmas.Cmp.{nat_cmp_total}
+use Rattle.sorted_map.specs.SortedMap.{IsOrdered}
+use Rattle.sorted_map.specs.Laws.{IsOrdered-insert}
+use Rattle.sorted_map.specs.Numbers.{get_insert_here, get_insert_apart}
 use Rattle.std.specs.List.Sorted.{IsStrictlySortedBy}
 use Rattle.law_runs.proofs.Places.{same_or}
 

@@ -1,8 +1,9 @@
 -- What a request does to the records of a server, and to its audit.
-use Rattle.law_runs.proofs.Vocabulary.{◌≡◌, ◌≢◌, ℕ, Some, None, refl, Decision, Request, Stamped, State, record_of, with_item, verdict_of, audit_of, record_here, record_apart, Ways, by_step}
+use Rattle.law_runs.proofs.Vocabulary.{◌≡◌, ◌≢◌, ℕ, Some, None, refl, Request, Stamped, State, record_of, with_item, verdict_of, audit_of, record_here, record_apart, Ways, by_step}
+use Rattle.rep_core.specs.declared.request.Decision.{Decision}
+use Rattle.rep_core.specs.Serving.{step}
 use Rattle.rep_core.specs.declared.request.Request.TheVariants as request
 use Rattle.rep_core.specs.declared.reply.Verdict.TheVariants as verdict
-use Rattle.rep_core.specs.Serving.{step}
 
 -- A request leaves the records and the audit; or it is the first Decide of a transaction, and what it carries is recorded, with an item
 -- where it is a denial; or it is the first Resolve of one, and Aborted is recorded.

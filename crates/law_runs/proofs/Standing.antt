@@ -80,6 +80,5 @@ recorded_last ds d (Err refusal) same = stands_last ds d (Err refusal) same
 
 -- where a record stands beside "not decided so far", it is Aborted; and any other stands
 pub stands_if : (ds : List Decided) (t : ℕ) (v : Verdict) → Recorded ds t v → NotIn ds t → Stands ds t v
-stands_if ds t (verdict.Answered answers) is none = is
-stands_if ds t (verdict.Refused refusal) is none = is
 stands_if ds t verdict.Aborted is none = none
+stands_if ds t _ is none = is

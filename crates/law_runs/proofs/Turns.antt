@@ -1,14 +1,16 @@
 -- A request that an agent's transaction makes of a server: what it decides, and what it says.
-use Rattle.law_runs.proofs.Vocabulary.{◌≡◌, ◌⊎◌, inl, inr, ⊎_elim, ℕ, Bool, true, false, cond, List, [], ◌∷◌, ◌++◌, Option, Some, None, refl, sym, ap, subst, ◌∙◌, is_some, option_to_list, Ok, Err, false≢true, same_Some, AuditItem}
-use Rattle.law_runs.proofs.Vocabulary.{Refusal, Why, denials, Request, Reply, Verdict, Stamped, State, record_of, reply_of, after_record, recorded, verdict_of, audit_of, denial_of, with_item, is_full, served, record_here, record_apart}
-use Rattle.law_runs.proofs.Vocabulary.{record_step, recording, Replied, Fixed, Task, Phase, Deciding, Proposal, home_of, decision_of, is_decide, said_by, Agent, Decided, to_decide, answer_in, decided_as, decided_at}
+use Rattle.law_runs.proofs.Vocabulary.{◌≡◌, ◌⊎◌, inl, inr, ⊎_elim, ℕ, Bool, true, false, cond, List, [], ◌∷◌, ◌++◌, Option, Some, None, refl, sym, ap, subst, ◌∙◌, is_some, option_to_list, Ok, Err, false≢true, same_Some, Refusal, denials}
+use Rattle.law_runs.proofs.Vocabulary.{Request, Reply, Verdict, Stamped, State, record_of, reply_of, after_record, recorded, verdict_of, audit_of, denial_of, with_item, is_full, served, record_here, record_apart, record_step, recording}
+use Rattle.law_runs.proofs.Vocabulary.{Replied, Fixed, Task, Phase, Deciding, Proposal, home_of, decision_of, is_decide, said_by, Agent, Decided, to_decide, answer_in, decided_as, decided_at}
+use Rattle.file_ops.specs.declared.audit.AuditItem.{AuditItem}
+use Rattle.file_ops.specs.declared.refusal.Why.{Why}
+use Rattle.rep_core.specs.Service.{after}
+use Rattle.rep_core.specs.Serving.{step}
+use Rattle.run_core.specs.Decisions.{answer_of}
 use Rattle.file_ops.specs.declared.refusal.Why.TheVariants as why
 use Rattle.rep_core.specs.declared.request.Request.TheVariants as request
 use Rattle.rep_core.specs.declared.reply.Reply.TheVariants as reply
 use Rattle.rep_core.specs.declared.reply.Verdict.TheVariants as verdict
-use Rattle.rep_core.specs.Service.{after}
-use Rattle.rep_core.specs.Serving.{step}
-use Rattle.run_core.specs.Decisions.{answer_of}
 use Rattle.law_runs.proofs.Standing.{Stands, Recorded, none_in, stands_more, stands_last, stands_if}
 use Rattle.law_runs.proofs.Records as records
 use Rattle.law_runs.proofs.Records.{Records, Same, Decided as Decided', Aborted}

@@ -3,40 +3,28 @@ pub use Rattle.std.proofs.Common.{Bool, Contains, Err, List, None, Ok, Option, R
 pub use Rattle.std.proofs.Common.{slice_set, subst, suc, sym, true, zero, ℕ, ⊎_elim, ◌%◌, ◌&&◌, ◌*◌, ◌++◌, ◌+◌, ◌/◌, ◌<◌, ◌==◌, ◌∙◌, ◌∷◌, ◌≡◌, ◌≢◌, ◌≤◌, ◌⊎◌}
 pub use Rattle.std.proofs.lemmas.Bool.{and_parts, cases_Bool, false≢true, ne_eqb}
 pub use Rattle.std.proofs.lemmas.Bool.Decides.{nat_tests}
-pub use Rattle.std.proofs.lemmas.Cmp.{nat_cmp_total}
-pub use Rattle.std.proofs.lemmas.List.{length-set}
-pub use Rattle.std.proofs.lemmas.List.Elements.{All-cons, All-nil}
 pub use Rattle.std.proofs.lemmas.Map.Keys.{IsDistinct-cons}
 pub use Rattle.std.proofs.lemmas.Option.{cond_some, none-some, same_Some}
-pub use Rattle.std.specs.FinSet.{contains-empty}
 pub use Rattle.std.specs.List.{AllByRecursion, cons_option}
 pub use Rattle.std.specs.Ordering.{nat_cmp}
 pub use Rattle.file_exec.proofs.More.{done_is_the_tables, more_known_changes_nothing}
 pub use Rattle.file_exec.specs.Following.{Ended}
-pub use Rattle.file_exec.specs.Known.{AgreesWith, Done, Heard, IsSoAt, Known, Needs, exec_of, on_table}
-pub use Rattle.file_exec.specs.KnownSuites.{KnownSuite}
 pub use Rattle.file_exec.specs.Laws.{IsMoreAt, MoreKnown}
-pub use Rattle.file_exec.specs.declared.need.Need.TheVariants.{Hold, Know}
 pub use Rattle.file_ops.specs.Rows.{PlainTable, Row, Rows}
 pub use Rattle.file_ops.specs.Transactions.{Played, denials, replies, table_after, transaction}
 pub use Rattle.file_ops.specs.declared.answer.Answer.{Answer}
-pub use Rattle.file_ops.specs.declared.audit.AuditItem.{AuditItem}
 pub use Rattle.file_ops.specs.declared.refusal.Refusal.{Refusal}
-pub use Rattle.file_ops.specs.declared.refusal.Why.{Why}
 pub use Rattle.file_ops.specs.declared.service.Service.{Service}
 pub use Rattle.rep_core.proofs.Members.{Has, contains_from, has_from}
 pub use Rattle.rep_core.proofs.Records.{record_apart, record_here, record_step, resolve_ruled}
 pub use Rattle.rep_core.proofs.Ways.{Ways, by_step, recording}
 pub use Rattle.rep_core.specs.Fits.{is_prepared}
-pub use Rattle.rep_core.specs.Laws.{is_finish}
-pub use Rattle.rep_core.specs.Locks.{has_prepared}
 pub use Rattle.rep_core.specs.Service.{after_record, audit_of, denial_of, recorded, reply_of, verdict_of, with_item}
 pub use Rattle.rep_core.specs.Serving.{answer_of, is_full, next_stamp, served}
 pub use Rattle.rep_core.specs.State.{State, record_of}
 pub use Rattle.rep_core.specs.declared.lock.Lock.{Lock}
 pub use Rattle.rep_core.specs.declared.reply.Reply.{Reply}
 pub use Rattle.rep_core.specs.declared.reply.Verdict.{Verdict}
-pub use Rattle.rep_core.specs.declared.request.Decision.{Decision}
 pub use Rattle.rep_core.specs.declared.request.Request.{Request}
 pub use Rattle.rep_core.specs.declared.stamped.Stamped.{Stamped}
 pub use Rattle.run_core.proofs.Appending.{after-append, decisions_from-append, dones-append, outcomes-append}
@@ -49,30 +37,17 @@ pub use Rattle.run_core.specs.declared.done.EndedJob.{EndedJob}
 pub use Rattle.run_core.specs.declared.done.Served.{Served}
 pub use Rattle.run_core.specs.declared.event.Event.{Event}
 pub use Rattle.run_core.specs.declared.event.Event.TheVariants.{Begin, Crash, Forget, Lack, Return, Step}
-pub use Rattle.sorted_map.specs.Laws.{IsOrdered-insert}
-pub use Rattle.sorted_map.specs.Numbers.{get_insert_apart, get_insert_here}
-pub use Rattle.sorted_map.specs.SortedMap.{IsOrdered, get}
-pub use Rattle.suite_collect.specs.Collecting.{Ask, Collector, Current, Next, Short, mode_of, next, raised, tell, tell_at}
-pub use Rattle.suite_collect.specs.declared.told.Said.{Said}
-pub use Rattle.suite_collect.specs.declared.told.Told.{Told}
-pub use Rattle.suite_content.specs.declared.content.Content.{Content}
 pub use Rattle.suite_prefix.specs.LockModes.{serves}
 pub use Rattle.suite_prefix.specs.SettingsRules.{IsAccepted, Opening}
-pub use Rattle.suite_prefix.specs.declared.copies.Prefix.{Prefix}
-pub use Rattle.suite_prefix.specs.declared.lock_mode.LockMode.{LockMode}
-pub use Rattle.suite_prefix.specs.declared.lock_mode.LockMode.TheVariants.{Exclusive, Shared}
 pub use Rattle.txn_core.proofs.Asks.{asked_as, asks_same, fetched_as}
 pub use Rattle.txn_core.proofs.Growing.{GoesOnFrom, more_known, serves_itself}
-pub use Rattle.txn_core.proofs.Walk.{IsEarly, goes_execute, goes_response}
 pub use Rattle.txn_core.specs.Agents.{Agent, begin, end_of, fixed_of, forget, has_sense, is_idle, left, max_jobs, next_in, next_of, started, take, take_in}
 pub use Rattle.txn_core.specs.Doing.{After, Breaking, Changes, Deciding, Doing, Ends, Fetching, Finishing, Fixed, Gathering, GoesOn, Granted, Listing, Phase, Preparing, Proposal, Resolving, Running, RunningSweep, SweepRun, Sweeping, Task}
 pub use Rattle.txn_core.specs.Doing.{Telling, TransactionRun, Widening, home_of}
 pub use Rattle.txn_core.specs.Laws.{is_decide, said_by}
 pub use Rattle.txn_core.specs.Suites.{GatheredSuite, ReadPoint, Suites, first_or, known_of, settled, suite_of, with_suite}
 pub use Rattle.txn_core.specs.Sweeps.{asked_now}
-pub use Rattle.txn_core.specs.Transactions.{Gathered, after_response, cause_of_abort, changes_of, collected, decision_of, ending_by, execute, fetched, free_content, gather_by, give_up, given_in, hear, heard_of, heard_on, keep_content}
-pub use Rattle.txn_core.specs.Transactions.{lack_cause, locked_at, open_first, open_needed, open_suite, opened, opened_with, or_all, prepare, prepared, proceed, raised_or_new, request_in, said_to, short_cause, tell_end, to_widen}
-pub use Rattle.txn_core.specs.Transactions.{verdict_in, widen_all, widen_by, widen_one, widened}
+pub use Rattle.txn_core.specs.Transactions.{after_response, cause_of_abort, changes_of, decision_of, ending_by, execute, give_up, lack_cause, locked_at, prepare, prepared, request_in, tell_end, verdict_in}
 pub use Rattle.txn_core.specs.Writing.{parts_at}
 pub use Rattle.txn_core.specs.declared.ending.Cause.{Cause}
 pub use Rattle.txn_core.specs.declared.ending.Cause.TheVariants.{Lost}
@@ -85,7 +60,4 @@ pub use Rattle.txn_core.specs.declared.response.Response.TheVariants.{Lacked, Re
 pub use Rattle.weak_cache.specs.Entries.{Cache}
 pub use Rattle.law_runs.specs.Answers.{AnswersFollowKnowledge, IsAnsweredAsKnown, KnownAnswersAreTheTables, KnowsTheTable, TablesAuditIsTheDenials, all_denials}
 pub use Rattle.law_runs.specs.Claims.{AnsweredBefore, AuditIsTheDenials, ChangesAreMet, DecidedOnce, DecisionsAreTheRecords, IsDecidedAs, denials_at, denials_of, denied_in, ended, record_by}
-pub use Rattle.law_runs.specs.Finishes.{EndedSo, FinishIsAfter, FinishedBefore, FinishedChangesAreMet, SomeRunsFinish, asks_for_itself}
 pub use Rattle.law_runs.specs.Naming.{may_sweep, names}
-pub use Rattle.law_runs.specs.Numbers.{AgentsAskForThemselves, AsksForItself, AsksToSweep, EachIsBegunOnce, begins_at, begins_now, begun, begun_from, has_begun, number_of, was_begun}
-pub use Rattle.law_runs.specs.Worked.{SomeRunsDecide, item, revoked, the_decisions, two_agents}

@@ -1,6 +1,8 @@
 -- It holds by computation.
-use Rattle.law_runs.proofs.Vocabulary.{◌≡◌, ℕ, ◌<◌, [], ◌∷◌, refl, sym, ap, ◌∙◌, subst, arith, nat_cmp, contains-empty, false≢true, All-nil, All-cons, decisions, table_of, table_after_all, AnswersAreTheTables, two_agents, revoked, item}
-use Rattle.law_runs.proofs.Vocabulary.{the_decisions, SomeRunsDecide}
+use Rattle.law_runs.proofs.Vocabulary.{◌≡◌, ℕ, ◌<◌, [], ◌∷◌, refl, sym, ap, ◌∙◌, subst, arith, nat_cmp, false≢true, decisions, table_of, table_after_all, AnswersAreTheTables}
+use Rattle.std.specs.FinSet.{contains-empty}
+use Rattle.std.proofs.lemmas.List.Elements.{All-nil, All-cons}
+use Rattle.law_runs.specs.Worked.{two_agents, revoked, item, the_decisions, SomeRunsDecide}
 use Rattle.file_ops.specs.Rows as rows
 
 abbrev known : ℕ × ℕ → Type 0

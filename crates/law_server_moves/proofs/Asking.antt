@@ -1,7 +1,7 @@
 -- Requests for locks move the machine, and what lets locks go.
-use Rattle.law_server_moves.proofs.Vocabulary.{◌≡◌, ℕ, Bool, true, false, cond, [], ◌∷◌, Option, Some, None, refl, sym, ap, subst, ◌∙◌, inl, inr, ◌==◌, ◌&&◌, ◌||◌, not, LockMode, Exclusive, is_exclusive, Lock, Request, Reply, rise}
-use Rattle.law_server_moves.proofs.Vocabulary.{lock_at, in_the_way, has_lock, broken, copy_of, State, locking_reply, after_locking, poll_reply, after_poll, after_crash, lock_there, way_free, with_locked, Beginning, World, set1, Event}
-use Rattle.law_server_moves.proofs.Vocabulary.{Held, Upgrade, Lose, upgraded, upgraded_hold, lost, kept, IsFree, MayLose, itself, one_is, hold_of, ShowsAt, Shows, is_prepared, left_by_break, left_by_crash, moves, Follows}
+use Rattle.law_server_moves.proofs.Vocabulary.{◌≡◌, ℕ, Bool, true, false, cond, [], ◌∷◌, Option, Some, None, refl, sym, ap, subst, ◌∙◌, inl, inr, ◌==◌, ◌&&◌, ◌||◌, not, LockMode, Exclusive, is_exclusive, Lock, Request, Reply, rise, lock_at}
+use Rattle.law_server_moves.proofs.Vocabulary.{in_the_way, has_lock, broken, copy_of, State, locking_reply, after_locking, poll_reply, after_poll, after_crash, lock_there, way_free, with_locked, Beginning, World, set1, Event, Held, Upgrade}
+use Rattle.law_server_moves.proofs.Vocabulary.{Lose, upgraded, upgraded_hold, lost, kept, IsFree, MayLose, itself, one_is, hold_of, ShowsAt, Shows, is_prepared, left_by_break, left_by_crash, moves, Follows}
 use Rattle.rep_core.specs.declared.request.Request.TheVariants as request
 use Rattle.rep_core.specs.declared.reply.Reply.TheVariants as reply
 use Rattle.law_suite_machine.specs.Events as events

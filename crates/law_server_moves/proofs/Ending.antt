@@ -1,7 +1,10 @@
 -- Finish, Decide and Resolve move the machine.
-use Rattle.law_server_moves.proofs.Vocabulary.{◌≡◌, ℕ, Bool, true, false, cond, List, [], ◌∷◌, Option, Some, None, refl, sym, ap, subst, ◌∙◌, ◌==◌, nat_cmp, get, Replica, AuditItem, Decision, IsSound, copy_of, left_by, State, record_of}
-use Rattle.law_server_moves.proofs.Vocabulary.{after_finish, after_record, recorded, recording, record_here, record_apart, others, stored, get-without_intentions, copy_finished, Beginning, Entry, World, Aborted, set1, Event, Finish}
-use Rattle.law_server_moves.proofs.Vocabulary.{Overrule, copy_after, plan_after, decided, MayFinish, at1, one_is, one_not, plan_of, ended_as, verdict_of, ShowsAt, Shows, first_verdict, moves, Decides, Follows}
+use Rattle.law_server_moves.proofs.Vocabulary.{◌≡◌, ℕ, Bool, true, false, cond, List, [], ◌∷◌, Option, Some, None, refl, sym, ap, subst, ◌∙◌, ◌==◌, nat_cmp, get, Replica, IsSound, copy_of, left_by, State, record_of, after_finish}
+use Rattle.law_server_moves.proofs.Vocabulary.{after_record, recorded, recording, record_here, record_apart, Beginning, Entry, World, Aborted, set1, Event, Finish, Overrule, copy_after, plan_after, decided, MayFinish, at1, one_is, one_not}
+use Rattle.law_server_moves.proofs.Vocabulary.{plan_of, ended_as, verdict_of, ShowsAt, Shows, first_verdict, moves, Decides, Follows}
+use Rattle.file_ops.specs.declared.audit.AuditItem.{AuditItem}
+use Rattle.rep_core.specs.declared.request.Decision.{Decision}
+use Rattle.rep_core.proofs.IntentionLookups.{others, stored, get-without_intentions, copy_finished}
 use Rattle.rep_core.specs.Intentions as server
 use Rattle.rep_core.specs.declared.request.Request.TheVariants as request
 use Rattle.rep_core.specs.declared.reply.Reply.TheVariants as reply

@@ -1,7 +1,9 @@
 -- What a take of a prefix or of a whole copy leaves is a take of the machine.
-use Rattle.law_server_moves.proofs.Vocabulary.{◌≡◌, ℕ, true, false, cond, ◌⊎◌, inl, inr, List, [], ◌∷◌, length, zero, suc, refl, sym, ap, ◌∙◌, arith, ◌==◌, ◌&&◌, not, nat_lt, and_parts, false≢true, lt-ltb, nat_tests, Content, Bytes}
-use Rattle.law_server_moves.proofs.Vocabulary.{Names, PrefixKind, Absent, File, Folder, Prefix, Replica, is_valid_prefix, is_valid_copy, is_absent, is_empty, holds, version_agrees, is_within_limits, Take, Change, empty_of, IsTake}
-use Rattle.law_server_moves.proofs.Vocabulary.{GoesBy}
+use Rattle.law_server_moves.proofs.Vocabulary.{◌≡◌, ℕ, true, false, cond, ◌⊎◌, inl, inr, List, [], ◌∷◌, length, zero, suc, refl, sym, ap, ◌∙◌, arith, ◌==◌, ◌&&◌, not, nat_lt, and_parts, false≢true, lt-ltb, nat_tests, Content, Absent, File}
+use Rattle.law_server_moves.proofs.Vocabulary.{Folder, Prefix, Replica, is_valid_prefix, is_valid_copy, is_absent, is_empty, holds, version_agrees, is_within_limits, Change, empty_of, IsTake, GoesBy}
+use Rattle.suite_content.specs.declared.content.Content.TheVariants.{Bytes, Names}
+use Rattle.suite_prefix.specs.declared.copies.PrefixKind.{PrefixKind}
+use Rattle.rep_core.specs.declared.request.Take.{Take}
 use Rattle.rep_core.specs.Store as server
 use Rattle.rep_core.specs.declared.request.Take.TheVariants as take
 

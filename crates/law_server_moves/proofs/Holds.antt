@@ -1,8 +1,7 @@
 -- The lock that the machine has of a transaction, after each change of a server's locks.
-use Rattle.law_server_moves.proofs.Vocabulary.{◌≡◌, ℕ, Bool, true, false, cond, List, Option, Some, None, refl, sym, ap, ◌∙◌, arith, ◌==◌, ◌&&◌, ◌||◌, not, option_map, nat_tests, LockMode, Shared, Exclusive, is_exclusive, stronger}
-use Rattle.law_server_moves.proofs.Vocabulary.{Lock, Part, rise, lock_at, has_lock, with_prepared, released, broken, prepared_locks, lock_there, taken, ready, names, if_prepared, lock_at-locked, lock_at-prepared, lock_at-released}
-use Rattle.law_server_moves.proofs.Vocabulary.{lock_at-crashed, lock_at-broken, Hold, upgraded_hold, prepared_hold, kept, hold_of, is_prepared}
-use Rattle.rep_core.specs.Locks.{locked}
+use Rattle.law_server_moves.proofs.Vocabulary.{◌≡◌, ℕ, Bool, true, false, cond, List, Option, Some, None, refl, sym, ap, ◌∙◌, arith, ◌==◌, ◌&&◌, ◌||◌, not, option_map, nat_tests, LockMode, Shared, Exclusive, is_exclusive, stronger, Lock}
+use Rattle.law_server_moves.proofs.Vocabulary.{Part, rise, lock_at, has_lock, with_prepared, released, broken, prepared_locks, lock_there, taken, ready, names, if_prepared, lock_at-locked, lock_at-prepared, lock_at-released}
+use Rattle.law_server_moves.proofs.Vocabulary.{lock_at-crashed, lock_at-broken, Hold, upgraded_hold, prepared_hold, kept, hold_of, is_prepared, locked}
 
 -- ---- tests
 

@@ -1,6 +1,5 @@
 -- A server that keeps what it has of a suite, and the machine after a change of one server.
-use Rattle.law_server_moves.proofs.Vocabulary.{◌≡◌, ℕ, Bool, true, false, cond, [], refl, sym, ap, ◌∙◌, ◌==◌, nat_cmp, get, lock_at, State, record_of, copy_of, Beginning, World, set1, hold_of, plan_of, verdict_of, ShowsAt, Shows}
-use Rattle.law_server_moves.proofs.Vocabulary.{Follows}
+use Rattle.law_server_moves.proofs.Vocabulary.{◌≡◌, ℕ, Bool, true, false, cond, [], refl, sym, ap, ◌∙◌, ◌==◌, nat_cmp, get, lock_at, State, record_of, copy_of, Beginning, World, set1, hold_of, plan_of, verdict_of, ShowsAt, Shows, Follows}
 use Rattle.law_server_moves.proofs.Placing.{placed, records_stay}
 
 -- what one server has of the suite stays

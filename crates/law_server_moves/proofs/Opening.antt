@@ -1,6 +1,9 @@
 -- The servers as they open show the machine as it begins, and what agents do by themselves is nothing to the servers.
-use Rattle.law_server_moves.proofs.Vocabulary.{◌≡◌, ℕ, Bool, true, false, cond, [], ◌∷◌, Some, None, refl, sym, ap, ◌∙◌, ◌⊎◌, inl, inr, arith, ◌==◌, unwrap_or, list_any, nat_cmp, is_at, nat_tests, IsValid, absent_copy, Opening}
-use Rattle.law_server_moves.proofs.Vocabulary.{root_copy, copy_in, State, opening, IsBeginning, Change, World, begun, aimed, given_up, Shows, beginning, OpeningShows}
+use Rattle.law_server_moves.proofs.Vocabulary.{◌≡◌, ℕ, Bool, true, false, cond, [], ◌∷◌, Some, None, refl, sym, ap, ◌∙◌, ◌⊎◌, inl, inr, arith, ◌==◌, list_any, nat_cmp, nat_tests, IsValid, Opening, root_copy, copy_in, State, opening}
+use Rattle.law_server_moves.proofs.Vocabulary.{IsBeginning, Change, World, begun, aimed, given_up, Shows, beginning, OpeningShows}
+use Rattle.std.specs.Prelude.{unwrap_or}
+use Rattle.std.specs.BTreeMap.{is_at}
+use Rattle.suite_prefix.specs.Absent.{absent_copy}
 
 is_beginning : (z : ℕ) (given : Opening) → IsValid given.c0 → IsBeginning (beginning z given)
 is_beginning z given valid = record {

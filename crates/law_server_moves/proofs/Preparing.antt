@@ -1,9 +1,12 @@
 -- Prepare moves the machine.
-use Rattle.law_server_moves.proofs.Vocabulary.{◌≡◌, ℕ, Bool, true, false, cond, List, [], ◌∷◌, length, Option, Some, None, is_some, refl, sym, ap, subst, ◌∙◌, arith, ◌==◌, ◌&&◌, ◌||◌, not, nat_lt, list_any, nat_cmp, false≢true}
-use Rattle.law_server_moves.proofs.Vocabulary.{and_parts, or_parts, nat_tests, get, Replica, LockMode, Shared, Exclusive, is_exclusive, serves, is_valid_copy, Part, rise, is_own, has_prepared, has_lock_for, IsSound, is_sound}
-use Rattle.law_server_moves.proofs.Vocabulary.{is_used_up, copy_of, left_by, is_keep, goes_with, holds_last, is_sound_part, lists_twice, intended, suites_with, max_suites, overfills, State, stands_prepared, can_prepare, prepares, laid}
-use Rattle.law_server_moves.proofs.Vocabulary.{any_find, find_some, all_at, none_at, once_both, one_each, planned, get_unnamed, get-with_intentions, Looked, looked, left_sound, Beginning, World, set1, Event, prepared_hold, IsTake}
-use Rattle.law_server_moves.proofs.Vocabulary.{MayPrepare, at1, itself, another, hold_of, plan_of, ShowsAt, Shows, part_of, left_of, SendsFixed, Sends, prepare_of, moves, Follows}
+use Rattle.law_server_moves.proofs.Vocabulary.{◌≡◌, ℕ, Bool, true, false, cond, List, [], ◌∷◌, length, Option, Some, None, is_some, refl, sym, ap, subst, ◌∙◌, arith, ◌==◌, ◌&&◌, ◌||◌, not, nat_lt, list_any, nat_cmp, false≢true, and_parts}
+use Rattle.law_server_moves.proofs.Vocabulary.{or_parts, nat_tests, get, Replica, LockMode, Shared, Exclusive, is_exclusive, serves, is_valid_copy, Part, rise, is_own, has_prepared, has_lock_for, IsSound, is_sound, is_used_up, copy_of}
+use Rattle.law_server_moves.proofs.Vocabulary.{left_by, is_keep, goes_with, holds_last, is_sound_part, lists_twice, intended, suites_with, max_suites, overfills, State, stands_prepared, can_prepare, prepares, laid, one_each, Beginning}
+use Rattle.law_server_moves.proofs.Vocabulary.{World, set1, Event, prepared_hold, IsTake, MayPrepare, at1, itself, another, hold_of, plan_of, ShowsAt, Shows, part_of, left_of, SendsFixed, Sends, prepare_of, moves, Follows}
+use Rattle.rep_core.proofs.Finding.{any_find, find_some, all_at, none_at, once_both}
+use Rattle.rep_core.proofs.IntentionLookups.{planned, get_unnamed, get-with_intentions}
+use Rattle.rep_core.proofs.Consistent.{Looked, looked}
+use Rattle.rep_core.proofs.Soundness.{left_sound}
 use Rattle.rep_core.specs.Intentions as server
 use Rattle.rep_core.specs.declared.request.Request.TheVariants as request
 use Rattle.rep_core.specs.declared.reply.Reply.TheVariants as reply

@@ -1,6 +1,7 @@
 -- What a reply tells is what the machine has.
 use Rattle.law_server_moves.proofs.Vocabulary.{◌≡◌, ℕ, false, cond, Some, refl, ap, ◌∙◌, Content, Prefix, Replica, LockMode, is_exclusive, Request, Reply, Stamped, State, record_of, reply_of, after, is_full, served, step, decide_ruled}
-use Rattle.law_server_moves.proofs.Vocabulary.{resolve_ruled, lock_there, LockTold, poll_told, upgrade_told, ContentTold, fetch_told, World, set1, hold_of, verdict_of, ended_as, Shows, TellsCopy, TellsContent, Tells, RepliesTell}
+use Rattle.law_server_moves.proofs.Vocabulary.{resolve_ruled, lock_there, World, set1, hold_of, verdict_of, ended_as, Shows, TellsCopy, TellsContent, Tells, RepliesTell}
+use Rattle.rep_core.proofs.RepliesTell.{LockTold, poll_told, upgrade_told, ContentTold, fetch_told}
 use Rattle.rep_core.specs.declared.request.Request.TheVariants as request
 use Rattle.rep_core.specs.declared.reply.Reply.TheVariants as reply
 use Rattle.rep_core.specs.declared.reply.Verdict as replied

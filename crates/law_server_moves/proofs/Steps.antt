@@ -1,6 +1,7 @@
 -- A step of a server, whatever it is asked.
-use Rattle.law_server_moves.proofs.Vocabulary.{◌≡◌, ℕ, true, false, cond, List, [], None, refl, sym, subst, Request, Reply, Stamped, in_the_way, has_lock, IsConsistent, State, stands_prepared, can_prepare, reply_up, after_up}
-use Rattle.law_server_moves.proofs.Vocabulary.{reply_down, after_down, reply_of, after, asks_too_much, next_stamp, is_full, served, step, room, Beginning, World, set1, Event, run, Shows, AgentSide, moves, Follows, EachStepMoves}
+use Rattle.law_server_moves.proofs.Vocabulary.{◌≡◌, ℕ, true, false, cond, List, [], None, refl, sym, subst, Request, Reply, Stamped, in_the_way, has_lock, State, stands_prepared, can_prepare, reply_up, after_up, reply_down, after_down}
+use Rattle.law_server_moves.proofs.Vocabulary.{reply_of, after, asks_too_much, next_stamp, is_full, served, step, room, Beginning, World, set1, Event, run, Shows, AgentSide, moves, Follows, EachStepMoves}
+use Rattle.rep_core.specs.Consistency.{IsConsistent}
 use Rattle.rep_core.specs.declared.request.Request.TheVariants as request
 use Rattle.law_server_moves.proofs.Keeping.{stays, nothing, shows_stamped}
 use Rattle.law_server_moves.proofs.Asking.{poll_moves, upgrade_moves, break_moves, crash_moves}
@@ -18,28 +19,17 @@ module _ (start : Beginning) (z : ℕ) (home : ℕ → ℕ) (servers : ℕ → S
   up : (asked : Request) → AgentSide start z home decision i (servers i).locks w asked → asks_too_much (servers i) asked ≡ false → Comes asked (reply_up (servers i) asked) (after_up (servers i) asked)
   up (request.Poll t s m) agent room = poll_moves start z home servers i w shows consistent.rising decision t s m agent (unlocked t) (in_the_way t s m (servers i).locks) refl
   up (request.Upgrade t s) agent room = upgrade_moves start z home servers i w shows consistent.rising decision t s (has_lock t s (servers i).locks) refl
-  up (request.Fetch t s) agent room = none
   up (request.Prepare t parts) agent room = prepare_moves start z home servers i w shows decision t parts agent consistent.rising consistent.sound room (stands_prepared (servers i) t parts) (can_prepare (servers i) t parts) refl refl
   up (request.Decide t decided) agent room = decide_moves start z home servers i w shows t decided decision agent
   up (request.Resolve t) agent room = resolve_moves start z home servers i w shows t decision
   up (request.Finish t v) agent room = finish_moves start z home servers i w shows t v agent consistent.sound
   up (request.Break t s) agent room = break_moves start z home servers i w shows consistent.rising decision t s
-  up request.Locks agent room = none
   up request.Crash agent room = crash_moves start z home servers i w shows consistent.rising decision
-  up request.Return agent room = none
+  up _ agent room = none
 
   down : (asked : Request) → Comes asked (reply_down asked) (after_down (servers i) asked)
-  down (request.Poll t s m) = none
-  down (request.Upgrade t s) = none
-  down (request.Fetch t s) = none
-  down (request.Prepare t parts) = none
-  down (request.Decide t decided) = none
-  down (request.Resolve t) = none
-  down (request.Finish t v) = none
-  down (request.Break t s) = none
-  down request.Locks = none
-  down request.Crash = none
   down request.Return = stays start z home servers i (record (servers i) { up = true }) w shows (λ t. refl) (record { copy = refl; lock = λ u. refl; plan = refl })
+  down _ = none
 
   any : (asked : Request) → AgentSide start z home decision i (servers i).locks w asked → ((servers i).up ≡ true → asks_too_much (servers i) asked ≡ false) → Comes asked (reply_of (servers i) asked) (after (servers i) asked)
   any asked agent room =

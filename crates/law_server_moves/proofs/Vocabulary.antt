@@ -2,29 +2,17 @@
 pub use Rattle.std.proofs.Common.{Bool, List, None, Option, Some, [], ap, arith, cond, false, inl, inr, is_some, length, lit<, nat_lt, not, option_map, refl, subst, suc, sym, true, zero, ℕ, ◌&&◌, ◌<◌, ◌==◌, ◌||◌, ◌∙◌, ◌∷◌, ◌≡◌, ◌⊎◌}
 pub use Rattle.std.proofs.lemmas.Bool.{and_parts, false≢true, lt-ltb, or_parts}
 pub use Rattle.std.proofs.lemmas.Bool.Decides.{nat_tests}
-pub use Rattle.std.proofs.lemmas.List.Elements.{All-cons, All-nil}
-pub use Rattle.std.proofs.lemmas.Option.{same_Some}
-pub use Rattle.std.specs.BTreeMap.{is_at}
-pub use Rattle.std.specs.FinSet.{empty}
 pub use Rattle.std.specs.List.{list_any}
 pub use Rattle.std.specs.Ordering.{nat_cmp}
-pub use Rattle.std.specs.Prelude.{unwrap_or}
-pub use Rattle.file_ops.specs.declared.audit.AuditItem.{AuditItem}
 pub use Rattle.law_suite_machine.proofs.Places.{another, at1, itself, one_is, one_not}
 pub use Rattle.law_suite_machine.specs.Conditions.{IsFree, IsTake, MayFinish, MayLose, MayPrepare}
 pub use Rattle.law_suite_machine.specs.Events.{Event, Finish, Held, Lose, Overrule, Upgrade, aimed, copy_after, decided, finished, given_up, held, kept, lost, plan_after, prepared, prepared_hold, run, upgraded, upgraded_hold}
 pub use Rattle.law_suite_machine.specs.Machine.{Aborted, Hold, Verdict, World, begun, set1, set2}
 pub use Rattle.law_suite_machine.specs.Registers.{Beginning, Change, Entry, IsBeginning, empty_of}
-pub use Rattle.rep_core.proofs.Consistent.{Looked, consistent_opening, consistent_step, looked}
-pub use Rattle.rep_core.proofs.Finding.{all_at, any_find, find_some, none_at, once_both}
-pub use Rattle.rep_core.proofs.IntentionLookups.{copy_finished, get-with_intentions, get-without_intentions, get_unnamed, others, planned, stored}
 pub use Rattle.rep_core.proofs.LockLookups.{if_prepared, lock_at-broken, lock_at-crashed, lock_at-locked, lock_at-prepared, lock_at-released, lock_there, names, one_each, ready, taken, way_free}
 pub use Rattle.rep_core.proofs.Records.{decide_ruled, record_apart, record_here, resolve_ruled}
-pub use Rattle.rep_core.proofs.RepliesTell.{ContentTold, LockTold, fetch_told, poll_told, upgrade_told}
-pub use Rattle.rep_core.proofs.Soundness.{left_sound}
 pub use Rattle.rep_core.proofs.Ways.{laid, recording, room, with_locked}
-pub use Rattle.rep_core.specs.Consistency.{IsConsistent}
-pub use Rattle.rep_core.specs.Locks.{broken, has_lock, has_lock_for, has_prepared, in_the_way, is_own, lock_at, prepared_locks, released, rise, with_prepared}
+pub use Rattle.rep_core.specs.Locks.{broken, has_lock, has_lock_for, has_prepared, in_the_way, is_own, lock_at, locked, prepared_locks, released, rise, with_prepared}
 pub use Rattle.rep_core.specs.Service.{after, after_crash, after_down, after_finish, after_locking, after_poll, after_record, after_up, can_prepare, locking_reply, poll_reply, prepares, recorded, reply_down, reply_of, reply_up}
 pub use Rattle.rep_core.specs.Service.{stands_prepared}
 pub use Rattle.rep_core.specs.Serving.{asks_too_much, is_full, next_stamp, served, step}
@@ -32,28 +20,20 @@ pub use Rattle.rep_core.specs.State.{State, opening, record_of}
 pub use Rattle.rep_core.specs.Store.{IsSound, copy_in, copy_of, goes_with, holds_last, intended, is_keep, is_sound, is_sound_part, is_used_up, left_by, lists_twice, max_suites, overfills, root_copy, suites_with}
 pub use Rattle.rep_core.specs.declared.lock.Lock.{Lock}
 pub use Rattle.rep_core.specs.declared.reply.Reply.{Reply}
-pub use Rattle.rep_core.specs.declared.request.Decision.{Decision}
 pub use Rattle.rep_core.specs.declared.request.Part.{Part}
 pub use Rattle.rep_core.specs.declared.request.Request.{Request}
-pub use Rattle.rep_core.specs.declared.request.Take.{Take}
 pub use Rattle.rep_core.specs.declared.stamped.Stamped.{Stamped}
 pub use Rattle.sorted_map.specs.SortedMap.{get}
 pub use Rattle.suite_content.specs.declared.content.Content.{Content}
-pub use Rattle.suite_content.specs.declared.content.Content.TheVariants.{Bytes, Names}
-pub use Rattle.suite_prefix.specs.Absent.{absent_copy}
 pub use Rattle.suite_prefix.specs.LockModes.{is_exclusive, serves, stronger}
 pub use Rattle.suite_prefix.specs.SettingsRules.{Opening}
 pub use Rattle.suite_prefix.specs.Tests.{holds, is_absent, is_empty, is_valid_copy, is_valid_prefix, is_within_limits, version_agrees}
-pub use Rattle.suite_prefix.specs.TwoLists.{closed_lists}
 pub use Rattle.suite_prefix.specs.declared.copies.Prefix.{Prefix}
-pub use Rattle.suite_prefix.specs.declared.copies.PrefixKind.{PrefixKind}
 pub use Rattle.suite_prefix.specs.declared.copies.PrefixKind.TheVariants.{Absent, File, Folder}
 pub use Rattle.suite_prefix.specs.declared.copies.Replica.{Replica}
 pub use Rattle.suite_prefix.specs.declared.lock_mode.LockMode.{LockMode}
 pub use Rattle.suite_prefix.specs.declared.lock_mode.LockMode.TheVariants.{Exclusive, Shared}
-pub use Rattle.vote_core.specs.Quorums.{Configuration, Representative}
 pub use Rattle.vote_core.specs.Validity.{IsValid}
-pub use Rattle.vote_core.specs.declared.TheConstants.{MAX_SERVERS}
 pub use Rattle.law_server_moves.specs.Agents.{AgentSide, Decides}
 pub use Rattle.law_server_moves.specs.Laws.{EachStepMoves, Follows, OpeningShows, RepliesTell, SomeStepMoves, Tells, TellsContent, TellsCopy, beginning}
 pub use Rattle.law_server_moves.specs.Moves.{first_verdict, is_prepared, left_by_break, left_by_crash, moves, prepare_of}

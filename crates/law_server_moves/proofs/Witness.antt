@@ -1,7 +1,13 @@
 -- A step that moves the machine: at a server of one, a transaction with an exclusive lock prepares a new prefix of the root.
-use Rattle.law_server_moves.proofs.Vocabulary.{◌≡◌, ℕ, ◌<◌, true, [], ◌∷◌, None, refl, subst, lit<, arith, empty, same_Some, All-nil, All-cons, Representative, Configuration, MAX_SERVERS, IsValid, closed_lists, Prefix, Folder, Opening}
-use Rattle.law_server_moves.proofs.Vocabulary.{Exclusive, Part, Request, Stamped, left_by, root_copy, State, opening, step, consistent_opening, consistent_step, World, set1, begun, Overrule, held, aimed, Beginning, Change, Shows}
-use Rattle.law_server_moves.proofs.Vocabulary.{SendsFixed, beginning, SomeStepMoves}
+use Rattle.law_server_moves.proofs.Vocabulary.{◌≡◌, ℕ, ◌<◌, true, [], ◌∷◌, None, refl, subst, lit<, arith, IsValid, Prefix, Folder, Opening, Exclusive, Part, Request, Stamped, left_by, root_copy, State, opening, step, World, set1, begun}
+use Rattle.law_server_moves.proofs.Vocabulary.{Overrule, held, aimed, Beginning, Change, Shows, SendsFixed, beginning, SomeStepMoves}
+use Rattle.std.specs.FinSet.{empty}
+use Rattle.std.proofs.lemmas.Option.{same_Some}
+use Rattle.std.proofs.lemmas.List.Elements.{All-nil, All-cons}
+use Rattle.vote_core.specs.Quorums.{Representative, Configuration}
+use Rattle.vote_core.specs.declared.TheConstants.{MAX_SERVERS}
+use Rattle.suite_prefix.specs.TwoLists.{closed_lists}
+use Rattle.rep_core.proofs.Consistent.{consistent_opening, consistent_step}
 use Rattle.std.specs.List.{IsDistinct}
 use Rattle.rep_core.specs.declared.request.Take.TheVariants as take
 use Rattle.rep_core.specs.declared.request.Request.TheVariants as request

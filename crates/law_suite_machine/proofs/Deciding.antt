@@ -1,6 +1,7 @@
 -- Verdicts that are recorded, and transactions that give up.
-use Rattle.law_suite_machine.proofs.Vocabulary.{◌≡◌, ℕ, true, false, ◌⊎◌, inl, inr, List, [], ◌∷◌, map, Option, Some, None, cond, refl, sym, ap, subst, ◌∙◌, nat_eq, AllByRecursion, ne_eqb, Change, Entry, transaction, World, Intention}
-use Rattle.law_suite_machine.proofs.Vocabulary.{Verdict, Answered, Refused, Aborted, set1, is_answered, in_effect, effect, decided, given_up, aimed, MayAim, MayGiveUp}
+use Rattle.law_suite_machine.proofs.Vocabulary.{◌≡◌, ℕ, true, false, ◌⊎◌, inl, inr, List, [], ◌∷◌, map, Option, Some, None, cond, refl, sym, ap, subst, ◌∙◌, nat_eq, AllByRecursion, Change, Entry, transaction, World, Intention, Verdict}
+use Rattle.law_suite_machine.proofs.Vocabulary.{Answered, Refused, Aborted, set1, is_answered, in_effect, effect, decided, given_up, aimed, MayAim, MayGiveUp}
+use Rattle.std.proofs.lemmas.Bool.{ne_eqb}
 use Rattle.law_suite_machine.proofs.Places.{at1}
 use Rattle.law_suite_machine.proofs.Sound.{Sound}
 use Rattle.law_suite_machine.proofs.Invariant.{IsRecorded}

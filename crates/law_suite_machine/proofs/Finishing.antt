@@ -92,19 +92,13 @@ goes_by_record w s t v may =
 -- the intention and the copy that a Finish leaves have the effect that there was
 effect_after : (verdict : ℕ → Option Verdict) (t : ℕ) (v : Verdict) → is_answered (verdict t) ≡ is_answered (Some v) → (o : Option Intention) (c : Replica) → in_effect verdict (plan_after t o) (copy_after v t o c) ≡ in_effect verdict o c
 effect_after verdict t Answered same None c = refl
-effect_after verdict t Refused same None c = refl
-effect_after verdict t Aborted same None c = refl
+effect_after verdict t _ same None c = refl
 effect_after verdict t Answered same (Some p) c =
     elim (p.t == t) as (λ b. (p.t == t) ≡ b → in_effect verdict (cond b None (Some p)) (cond b p.copy c) ≡ in_effect verdict (Some p) c) [
       | true ↦ λ test. sym (ap (λ b. cond b p.copy c) (ap (λ t. is_answered (verdict t)) (one_is t p.t test) ∙ same))
       | false ↦ λ _. refl
     ] refl
-effect_after verdict t Refused same (Some p) c =
-    elim (p.t == t) as (λ b. (p.t == t) ≡ b → in_effect verdict (cond b None (Some p)) c ≡ in_effect verdict (Some p) c) [
-      | true ↦ λ test. sym (ap (λ b. cond b p.copy c) (ap (λ t. is_answered (verdict t)) (one_is t p.t test) ∙ same))
-      | false ↦ λ _. refl
-    ] refl
-effect_after verdict t Aborted same (Some p) c =
+effect_after verdict t _ same (Some p) c =
     elim (p.t == t) as (λ b. (p.t == t) ≡ b → in_effect verdict (cond b None (Some p)) c ≡ in_effect verdict (Some p) c) [
       | true ↦ λ test. sym (ap (λ b. cond b p.copy c) (ap (λ t. is_answered (verdict t)) (one_is t p.t test) ∙ same))
       | false ↦ λ _. refl

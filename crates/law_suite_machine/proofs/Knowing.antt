@@ -1,6 +1,6 @@
 -- What a transaction knows when it is decided is what the register holds.
-use Rattle.law_suite_machine.proofs.Vocabulary.{◌≡◌, ℕ, ◌≤◌, Bool, inl, inr, List, Some, sym, ap, subst, ◌∙◌, arith, Content, Prefix, Replica, Beginning, Known, Entry, row, prefix_at, content_at, empty_of, GoesWith, IsKnown, World}
-use Rattle.law_suite_machine.proofs.Vocabulary.{Hold, Told, IsQuorum, effect, IsReady, Knows}
+use Rattle.law_suite_machine.proofs.Vocabulary.{◌≡◌, ℕ, ◌≤◌, Bool, inl, inr, List, Some, sym, ap, subst, ◌∙◌, arith, Content, Prefix, Replica, Beginning, Known, Entry, row, prefix_at, content_at, empty_of, GoesWith, IsKnown, World, Hold}
+use Rattle.law_suite_machine.proofs.Vocabulary.{Told, IsQuorum, effect, IsReady, Knows}
 use Rattle.law_suite_machine.proofs.Rows.{Logged}
 use Rattle.law_suite_machine.proofs.Sound.{Sound, effect_held}
 use Rattle.law_suite_machine.proofs.Invariant.{Inv}

@@ -1,5 +1,6 @@
 -- What a function has after one place is changed.
-use Rattle.law_suite_machine.proofs.Vocabulary.{◌≡◌, ℕ, true, false, cond, ◌&&◌, refl, arith, ◌==◌, nat_tests, set1, set2}
+use Rattle.law_suite_machine.proofs.Vocabulary.{◌≡◌, ℕ, true, false, cond, ◌&&◌, refl, arith, ◌==◌, set1, set2}
+use Rattle.std.proofs.lemmas.Bool.Decides.{nat_tests}
 
 -- the place of i and t
 abbrev pub IsAt : ℕ → ℕ → ℕ → ℕ → Type 0

@@ -1,6 +1,7 @@
 -- A decided write: each quorum of votes that the register had shows a newer prefix or the new one, and each quorum of its votes the content.
-use Rattle.law_suite_machine.proofs.Vocabulary.{◌≡◌, ℕ, ◌+◌, ◌<◌, ◌≤◌, Bool, IsTrue, ◌⊎◌, inl, inr, Some, sym, ap, subst, ◌∙◌, arith, Configuration, is_write_quorum, SharedMember, IsValid, reads_meet_writes, writes_meet, Prefix}
-use Rattle.law_suite_machine.proofs.Vocabulary.{Replica, Beginning, Known, Change, row, prefix_at, World, Answered, IsQuorum, effect, decided, holds_exclusively, MayWrite}
+use Rattle.law_suite_machine.proofs.Vocabulary.{◌≡◌, ℕ, ◌+◌, ◌<◌, ◌≤◌, Bool, IsTrue, ◌⊎◌, inl, inr, Some, sym, ap, subst, ◌∙◌, arith, Configuration, is_write_quorum, SharedMember, IsValid, Prefix, Replica, Beginning, Known, Change, row}
+use Rattle.law_suite_machine.proofs.Vocabulary.{prefix_at, World, Answered, IsQuorum, effect, decided, holds_exclusively, MayWrite}
+use Rattle.vote_core.proofs.Meet.{reads_meet_writes, writes_meet}
 use Rattle.law_suite_machine.proofs.Rows.{prefix_here, prefix_before}
 use Rattle.law_suite_machine.proofs.Sound.{Sound}
 use Rattle.law_suite_machine.proofs.Invariant.{Inv, Current, ShowsIn}

@@ -1,6 +1,5 @@
 -- What the locks, the intentions and the replies have to do with one another.
-use Rattle.law_suite_machine.proofs.Vocabulary.{◌≡◌, ℕ, true, false, ◌⊎◌, Option, Some, None, refl, ap, ◌∙◌, ◌≢◌, Replica, Change, World, Hold, Told, Intention, Verdict, Answered, Refused, Aborted, is_answered, in_effect, effect}
-use Rattle.law_suite_machine.proofs.Vocabulary.{IsTake}
+use Rattle.law_suite_machine.proofs.Vocabulary.{◌≡◌, ℕ, true, false, ◌⊎◌, Option, Some, None, refl, ap, ◌∙◌, ◌≢◌, Replica, Change, World, Hold, Told, Intention, Verdict, Answered, Refused, Aborted, is_answered, in_effect, effect, IsTake}
 
 -- it may still be decided
 abbrev pub IsOpen : World → ℕ → Type 0
@@ -30,14 +29,8 @@ some_plan a b e = cc
 pub some_change : (a b : Change) → Some a ≡ Some b → a ≡ b
 some_change a b e = cc
 
-pub some_copy : (a b : Replica) → Some a ≡ Some b → a ≡ b
-some_copy a b e = cc
-
 pub some_left : (a b : Option Replica) → Some a ≡ Some b → a ≡ b
 some_left a b e = cc
-
-pub some_verdict : (a b : Verdict) → Some a ≡ Some b → a ≡ b
-some_verdict a b e = cc
 
 -- ---- intentions and locks
 

@@ -1,6 +1,8 @@
 -- Before anything happens.
-use Rattle.law_suite_machine.proofs.Vocabulary.{◌≡◌, ℕ, ◌<◌, Bool, true, false, cond, inl, inr, [], refl, sym, ap, subst, arith, ◌==◌, list_any, list_any-from_Any, Representative, Configuration, votes_at, SharedMember, IsValid}
-use Rattle.law_suite_machine.proofs.Vocabulary.{read_quorum_has_member, write_quorum_has_member, voting_listed, Prefix, Replica, Beginning, IsBeginning, prefix_at, empty_of, WasPrefix, WasCopy, IsQuorum, begun, first_copy, effect}
+use Rattle.law_suite_machine.proofs.Vocabulary.{◌≡◌, ℕ, ◌<◌, Bool, true, false, cond, inl, inr, [], refl, sym, ap, subst, arith, ◌==◌, list_any, Representative, Configuration, votes_at, SharedMember, IsValid, Prefix, Replica, Beginning}
+use Rattle.law_suite_machine.proofs.Vocabulary.{IsBeginning, prefix_at, empty_of, WasPrefix, WasCopy, IsQuorum, begun, first_copy, effect}
+use Rattle.std.proofs.lemmas.List.Folds.{list_any-from_Any}
+use Rattle.vote_core.proofs.QuorumLemmas.{read_quorum_has_member, write_quorum_has_member, voting_listed}
 use Rattle.std.specs.List.{IsDistinct}
 use Rattle.law_suite_machine.proofs.Places.{at1, itself}
 use Rattle.law_suite_machine.proofs.Sound.{Sound}

@@ -1,7 +1,8 @@
 -- Every event keeps the invariant.
-use Rattle.law_suite_machine.proofs.Vocabulary.{◌≡◌, ℕ, Bool, true, false, ◌⊎◌, inl, inr, List, [], ◌∷◌, map, Some, None, refl, sym, ap, subst, IsDistinct-cons, nat_eq, Replica, Beginning, Known, Change, Entry, Read, transaction}
-use Rattle.law_suite_machine.proofs.Vocabulary.{WasCopy, World, Told, Intention, Verdict, Answered, Refused, Aborted, set1, is_answered, effect, Event, Held, Upgrade, Aim, Prepare, DecideRead, DecideRefused, DecideWrite}
-use Rattle.law_suite_machine.proofs.Vocabulary.{DecideElsewhere, Overrule, GiveUp, Finish, Lose, happens, run, held, upgraded, prepared, decided, finished, May, Obeys, MayRead, MayWrite, MayFinish}
+use Rattle.law_suite_machine.proofs.Vocabulary.{◌≡◌, ℕ, Bool, true, false, ◌⊎◌, inl, inr, List, [], ◌∷◌, map, Some, None, refl, sym, ap, subst, nat_eq, Replica, Beginning, Known, Change, Entry, Read, transaction, WasCopy, World, Told}
+use Rattle.law_suite_machine.proofs.Vocabulary.{Intention, Verdict, Answered, Refused, Aborted, set1, is_answered, effect, Event, Held, Upgrade, Aim, Prepare, DecideRead, DecideRefused, DecideWrite, DecideElsewhere, Overrule, GiveUp}
+use Rattle.law_suite_machine.proofs.Vocabulary.{Finish, Lose, happens, run, held, upgraded, prepared, decided, finished, May, Obeys, MayRead, MayWrite, MayFinish}
+use Rattle.std.proofs.lemmas.Map.Keys.{IsDistinct-cons}
 use Rattle.law_suite_machine.proofs.Places.{at1, at2}
 use Rattle.law_suite_machine.proofs.Sound.{Sound, some_told}
 use Rattle.law_suite_machine.proofs.Holding.{held_sound, upgraded_sound, lost_sound, told_from}

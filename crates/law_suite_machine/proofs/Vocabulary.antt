@@ -1,23 +1,13 @@
 -- The names that the proofs of this crate take from elsewhere, each with one meaning here.
 pub use Rattle.std.proofs.Common.{Bool, IsTrue, List, None, Option, Some, [], ap, append_assoc, arith, cond, false, inl, inr, lit<, lit≤, map, nat_eq, refl, subst, sym, true, unwrap_or, ℕ, ◌&&◌, ◌*◌, ◌++◌, ◌+◌, ◌<◌, ◌==◌, ◌∙◌, ◌∷◌, ◌≡◌}
 pub use Rattle.std.proofs.Common.{◌≢◌, ◌≤◌, ◌⊎◌}
-pub use Rattle.std.proofs.lemmas.Bool.{ne_eqb}
-pub use Rattle.std.proofs.lemmas.Bool.Decides.{nat_tests}
-pub use Rattle.std.proofs.lemmas.List.Elements.{All-from_recursion}
-pub use Rattle.std.proofs.lemmas.List.Folds.{list_any-from_Any}
-pub use Rattle.std.proofs.lemmas.Map.Keys.{IsDistinct-cons}
-pub use Rattle.std.specs.List.{AllByRecursion, list_any}
+pub use Rattle.std.specs.List.{AllByRecursion, IsDistinct, list_any}
 pub use Rattle.suite_content.specs.Contents.{empty_content}
 pub use Rattle.suite_content.specs.declared.content.Content.{Content}
-pub use Rattle.suite_content.specs.declared.content.Content.TheVariants.{Bytes}
 pub use Rattle.suite_prefix.specs.Copies.{held_by}
-pub use Rattle.suite_prefix.specs.TwoLists.{closed_lists}
 pub use Rattle.suite_prefix.specs.declared.copies.Prefix.{Prefix}
 pub use Rattle.suite_prefix.specs.declared.copies.PrefixKind.{PrefixKind}
-pub use Rattle.suite_prefix.specs.declared.copies.PrefixKind.TheVariants.{Absent, File}
 pub use Rattle.suite_prefix.specs.declared.copies.Replica.{Replica}
-pub use Rattle.vote_core.proofs.Meet.{reads_meet_writes, writes_meet}
-pub use Rattle.vote_core.proofs.QuorumLemmas.{read_quorum_has_member, voting_listed, write_quorum_has_member}
 pub use Rattle.vote_core.specs.Quorums.{Configuration, Representative, SharedMember, is_write_quorum, votes_at}
 pub use Rattle.vote_core.specs.Validity.{IsValid, max_servers}
 pub use Rattle.law_suite_machine.specs.Conditions.{IsFree, IsReady, IsTake, KeepsContent, Knows, May, MayAim, MayFinish, MayGiveUp, MayHold, MayLose, MayPrepare, MayRead, MayUpgrade, MayWrite, Obeys, holds_exclusively, is_exclusive}

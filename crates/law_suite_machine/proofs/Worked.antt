@@ -1,9 +1,12 @@
 -- A run that obeys. Transaction 5 makes the suite. In transaction 7 the votes move from server 0 to server 1 with a write; a lock of transaction 8 is lost in a crash, transaction 9 is overruled,
 -- and transaction 10 reads what was written. Server 0 keeps the older content.
-use Rattle.law_suite_machine.proofs.Vocabulary.{◌≡◌, ℕ, ◌+◌, ◌*◌, ◌<◌, ◌≤◌, Bool, IsTrue, true, false, ◌⊎◌, inl, inr, List, [], ◌∷◌, Option, Some, None, cond, refl, sym, ap, subst, ◌∙◌, arith, lit≤, lit<, ◌==◌, ◌++◌, All-from_recursion}
-use Rattle.law_suite_machine.proofs.Vocabulary.{Configuration, votes_at, IsValid, max_servers, Content, Bytes, closed_lists, Absent, File, Prefix, Replica, Beginning, IsBeginning, Known, Change, World, Hold, Told, Answered, Aborted}
-use Rattle.law_suite_machine.proofs.Vocabulary.{begun, set2, Event, Held, Upgrade, Aim, Prepare, DecideRead, DecideWrite, Overrule, GiveUp, Finish, Lose, run, happens, Obeys, IsReady, Knows, IsTake, MayRead, MayWrite, MayLose}
-use Rattle.law_suite_machine.proofs.Vocabulary.{is_exclusive, holds_exclusively, SomeRunObeys}
+use Rattle.law_suite_machine.proofs.Vocabulary.{◌≡◌, ℕ, ◌+◌, ◌*◌, ◌<◌, ◌≤◌, Bool, IsTrue, true, false, ◌⊎◌, inl, inr, List, [], ◌∷◌, Option, Some, None, cond, refl, sym, ap, subst, ◌∙◌, arith, lit≤, lit<, ◌==◌, ◌++◌, Configuration}
+use Rattle.law_suite_machine.proofs.Vocabulary.{votes_at, IsValid, max_servers, Content, Prefix, Replica, Beginning, IsBeginning, Known, Change, World, Hold, Told, Answered, Aborted, begun, set2, Event, Held, Upgrade, Aim, Prepare}
+use Rattle.law_suite_machine.proofs.Vocabulary.{DecideRead, DecideWrite, Overrule, GiveUp, Finish, Lose, run, happens, Obeys, IsReady, Knows, IsTake, MayRead, MayWrite, MayLose, is_exclusive, holds_exclusively, SomeRunObeys}
+use Rattle.std.proofs.lemmas.List.Elements.{All-from_recursion}
+use Rattle.suite_content.specs.declared.content.Content.TheVariants.{Bytes}
+use Rattle.suite_prefix.specs.TwoLists.{closed_lists}
+use Rattle.suite_prefix.specs.declared.copies.PrefixKind.TheVariants.{Absent, File}
 use Rattle.std.specs.List.{IsDistinct}
 use Rattle.law_suite_machine.proofs.Places.{at2, one_is}
 use Rattle.law_suite_machine.proofs.Sound.{some_hold, some_told}

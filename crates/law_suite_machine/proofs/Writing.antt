@@ -1,7 +1,7 @@
 -- A decided write: its row is the next one, and what it leaves to be in effect was the register's.
 use Rattle.law_suite_machine.proofs.Vocabulary.{◌≡◌, ℕ, ◌+◌, ◌<◌, Bool, true, ◌⊎◌, inl, inr, List, ◌∷◌, Option, Some, None, unwrap_or, cond, refl, sym, ap, subst, ◌∙◌, arith, Content, empty_content, Prefix, PrefixKind, Replica, held_by}
-use Rattle.law_suite_machine.proofs.Vocabulary.{Beginning, Known, Change, changed, Entry, Wrote, row, content_at, empty_of, WasPrefix, WasContent, WasCopy, IsKnown, IsNext, World, Intention, Answered, set1, is_answered, in_effect}
-use Rattle.law_suite_machine.proofs.Vocabulary.{effect, decided, IsReady, IsTake, KeepsContent, MayWrite}
+use Rattle.law_suite_machine.proofs.Vocabulary.{Beginning, Known, Change, changed, Entry, Wrote, row, content_at, empty_of, WasPrefix, WasContent, WasCopy, IsKnown, IsNext, World, Intention, Answered, set1, is_answered, in_effect, effect}
+use Rattle.law_suite_machine.proofs.Vocabulary.{decided, IsReady, IsTake, KeepsContent, MayWrite}
 use Rattle.law_suite_machine.proofs.Places.{at1}
 use Rattle.law_suite_machine.proofs.Rows.{none_or_some, prefix_here, content_here, was_content, was_copy}
 use Rattle.law_suite_machine.proofs.Sound.{Sound, some_change, effect_held}

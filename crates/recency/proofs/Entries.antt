@@ -1,56 +1,10 @@
 -- The entries of a shelf, as its rings and its values make them.
-use Rattle.std.proofs.Common.{
-  ◌≡◌,
-  ℕ,
-  zero,
-  suc,
-  ◌+◌,
-  ◌-◌,
-  ◌<◌,
-  ◌≤◌,
-  Bool,
-  true,
-  false,
-  not,
-  cond,
-  List,
-  [],
-  ◌∷◌,
-  ◌++◌,
-  length,
-  length-append,
-  map,
-  filter,
-  find,
-  get_or,
-  set,
-  Option,
-  Some,
-  None,
-  option_map,
-  is_some,
-  sym,
-  refl,
-  ◌∙◌,
-  subst,
-  ap,
-  inl,
-  inr,
-  eq-eqb,
-  ne_eqb,
-  arith,
-  true≢false,
-  get_or-set_same,
-  get_or-set_other,
-  length-set,
-}
+use Rattle.recency.proofs.Vocabulary.{◌≡◌, ℕ, zero, suc, ◌+◌, ◌-◌, ◌<◌, ◌≤◌, Bool, true, false, not, cond, List, [], ◌∷◌, ◌++◌, length, length-append, map, filter, find, get_or, set, Option, Some, None, option_map, is_some, sym, refl, ◌∙◌}
+use Rattle.recency.proofs.Vocabulary.{subst, ap, inl, inr, eq-eqb, ne_eqb, arith, true≢false, get_or-set_same, get_or-set_other, length-set, any-default, In, Once, without, Mark, Listed, keys, is_of_site, of_site, without_slot, touched}
+use Rattle.recency.proofs.Vocabulary.{first_of, older_than, last_of, Sited, Entry, is_in, entry_of, value_of, entry_with, entries_of}
 use Rattle.std.specs.List.{cons_option}
-use Rattle.core.proofs.slice.Lists.{any-default}
-use Rattle.recency.specs.Paths.{In, Once, without}
-use Rattle.recency.specs.Order.{Mark, Listed, keys, is_of_site, of_site, without_slot, touched, first_of, older_than, last_of, Sited}
-use Rattle.recency.specs.Shelf.{Entry, is_in, is_of, entry_of, value_of, entry_with, entries_of}
-use Rattle.recency.specs.Shelf as shelf
 use Rattle.recency.specs.Held.{IsHeld}
+use Rattle.recency.specs.Shelf as shelf
 use Rattle.recency.proofs.Paths.{by_equal, in-without, once-without, length-without, without-none, without-same, without-other}
 use Rattle.recency.proofs.Order.{length_keys, keys_without, of_site_same, of_site_other, without_slot_same, without_slot_other, site_without, sited_without, in_all, in_some, last_map}
 use Rattle.recency.proofs.Steps.{touched_is}
@@ -415,9 +369,6 @@ module _ {V : Type 0} where
     pub shown : (x t : ℕ) (w : Option V) → In x (keys (of_site t order)) → w ≡ get_or values x w → w ≡ value_at values x
     shown x t w i is = is ∙ any-default values x w None (let b = h.below x (in_all t x order i) in let e = h.len in omega arith)
 
-    pub one_at_least : (x t : ℕ) → In x (keys (of_site t order)) → 1 ≤ length (of_site t order)
-    one_at_least x t i = let a = site_shorter x t order i h.once in omega arith
-
     -- ---- what holds of every shelf
 
     slots_are : map (λ (e : Entry V). e.slot) entries ≡ keys order
@@ -454,9 +405,6 @@ module _ {V : Type 0} where
   none_pushed [] h (suc k) = refl
   none_pushed (v ∷ vs) h zero = h zero
   none_pushed (v ∷ vs) h (suc k) = none_pushed vs (λ j. h (suc j)) k
-
-  pub emptied_none : Emptied {V = V} [] 0
-  emptied_none = record { len = refl; none = λ k. refl }
 
   pub emptied_more : (values : List (Option V)) (count : ℕ) → Emptied values count → Emptied (values ++ None ∷ []) (count + 1)
   emptied_more values count e = record { len = let a = length-append values (None ∷ []) in let b = e.len in omega arith; none = none_pushed values e.none }

@@ -1,46 +1,7 @@
 -- What each call of the rings makes of their lists.
-use Rattle.std.proofs.Common.{
-  ◌≡◌,
-  ℕ,
-  ◌+◌,
-  ◌<◌,
-  ◌⊎◌,
-  Bool,
-  true,
-  false,
-  not,
-  cond,
-  if◌then◌else◌,
-  List,
-  [],
-  ◌∷◌,
-  length,
-  map,
-  Some,
-  None,
-  option_map,
-  sym,
-  refl,
-  ◌∙◌,
-  subst,
-  ap,
-  inl,
-  inr,
-  eq-eqb,
-  ne_eqb,
-  arith,
-  lt_irrefl,
-  ◌≤◌,
-  nat_lt,
-  le-ltb,
-  lt-ltb,
-}
-use Rattle.core.specs.Bool.{then_some}
-use denote.RawPtr.{Ptr}
-use Rattle.recency.specs.declared.node.Node.{Node}
-use Rattle.recency.specs.Paths.{In, without, Path, follow}
-use Rattle.recency.specs.Rings.{older_in, newer_in, list_at, Ringed}
-use Rattle.recency.specs.Order.{Mark, keys, of_site, own_of, without_slot, first_of, older_than, last_of, Sited, listed_in, IsListed}
+use Rattle.recency.proofs.Vocabulary.{◌≡◌, ℕ, ◌+◌, ◌<◌, ◌⊎◌, Bool, true, false, not, cond, if◌then◌else◌, List, [], ◌∷◌, length, map, Some, None, option_map, sym, refl, ◌∙◌, subst, ap, inl, inr, eq-eqb, ne_eqb, arith, lt_irrefl, ◌≤◌}
+use Rattle.recency.proofs.Vocabulary.{nat_lt, le-ltb, lt-ltb, then_some, Ptr, Node, In, without, Path, follow, older_in, newer_in, list_at, Ringed, Mark, keys, of_site, own_of, without_slot, first_of, older_than, last_of, Sited, listed_in}
+use Rattle.recency.proofs.Vocabulary.{IsListed}
 use Rattle.recency.proofs.Paths.{by_equal, without-same, without-other, followed}
 
 -- ---- lists of marks

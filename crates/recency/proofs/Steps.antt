@@ -1,13 +1,7 @@
 -- The changes of nodes, as a vector's contracts tell of them.
-use Rattle.std.proofs.Common.{◌≡◌, ℕ, ◌+◌, ◌<◌, ◌≤◌, ◌^◌, Bool, true, false, List, [], ◌∷◌, length, get_or, find, Option, Some, ◌==◌, cond, sym, refl, ◌∙◌, subst, ap, inl, inr, eq-eqb, ne_eqb, arith, lt_irrefl}
-use denote.RawPtr.{Ptr}
-use Rattle.std_alloc.specs.declared.vec.Vec.{Vec}
-use Rattle.std_alloc.specs.Vec.{vec_ptr, vec_len}
-use Rattle.recency.specs.declared.node.Node.{Node}
-use Rattle.recency.specs.Links.{number, IsNodeAt, IsNode, index_of, node_at, link_in, left, entered, LinksLead, LinkLeads, AreLinked}
-use Rattle.recency.specs.Paths.{In, Once, Path}
-use Rattle.recency.specs.Rings.{older_in, newer_in, relisted, Ringed}
-use Rattle.recency.specs.Order.{Mark, Listed, keys, of_site, own_of, without_slot, first_if_some, touched, listed_in, IsListed, IsFound}
+use Rattle.recency.proofs.Vocabulary.{◌≡◌, ℕ, ◌+◌, ◌<◌, ◌≤◌, ◌^◌, Bool, true, false, List, [], ◌∷◌, length, get_or, find, Option, Some, ◌==◌, cond, sym, refl, ◌∙◌, subst, ap, inl, inr, eq-eqb, ne_eqb, arith, lt_irrefl, Ptr, Vec, vec_ptr}
+use Rattle.recency.proofs.Vocabulary.{vec_len, Node, number, IsNodeAt, IsNode, index_of, node_at, link_in, left, entered, LinksLead, LinkLeads, AreLinked, In, Once, Path, older_in, newer_in, relisted, Ringed, Mark, Listed, keys, of_site}
+use Rattle.recency.proofs.Vocabulary.{own_of, without_slot, first_if_some, touched, listed_in, IsListed, IsFound}
 use Rattle.recency.proofs.Seen.{seen}
 use Rattle.recency.proofs.Paths.{by_equal}
 use Rattle.recency.proofs.Nodes.{left_leads, entered_leads, leads_still}

@@ -1,13 +1,12 @@
 -- A request that is served again at once changes nothing more, and is answered the same.
-use Rattle.rep_core.proofs.Vocabulary.{◌≡◌, ℕ, Bool, true, false, cond, List, [], ◌∷◌, ◌++◌, Option, Some, None, refl, sym, ap, ◌∙◌, arith, ◌==◌, ◌&&◌, ◌||◌, not, length, filter, find, option_map, list_any, list_all, and_parts}
-use Rattle.rep_core.proofs.Vocabulary.{or_parts, false≢true, nat_tests, Configuration, Replica, Form, LockMode, Shared, Exclusive, serves, stronger, AuditItem, Intention, Lock, Part, Request, Verdict, is_own, conflicts, in_the_way}
-use Rattle.rep_core.proofs.Vocabulary.{has_lock, has_prepared, has_lock_for, before, raised_lock, raised, with_lock, locked, prepared_lock, with_prepared, broken, Store, copy_of, is_sound_part, lists_twice, with_taken, with_copies}
-use Rattle.rep_core.proofs.Vocabulary.{with_form, with_forms, without_intentions, State, record_of, reply_up, reply_down, after_up, after_down, locking_reply, after_locking, poll_reply, after_poll, stands_prepared, can_prepare}
-use Rattle.rep_core.proofs.Vocabulary.{recorded, after_record, verdict_of, audit_of, is_answered, after_finish, StaysSo, AgainAtOnce}
+use Rattle.rep_core.proofs.Vocabulary.{◌≡◌, ℕ, Bool, true, false, cond, List, [], ◌∷◌, ◌++◌, Option, Some, None, refl, sym, ap, ◌∙◌, arith, ◌==◌, ◌&&◌, ◌||◌, not, length, filter, find, option_map, list_any, list_all, and_parts, or_parts}
+use Rattle.rep_core.proofs.Vocabulary.{false≢true, nat_tests, Configuration, Replica, Form, LockMode, Shared, Exclusive, serves, stronger, AuditItem, Intention, Lock, Part, Request, Verdict, is_own, conflicts, in_the_way, has_lock}
+use Rattle.rep_core.proofs.Vocabulary.{has_prepared, has_lock_for, before, raised_lock, raised, with_lock, locked, prepared_lock, with_prepared, broken, Store, copy_of, is_sound_part, lists_twice, with_taken, with_copies, with_form}
+use Rattle.rep_core.proofs.Vocabulary.{with_forms, without_intentions, State, record_of, reply_up, reply_down, after_up, after_down, locking_reply, after_locking, poll_reply, after_poll, stands_prepared, can_prepare, recorded, after_record}
+use Rattle.rep_core.proofs.Vocabulary.{verdict_of, audit_of, is_answered, after_finish, StaysSo, AgainAtOnce, finished}
 use Rattle.rep_core.specs.declared.request.Request.TheVariants as request
 use Rattle.rep_core.specs.declared.reply.Verdict.TheVariants as verdict
 use Rattle.rep_core.specs.declared.reply.Reply.TheVariants as reply
-use Rattle.rep_core.specs.Store.{finished}
 use Rattle.rep_core.proofs.Members.{any_has, has_any, map_has}
 use Rattle.rep_core.proofs.Finding.{find_map, none_filtered}
 use Rattle.rep_core.proofs.Alone.{own_is}

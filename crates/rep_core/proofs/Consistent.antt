@@ -1,10 +1,9 @@
 -- A server is consistent as it opens, and stays so whatever it is asked.
 use Rattle.rep_core.proofs.Vocabulary.{◌≡◌, ℕ, ◌≤◌, Bool, true, false, cond, List, [], ◌∷◌, Option, Some, None, Less, refl, sym, ap, subst, ◌∙◌, arith, ◌==◌, ◌&&◌, ◌||◌, not, filter, list_any, list_all, AllByRecursion, keys_of, nat_cmp}
-use Rattle.rep_core.proofs.Vocabulary.{and_parts, nat_tests, nat_cmp_total, same_Some, none-some, IsOrdered, get, insert, IsOrdered-insert, Opening, LockMode, Shared, Exclusive, is_exclusive, serves, Intention, Lock, Part, Request}
-use Rattle.rep_core.proofs.Vocabulary.{Stamped, rise, is_own, has_lock_for, locked, prepared_lock, with_prepared, released, Store, IsSound, copy_of, is_keep, goes_with, is_sound_part, lists_twice, with_intention, with_intentions}
-use Rattle.rep_core.proofs.Vocabulary.{suites_with, max_suites, State, opening, prepares, stands_prepared, is_answered, step, IsAlone, HasPreparedLock, IntentionsLocked, IsConsistent, ConsistencyIsKept}
+use Rattle.rep_core.proofs.Vocabulary.{and_parts, nat_tests, nat_cmp_total, same_Some, none-some, IsOrdered, get, insert, IsOrdered-insert, Opening, LockMode, Shared, Exclusive, is_exclusive, serves, Intention, Lock, Part, Request, Stamped}
+use Rattle.rep_core.proofs.Vocabulary.{rise, is_own, has_lock_for, locked, prepared_lock, with_prepared, released, Store, IsSound, copy_of, is_keep, goes_with, is_sound_part, lists_twice, with_intention, with_intentions, suites_with}
+use Rattle.rep_core.proofs.Vocabulary.{max_suites, State, opening, prepares, stands_prepared, is_answered, step, IsAlone, HasPreparedLock, IntentionsLocked, IsConsistent, ConsistencyIsKept, finished}
 use Rattle.std.specs.List.Sorted.{IsStrictlySortedBy}
-use Rattle.rep_core.specs.Store.{finished}
 use Rattle.rep_core.proofs.Members.{Has, has_from, contains_from, map_has, has_any, any_has, all_at}
 use Rattle.rep_core.proofs.Finding.{find_some}
 use Rattle.rep_core.proofs.Rising.{rise_filter, rise_locked, rise_prepared}

@@ -1,7 +1,7 @@
 -- How many suites have a copy or an intention, after a Prepare.
-use Rattle.rep_core.proofs.Vocabulary.{◌≡◌, ℕ, ◌+◌, Bool, true, false, cond, ◌&&◌, List, [], ◌∷◌, length, Less, Equal, Greater, refl, sym, ap, ◌∙◌, arith, not, ◌==◌, nat_lt, min, is_some, count_by, list_any, keys_of, nat_cmp, is_eq}
-use Rattle.rep_core.proofs.Vocabulary.{is_at, or_parts, nat_tests, nat_cmp_total, lookup_head, lookup_tail, count_by-le-length, sorted_tail, IsOrdered, get, insert, by_answer, insert_step, get_below, IsOrdered-insert, get_insert_apart}
-use Rattle.rep_core.proofs.Vocabulary.{Intention, Part, Store, max_suites, is_keep, lists_twice, has_copy, suites_with, with_intention, with_intentions, intended}
+use Rattle.rep_core.proofs.Vocabulary.{◌≡◌, ℕ, ◌+◌, Bool, true, false, cond, ◌&&◌, List, [], ◌∷◌, length, Less, Equal, Greater, refl, sym, ap, ◌∙◌, arith, not, ◌==◌, nat_lt, min, is_some, count_by, list_any, keys_of, nat_cmp, is_eq, is_at}
+use Rattle.rep_core.proofs.Vocabulary.{or_parts, nat_tests, nat_cmp_total, lookup_head, lookup_tail, count_by-le-length, sorted_tail, IsOrdered, get, insert, by_answer, insert_step, get_below, IsOrdered-insert, get_insert_apart, Intention}
+use Rattle.rep_core.proofs.Vocabulary.{Part, Store, max_suites, is_keep, lists_twice, has_copy, suites_with, with_intention, with_intentions, intended}
 use Rattle.rep_core.proofs.Rising.{count_cons}
 
 one_if : (there : Bool) → there ≡ false → (b : Bool) → ◌≡◌ {A = ℕ} (cond (not there && b) 1 0) (cond b 1 0)

@@ -1,7 +1,9 @@
 -- A run after which a server has a copy that a transaction changed, and one after which a server that is down has an exclusive lock
 -- that is prepared.
-use Rattle.rep_core.proofs.Vocabulary.{true, ◌<◌, List, [], ◌∷◌, ◌++◌, refl, sym, ◌∙◌, inl, lit<, arith, nat_cmp, empty, contains-empty, false≢true, All-nil, All-cons, Representative, Configuration, MAX_SERVERS, IsValid, Prefix, Folder}
-use Rattle.rep_core.proofs.Vocabulary.{PrefixFits, closed_lists, Opening, Exclusive, Intention, Lock, Part, Request, Stamped, reached, SomeServerStands, TakeFits, RequestFits, OpeningFits, SomeCopyIsChanged}
+use Rattle.rep_core.proofs.Vocabulary.{true, ◌<◌, List, [], ◌∷◌, ◌++◌, refl, sym, ◌∙◌, inl, lit<, arith, nat_cmp, false≢true, All-nil, All-cons, Representative, Configuration, IsValid, Prefix, Folder, PrefixFits, closed_lists, Opening}
+use Rattle.rep_core.proofs.Vocabulary.{Exclusive, Intention, Lock, Part, Request, Stamped, reached, SomeServerStands, TakeFits, RequestFits, OpeningFits, SomeCopyIsChanged}
+use Rattle.std.specs.FinSet.{empty, contains-empty}
+use Rattle.vote_core.specs.declared.TheConstants.{MAX_SERVERS}
 use Rattle.std.specs.List.{IsDistinct}
 use Rattle.rep_core.specs.declared.request.Take.TheVariants as take
 use Rattle.rep_core.specs.declared.request.Request.TheVariants as request

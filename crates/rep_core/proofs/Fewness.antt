@@ -1,10 +1,9 @@
 -- No request makes the suites with a copy or an intention too many.
-use Rattle.rep_core.proofs.Vocabulary.{◌≡◌, ℕ, ◌+◌, ◌≤◌, Bool, true, false, cond, List, [], ◌∷◌, length, refl, sym, ap, subst, ◌∙◌, ⊎_elim, arith, ◌==◌, ◌&&◌, not, nat_lt, filter, is_some, count_by, list_any, nat_cmp, cases_Bool}
-use Rattle.rep_core.proofs.Vocabulary.{or_parts, nat_tests, nat_cmp_total, IsOrdered, get, insert, length-insert, IsOrdered-insert, get_insert_here, get_insert_apart, Configuration, Replica, Opening, Intention, Part, Take, Store}
-use Rattle.rep_core.proofs.Vocabulary.{root_copy, opening_store, holds_last, max_suites, has_copy, suites_with, intended, overfills, with_taken, with_copies, left_by, copy_in}
+use Rattle.rep_core.proofs.Vocabulary.{◌≡◌, ℕ, ◌+◌, ◌≤◌, Bool, true, false, cond, List, [], ◌∷◌, length, refl, sym, ap, subst, ◌∙◌, ⊎_elim, arith, ◌==◌, ◌&&◌, not, nat_lt, filter, is_some, count_by, list_any, nat_cmp, cases_Bool, or_parts}
+use Rattle.rep_core.proofs.Vocabulary.{nat_tests, nat_cmp_total, IsOrdered, get, insert, length-insert, IsOrdered-insert, get_insert_here, get_insert_apart, Configuration, Replica, Opening, Intention, Part, Take, Store, root_copy}
+use Rattle.rep_core.proofs.Vocabulary.{opening_store, holds_last, max_suites, has_copy, suites_with, intended, overfills, with_taken, with_copies, left_by, copy_in, finished}
 use Rattle.std.specs.List.Sorted.{IsStrictlySortedBy}
 use Rattle.rep_core.specs.declared.request.Take.TheVariants as take
-use Rattle.rep_core.specs.Store.{finished}
 use Rattle.rep_core.proofs.Rising.{count_cons}
 use Rattle.rep_core.proofs.Intentions.{is_of}
 

@@ -1,10 +1,10 @@
 -- What a server answers fits the request.
-use Rattle.rep_core.proofs.Vocabulary.{◌≡◌, ℕ, Bool, true, false, cond, ◌&&◌, not, Option, Some, None, refl, ap, ◌∙◌, ⊎_elim, ◌||◌, cases_Bool, and_parts, and_from, Replica, is_valid_copy, Lock, Exclusive, Request, Reply, in_the_way}
-use Rattle.rep_core.proofs.Vocabulary.{has_lock, IsSound, is_sound, is_used_up, copy_of, State, given, locking_reply, poll_reply, stands_prepared, can_prepare, reply_up, reply_down, reply_of, fits, is_held, is_busy, is_lost, is_given}
-use Rattle.rep_core.proofs.Vocabulary.{is_down}
+use Rattle.rep_core.proofs.Vocabulary.{◌≡◌, ℕ, Bool, true, false, cond, ◌&&◌, not, Option, Some, None, refl, ap, ◌∙◌, ⊎_elim, ◌||◌, cases_Bool, and_parts, and_from, Replica, is_valid_copy, Lock, Exclusive, Request, in_the_way, has_lock}
+use Rattle.rep_core.proofs.Vocabulary.{IsSound, is_sound, is_used_up, copy_of, State, given, locking_reply, poll_reply, stands_prepared, can_prepare, reply_up, reply_down, reply_of, held}
+use Rattle.rep_core.specs.declared.reply.Reply.{Reply}
+use Rattle.rep_core.specs.Fits.{fits, is_held, is_busy, is_lost, is_given, is_down}
 use Rattle.rep_core.specs.declared.request.Request.TheVariants as request
 use Rattle.rep_core.specs.declared.reply.Reply.TheVariants as reply
-use Rattle.rep_core.specs.Service.{held}
 
 -- ---- by the form of the reply
 
@@ -43,26 +43,11 @@ fits_up st (request.Poll t suite mode) sound = locking_fits (in_the_way t suite 
 fits_up st (request.Upgrade t suite) sound = upgrade_fits (has_lock t suite st.locks) (poll_reply st t suite Exclusive) (locking_fits (in_the_way t suite Exclusive st.locks) (copy_of st.store suite) (sound.copies suite))
 fits_up st (request.Fetch t suite) sound = fetch_fits (has_lock t suite st.locks) (copy_of st.store suite) (sound.copies suite)
 fits_up st (request.Prepare t parts) sound = prepare_fits t parts (stands_prepared st t parts || can_prepare st t parts)
-fits_up st (request.Decide t decision) sound = refl
-fits_up st (request.Resolve t) sound = refl
-fits_up st (request.Finish t verdict) sound = refl
-fits_up st (request.Break t suite) sound = refl
-fits_up st request.Locks sound = refl
-fits_up st request.Crash sound = refl
-fits_up st request.Return sound = refl
+fits_up st _ sound = refl
 
 fits_down : (asked : Request) → fits asked (reply_down asked) ≡ true
 fits_down (request.Poll t suite mode) = refl
-fits_down (request.Upgrade t suite) = refl
-fits_down (request.Fetch t suite) = refl
-fits_down (request.Prepare t parts) = refl
-fits_down (request.Decide t decision) = refl
-fits_down (request.Resolve t) = refl
-fits_down (request.Finish t verdict) = refl
-fits_down (request.Break t suite) = refl
-fits_down request.Locks = refl
-fits_down request.Crash = refl
-fits_down request.Return = refl
+fits_down _ = refl
 
 pub reply_fits : (st : State) (asked : Request) → IsSound st.store → fits asked (reply_of st asked) ≡ true
 reply_fits st asked sound = ⊎_elim

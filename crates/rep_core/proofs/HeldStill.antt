@@ -1,10 +1,9 @@
 -- A Poll or an Upgrade that was told Held, and is served again later: the lock stands in its mode, and the copy is the same.
 use Rattle.rep_core.proofs.Vocabulary.{◌≡◌, inl, inr, ℕ, Bool, true, false, cond, List, [], ◌∷◌, ◌++◌, Some, None, refl, sym, ap, subst, ◌∙◌, arith, ◌==◌, ◌&&◌, ◌||◌, not, filter, find, false≢true, nat_tests, Prefix, LockMode, Shared}
 use Rattle.rep_core.proofs.Vocabulary.{Exclusive, is_exclusive, serves, stronger, Lock, Request, Stamped, is_own, conflicts, in_the_way, has_lock, before, raised_lock, raised, with_lock, locked, prepared_lock, copy_of, State, reply_of}
-use Rattle.rep_core.proofs.Vocabulary.{after, locking_reply, after_locking, poll_reply, after_poll, is_full, served, step, IsConsistent, after_all, sent, later_on, StaysLater, is_taking, served_by, AgainLater, or_parts}
+use Rattle.rep_core.proofs.Vocabulary.{after, locking_reply, after_locking, poll_reply, after_poll, is_full, served, step, IsConsistent, after_all, sent, later_on, StaysLater, is_taking, served_by, AgainLater, or_parts, held}
 use Rattle.rep_core.specs.declared.request.Request.TheVariants as request
 use Rattle.rep_core.specs.declared.reply.Reply.TheVariants as reply
-use Rattle.rep_core.specs.Service.{held}
 use Rattle.rep_core.proofs.Members.{Has, contains_from, any_has, has_any, map_has, filter_has, between_has}
 use Rattle.rep_core.proofs.Alone.{own_is}
 use Rattle.rep_core.proofs.Stays.{serves_itself, serves_on, raised_serves}

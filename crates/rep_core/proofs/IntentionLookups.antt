@@ -1,8 +1,7 @@
 -- Which intention and which copy a suite has after a Prepare and after a Finish.
 use Rattle.rep_core.proofs.Vocabulary.{◌≡◌, ℕ, ◌==◌, Bool, true, false, cond, not, inl, inr, List, [], ◌∷◌, Option, Some, None, is_some, refl, sym, ap, subst, ◌∙◌, ⊎_elim, arith, if◌then◌else◌, find, list_any, nat_cmp, is_at, keys_of}
 use Rattle.rep_core.proofs.Vocabulary.{cases_Bool, or_parts, nat_tests, lookup_head, lookup_tail, sorted_tail, IsOrdered, get, insert, get_insert_here, get_insert_apart, Replica, Intention, Part, Store, IsSound, copy_of, is_keep}
-use Rattle.rep_core.proofs.Vocabulary.{lists_twice, with_intention, with_intentions, without_intentions, in_effect}
-use Rattle.rep_core.specs.Store.{finished}
+use Rattle.rep_core.proofs.Vocabulary.{lists_twice, with_intention, with_intentions, without_intentions, in_effect, finished}
 use Rattle.rep_core.proofs.Members.{Has}
 use Rattle.rep_core.proofs.Intentions.{is_of, at_itself, absent_behind, apart_behind, copy_in-with_copies}
 

@@ -1,9 +1,9 @@
 -- What the intentions of a transaction become, one after the other.
 use Rattle.rep_core.proofs.Vocabulary.{◌≡◌, ℕ, ◌==◌, ◌+◌, ◌≤◌, ◌<◌, zero, suc, add-one, get_or, Less, Greater, subst, Bool, true, false, cond, not, List, [], ◌∷◌, length, Some, None, IsSome, refl, sym, ap, ◌∙◌, ⊎_elim, arith, unwrap_or}
-use Rattle.rep_core.proofs.Vocabulary.{is_some, nat_cmp, is_eq, eq_by_cmp_equiv, is_at, AllByRecursion, list_all, keys_of, cases_Bool, false≢true, and_parts, nat_tests, nat_cmp_total, none-some, same_Some, lookup-none, none_past_head}
-use Rattle.rep_core.proofs.Vocabulary.{lookup_head, lookup_tail, sorted_head, sorted_tail, IsDistinct-from_sorted, IsOrdered, get, insert, replace, insert_step, length-insert, insert_present, get_insert_here, get_insert_apart}
-use Rattle.rep_core.proofs.Vocabulary.{Configuration, Prefix, Replica, Intention, Part, Take, absent_copy, is_keep, with_intentions, copy_in, left_by, with_prefix, with_taken, with_copies, without_intentions, in_effect}
-use Rattle.std.proofs.Common.{take as first_items}
+use Rattle.rep_core.proofs.Vocabulary.{is_some, nat_cmp, is_eq, eq_by_cmp_equiv, is_at, AllByRecursion, list_all, keys_of, cases_Bool, false≢true, and_parts, nat_tests, nat_cmp_total, none-some, same_Some, none_past_head, lookup_head}
+use Rattle.rep_core.proofs.Vocabulary.{lookup_tail, sorted_head, sorted_tail, IsDistinct-from_sorted, IsOrdered, get, insert, insert_step, length-insert, get_insert_here, get_insert_apart, Configuration, Replica, Intention, Part, Take}
+use Rattle.rep_core.proofs.Vocabulary.{absent_copy, is_keep, with_intentions, copy_in, left_by, with_taken, with_copies, without_intentions, in_effect, take as first_items}
+use Rattle.std.proofs.lemmas.Map.{lookup-none}
 use Rattle.rep_core.specs.declared.request.Take.TheVariants as take
 
 same_key : (key other : ℕ) → is_eq (nat_cmp key other) ≡ true → key ≡ other
@@ -85,29 +85,17 @@ module _ (t : ℕ) where
 
 -- ---- what a take makes of the copies
 
--- where a copy is there, it is replaced
-pub taken_present : (c0 : Configuration) (copies : List (ℕ × Replica)) (suite : ℕ) (prefix : Prefix) (copy : Replica) → IsOrdered nat_cmp copies
-    → get nat_cmp copies suite ≡ Some copy → with_taken c0 suite (take.Prefix prefix) copies ≡ replace nat_cmp copies suite (with_prefix prefix copy)
-taken_present c0 copies suite prefix copy rising has =
-    ap (λ o. insert nat_cmp copies suite (with_prefix prefix (unwrap_or o (absent_copy c0)))) has
-    ∙ insert_present nat_cmp_total copies suite (with_prefix prefix copy) rising (ap is_some has)
-
-pub absent_there : (c0 : Configuration) (copies : List (ℕ × Replica)) (suite : ℕ) → get nat_cmp copies suite ≡ None → copy_in c0 copies suite ≡ absent_copy c0
-absent_there c0 copies suite none = ap (λ o. unwrap_or o (absent_copy c0)) none
-
 -- ---- the copy of a suite afterwards
 
 module _ (c0 : Configuration) where
   -- at the suite of a take, and at another
   copy_in-taken : (what : Take) (copies : List (ℕ × Replica)) (suite : ℕ) → copy_in c0 (with_taken c0 suite what copies) suite ≡ left_by what (copy_in c0 copies suite)
   copy_in-taken take.Keep copies suite = refl
-  copy_in-taken (take.Prefix prefix) copies suite = ap (λ o. unwrap_or o (absent_copy c0)) (get_insert_here copies suite _)
-  copy_in-taken (take.Whole replica) copies suite = ap (λ o. unwrap_or o (absent_copy c0)) (get_insert_here copies suite _)
+  copy_in-taken _ copies suite = ap (λ o. unwrap_or o (absent_copy c0)) (get_insert_here copies suite _)
 
   copy_in-apart : (what : Take) (copies : List (ℕ × Replica)) (suite q : ℕ) → (q ≡ suite → ⊥) → copy_in c0 (with_taken c0 suite what copies) q ≡ copy_in c0 copies q
   copy_in-apart take.Keep copies suite q apart = refl
-  copy_in-apart (take.Prefix prefix) copies suite q apart = ap (λ o. unwrap_or o (absent_copy c0)) (get_insert_apart copies suite _ q apart)
-  copy_in-apart (take.Whole replica) copies suite q apart = ap (λ o. unwrap_or o (absent_copy c0)) (get_insert_apart copies suite _ q apart)
+  copy_in-apart _ copies suite q apart = ap (λ o. unwrap_or o (absent_copy c0)) (get_insert_apart copies suite _ q apart)
 
   -- once the intentions of a transaction have become copies, the copy of a suite is the one that was in effect with the transaction decided
   pub copy_in-with_copies : (t : ℕ) (intentions : List (ℕ × Intention)) (copies : List (ℕ × Replica)) (suite : ℕ) → IsOrdered nat_cmp intentions

@@ -1,6 +1,7 @@
 -- Maps whose values are seen by a part of theirs: stored copies, seen as copies and as forms.
-use Rattle.rep_core.proofs.Vocabulary.{◌≡◌, ℕ, cond, List, [], ◌∷◌, length, map, Option, Some, None, refl, sym, ap, ◌∙◌, arith, is_some, option_map, nat_cmp, match_ordering, is_at, lookup-map_values, get, insert, Replica, Form, Two}
-use Rattle.rep_core.proofs.Vocabulary.{Kept, with_form, Planned, copies_in, forms_in, intention_in, in_form_2}
+use Rattle.rep_core.proofs.Vocabulary.{◌≡◌, ℕ, cond, List, [], ◌∷◌, length, map, Option, Some, None, refl, sym, ap, ◌∙◌, arith, is_some, option_map, nat_cmp, match_ordering, is_at, lookup-map_values, get, insert, Replica, Form, Kept}
+use Rattle.rep_core.proofs.Vocabulary.{with_form, Planned, copies_in, forms_in, intention_in, in_form_2}
+use Rattle.suite_prefix.specs.declared.forms.Form.TheVariants.{Two}
 use Rattle.std.specs.declared.cmp.Ordering.TheVariants as ord
 use Rattle.rep_core.proofs.Planned.{keeps_nothing}
 

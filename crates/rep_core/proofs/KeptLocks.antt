@@ -1,11 +1,10 @@
 -- Locks by their keys: the list that they stand for, and what each edit of their maps makes of it.
 use Rattle.rep_core.proofs.Vocabulary.{◌≡◌, ℕ, ◌<◌, ◌^◌, Bool, true, false, cond, List, [], ◌∷◌, Option, Some, None, is_some, refl, sym, ap, ◌∙◌, arith, Less, Equal, Greater, ◌==◌, ◌&&◌, ◌||◌, not, nat_lt, option_map, list_all}
 use Rattle.rep_core.proofs.Vocabulary.{AllByRecursion, nat_cmp, ordering_then, is_lt, is_at, keys_of, and_parts, and_from, false≢true, nat_tests, none-some, IsOrdered, get, insert, remove, first_from, by_answer, get-insert, get-remove}
-use Rattle.rep_core.proofs.Vocabulary.{IsOrdered-remove, IsOrdered-insert, LockMode, Lock, IsAlone, before, rise, is_own, lock_at, has_lock, Holder, holder_cmp, AreHeld, lock_with, lock_of, locks_of, is_loose, is_loose_pair, AreKept}
-use Rattle.rep_core.proofs.Vocabulary.{AreNumbered, IsPut, without, are_none}
+use Rattle.rep_core.proofs.Vocabulary.{IsOrdered-remove, IsOrdered-insert, LockMode, Lock, IsAlone, before, rise, is_own, lock_at, has_lock, Holder, holder_cmp, AreHeld}
 use Rattle.std.specs.List.Sorted.{IsStrictlySortedBy}
+use Rattle.rep_core.specs.code.Keyed.{Kept, lock_with, lock_of, locks_of, is_loose, is_loose_pair, AreKept, AreNumbered, IsPut, without, are_none}
 use Rattle.rep_core.specs.code.Holders as holding
-use Rattle.rep_core.specs.code.Keyed.{Kept}
 use Rattle.rep_core.proofs.Members.{all_at}
 use Rattle.rep_core.proofs.Alone.{own_is}
 use Rattle.rep_core.proofs.Finding.{any_find, find_some, find_filter_same, find_filter_none}

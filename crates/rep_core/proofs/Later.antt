@@ -1,14 +1,13 @@
 -- A request that is served again later changes nothing more, and is answered the same.
 use Rattle.rep_core.proofs.Vocabulary.{◌≡◌, inl, inr, ℕ, Bool, true, false, cond, List, [], ◌∷◌, Option, Some, None, Less, Equal, Greater, refl, sym, ap, subst, ◌∙◌, arith, ◌==◌, ◌&&◌, ◌||◌, not, ◌++◌, length, filter, map, list_any}
-use Rattle.rep_core.proofs.Vocabulary.{list_all, nat_cmp, match_ordering, and_parts, or_parts, false≢true, nat_tests, get, insert, Configuration, Content, Replica, Form, LockMode, Exclusive, serves, Intention, Lock, Part, Request}
-use Rattle.rep_core.proofs.Vocabulary.{Verdict, Stamped, is_own, has_lock, has_prepared, has_lock_for, before, raised_lock, raised, with_lock, locked, prepared_lock, Store, copy_of, is_keep, is_sound_part, lists_twice, with_intention}
+use Rattle.rep_core.proofs.Vocabulary.{list_all, nat_cmp, match_ordering, and_parts, or_parts, false≢true, nat_tests, get, insert, Configuration, Content, Replica, Form, LockMode, Exclusive, serves, Intention, Lock, Part, Request, Verdict}
+use Rattle.rep_core.proofs.Vocabulary.{Stamped, is_own, has_lock, has_prepared, has_lock_for, before, raised_lock, raised, with_lock, locked, prepared_lock, Store, copy_of, is_keep, is_sound_part, lists_twice, with_intention}
 use Rattle.rep_core.proofs.Vocabulary.{with_intentions, with_taken, with_copies, with_form, with_forms, left_by, State, record_of, reply_of, after, reply_up, reply_down, after_up, after_down, given, fetch_reply, stands_prepared}
-use Rattle.rep_core.proofs.Vocabulary.{can_prepare, prepares, prepare_reply, after_prepare, recorded, after_record, verdict_of, audit_of, is_answered, after_finish, is_full, served, step, IsConsistent, after_all, finished_by}
-use Rattle.rep_core.proofs.Vocabulary.{asks_record, sent, later_on, StaysLater, is_poll, is_taking, served_by}
+use Rattle.rep_core.proofs.Vocabulary.{can_prepare, prepares, prepare_reply, after_prepare, recorded, after_record, verdict_of, audit_of, is_answered, after_finish, is_full, served, step, IsConsistent, after_all, finished_by, asks_record}
+use Rattle.rep_core.proofs.Vocabulary.{sent, later_on, StaysLater, is_poll, is_taking, served_by, finished}
 use Rattle.rep_core.specs.declared.request.Request.TheVariants as request
 use Rattle.rep_core.specs.declared.reply.Verdict.TheVariants as verdict
 use Rattle.rep_core.specs.declared.reply.Reply.TheVariants as reply
-use Rattle.rep_core.specs.Store.{finished}
 use Rattle.rep_core.proofs.Members.{Has, contains_from, any_has, has_any, map_has, filter_has, between_has}
 use Rattle.rep_core.proofs.Alone.{own_is}
 use Rattle.rep_core.proofs.LockLookups.{new_lock}
@@ -34,16 +33,7 @@ one_of test up full none room is = grind (arith, nat_tests)
 module _ (H : List Lock → Store → Type 0) (test : Request → Bool) where
   kept_down : (st : State) (asked : Request) → H st.locks st.store → H (after_down st asked).locks (after_down st asked).store
   kept_down st (request.Poll u s m) now = now
-  kept_down st (request.Upgrade u s) now = now
-  kept_down st (request.Fetch u s) now = now
-  kept_down st (request.Prepare u parts) now = now
-  kept_down st (request.Decide u decision) now = now
-  kept_down st (request.Resolve u) now = now
-  kept_down st (request.Finish u v) now = now
-  kept_down st (request.Break u s) now = now
-  kept_down st request.Locks now = now
-  kept_down st request.Crash now = now
-  kept_down st request.Return now = now
+  kept_down st _ now = now
 
   pub kept_step : (st : State) (asked : Stamped Request) → H st.locks st.store → Ways st (λ asked new. test asked ≡ false → H new.locks new.store) → (test asked.value && st.up && not (is_full st asked)) ≡ false
       → H (step st asked).locks (step st asked).store
@@ -73,15 +63,7 @@ later_recorded st stamp (request.Resolve u) later t v is said =
     stays_later st new (request.Resolve u)
     (λ _. (ap (λ old. after_record old u verdict.Aborted None new) still, ap (λ old. reply.Verdict (recorded old verdict.Aborted)) still ∙ sym said))
     refl
-later_recorded st stamp (request.Poll u s m) later t v is said = absurd (false≢true is)
-later_recorded st stamp (request.Upgrade u s) later t v is said = absurd (false≢true is)
-later_recorded st stamp (request.Fetch u s) later t v is said = absurd (false≢true is)
-later_recorded st stamp (request.Prepare u parts) later t v is said = absurd (false≢true is)
-later_recorded st stamp (request.Finish u w) later t v is said = absurd (false≢true is)
-later_recorded st stamp (request.Break u s) later t v is said = absurd (false≢true is)
-later_recorded st stamp request.Locks later t v is said = absurd (false≢true is)
-later_recorded st stamp request.Crash later t v is said = absurd (false≢true is)
-later_recorded st stamp request.Return later t v is said = absurd (false≢true is)
+later_recorded st stamp _ later t v is said = absurd (false≢true is)
 
 -- ---- what was prepared
 

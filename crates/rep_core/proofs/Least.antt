@@ -79,26 +79,11 @@ module _ (st : State) (up : rise st.locks ≡ true) where
         | true ↦ λ said. absurd cc
         | false ↦ λ said. absurd cc
       ] said
-  busy_up (request.Decide t decision) holder prepared said = absurd cc
-  busy_up (request.Resolve t) holder prepared said = absurd cc
-  busy_up (request.Finish t verdict) holder prepared said = absurd cc
-  busy_up (request.Break t suite) holder prepared said = absurd cc
-  busy_up request.Locks holder prepared said = absurd cc
-  busy_up request.Crash holder prepared said = absurd cc
-  busy_up request.Return holder prepared said = absurd cc
+  busy_up _ holder prepared said = absurd cc
 
   never_busy : (asked : Request) (holder : ℕ) (prepared : Bool) → reply_down asked ≡ reply.Busy holder prepared → ⊥
   never_busy (request.Poll t suite mode) holder prepared said = cc
-  never_busy (request.Upgrade t suite) holder prepared said = cc
-  never_busy (request.Fetch t suite) holder prepared said = cc
-  never_busy (request.Prepare t parts) holder prepared said = cc
-  never_busy (request.Decide t decision) holder prepared said = cc
-  never_busy (request.Resolve t) holder prepared said = cc
-  never_busy (request.Finish t verdict) holder prepared said = cc
-  never_busy (request.Break t suite) holder prepared said = cc
-  never_busy request.Locks holder prepared said = cc
-  never_busy request.Crash holder prepared said = cc
-  never_busy request.Return holder prepared said = cc
+  never_busy _ holder prepared said = cc
 
   pub busy_least : (asked : Request) (holder : ℕ) (prepared : Bool) → reply_of st asked ≡ reply.Busy holder prepared → IsLeastHolder st.locks asked holder prepared
   busy_least asked holder prepared said =

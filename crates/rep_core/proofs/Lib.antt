@@ -26,7 +26,6 @@ pub mod FittingReplies
 pub mod Reached
 pub mod Validity
 mod Example
-pub mod Changes
 pub mod Planned
 pub mod Kept
 pub mod ByAgent
@@ -40,4 +39,3 @@ mod LockEdits
 mod TabledLocks
 pub mod Walks
 pub mod PackedNames
-mod Pairwise

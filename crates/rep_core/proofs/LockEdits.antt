@@ -1,10 +1,9 @@
 -- Locks that are put and let go one by one, and what that comes to.
-use Rattle.rep_core.proofs.Vocabulary.{◌≡◌, ℕ, ◌+◌, ◌<◌, ◌≤◌, ◌^◌, length, Bool, true, false, cond, inl, inr, List, [], ◌∷◌, ◌++◌, Option, Some, None, refl, sym, ap, ◌∙◌, arith, Less, Equal, Greater, ◌==◌, ◌&&◌, ◌||◌, not, nat_lt}
-use Rattle.rep_core.proofs.Vocabulary.{filter, find, option_map, list_any, list_all, AllByRecursion, nat_cmp, ordering_then, is_lt, keys_of, and_parts, false≢true, true≢false, nat_tests, same_Some, IsOrdered, first_from, by_answer}
-use Rattle.rep_core.proofs.Vocabulary.{LockMode, serves, stronger, Lock, Part, before, rise, is_own, lock_at, has_prepared, has_lock_for, locked, prepared_lock, with_prepared, released, broken, prepared_locks, holder_cmp, lock_of}
-use Rattle.rep_core.proofs.Vocabulary.{locks_of, own_of, next_of, lock_with, is_loose, AreNumbered, stronger_than, IsPut, without, one_prepared, with_one_prepared}
+use Rattle.rep_core.proofs.Vocabulary.{◌≡◌, ℕ, ◌+◌, ◌<◌, ◌≤◌, ◌^◌, length, Bool, true, false, cond, inl, inr, List, [], ◌∷◌, ◌++◌, Option, Some, None, refl, sym, ap, ◌∙◌, arith, Less, Equal, Greater, ◌==◌, ◌&&◌, ◌||◌, not, nat_lt, filter}
+use Rattle.rep_core.proofs.Vocabulary.{find, option_map, list_any, list_all, AllByRecursion, nat_cmp, ordering_then, is_lt, keys_of, and_parts, false≢true, true≢false, nat_tests, same_Some, IsOrdered, first_from, by_answer, LockMode}
+use Rattle.rep_core.proofs.Vocabulary.{serves, stronger, Lock, Part, before, rise, is_own, lock_at, has_lock_for, locked, prepared_lock, with_prepared, released, broken, prepared_locks, holder_cmp}
 use Rattle.std.specs.List.Sorted.{IsStrictlySortedBy}
-use Rattle.rep_core.specs.code.Keyed.{Kept}
+use Rattle.rep_core.specs.code.Keyed.{Kept, lock_of, locks_of, own_of, next_of, lock_with, is_loose, AreNumbered, stronger_than, IsPut, without, one_prepared, with_one_prepared}
 use Rattle.rep_core.proofs.Members.{Has}
 use Rattle.rep_core.proofs.Finding.{find_some, find_map, none_ahead, find_filter_same, find_filter_none, once_both}
 use Rattle.rep_core.proofs.LockLookups.{lock_own, taken, ready, if_prepared, one_each, lock_at-locked, lock_at-crashed, lock_at-broken}
@@ -264,13 +263,6 @@ is_ready t from l = (l.t == t) && l.prepared && not (nat_lt l.suite from)
 -- the transaction has a prepared lock on this suite or one above it
 abbrev pub has_ready : ℕ → ℕ → List Lock → Bool
 has_ready t from ls = list_any (is_ready t from) ls
-
-pub ready_all : (t : ℕ) (ls : List Lock) → has_ready t 0 ls ≡ has_prepared t ls
-ready_all t [] = refl
-ready_all t (l ∷ ls) = λ i. one l i || ready_all t ls i
-  where
-    one : (l : Lock) → is_ready t 0 l ≡ ((l.t == t) && l.prepared)
-    one l = grind (arith, nat_tests)
 
 ready_is_next : (t from : ℕ) (l : Lock) → is_ready t from l ≡ true → is_next t from l ≡ true
 ready_is_next t from l is = grind (arith, nat_tests)

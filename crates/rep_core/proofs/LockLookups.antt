@@ -1,7 +1,7 @@
 -- Which lock a transaction has on a suite after each change of the locks.
-use Rattle.rep_core.proofs.Vocabulary.{◌≡◌, ℕ, Bool, true, false, cond, ◌⊎◌, List, [], ◌∷◌, Option, Some, None, is_some, refl, sym, ap, ◌∙◌, arith, ◌==◌, ◌&&◌, ◌||◌, not, filter, find, count_by, option_map, list_any, list_all}
-use Rattle.rep_core.proofs.Vocabulary.{and_parts, false≢true, nat_tests, LockMode, is_exclusive, stronger, Lock, Part, before, rise, is_own, lock_at, conflicts, in_the_way, has_lock, raised_lock, raised, with_lock, locked}
-use Rattle.rep_core.proofs.Vocabulary.{prepared_lock, with_prepared, released, broken, prepared_locks}
+use Rattle.rep_core.proofs.Vocabulary.{◌≡◌, ℕ, Bool, true, false, cond, ◌⊎◌, List, [], ◌∷◌, Option, Some, None, is_some, refl, sym, ap, ◌∙◌, arith, ◌==◌, ◌&&◌, ◌||◌, not, filter, find, count_by, option_map, list_any, list_all, and_parts}
+use Rattle.rep_core.proofs.Vocabulary.{false≢true, nat_tests, LockMode, is_exclusive, stronger, Lock, Part, before, rise, is_own, lock_at, conflicts, in_the_way, has_lock, raised_lock, raised, with_lock, locked, prepared_lock}
+use Rattle.rep_core.proofs.Vocabulary.{with_prepared, released, broken, prepared_locks}
 use Rattle.std.specs.Prelude.{insert}
 use Rattle.rep_core.proofs.Members.{find_none}
 use Rattle.rep_core.proofs.Alone.{own_is, no_conflict}

@@ -1,6 +1,6 @@
 -- What stands in a list, by recursion, and after the usual changes.
-use Rattle.rep_core.proofs.Vocabulary.{◌≡◌, Bool, true, false, cond, ◌⊎◌, inl, inr, List, [], ◌∷◌, ◌++◌, None, Some, refl, sym, ap, ◌∙◌, arith, filter, find, map, not, ◌||◌, All, Contains, list_all, list_any, and_parts, false≢true}
-use Rattle.rep_core.proofs.Vocabulary.{All-nil, All-cons, All-weaker, All-contains, Contains-get_or, Contains-append_right}
+use Rattle.rep_core.proofs.Vocabulary.{◌≡◌, Bool, true, false, cond, ◌⊎◌, inl, inr, List, [], ◌∷◌, ◌++◌, None, Some, refl, sym, ap, ◌∙◌, arith, filter, find, map, not, ◌||◌, All, Contains, list_all, list_any, and_parts, false≢true, All-nil}
+use Rattle.rep_core.proofs.Vocabulary.{All-cons, All-weaker, All-contains, Contains-get_or, Contains-append_right}
 
 -- x is one of the list
 abbrev pub Has : {X : Type 0} → List X → X → Type 0

@@ -1,8 +1,10 @@
 -- Names that are packed into one text with commas come out again, and no others do.
-use Rattle.rep_core.proofs.Vocabulary.{◌≡◌, ℕ, Bool, ◌+◌, ◌≤◌, ◌<◌, true, false, cond, eqb, List, [], ◌∷◌, ◌++◌, length, map, refl, sym, ap, subst, ◌∙◌, arith, append-nil, Bor, get_or, inl, inr, All, IsTrue, slice_split, is_lt}
-use Rattle.rep_core.proofs.Vocabulary.{cases_Bool, ne_eqb, false≢true, and_parts, and_from, map-append, All-nil, All-cons, All-head, All-tail, slice_split_none, slice_split_at, length-slice_split, sum_by-cons, sum_by-append, IsFolder}
-use Rattle.rep_core.proofs.Vocabulary.{name_cmp, names_in, IsName, is_name_byte, with_commas, rise_above, folder_if_rise, parts, unnumbered, AreInOrder}
-use Rattle.std.specs.List.{count_by}
+use Rattle.rep_core.proofs.Vocabulary.{◌≡◌, ℕ, Bool, ◌+◌, ◌≤◌, ◌<◌, true, false, cond, eqb, List, [], ◌∷◌, ◌++◌, length, map, refl, sym, ap, subst, ◌∙◌, arith, append-nil, Bor, get_or, inl, inr, All, IsTrue, is_lt, cases_Bool, ne_eqb}
+use Rattle.rep_core.proofs.Vocabulary.{false≢true, and_parts, map-append, All-nil, All-cons, All-head, All-tail, sum_by-cons, sum_by-append, IsName, is_name_byte, with_commas, parts, unnumbered, AreInOrder, count_by}
+use Rattle.std.proofs.lemmas.List.Splits.{slice_split_none, slice_split_at, length-slice_split}
+use Rattle.suite_content.specs.Folders.{IsFolder, name_cmp, names_in}
+use Rattle.suite_prefix.specs.Faults.{rise_above}
+use Rattle.suite_prefix.proofs.Orders.{folder_if_rise}
 
 -- ---- a name has no comma
 
@@ -76,12 +78,6 @@ pub record Rises (before : List ℕ) (names : List (List ℕ)) : Type 0 where
 
 pub rises_nil : (before : List ℕ) → Rises before []
 rises_nil before = record { each = All-nil IsName; rising = refl }
-
-pub rises_cons : (before name : List ℕ) (names : List (List ℕ)) → IsName name → is_lt (name_cmp before name) ≡ true → Rises name names → Rises before (name ∷ names)
-rises_cons before name names is below rises = record {
-  each = All-cons IsName name names is rises.each;
-  rising = and_from (is_lt (name_cmp before name)) (rise_above name (unnumbered names)) below rises.rising;
-}
 
 folder : (names : List (List ℕ)) → Rises [] names → IsFolder (unnumbered names)
 folder [] rises = folder_if_rise [] refl

@@ -1,9 +1,8 @@
 -- Intentions that are kept as what they leave, seen as intentions.
-use Rattle.rep_core.proofs.Vocabulary.{◌≡◌, ℕ, ◌==◌, ◌+◌, ◌≤◌, ◌<◌, Bool, true, false, cond, not, get_or, filter, List, [], ◌∷◌, length, Option, Some, None, refl, sym, ap, subst, ◌∙◌, ⊎_elim, ◌⊎◌, inl, inr, arith, is_some, option_map}
-use Rattle.rep_core.proofs.Vocabulary.{count_by, unwrap_or, fold, nat_cmp, match_ordering, is_at, keys_of, cases_Bool, false≢true, eqb-true, eq-eqb, lookup_head, lookup_tail, sorted_tail, get_or-map, lookup-map_values}
-use Rattle.rep_core.proofs.Vocabulary.{keys_of-map_values, none-some, same_Some, IsOrdered, get, insert, remove, replace, get_insert_here, get_insert_apart, get_remove_here, get_remove_apart, Configuration, Replica, absent_copy, Kept}
-use Rattle.rep_core.proofs.Vocabulary.{Planned, Part, Take, Intention, copy_in, left_by, is_keep, with_taken, with_intentions, intention_in, intentions_in, in_form_2, take_in, is_whole, planned_of, with_all, Leaves}
-use Rattle.std.specs.List.Sorted.{IsStrictlySortedBy}
+use Rattle.rep_core.proofs.Vocabulary.{◌≡◌, ℕ, ◌==◌, ◌≤◌, ◌<◌, Bool, true, false, cond, not, get_or, filter, List, [], ◌∷◌, length, Option, Some, None, refl, sym, ap, subst, ◌∙◌, ⊎_elim, ◌⊎◌, inl, inr, arith, is_some, option_map, unwrap_or}
+use Rattle.rep_core.proofs.Vocabulary.{nat_cmp, match_ordering, is_at, keys_of, cases_Bool, false≢true, eqb-true, eq-eqb, lookup_head, lookup_tail, sorted_tail, get_or-map, lookup-map_values, keys_of-map_values, none-some, same_Some}
+use Rattle.rep_core.proofs.Vocabulary.{IsOrdered, get, insert, remove, replace, get_insert_here, get_insert_apart, get_remove_here, get_remove_apart, Configuration, Replica, absent_copy, Kept, Planned, Part, Take, Intention, copy_in}
+use Rattle.rep_core.proofs.Vocabulary.{left_by, is_keep, with_taken, with_intentions, intention_in, intentions_in, in_form_2, take_in, is_whole, planned_of, with_all, Leaves, IsStrictlySortedBy}
 use Rattle.std.specs.declared.cmp.Ordering.TheVariants as ord
 use Rattle.rep_core.proofs.Intentions.{apart_behind}
 use Rattle.rep_core.specs.declared.request.Take.TheVariants as take
@@ -73,13 +72,6 @@ without_in t (e ∷ es) =
       | false ↦ without_in t es
     ]
 
-fold_in : (p : ℕ → Bool) (n : ℕ) (pairs : List (ℕ × Planned)) → fold (λ a (x : ℕ × Intention). a + cond (p x.0) 1 0) n (intentions_in pairs) ≡ fold (λ a (x : ℕ × Planned). a + cond (p x.0) 1 0) n pairs
-fold_in p n [] = refl
-fold_in p n (e ∷ es) = fold_in p (n + cond (p e.0) 1 0) es
-
-pub count_in : (p : ℕ → Bool) (pairs : List (ℕ × Planned)) → count_by (λ (pair : ℕ × Intention). p pair.0) (intentions_in pairs) ≡ count_by (λ (pair : ℕ × Planned). p pair.0) pairs
-count_in p pairs = fold_in p 0 pairs
-
 pub at_in : (pairs : List (ℕ × Planned)) (i : ℕ) (pair : ℕ × Planned) → i < length pairs → pair ≡ get_or pairs i pair → (pair.0, intention_in pair.1) ≡ get_or (intentions_in pairs) i (pair.0, intention_in pair.1)
 at_in pairs i pair in_range is =
     ap (λ (e : ℕ × Planned). (e.0, intention_in e.1)) is ∙ sym (get_or-map (λ (e : ℕ × Planned). (e.0, intention_in e.1)) pairs i pair (pair.0, intention_in pair.1) in_range)
@@ -107,8 +99,7 @@ same_left (take.Whole replica) c0 c1 o changes = refl
 
 take_back : (what : Take) (copy : Replica) → is_keep what ≡ false → take_in (is_whole what) (left_by what copy) ≡ what
 take_back take.Keep copy changes = absurd cc
-take_back (take.Prefix prefix) copy changes = refl
-take_back (take.Whole replica) copy changes = refl
+take_back _ copy changes = refl
 
 pub keeps_nothing : (whole : Bool) (left : Replica) → is_keep (take_in whole left) ≡ false
 keeps_nothing true left = refl

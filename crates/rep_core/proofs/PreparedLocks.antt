@@ -1,6 +1,7 @@
 -- A lock becomes prepared by a Prepare of its transaction only.
 use Rattle.rep_core.proofs.Vocabulary.{◌≡◌, ℕ, Bool, true, false, cond, ◌⊎◌, inl, inr, List, refl, sym, ap, ◌∙◌, arith, ◌==◌, ◌&&◌, ◌||◌, not, filter, list_any, false≢true, nat_tests, LockMode, Exclusive, Lock, Part, Request, before}
-use Rattle.rep_core.proofs.Vocabulary.{is_own, has_lock, raised_lock, raised, with_lock, locked, prepared_lock, with_prepared, State, is_prepare, WasPrepared, PreparedByPrepare}
+use Rattle.rep_core.proofs.Vocabulary.{is_own, has_lock, raised_lock, raised, with_lock, locked, prepared_lock, with_prepared, State}
+use Rattle.rep_core.specs.Steps.{is_prepare, WasPrepared, PreparedByPrepare}
 use Rattle.rep_core.specs.declared.request.Request.TheVariants as request
 use Rattle.rep_core.proofs.Members.{Has, has_filter, has_map, has_between, has_from, contains_from}
 use Rattle.rep_core.proofs.Ways.{Ways, by_step}

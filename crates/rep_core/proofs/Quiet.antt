@@ -1,7 +1,7 @@
 -- A reply of which nothing is to be remembered comes from a server that stays as it was.
 use Rattle.rep_core.proofs.Vocabulary.{◌≡◌, ℕ, Bool, true, false, cond, List, Option, Some, None, refl, ◌&&◌, ◌||◌, not, false≢true, LockMode, Exclusive, Lock, Part, Request, in_the_way, has_lock, copy_of, State, reply_up, reply_down}
-use Rattle.rep_core.proofs.Vocabulary.{after_up, after_down, locking_reply, after_locking, poll_reply, after_poll, upgrade_reply, after_upgrade, stands_prepared, can_prepare, prepare_reply, after_prepare, is_quiet}
-use Rattle.rep_core.proofs.Vocabulary.{QuietRepliesChangeNothing}
+use Rattle.rep_core.proofs.Vocabulary.{after_up, after_down, locking_reply, after_locking, poll_reply, after_poll, upgrade_reply, after_upgrade, stands_prepared, can_prepare, prepare_reply, after_prepare}
+use Rattle.rep_core.specs.Steps.{is_quiet, QuietRepliesChangeNothing}
 use Rattle.rep_core.specs.declared.request.Request.TheVariants as request
 use Rattle.rep_core.specs.declared.reply.Reply.TheVariants as reply
 use Rattle.rep_core.proofs.Ways.{laid}
@@ -30,26 +30,12 @@ quiet_up st (request.Poll t s m) quiet = quiet_locking st t s m (in_the_way t s 
 quiet_up st (request.Upgrade t s) quiet = quiet_upgrade st t s quiet
 quiet_up st (request.Fetch t s) quiet = refl
 quiet_up st (request.Prepare t parts) quiet = quiet_prepare st t parts quiet
-quiet_up st (request.Decide t decision) quiet = absurd (false≢true quiet)
-quiet_up st (request.Resolve t) quiet = absurd (false≢true quiet)
-quiet_up st (request.Finish t v) quiet = absurd (false≢true quiet)
-quiet_up st (request.Break t s) quiet = absurd (false≢true quiet)
 quiet_up st request.Locks quiet = refl
-quiet_up st request.Crash quiet = absurd (false≢true quiet)
-quiet_up st request.Return quiet = absurd (false≢true quiet)
+quiet_up st _ quiet = absurd (false≢true quiet)
 
 quiet_down : (st : State) (asked : Request) → is_quiet (reply_down asked) ≡ true → after_down st asked ≡ st
-quiet_down st (request.Poll t s m) quiet = refl
-quiet_down st (request.Upgrade t s) quiet = refl
-quiet_down st (request.Fetch t s) quiet = refl
-quiet_down st (request.Prepare t parts) quiet = refl
-quiet_down st (request.Decide t decision) quiet = refl
-quiet_down st (request.Resolve t) quiet = refl
-quiet_down st (request.Finish t v) quiet = refl
-quiet_down st (request.Break t s) quiet = refl
-quiet_down st request.Locks quiet = refl
-quiet_down st request.Crash quiet = refl
 quiet_down st request.Return quiet = absurd (false≢true quiet)
+quiet_down st _ quiet = refl
 
 pub quiet_changes_nothing : QuietRepliesChangeNothing
 quiet_changes_nothing st asked quiet =

@@ -95,15 +95,7 @@ resolve_ruled st t v said =
 answered : (st : State) (asked : Request) (t : ℕ) (v : Verdict) → asks_record t asked ≡ true → reply_of st asked ≡ reply.Verdict v → record_of (after st asked) t ≡ Some v
 answered st (request.Decide u decision) t v is said = ap (record_of (after st (request.Decide u decision))) (same_as u t is) ∙ decide_ruled st u decision v said
 answered st (request.Resolve u) t v is said = ap (record_of (after st (request.Resolve u))) (same_as u t is) ∙ resolve_ruled st u v said
-answered st (request.Poll u suite mode) t v is said = absurd (false≢true is)
-answered st (request.Upgrade u suite) t v is said = absurd (false≢true is)
-answered st (request.Fetch u suite) t v is said = absurd (false≢true is)
-answered st (request.Prepare u parts) t v is said = absurd (false≢true is)
-answered st (request.Finish u w) t v is said = absurd (false≢true is)
-answered st (request.Break u suite) t v is said = absurd (false≢true is)
-answered st request.Locks t v is said = absurd (false≢true is)
-answered st request.Crash t v is said = absurd (false≢true is)
-answered st request.Return t v is said = absurd (false≢true is)
+answered st _ t v is said = absurd (false≢true is)
 
 answered_step : (st : State) (asked : Stamped Request) (t : ℕ) (v : Verdict) → asks_record t asked.value ≡ true → is_full st asked ≡ false → reply_of st asked.value ≡ reply.Verdict v → record_of (step st asked) t ≡ Some v
 answered_step st asked t v is none said = ap (λ b. record_of (cond b st (served st asked)) t) none ∙ answered st asked.value t v is said

@@ -1,9 +1,9 @@
 -- What a reply tells of the server that gave it, and of the server after it.
-use Rattle.rep_core.proofs.Vocabulary.{◌≡◌, ℕ, Bool, true, false, cond, List, Option, Some, None, length, refl, ap, ◌==◌, ◌&&◌, ◌||◌, not, Content, Prefix, LockMode, Exclusive, Lock, Part, in_the_way, has_lock, has_prepared, copy_of}
-use Rattle.rep_core.proofs.Vocabulary.{State, reply_of, after, given, locking_reply, after_locking, poll_reply, after_poll, upgrade_reply, after_upgrade, fetch_reply, can_prepare, prepare_reply, prepares, after_prepare}
+use Rattle.rep_core.proofs.Vocabulary.{◌≡◌, ℕ, Bool, true, false, cond, Option, Some, None, refl, Content, Prefix, LockMode, Exclusive, Lock, in_the_way, has_lock, copy_of, State, reply_of, after, given, locking_reply, after_locking}
+use Rattle.rep_core.proofs.Vocabulary.{poll_reply, after_poll, upgrade_reply, after_upgrade, fetch_reply}
 use Rattle.rep_core.specs.declared.request.Request.TheVariants as request
 use Rattle.rep_core.specs.declared.reply.Reply.TheVariants as reply
-use Rattle.rep_core.proofs.Ways.{with_locked, laid}
+use Rattle.rep_core.proofs.Ways.{with_locked}
 
 -- ---- Held
 
@@ -64,20 +64,3 @@ fetch_told st t suite dver content said =
     by_lock false has said = absurd cc
 
 -- ---- Prepared
-
-prepares_if : (has none can : Bool) → has ≡ false → none ≡ false → cond ((has || none) || can) reply.Prepared reply.Lost ≡ reply.Prepared → (not (has || none) && can) ≡ true
-prepares_if true none can h n said = absurd cc
-prepares_if false true can h n said = absurd cc
-prepares_if false false true h n said = refl
-prepares_if false false false h n said = absurd cc
-
--- where the transaction had nothing prepared, and there are parts, these are prepared afterwards
-pub prepared_told : (st : State) (t : ℕ) (parts : List Part) → has_prepared t st.locks ≡ false → (length parts == 0) ≡ false
-    → reply_of st (request.Prepare t parts) ≡ reply.Prepared → (prepares st t parts ≡ true) × (after st (request.Prepare t parts) ≡ laid t parts st)
-prepared_told st t parts first some said =
-    elim (st.up) as (λ b. cond b (prepare_reply st t parts) reply.Down ≡ reply.Prepared → (prepares st t parts ≡ true) × (cond b (after_prepare st t parts) st ≡ laid t parts st)) [
-      | true ↦ λ said.
-          let does = prepares_if (has_prepared t st.locks) (length parts == 0) (can_prepare st t parts) first some said in
-          (does, ap (λ b. cond b (laid t parts st) st) does)
-      | false ↦ λ said. absurd cc
-    ] said

@@ -1,6 +1,6 @@
 -- Locks in their order.
-use Rattle.rep_core.proofs.Vocabulary.{◌≡◌, ℕ, ◌+◌, suc, Bool, true, false, cond, List, [], ◌∷◌, ◌++◌, refl, sym, ap, ◌∙◌, arith, ◌&&◌, not, filter, map, count_by, list_all, and_parts, and_from, or_parts, nat_tests, sum_by-cons}
-use Rattle.rep_core.proofs.Vocabulary.{LockMode, Lock, Part, before, rise, is_own, has_lock, with_lock, raised_lock, raised, locked, prepared_lock, with_prepared}
+use Rattle.rep_core.proofs.Vocabulary.{◌≡◌, ℕ, ◌+◌, suc, Bool, true, false, cond, List, [], ◌∷◌, ◌++◌, refl, sym, ap, ◌∙◌, arith, ◌&&◌, not, filter, map, count_by, list_all, and_parts, and_from, or_parts, nat_tests, sum_by-cons, LockMode}
+use Rattle.rep_core.proofs.Vocabulary.{Lock, Part, before, rise, is_own, has_lock, with_lock, raised_lock, raised, locked, prepared_lock, with_prepared}
 use Rattle.std.specs.Prelude.{insert}
 
 -- ---- the order

@@ -1,5 +1,5 @@
 -- Searches in rising locks: those that pass a test that goes with their order come first.
-use Rattle.rep_core.proofs.Vocabulary.{◌≡◌, ℕ, zero, suc, ◌+◌, ◌<◌, ◌≤◌, Bool, true, false, cond, ◌&&◌, List, [], ◌∷◌, length, get_or, set, refl, sym, ap, ◌∙◌, arith, ◌||◌, ◌==◌, nat_lt, count_by, list_all, list_any, IsPartitionedBy}
+use Rattle.rep_core.proofs.Vocabulary.{◌≡◌, ℕ, zero, suc, ◌+◌, ◌<◌, ◌≤◌, Bool, true, false, cond, ◌&&◌, List, [], ◌∷◌, length, get_or, set, refl, sym, ap, ◌∙◌, arith, ◌||◌, ◌==◌, nat_lt, count_by, list_all, IsPartitionedBy}
 use Rattle.rep_core.proofs.Vocabulary.{IsPartitionPoint, and_parts, or_parts, nat_tests, LockMode, stronger, Lock, before, rise, is_own, has_lock, raised_lock, raised}
 use Rattle.rep_core.proofs.Rising.{count_cons}
 

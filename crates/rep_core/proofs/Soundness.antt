@@ -1,12 +1,11 @@
 -- Each change keeps a store sound.
-use Rattle.rep_core.proofs.Vocabulary.{◌≡◌, ℕ, ◌==◌, Bool, true, false, cond, ◌&&◌, not, List, [], ◌∷◌, Option, Some, None, refl, sym, ap, subst, ◌∙◌, ◌⊎◌, inl, inr, ⊎_elim, arith, nat_lt, IsTrue, if◌then◌else◌, ◌||◌, unwrap_or}
-use Rattle.rep_core.proofs.Vocabulary.{list_all, list_any, nat_cmp, is_at, cases_Bool, and_parts, and_from, false≢true, or_parts, eqb-true, eq-eqb, nat_tests, none-some, same_Some, IsOrdered, get, insert, get_insert_here}
-use Rattle.rep_core.proofs.Vocabulary.{get_insert_apart, Configuration, Content, empty_content, PrefixKind, Absent, File, Folder, Replica, held_by, is_absent, holds, is_empty, is_within_limits, is_valid_prefix, is_valid_copy, Opening}
-use Rattle.rep_core.proofs.Vocabulary.{Intention, Part, Take, is_exclusive, absent_copy, Store, IsSound, is_sound, is_used_up, copy_of, copy_in, left_by, with_prefix, is_keep, may_become, goes_with, holds_last, is_sound_part}
-use Rattle.rep_core.proofs.Vocabulary.{with_intention, with_intentions, intended, overfills, suites_with, max_suites, root_copy, opening_store, without_intentions, in_effect}
+use Rattle.rep_core.proofs.Vocabulary.{◌≡◌, ℕ, ◌==◌, Bool, true, false, cond, ◌&&◌, not, List, [], ◌∷◌, Option, Some, None, refl, sym, ap, subst, ◌∙◌, ◌⊎◌, inl, inr, ⊎_elim, arith, nat_lt, IsTrue, if◌then◌else◌, ◌||◌, unwrap_or, list_all}
+use Rattle.rep_core.proofs.Vocabulary.{list_any, nat_cmp, is_at, cases_Bool, and_parts, and_from, false≢true, or_parts, eqb-true, eq-eqb, nat_tests, none-some, same_Some, IsOrdered, get, insert, get_insert_here, get_insert_apart}
+use Rattle.rep_core.proofs.Vocabulary.{Configuration, Content, empty_content, PrefixKind, Absent, File, Folder, Replica, held_by, is_absent, holds, is_empty, is_within_limits, is_valid_prefix, is_valid_copy, Opening, Intention, Part, Take}
+use Rattle.rep_core.proofs.Vocabulary.{is_exclusive, absent_copy, Store, IsSound, is_sound, is_used_up, copy_of, copy_in, left_by, with_prefix, is_keep, may_become, goes_with, holds_last, is_sound_part, with_intention, with_intentions}
+use Rattle.rep_core.proofs.Vocabulary.{intended, overfills, suites_with, max_suites, root_copy, opening_store, without_intentions, in_effect, finished}
 use Rattle.std.specs.List.Sorted.{IsStrictlySortedBy}
 use Rattle.rep_core.specs.declared.request.Take.TheVariants as take
-use Rattle.rep_core.specs.Store.{finished}
 use Rattle.rep_core.proofs.Intentions.{copy_in-with_copies, get-without}
 
 -- ---- what a take leaves

@@ -1,10 +1,9 @@
 -- Who holds locks on a suite, whom a search finds first, and what that tells of a lock in the way.
 use Rattle.rep_core.proofs.Vocabulary.{◌≡◌, ℕ, ◌+◌, ◌^◌, ◌≤◌, ◌<◌, Bool, true, false, cond, inl, inr, List, [], ◌∷◌, Option, Some, None, is_some, refl, sym, ap, subst, ◌∙◌, arith, Less, Equal, Greater, ◌==◌, ◌&&◌, ◌||◌, filter, find}
 use Rattle.rep_core.proofs.Vocabulary.{option_map, AllByRecursion, IsTotalOrder, then_total, on_total, nat_cmp, ordering_then, is_eq, is_lt, is_at, keys_of, and_parts, false≢true, nat_tests, nat_cmp_total, same_Some, IsOrdered, get}
-use Rattle.rep_core.proofs.Vocabulary.{first_from, by_answer, LockMode, is_exclusive, Lock, Part, IsAlone, is_own, lock_at, conflicts, in_the_way, has_lock, locked, with_prepared, Holder, holder_cmp, AreHeld, is_other, other_in}
-use Rattle.rep_core.proofs.Vocabulary.{if_conflict}
+use Rattle.rep_core.proofs.Vocabulary.{first_from, by_answer, LockMode, is_exclusive, Lock, Part, IsAlone, is_own, lock_at, conflicts, in_the_way, has_lock, locked, with_prepared, if_conflict}
 use Rattle.std.specs.List.Sorted.{IsStrictlySortedBy}
-use Rattle.rep_core.specs.code.Holders.{AreNumbered}
+use Rattle.rep_core.specs.code.Holders.{AreNumbered, Holder, holder_cmp, AreHeld, is_other, other_in}
 use Rattle.rep_core.proofs.Members.{Has, has_from, contains_from, has_filter, find_none}
 use Rattle.rep_core.proofs.Alone.{Alone, alone_locked, alone_prepared, own_is}
 use Rattle.rep_core.proofs.Finding.{any_find, find_some, none_ahead}
@@ -63,10 +62,6 @@ pub still_alone_prepared : (t : ℕ) (parts : List Part) (ls : List Lock) → Is
 still_alone_prepared t parts ls alone = alone_contained _ (alone_prepared t parts ls (alone_had ls alone))
 
 -- ---- whom a search finds
-
-some_at : (b : Bool) (o : Option (Unit {0})) → b ≡ true → is_some (cond b (Some tt) o) ≡ true
-some_at true o is = refl
-some_at false o is = absurd (false≢true is)
 
 -- one that is listed is found
 pub has_get : (hs : List Holder) (e : Holder) → Has hs e → is_some (get holder_cmp hs (e.0.0, e.0.1)) ≡ true

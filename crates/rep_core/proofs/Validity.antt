@@ -1,15 +1,21 @@
 -- Copies that fit their types stay so; and sound copies that fit are valid.
 use Rattle.rep_core.proofs.Vocabulary.{◌≡◌, ℕ, ◌<◌, ◌^◌, lit<, inl, inr, Bool, true, false, cond, List, [], ◌∷◌, Option, Some, None, refl, sym, ap, subst, ◌∙◌, arith, ◌==◌, ◌&&◌, ◌||◌, not, All, IsTrue, unwrap_or, list_any, is_at}
-use Rattle.rep_core.proofs.Vocabulary.{nat_tests, nat_cmp, and_parts, All-nil, All-cons, All-contains, AllPairs-cons, same_Some, none-some, get, Entry, UserObj, GroupObj, Other, entry_of, IsAcl, IsCanonical, minimal_list, precedes}
-use Rattle.rep_core.proofs.Vocabulary.{qualifier, Configuration, IsValid, Content, IsName, empty_content, PrefixKind, Absent, File, Folder, Replica, absent_copy, AreAcls, NumbersFit, closed_lists, IsCopy, held_by, Opening, is_absent}
-use Rattle.rep_core.proofs.Vocabulary.{is_valid_copy, ContentFits, CopyFits, valid_copy_if_passes, Intention, Part, Take, Request, Lock, Stamped, Store, IsSound, is_sound, is_used_up, copy_of, copy_in, left_by, is_keep, lists_twice}
-use Rattle.rep_core.proofs.Vocabulary.{intended, in_effect, root_copy, opening_store, State, opening, step, after_all, reached, TakeFits, RequestFits, OpeningFits, HasValidCopies, TellsOfValid, CopiesAreValid, IsConsistent, Exclusive}
-use Rattle.rep_core.proofs.Vocabulary.{in_the_way, has_lock, is_answered, given, locking_reply, poll_reply, stands_prepared, can_prepare, reply_up, reply_down, reply_of}
+use Rattle.rep_core.proofs.Vocabulary.{nat_tests, nat_cmp, and_parts, All-nil, All-cons, All-contains, same_Some, none-some, get, Configuration, IsValid, Content, IsName, empty_content, PrefixKind, Absent, Folder, Replica, absent_copy}
+use Rattle.rep_core.proofs.Vocabulary.{AreAcls, NumbersFit, closed_lists, IsCopy, held_by, Opening, is_absent, is_valid_copy, ContentFits, CopyFits, Intention, Part, Take, Request, Lock, Stamped, Store, IsSound, is_sound, is_used_up}
+use Rattle.rep_core.proofs.Vocabulary.{copy_of, copy_in, left_by, is_keep, lists_twice, intended, in_effect, root_copy, opening_store, State, opening, step, after_all, reached, TakeFits, RequestFits, OpeningFits, HasValidCopies}
+use Rattle.rep_core.proofs.Vocabulary.{TellsOfValid, CopiesAreValid, IsConsistent, Exclusive, in_the_way, has_lock, is_answered, given, locking_reply, poll_reply, stands_prepared, can_prepare, reply_up, reply_down, reply_of, finished}
+use Rattle.std.proofs.lemmas.List.Kept.{AllPairs-cons}
+use Rattle.acl_core.specs.declared.entry.Entry.{Entry}
+use Rattle.acl_core.specs.declared.entry.Tag.TheVariants.{UserObj, GroupObj, Other}
+use Rattle.acl_core.specs.Entries.{entry_of}
+use Rattle.acl_core.specs.AccessLists.{IsAcl, IsCanonical}
+use Rattle.acl_core.specs.Modes.{minimal_list}
+use Rattle.acl_core.specs.Tags.{precedes, qualifier}
+use Rattle.suite_prefix.proofs.TestsExact.{valid_copy_if_passes}
 use Rattle.std.specs.List.Sorted.{IsStrictlySortedBy}
 use Rattle.rep_core.specs.declared.request.Take.TheVariants as take
 use Rattle.rep_core.specs.declared.request.Request.TheVariants as request
 use Rattle.rep_core.specs.declared.reply.Reply.TheVariants as reply
-use Rattle.rep_core.specs.Store.{finished}
 use Rattle.rep_core.proofs.Reached.{always_consistent}
 use Rattle.rep_core.proofs.Finding.{find_some}
 use Rattle.rep_core.proofs.Members.{Has, contains_from}
@@ -84,9 +90,8 @@ absent_fits c0 valid r w = record {
 
 empty_fits : (kind : PrefixKind) → ContentFits (empty_content (held_by kind))
 unfolding IsStrictlySortedBy
-empty_fits Absent = All-nil is_byte
-empty_fits File = All-nil is_byte
 empty_fits Folder = record { rising = tt; are_names = All-nil is_named; suites_fit = All-nil is_small }
+empty_fits _ = All-nil is_byte
 
 -- ---- what holds of each copy, and of what each intention leaves of it
 
@@ -134,8 +139,7 @@ module _ (P : Replica → Type 0) where
 
 kept_fits : (kind next : PrefixKind) (content : Content) → ContentFits content → ContentFits (cond (is_absent kind) (empty_content (held_by next)) content)
 kept_fits Absent next content fits = empty_fits next
-kept_fits File next content fits = fits
-kept_fits Folder next content fits = fits
+kept_fits _ next content fits = fits
 
 pub left_fits : (what : Take) (copy : Replica) → TakeFits what → CopyFits copy → CopyFits (left_by what copy)
 left_fits take.Keep copy takes fits = fits
@@ -210,26 +214,11 @@ module _ (st : State) (valid : (suite : ℕ) → IsCopy (copy_of st.store suite)
   tells_up (request.Upgrade t suite) = elim (has_lock t suite st.locks) as (λ b. TellsOfValid (cond b (poll_reply st t suite Exclusive) reply.Lost)) [ true ↦ locking_tells (in_the_way t suite Exclusive st.locks) suite | false ↦ tt ]
   tells_up (request.Fetch t suite) = elim (has_lock t suite st.locks) as (λ b. TellsOfValid (cond b (given (copy_of st.store suite)) reply.Lost)) [ true ↦ (copy_of st.store suite, valid suite, refl, refl) | false ↦ tt ]
   tells_up (request.Prepare t parts) = elim (stands_prepared st t parts || can_prepare st t parts) as (λ b. TellsOfValid (cond b reply.Prepared reply.Lost)) [ true ↦ tt | false ↦ tt ]
-  tells_up (request.Decide t decision) = tt
-  tells_up (request.Resolve t) = tt
-  tells_up (request.Finish t verdict) = tt
-  tells_up (request.Break t suite) = tt
-  tells_up request.Locks = tt
-  tells_up request.Crash = tt
-  tells_up request.Return = tt
+  tells_up _ = tt
 
   tells_down : (asked : Request) → TellsOfValid (reply_down asked)
   tells_down (request.Poll t suite mode) = tt
-  tells_down (request.Upgrade t suite) = tt
-  tells_down (request.Fetch t suite) = tt
-  tells_down (request.Prepare t parts) = tt
-  tells_down (request.Decide t decision) = tt
-  tells_down (request.Resolve t) = tt
-  tells_down (request.Finish t verdict) = tt
-  tells_down (request.Break t suite) = tt
-  tells_down request.Locks = tt
-  tells_down request.Crash = tt
-  tells_down request.Return = tt
+  tells_down _ = tt
 
   pub tells_of_valid : (asked : Request) → TellsOfValid (reply_of st asked)
   tells_of_valid asked = elim (st.up) as (λ b. TellsOfValid (cond b (reply_up st asked) (reply_down asked))) [ true ↦ tells_up asked | false ↦ tells_down asked ]

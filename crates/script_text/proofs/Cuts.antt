@@ -1,15 +1,12 @@
 -- Cutting off the first line and the first word.
-use Rattle.std.proofs.Common.{◌≡◌, ℕ, zero, suc, ◌+◌, ◌-◌, ◌<◌, ◌≤◌, ◌++◌, Bool, true, cond, eqb, ltb, not, List, [], ◌∷◌, Some, None, length, take, drop, filter, get_or, Option, refl, ◌∙◌, ap, sym, inl, inr, arith, length-append}
-use Rattle.std.specs.List.{slice_split, position, position_or_len, before_first, after_first}
+use Rattle.script_text.proofs.Vocabulary.{◌≡◌, ℕ, zero, suc, ◌+◌, ◌-◌, ◌<◌, ◌≤◌, ◌++◌, Bool, true, cond, eqb, ltb, not, List, [], ◌∷◌, Some, None, length, take, drop, filter, get_or, Option, refl, ◌∙◌, ap, sym, inl, inr, arith}
+use Rattle.script_text.proofs.Vocabulary.{length-append, slice_split, position, position_or_len, before_first, after_first, drop_all, drop_more, take_all, take-append-drop, length-drop, length-take-le, slice_split-cons_yes}
+use Rattle.script_text.proofs.Vocabulary.{slice_split_first, slice_split_none, length-slice_split, cases_Bool, both_ways, false_from_ne_true, le-ltb, ltb-true, ltb-false, lt-ltb, eq-eqb, ne_eqb, words, is_blank, BeginsWithWord}
 use Rattle.std.specs.Str.Lines.{lines, lines_of_parts, strip_carriage_return}
-use Rattle.std.proofs.lemmas.List.{drop_all, drop_more, take_all, take-append-drop, length-drop, length-take-le}
-use Rattle.std.proofs.lemmas.List.Splits.{slice_split-cons_yes, slice_split_first, slice_split_none, length-slice_split}
 use Rattle.std.proofs.lemmas.List.Folds.{prefix_len-append}
 use Rattle.std.proofs.lemmas.List.Sums.{fails_before_first, passes_at_first, position_or_len_is, prefix_len-le-length}
-use Rattle.std.proofs.lemmas.Bool.{cases_Bool, both_ways, false_from_ne_true, le-ltb, ltb-true, ltb-false, lt-ltb, eq-eqb, ne_eqb}
 use Rattle.std.proofs.Math.Numerals.{one-add}
 use Rattle.memchr.specs.Find.{IsFirstByte}
-use Rattle.script_text.specs.Words.{words, is_blank, BeginsWithWord}
 
 -- a place that is found is the first, and in the list
 pub found_at : {X : Type 0} (p : X → Bool) (xs : List X) (i : ℕ) → Some i ≡ position p xs → (position_or_len p xs ≡ i) × (i < length xs)

@@ -1,11 +1,6 @@
 -- Numbers between separators, read from the left.
-use Rattle.std.proofs.Common.{◌≡◌, ℕ, ◌+◌, ◌-◌, ◌*◌, ◌<◌, true, false, cond, eqb, ltb, List, [], ◌∷◌, Option, length, map, drop, get_or, ◌∙◌, ap, sym, inl, inr, arith}
-use Rattle.std.specs.List.{slice_split, onto_first}
-use Rattle.std.specs.Char.{is_ascii_digit}
-use Rattle.std.proofs.lemmas.Bool.{cases_Bool, ltb-false, lt-ltb}
-use Rattle.std.proofs.lemmas.List.{drop_more}
-use Rattle.std.proofs.lemmas.List.Splits.{slice_split-cons_no, length-slice_split}
-use Rattle.script_text.specs.Numbers.{number_up_to}
+use Rattle.script_text.proofs.Vocabulary.{◌≡◌, ℕ, ◌+◌, ◌-◌, ◌*◌, ◌<◌, true, false, cond, eqb, ltb, List, [], ◌∷◌, Option, length, map, drop, get_or, ◌∙◌, ap, sym, inl, inr, arith, slice_split, onto_first, is_ascii_digit, cases_Bool}
+use Rattle.script_text.proofs.Vocabulary.{ltb-false, lt-ltb, drop_more, slice_split-cons_no, length-slice_split, number_up_to}
 use Rattle.script_text.proofs.Values.{number_from, number_of_some, one_digit}
 
 -- the numbers of parts, where so many digits of the first were read already, and have this value

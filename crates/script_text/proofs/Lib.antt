@@ -1,3 +1,4 @@
+mod Vocabulary
 pub mod Cuts
 pub mod Values
 pub mod PhraseLemmas

@@ -1,9 +1,6 @@
 -- A text has no more lines than bytes.
-use Rattle.std.proofs.Common.{ℕ, ◌+◌, ◌≤◌, eqb, List, [], ◌∷◌, length, inl, inr, arith}
-use Rattle.std.specs.List.{slice_split, onto_first}
+use Rattle.script_text.proofs.Vocabulary.{ℕ, ◌+◌, ◌≤◌, eqb, List, [], ◌∷◌, length, inl, inr, arith, slice_split, onto_first, cases_Bool, slice_split-cons_yes, slice_split-cons_no}
 use Rattle.std.specs.Str.Lines.{lines, lines_of_parts}
-use Rattle.std.proofs.lemmas.Bool.{cases_Bool}
-use Rattle.std.proofs.lemmas.List.Splits.{slice_split-cons_yes, slice_split-cons_no}
 
 -- one line and no more
 last_one : (part : List ℕ) → length (lines_of_parts (part ∷ [])) ≤ 1

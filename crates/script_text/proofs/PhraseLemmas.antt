@@ -1,9 +1,5 @@
 -- Phrases, word by word.
-use Rattle.std.proofs.Common.{◌≡◌, ℕ, ◌<◌, List, [], ◌∷◌, length, refl, ◌∙◌, ap, sym, inl, inr, arith}
-use Rattle.std.specs.List.{slice_split, onto_first}
-use Rattle.std.proofs.lemmas.Bool.{cases_Bool}
-use Rattle.std.proofs.lemmas.List.Splits.{slice_split-cons_yes, slice_split-cons_no, length-slice_split}
-use Rattle.script_text.specs.Words.{words}
+use Rattle.script_text.proofs.Vocabulary.{◌≡◌, ℕ, ◌<◌, List, [], ◌∷◌, length, refl, ◌∙◌, ap, sym, inl, inr, arith, slice_split, onto_first, cases_Bool, slice_split-cons_yes, slice_split-cons_no, length-slice_split, words}
 use Rattle.script_text.specs.Phrases.{is_semicolon, remaining_in, remaining_of}
 
 whole_of : (parts : List (List (List ℕ))) → 0 < length parts → parts ≡ (remaining_in parts).here ∷ (remaining_in parts).later

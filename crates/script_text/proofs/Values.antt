@@ -1,11 +1,8 @@
 -- Reading a number digit by digit.
-use Rattle.std.proofs.Common.{◌≡◌, ℕ, ◌+◌, ◌-◌, ◌*◌, ◌<◌, ◌≤◌, true, false, cond, leb, ◌&&◌, List, [], ◌∷◌, Option, Some, None, length, fold, refl, ◌∙◌, ap, sym, inl, inr, arith}
-use Rattle.std.specs.List.{list_all}
-use Rattle.std.specs.Char.{is_ascii_digit, digit_value}
+use Rattle.script_text.proofs.Vocabulary.{◌≡◌, ℕ, ◌+◌, ◌-◌, ◌*◌, ◌<◌, ◌≤◌, true, false, cond, leb, ◌&&◌, List, [], ◌∷◌, Option, Some, None, length, fold, refl, ◌∙◌, ap, sym, inl, inr, arith, list_all, is_ascii_digit, digit_value}
+use Rattle.script_text.proofs.Vocabulary.{cases_Bool, and_right, and_left, and_parts, leb-true, lt-leb, lt-ltb, number_up_to}
 use Rattle.std.specs.Str.Parse.{digits_value, digits_value_after}
-use Rattle.std.proofs.lemmas.Bool.{cases_Bool, and_right, and_left, and_parts, leb-true, lt-leb, lt-ltb}
 use Rattle.std.proofs.lemmas.Str.{digit_value_digit}
-use Rattle.script_text.specs.Numbers.{number_up_to}
 
 -- the number, where some digits were read already
 abbrev pub value_from : ℕ → List ℕ → ℕ

@@ -1,26 +1,13 @@
 -- What an edit in the block of a key makes of all pairs.
-use Rattle.std.proofs.Common.{◌≡◌, ◌≢◌, ◌-◌, take, drop, Option, is_some, if◌then◌else◌, ℕ, zero, suc, ◌+◌, ◌<◌, ◌≤◌, Bool, true, false, not, List}
-use Rattle.std.proofs.Common.{[], ◌∷◌, ◌++◌, length, get_or, set, None, Some, Less, Equal, Greater, refl, sym, ◌∙◌, ap, subst, ⊎_elim, arith}
-use Rattle.std.specs.Prelude.{slice_get}
-use Rattle.std.specs.List as list
-use Rattle.std.specs.declared.cmp.Ordering.{Ordering}
-use Rattle.std.specs.Ordering.{is_eq, is_lt, ordering_reverse}
-use Rattle.std.specs.Cmp.{IsTotalOrder}
-use Rattle.std.specs.List.{AllByRecursion}
+use Rattle.sorted_map.proofs.Vocabulary.{◌≡◌, ◌≢◌, ◌-◌, take, drop, Option, is_some, if◌then◌else◌, ℕ, zero, suc, ◌+◌, ◌<◌, ◌≤◌, Bool, true, false, not, List, [], ◌∷◌, ◌++◌, length, get_or, set, None, Some, Less, Equal, Greater, refl, sym}
+use Rattle.sorted_map.proofs.Vocabulary.{◌∙◌, ap, subst, ⊎_elim, arith, slice_get, Ordering, is_eq, is_lt, ordering_reverse, IsTotalOrder, AllByRecursion, keys_of, is_at, cases_Bool, cond-true, cond-false, false≢true, take-append-drop}
+use Rattle.sorted_map.proofs.Vocabulary.{append-nil, lookup_head, lookup_tail, sorted_head, sorted_tail, IsOrdered, get, insert, remove, insert_step, remove_absent, length-insert, length-remove, joined, room_in, capacity_in, starts_by}
+use Rattle.sorted_map.proofs.Vocabulary.{first_from, IsBlock, AreBlocks, AreSpare, IsIn, CanTake, IsPut}
 use Rattle.std.specs.List.Sorted.{IsStrictlySortedBy, IsPartitionedBy, IsPartitionPoint}
-use Rattle.std.specs.Map.{keys_of}
-use Rattle.std.specs.BTreeMap.{is_at}
-use Rattle.std.proofs.lemmas.Bool.{cases_Bool, cond-true, cond-false, false≢true}
-use Rattle.std.proofs.lemmas.List.{take-append-drop, append-nil}
-use Rattle.std.proofs.lemmas.Option.{none-some, same_Some}
-use Rattle.std.proofs.lemmas.Map.Entries.{lookup_head, lookup_tail}
-use Rattle.std.proofs.lemmas.Map.Keys.{sorted_head, sorted_tail}
-use Rattle.sorted_map.specs.SortedMap.{IsOrdered, get, insert, remove}
+use Rattle.std.proofs.lemmas.Option.{none-some}
 use Rattle.sorted_map.specs.Roomy.{Roomy}
 use Rattle.sorted_map.specs.Comparisons.{by_answer, all_below}
-use Rattle.sorted_map.specs.Laws.{insert_step}
-use Rattle.sorted_map.specs.Edits.{remove_absent, length-insert, length-remove}
-use Rattle.sorted_map.specs.Blocks.{joined, room_in, capacity_in, starts_by, first_from, IsBlock, AreBlocks, AreSpare, IsIn, CanTake, IsPut}
+use Rattle.std.specs.List as list
 
 is_less : (a : Ordering) → is_lt a ≡ true → a ≡ Less
 is_less a is = by_answer a (λ less. less) (λ equal. absurd (false≢true (sym (ap is_lt equal) ∙ is))) (λ greater. absurd (false≢true (sym (ap is_lt greater) ∙ is)))
@@ -263,23 +250,6 @@ module _ {K V : Type 0} {cmp : K → K → Ordering} (o : IsTotalOrder cmp) (key
     room = λ none. room;
   }
 
-  pub put_parted : (old new upper : Roomy K V) (spare left : List (Roomy K V)) (value : V) → get cmp old.pairs key ≡ None
-      → new.pairs ++ upper.pairs ≡ insert cmp old.pairs key value → 0 < length new.pairs → capacity_in old ≤ capacity_in new → IsBlock upper → length left + 1 ≡ length spare
-      → AreSpare left → old.room ≡ 0 → IsPut cmp key value old new spare left None (Some upper)
-  put_parted old new upper spare left value absent pairs some capacity is fewer spares full = record {
-    pairs = λ none. absurd (none-some upper (sym none));
-    halves = λ b same. subst (λ u. new.pairs ++ u.pairs ≡ insert cmp old.pairs key value) (same_Some upper b same) pairs;
-    before_is = sym absent;
-    some = some;
-    capacity = capacity;
-    upper_is = λ b same. subst IsBlock (same_Some upper b same) is;
-    spare_stays = λ none. absurd (none-some upper (sym none));
-    spare_taken = λ there. (fewer, refl);
-    spare_is = spares;
-    full = λ there. full;
-    room = λ none. absurd (none-some upper (sym none));
-  }
-
   -- there are others behind the first
   pub room_behind : (first : Roomy K V) (bs spare : List (Roomy K V)) → 0 < length bs → room_in first bs spare ≡ length spare
   room_behind first [] spare some = absurd (omega arith)
@@ -397,46 +367,16 @@ module _ {K V : Type 0} where
   blocks_set (x ∷ bs) zero b blocks is = (is, blocks.1)
   blocks_set (x ∷ bs) (suc i) b blocks is = (blocks.0, blocks_set bs i b blocks.1 is)
 
-  pub blocks_insert : (bs : List (Roomy K V)) (i : ℕ) (b : Roomy K V) → AreBlocks bs → IsBlock b → i ≤ length bs → AreBlocks (list.insert bs i b)
-  blocks_insert bs zero b blocks is within = (is, blocks)
-  blocks_insert [] (suc i) b blocks is within = absurd (omega arith)
-  blocks_insert (x ∷ bs) (suc i) b blocks is within = (blocks.0, blocks_insert bs i b blocks.1 is (omega arith))
-
-  pub blocks_remove : (bs : List (Roomy K V)) (i : ℕ) → AreBlocks bs → AreBlocks (list.remove bs i)
-  blocks_remove [] zero blocks = tt
-  blocks_remove [] (suc i) blocks = tt
-  blocks_remove (x ∷ bs) zero blocks = blocks.1
-  blocks_remove (x ∷ bs) (suc i) blocks = (blocks.0, blocks_remove bs i blocks.1)
-
   pub block_of : (bs : List (Roomy K V)) (i : ℕ) (d : Roomy K V) → AreBlocks bs → i < length bs → IsBlock (get_or bs i d)
   block_of [] i d blocks within = absurd (omega arith)
   block_of (x ∷ bs) zero d blocks within = blocks.0
   block_of (x ∷ bs) (suc i) d blocks within = block_of bs i d blocks.1 (omega arith)
-
-  -- an empty block is left out
-  pub joined_without : (bs : List (Roomy K V)) (i : ℕ) (d : Roomy K V) → (get_or bs i d).pairs ≡ [] → i < length bs → joined (list.remove bs i) ≡ joined bs
-  joined_without [] i d is within = absurd (omega arith)
-  joined_without (x ∷ bs) zero d is within = sym (ap (λ l. l ++ joined bs) is)
-  joined_without (x ∷ bs) (suc i) d is within = ap (λ l. x.pairs ++ l) (joined_without bs i d is (omega arith))
 
   -- a block that became empty is left out
   pub joined_dropped : (bs : List (Roomy K V)) (i : ℕ) (b : Roomy K V) → b.pairs ≡ [] → i < length bs → joined (list.remove (set bs i b) i) ≡ joined (set bs i b)
   joined_dropped [] i b is within = absurd (omega arith)
   joined_dropped (x ∷ bs) zero b is within = sym (ap (λ l. l ++ joined bs) is)
   joined_dropped (x ∷ bs) (suc i) b is within = ap (λ l. x.pairs ++ l) (joined_dropped bs i b is (omega arith))
-
-  pub blocks_dropped : (bs : List (Roomy K V)) (i : ℕ) (b : Roomy K V) → AreBlocks bs → AreBlocks (list.remove (set bs i b) i)
-  blocks_dropped [] zero b blocks = tt
-  blocks_dropped [] (suc i) b blocks = tt
-  blocks_dropped (x ∷ bs) zero b blocks = blocks.1
-  blocks_dropped (x ∷ bs) (suc i) b blocks = (blocks.0, blocks_dropped bs i b blocks.1)
-
-  -- fewer blocks, the same spare ones
-  pub room_kept : (first : Roomy K V) (bs cs spare : List (Roomy K V)) → length cs ≤ length bs → room_in first bs spare ≤ room_in first cs spare
-  room_kept first [] [] spare fewer = omega arith
-  room_kept first [] (c ∷ cs) spare fewer = absurd (omega arith)
-  room_kept first (b ∷ bs) [] spare fewer = omega arith
-  room_kept first (b ∷ bs) (c ∷ cs) spare fewer = omega arith
 
   pub none_in : (es : List (K × V)) → length es ≡ 0 → es ≡ []
   none_in [] none = refl

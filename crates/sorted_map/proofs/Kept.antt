@@ -1,10 +1,6 @@
 -- Pairs of which some are kept stay in order.
-use Rattle.std.proofs.Common.{◌≡◌, Bool, true, false, List, [], ◌∷◌, Less}
-use Rattle.std.specs.declared.cmp.Ordering.{Ordering}
-use Rattle.std.specs.List.{AllByRecursion, items_where_true}
+use Rattle.sorted_map.proofs.Vocabulary.{◌≡◌, Bool, true, false, List, [], ◌∷◌, Less, Ordering, AllByRecursion, items_where_true, keys_of, IsOrdered}
 use Rattle.std.specs.List.Sorted.{IsStrictlySortedBy}
-use Rattle.std.specs.Map.{keys_of}
-use Rattle.sorted_map.specs.SortedMap.{IsOrdered}
 
 module _ {K V : Type 0} (cmp : K → K → Ordering) where
   below_kept : (key : K) (stays : List Bool) (es : List (K × V)) → AllByRecursion (λ q. cmp key q ≡ Less) (keys_of es) → AllByRecursion (λ q. cmp key q ≡ Less) (keys_of (items_where_true stays es))

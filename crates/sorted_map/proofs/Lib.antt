@@ -1,3 +1,4 @@
+mod Vocabulary
 mod Place
 mod Kept
 mod InBlocks

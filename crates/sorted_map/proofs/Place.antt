@@ -1,22 +1,11 @@
 -- What a binary search by the order of the keys finds.
-use Rattle.std.proofs.Common.{◌≡◌, ℕ, zero, suc, ◌+◌, ◌<◌, ◌≤◌, true, false, List, [], ◌∷◌, length, get_or, Some, Result, Ok, Err, IfOk, IfErr, Less, Equal, Greater, refl, sym, ◌∙◌, ap, arith}
-use Rattle.std.specs.declared.cmp.Ordering.{Ordering}
-use Rattle.std.specs.Ordering.{is_eq, is_lt, ordering_index, ordering_reverse}
-use Rattle.std.specs.Cmp.{IsTotalOrder}
-use Rattle.std.specs.List.{AllByRecursion}
+use Rattle.sorted_map.proofs.Vocabulary.{◌≡◌, ℕ, zero, suc, ◌+◌, ◌<◌, ◌≤◌, true, false, List, [], ◌∷◌, length, get_or, Some, Result, Ok, Err, IfOk, IfErr, Less, Equal, Greater, refl, sym, ◌∙◌, ap, arith, Ordering, is_eq, is_lt}
+use Rattle.sorted_map.proofs.Vocabulary.{ordering_index, ordering_reverse, IsTotalOrder, AllByRecursion, keys_of, is_at, cond-true, cond-false, lookup_head, lookup_tail, length-keys_of, sorted_head, sorted_tail, Less-from_sorted}
+use Rattle.sorted_map.proofs.Vocabulary.{searchable_from_sorted, IsOrdered, replace, remove, insert_step, get_below}
 use Rattle.std.specs.List.Sorted.{IsNonDecreasingBy, IsSearchInRange, IsBinarySearchResult}
-use Rattle.std.specs.Map.{keys_of}
-use Rattle.std.specs.BTreeMap.{is_at}
-use Rattle.std.proofs.lemmas.Bool.{cond-true, cond-false}
 use Rattle.std.proofs.Math.ListN.{get_or-map}
 use Rattle.std.proofs.lemmas.Cmp.{tied_back, alike_right}
-use Rattle.std.proofs.lemmas.Map.Entries.{lookup_head, lookup_tail}
-use Rattle.std.proofs.lemmas.Map.Entries.{length-keys_of}
-use Rattle.std.proofs.lemmas.Map.Keys.{sorted_head, sorted_tail, Less-from_sorted}
-use Rattle.std.proofs.lemmas.List.Sorted.{searchable_from_sorted}
-use Rattle.sorted_map.specs.SortedMap.{IsOrdered, replace, remove}
 use Rattle.sorted_map.specs.code.Place.{IsPlaceOf, IsGapFor}
-use Rattle.sorted_map.specs.Laws.{insert_step, get_below}
 
 module _ {K V : Type 0} {cmp : K → K → Ordering} (o : IsTotalOrder cmp) (key : K) where
   -- a key equal to one of a list is above what is below all of the list

@@ -1,9 +1,10 @@
 -- What the collector's answers mean.
 use Rattle.suite_collect.proofs.Vocabulary.{◌≡◌, ℕ, ◌+◌, ◌<◌, ◌≤◌, Bool, true, false, cond, ◌⊎◌, inl, inr, List, [], ◌∷◌, Option, Some, None, refl, sym, ap, subst, ◌∙◌, arith, nat_lt, nat_le, not, ◌&&◌, ◌||◌, ◌==◌, find, filter, map}
-use Rattle.suite_collect.proofs.Vocabulary.{option_map, ◌++◌, nat_tests, false≢true, eqb-true, Representative, Configuration, votes_in, votes_at, Prefix, LockMode, Shared, Exclusive, is_exclusive, serves, Said, Held, Busy, Down, Told}
-use Rattle.suite_collect.proofs.Vocabulary.{Has, has_from, contains_from, find_some, is_held, newer, newest, has_told, holds, has_refused, greatest, Widening, Collector, told_since, all_told, votes_or, counted, wanted, mode_or, needed}
-use Rattle.suite_collect.proofs.Vocabulary.{needed_of, got, is_member, is_left, members_of, version, asked_of, mode_asked, ask_or_short, Asked, Poll, Upgrade, Current, Ask, next, among, WasShown, EachHasAVote, IsCurrent}
-use Rattle.suite_collect.proofs.Vocabulary.{CurrentIsAQuorum, WidenedIsAWriteQuorum, NobodyIsAskedTwice}
+use Rattle.suite_collect.proofs.Vocabulary.{option_map, ◌++◌, nat_tests, false≢true, eqb-true, Representative, Configuration, votes_in, votes_at, Prefix, LockMode, Shared, Exclusive, is_exclusive, serves, Said, Held, Told, is_held, newer}
+use Rattle.suite_collect.proofs.Vocabulary.{newest, has_told, holds, has_refused, greatest, Widening, Collector, told_since, all_told, votes_or, counted, wanted, mode_or, needed, needed_of, got, is_member, is_left, members_of, version}
+use Rattle.suite_collect.proofs.Vocabulary.{asked_of, mode_asked, ask_or_short, Asked, Poll, Upgrade, Current, Ask, next, among, WasShown, EachHasAVote, IsCurrent, CurrentIsAQuorum, WidenedIsAWriteQuorum, NobodyIsAskedTwice}
+use Rattle.rep_core.proofs.Members.{Has, has_from, contains_from}
+use Rattle.rep_core.proofs.Finding.{find_some}
 
 -- ---- the newest prefix
 
@@ -13,8 +14,7 @@ newer_pver prefix other false e = (omega arith, grind (arith, nat_tests))
 
 newer_above : (prefix : Prefix) (said : Said) → prefix.pver ≤ (newer prefix said).pver
 newer_above prefix (Held other dver) = (newer_pver prefix other (nat_lt prefix.pver other.pver) refl).0
-newer_above prefix (Busy holder) = omega arith
-newer_above prefix Down = omega arith
+newer_above prefix _ = omega arith
 
 -- a prefix that some copy showed, by recursion
 abbrev Shown : List Told → Prefix → Type 0
@@ -49,8 +49,7 @@ newest_known start (last ∷ told) = at last.said refl (newest_known start told)
 
     at : (said : Said) → last.said ≡ said → (newest start told ≡ start) ⊎ Shown told (newest start told) → (newest start (last ∷ told) ≡ start) ⊎ Shown (last ∷ told) (newest start (last ∷ told))
     at (Held other dver) is was = shows other dver is (nat_lt (newest start told).pver other.pver) refl was
-    at (Busy holder) is was = before was (ap (newer (newest start told)) is)
-    at Down is was = before was (ap (newer (newest start told)) is)
+    at _ is was = before was (ap (newer (newest start told)) is)
 
 newest_from : (start : Prefix) (told : List Told) → start.pver ≤ (newest start told).pver
 newest_from start [] = omega arith

@@ -1,8 +1,10 @@
 -- What is due of a collector is what comes next, and what a reply leaves due.
-use Rattle.suite_collect.proofs.Vocabulary.{◌≡◌, ℕ, Bool, true, false, cond, ◌∷◌, ◌++◌, List, Option, Some, None, refl, sym, ap, subst, ◌∙◌, nat_le, ◌==◌, find, option_map, is_some, unwrap_or, IfSome, Representative, Configuration}
-use Rattle.suite_collect.proofs.Vocabulary.{Prefix, LockMode, Exclusive, Reply, Said, Told, Inside, ReadPoint, IsAdded, Due, Standing, due_left, tally_among, tally_by, tally_in, IsKnown, newer, newest, holds, has_refused, first_busy}
-use Rattle.suite_collect.proofs.Vocabulary.{shown, Widening, Collector, all_told, counted, wanted, needed, got, is_member, is_left, members_of, version, source, asked_of, ask_or_short, said_to, tell, told_by, Current, Ask, Short, next}
-use Rattle.suite_collect.proofs.Vocabulary.{widening_of, collecting_of, tally_of, due_of, IsSummed, has_quorum, read_point}
+use Rattle.suite_collect.proofs.Vocabulary.{◌≡◌, ℕ, Bool, true, false, cond, ◌∷◌, ◌++◌, List, Option, Some, None, refl, sym, ap, subst, ◌∙◌, nat_le, ◌==◌, find, option_map, is_some, unwrap_or, IfSome, Representative, Configuration, Prefix}
+use Rattle.suite_collect.proofs.Vocabulary.{LockMode, Exclusive, Reply, Said, Told, Inside, Due, Standing, due_left, tally_among, tally_by, tally_in, IsKnown, newer, newest, holds, has_refused, first_busy, shown, Widening, Collector}
+use Rattle.suite_collect.proofs.Vocabulary.{all_told, counted, wanted, needed, got, is_member, is_left, members_of, version, source, asked_of, ask_or_short, said_to, tell, told_by, Current, Ask, Short, next, widening_of, collecting_of}
+use Rattle.suite_collect.proofs.Vocabulary.{tally_of, due_of, IsSummed, has_quorum, read_point}
+use Rattle.suite_collect.specs.declared.read_point.ReadPoint.{ReadPoint}
+use Rattle.suite_collect.specs.code.Adding.{IsAdded}
 use Rattle.suite_collect.specs.declared.widening.Widening.{Widening as Wide}
 use Rattle.suite_collect.specs.declared.due.Standing.{Standing as Coded}
 use Rattle.suite_collect.specs.code.Dues as due
@@ -55,15 +57,6 @@ module _ (c : Collector) where
       ap (λ next. told_by next answer) (ask_next server is)
       ∙ ap (λ mode. option_map (λ said. record { server = server; mode = mode; said = said }) (said_to (asked_of c server) answer)) (asked_as_wanted c server (asked_there server is))
 
-  -- where no server is asked nothing is told
-  pub told_unasked : (answer : Reply) → ((server : ℕ) → due_of c ≡ due.Ask server → ⊥) → told_by (next c) answer ≡ None
-  told_unasked answer unasked = at (due_of c) refl unasked
-    where
-      at : (left : Due) → due_of c ≡ left → ((server : ℕ) → due_of c ≡ due.Ask server → ⊥) → told_by (next c) answer ≡ None
-      at due.Current is unasked = ap (λ next. told_by next answer) (current_next is)
-      at (due.Ask server) is unasked = absurd (unasked server is)
-      at (due.Short had wanting) is unasked = ap (λ next. told_by next answer) (short_next had wanting is)
-
   -- what a reply says is told
   pub told_said : (server : ℕ) (answer : Reply) (said : Said) → due_of c ≡ due.Ask server → said_to (asked_of c server) answer ≡ Some said
       → told_by (next c) answer ≡ Some (record { server = server; mode = wanted c; said = said })
@@ -107,13 +100,6 @@ tally_then c last votes held refused tally counting holding refusing is =
     ∙ ap (tally_among (counted (tell last c)) (wanted c) (holds (wanted c) (last ∷ all_told c))) (λ i other. (refusing other) i)
     ∙ ap (λ told. tally_by (counted (tell last c)) (wanted c) told) (sym (all_told_then c last))
     ∙ ap (λ mode. tally_by (counted (tell last c)) mode (all_told (tell last c))) (sym (wanted_still c last))
-
--- the votes that count then
-pub counted_narrow : (c : Collector) (last : Told) → c.widening ≡ None → counted (tell last c) ≡ (newer (newest c.start c.told) last.said).votes
-counted_narrow c last narrow = ap (λ widening. counted (tell last (record c { widening = widening }))) narrow
-
-pub counted_wide : (c : Collector) (last : Told) (w : Widening) → c.widening ≡ Some w → counted (tell last c) ≡ w.votes
-counted_wide c last w wide = ap (λ widening. counted (tell last (record c { widening = widening }))) wide
 
 -- ---- what a quorum gives
 
@@ -192,10 +178,6 @@ module _ (was : Inside) (tally : Coded) (last : Told) (known : IsKnown tally.due
 pub narrow_of : (w : Option Wide) → is_some w ≡ false → w ≡ None
 narrow_of None is = refl
 narrow_of (Some wide) is = cc
-
-pub narrow_unless : (w : Option Wide) → ((wide : Wide) → w ≡ Some wide → ⊥) → w ≡ None
-narrow_unless None is = refl
-narrow_unless (Some wide) is = absurd (is wide refl)
 
 -- ---- what is told, put behind what was told before
 

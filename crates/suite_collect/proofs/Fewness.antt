@@ -1,7 +1,7 @@
 -- How often a collector asks.
-use Rattle.suite_collect.proofs.Vocabulary.{◌≡◌, ℕ, ◌+◌, ◌*◌, ◌≤◌, Bool, true, false, cond, List, [], ◌∷◌, ◌++◌, length, Option, Some, None, refl, sym, ap, subst, ◌∙◌, arith, ◌&&◌, ◌||◌, ◌==◌, option_map, list_all, nat_tests}
-use Rattle.suite_collect.proofs.Vocabulary.{false≢true, eqb-true, and_parts, is_exclusive, Reply, Said, Down, Told, has_told, Widening, Collector, told_since, all_told, Asked, Poll, Upgrade, Next, Current, Ask, Short, next, collect}
-use Rattle.suite_collect.proofs.Vocabulary.{tell, tell_at, mode_asked, said_to, told_by, among, Step, Raise, Widen, Take, told_or, after_step, after_all, AsksAreFew}
+use Rattle.suite_collect.proofs.Vocabulary.{◌≡◌, ℕ, ◌+◌, ◌*◌, ◌≤◌, Bool, true, false, cond, List, [], ◌∷◌, ◌++◌, length, Option, Some, None, refl, sym, ap, subst, ◌∙◌, arith, ◌&&◌, ◌||◌, ◌==◌, option_map, list_all, nat_tests, false≢true}
+use Rattle.suite_collect.proofs.Vocabulary.{eqb-true, and_parts, is_exclusive, Reply, Said, Down, Told, has_told, Widening, Collector, told_since, all_told, Asked, Poll, Upgrade, Next, Ask, next, collect, tell, tell_at, mode_asked, said_to}
+use Rattle.suite_collect.proofs.Vocabulary.{told_by, among, Step, Take, told_or, after_step, after_all, AsksAreFew}
 use Rattle.suite_collect.proofs.Collected.{nobody_is_asked_twice}
 
 -- how often a server was asked
@@ -57,14 +57,12 @@ few_told c reply few = of (next c) refl
         subst Few (sym (all_told-tell one c)) (few_more c asked one is refl few)
 
     of : (after : Next) → next c ≡ after → Few (all_told (told_or (told_by after reply) c))
-    of (Current prefix dver members) is = few
-    of (Short got needed busy) is = few
     of (Ask server asked) is = answered server asked is (said_to asked reply)
+    of _ is = few
 
 few_step : (c : Collector) (step : Step) → Few (all_told c) → Few (all_told (after_step c step))
-few_step c Raise few = few
-few_step c (Widen votes) few = few
 few_step c (Take reply) few = few_told c reply few
+few_step c _ few = few
 
 few_all : (c : Collector) (steps : List Step) → Few (all_told c) → Few (all_told (after_all c steps))
 few_all c [] few = few

@@ -1,7 +1,8 @@
 -- Who is down or busy gives no quorum.
-use Rattle.suite_collect.proofs.Vocabulary.{◌≡◌, Bool, true, false, cond, ◌∷◌, ◌++◌, List, Option, Some, None, refl, sym, ap, ◌∙◌, nat_le, ◌&&◌, ◌||◌, ◌==◌, find, same_Some, votes_in, Prefix, LockMode, Exclusive, serves, Reply, Said}
-use Rattle.suite_collect.proofs.Vocabulary.{Held, Busy, Down, Told, is_held, newer, newest, holds, Widening, Collector, Poll, Upgrade, mode_asked, counted, needed, needed_of, got, is_member, is_left, members_of, version, ask_or_short}
-use Rattle.suite_collect.proofs.Vocabulary.{tell, told_by, Next, Current, Ask, Short, next, has_quorum, shows_lock}
+use Rattle.suite_collect.proofs.Vocabulary.{◌≡◌, Bool, true, false, cond, ◌∷◌, ◌++◌, List, Option, Some, None, refl, sym, ap, ◌∙◌, nat_le, ◌&&◌, ◌||◌, ◌==◌, find, votes_in, Prefix, LockMode, Exclusive, serves, Reply, Said, Held, Busy, Down}
+use Rattle.suite_collect.proofs.Vocabulary.{Told, is_held, newer, newest, holds, Widening, Collector, Poll, Upgrade, mode_asked, counted, needed, needed_of, got, is_member, is_left, members_of, version, ask_or_short, tell, told_by, Next}
+use Rattle.suite_collect.proofs.Vocabulary.{Current, Ask, Short, next, has_quorum, shows_lock}
+use Rattle.std.proofs.lemmas.Option.{same_Some}
 use Rattle.rep_core.specs.declared.reply.Reply.TheVariants as reply
 use Rattle.suite_collect.proofs.Dues.{quorum_reached}
 
@@ -47,12 +48,7 @@ unheld_told (Ask server (Poll mode)) reply.Down last told none =
     sym (ap (λ (one : Told). is_held one.said) (same_Some (record { server = server; mode = mode; said = Down }) last told))
 unheld_told (Ask server Upgrade) reply.Down last told none = cc
 unheld_told (Ask server asked) (reply.Held prefix dver) last told none = cc
-unheld_told (Ask server asked) reply.Lost last told none = cc
-unheld_told (Ask server asked) (reply.Given dver content) last told none = cc
-unheld_told (Ask server asked) reply.Prepared last told none = cc
-unheld_told (Ask server asked) (reply.Verdict v) last told none = cc
-unheld_told (Ask server asked) reply.Done last told none = cc
-unheld_told (Ask server asked) (reply.Locked locks) last told none = cc
+unheld_told (Ask server asked) _ last told none = cc
 unheld_told (Current prefix dver members) answer last told none = cc
 unheld_told (Short had wanting busy) answer last told none = cc
 

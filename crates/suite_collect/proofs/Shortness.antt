@@ -1,7 +1,8 @@
 -- What a Short means.
 use Rattle.suite_collect.proofs.Vocabulary.{◌≡◌, ℕ, ◌<◌, Bool, true, false, cond, ◌⊎◌, inl, inr, List, [], ◌∷◌, Option, Some, None, refl, sym, ap, ◌∙◌, arith, nat_lt, nat_le, not, ◌&&◌, ◌||◌, ◌==◌, find, nat_tests, Representative, Said}
-use Rattle.suite_collect.proofs.Vocabulary.{Held, Busy, Down, Told, is_held, is_down, is_busy_with, has_told, has_refused, busy_in, first_busy, Collector, all_told, counted, needed, got, is_member, is_left, version, members_of}
-use Rattle.suite_collect.proofs.Vocabulary.{ask_or_short, Current, Short, ShortHasNoneLeft, has_from, find_none}
+use Rattle.suite_collect.proofs.Vocabulary.{Busy, Told, is_held, is_down, is_busy_with, has_told, has_refused, busy_in, first_busy, Collector, all_told, counted, needed, got, is_member, is_left, version, members_of, ask_or_short, Current}
+use Rattle.suite_collect.proofs.Vocabulary.{Short, ShortHasNoneLeft}
+use Rattle.rep_core.proofs.Members.{has_from, find_none}
 use Rattle.suite_collect.specs.Telling as telling
 
 -- ---- who was found busy
@@ -9,9 +10,8 @@ use Rattle.suite_collect.specs.Telling as telling
 -- where none was found busy, who refused is down
 step_down : (server : ℕ) (said : Said) (before : Option (ℕ × ℕ)) → busy_in server said before ≡ None → (not (is_held said) ≡ is_down said) × (before ≡ None)
 step_down server said (Some first) is = cc
-step_down server (Held prefix dver) None is = (refl, refl)
 step_down server (Busy holder) None is = cc
-step_down server Down None is = (refl, refl)
+step_down server _ None is = (refl, refl)
 
 refused_are_down : (told : List Told) → first_busy told ≡ None → (server : ℕ) → has_refused told server ≡ has_told (λ one. is_down one.said) told server
 refused_are_down [] none server = refl
@@ -31,11 +31,10 @@ met_now server holder = grind (arith, nat_tests)
 step_met : (at : ℕ) (said : Said) (before : Option (ℕ × ℕ)) (server holder : ℕ) → busy_in at said before ≡ Some (server, holder)
     → (before ≡ Some (server, holder)) ⊎ (((at == server) && is_busy_with holder said) ≡ true)
 step_met at said (Some first) server holder is = inl is
-step_met at (Held prefix dver) None server holder is = cc
 step_met at (Busy other) None server holder is =
     let same : (at ≡ server) × (other ≡ holder) = (ap (λ (found : Option (ℕ × ℕ)). elim found [ Some pair ↦ pair.0 | None ↦ 0 ]) is, ap (λ (found : Option (ℕ × ℕ)). elim found [ Some pair ↦ pair.1 | None ↦ 0 ]) is) in
     inr (ap (λ n. (n == server) && (other == holder)) same.0 ∙ ap (λ n. (server == server) && (n == holder)) same.1 ∙ met_now server holder)
-step_met at Down None server holder is = cc
+step_met at _ None server holder is = cc
 
 was_met : (told : List Told) (server holder : ℕ) → first_busy told ≡ Some (server, holder) → has_told (λ one. is_busy_with holder one.said) told server ≡ true
 was_met [] server holder is = cc

@@ -1,7 +1,8 @@
 -- Where a Current is had, some member showed the version of the content.
 use Rattle.suite_collect.proofs.Vocabulary.{◌≡◌, ℕ, ◌+◌, ◌<◌, ◌≤◌, Bool, true, false, cond, inl, inr, List, [], ◌∷◌, ◌++◌, Some, IsSome, refl, sym, ap, subst, ◌∙◌, rules, arith, nat_lt, ◌&&◌, ◌||◌, ◌==◌, find, filter, map, list_any}
-use Rattle.suite_collect.proofs.Vocabulary.{nat_tests, cases_lt, eq-eqb, Representative, Configuration, votes_in, IsValid, LockMode, Shared, Exclusive, Told, newest, holds, shown, greatest, Collector, told_since, all_told, votes_or}
-use Rattle.suite_collect.proofs.Vocabulary.{counted, mode_or, wanted, needed_of, needed, is_member, first_members, source, next, HasSource}
+use Rattle.suite_collect.proofs.Vocabulary.{nat_tests, cases_lt, eq-eqb, Representative, Configuration, votes_in, LockMode, Shared, Exclusive, Told, newest, holds, shown, greatest, Collector, told_since, all_told, votes_or, counted}
+use Rattle.suite_collect.proofs.Vocabulary.{mode_or, wanted, needed_of, needed, is_member, first_members, source, next, HasSource}
+use Rattle.vote_core.specs.Validity.{IsValid}
 use Rattle.suite_collect.proofs.Collected.{gives_of}
 
 -- what is found by its test

@@ -1,6 +1,6 @@
 -- What stays of a collector once it is widened.
-use Rattle.suite_collect.proofs.Vocabulary.{◌≡◌, true, List, [], ◌∷◌, Option, Some, None, is_some, refl, sym, ap, ◌∙◌, Prefix, LockMode, Told, newest, Widening, Collector, raised, widen, tell_at, version, source, next, told_by, Step}
-use Rattle.suite_collect.proofs.Vocabulary.{Raise, Widen, Take, told_or, after_step, after_all, IsKept, PrefixAndVersionStay}
+use Rattle.suite_collect.proofs.Vocabulary.{◌≡◌, true, List, [], ◌∷◌, Option, Some, None, is_some, refl, sym, ap, ◌∙◌, Prefix, LockMode, Told, newest, Widening, Collector, raised, widen, tell_at, version, source, next, told_by, Step, Raise}
+use Rattle.suite_collect.proofs.Vocabulary.{Widen, Take, told_or, after_step, after_all, IsKept, PrefixAndVersionStay}
 use Rattle.suite_collect.proofs.Collected.{gives_of}
 
 -- it is widened, and all that prefix and version follow from is as before

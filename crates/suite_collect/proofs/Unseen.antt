@@ -1,5 +1,5 @@
 -- What was shown before anything was told.
-use Rattle.suite_collect.proofs.Vocabulary.{◌≡◌, ℕ, zero, suc, refl, replicate, slice_index}
+use Rattle.std.proofs.Common.{◌≡◌, ℕ, zero, suc, refl, replicate, slice_index}
 
 pub unseen : (servers server : ℕ) → slice_index (replicate servers 0) server ≡ 0
 unseen zero server = refl

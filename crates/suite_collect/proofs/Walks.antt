@@ -1,11 +1,6 @@
 -- A struct of one field without bytes, made. Assumes `Logic`.
-use Rattle.suite_collect.proofs.Vocabulary.{List, [], ◌∷◌, refl}
-use seplogic.Ra.Ura.{Ura}
-use mir.Val.{Val, vstruct, vcons, vnil}
-use types.Logic.{Logic}
+use Rattle.suite_collect.proofs.Vocabulary.{List, [], ◌∷◌, refl, Ura, Val, vstruct, vcons, vnil, Logic, RattleType, Valss, nothing}
 use types.Kit.{Goal, Step, step, Item, ‵, ◌$◌, move, fjoin, fpack, feq_i}
-use denote.RattleType.{RattleType, Valss}
-use denote.Steps.{nothing}
 use denote.Struct.Struct.{Struct, within}
 
 -- a struct by its fields alone: what it owns does not read its name

@@ -1,10 +1,5 @@
 -- The order of two lists of bytes, found byte by byte.
-use Rattle.std.proofs.Common.{◌≡◌, ℕ, ◌+◌, List, [], ◌∷◌, length, drop, refl, ◌∙◌, arith}
-use Rattle.std.specs.Prelude.{min}
-use Rattle.std.specs.Ordering.{nat_cmp}
-use Rattle.std.specs.Cmp.Lexicographic.{slice_cmp}
-use Rattle.std.proofs.lemmas.Bool.Decides.{nat_tests}
-use Rattle.std.proofs.lemmas.List.{length-drop}
+use Rattle.suite_content.proofs.Vocabulary.{◌≡◌, ℕ, ◌+◌, List, [], ◌∷◌, length, drop, refl, ◌∙◌, arith, min, nat_cmp, slice_cmp, nat_tests, length-drop}
 
 -- one list is empty
 one_ended : (xs ys : List ℕ) → min (length xs) (length ys) ≡ 0 → nat_cmp (length xs) (length ys) ≡ slice_cmp nat_cmp xs ys

@@ -1,16 +1,9 @@
 -- Two lists of bytes, told apart by their fronts as numbers.
-use Rattle.std.proofs.Common.{◌≡◌, ℕ, zero, suc, ◌+◌, ◌-◌, ◌*◌, ◌<◌, ◌≤◌, ◌⊎◌, List, [], ◌∷◌, length, take, drop, replicate, get_or, Less, Equal, Greater, refl, sym, ap, subst, inl, inr, ⊎_elim, ◌∙◌, arith}
-use Rattle.std.specs.Prelude.{◌≢◌, IsTrue}
+use Rattle.suite_content.proofs.Vocabulary.{◌≡◌, ℕ, zero, suc, ◌+◌, ◌-◌, ◌*◌, ◌<◌, ◌≤◌, ◌⊎◌, List, [], ◌∷◌, length, take, drop, replicate, get_or, Less, Equal, Greater, refl, sym, ap, subst, inl, inr, ⊎_elim, ◌∙◌, arith, ◌≢◌, IsTrue}
+use Rattle.suite_content.proofs.Vocabulary.{MatchOrdering, nat_cmp, ordering_then, slice_cmp, nat_tests, get_or-take, get_or-drop, get_or_past, IsName, is_name_byte, number_with, IsPadded, kept_length}
 use Rattle.std.specs.declared.cmp.Ordering.{Ordering}
-use Rattle.std.specs.Ordering.{MatchOrdering, nat_cmp, ordering_then}
-use Rattle.std.specs.Cmp.Lexicographic.{slice_cmp}
-use Rattle.std.proofs.lemmas.Bool.Decides.{nat_tests}
 use Rattle.std.proofs.lemmas.Cmp.{ranked}
 use Rattle.std.proofs.lemmas.Grind.{get_or_after_one}
-use Rattle.std.proofs.lemmas.List.{get_or-take, get_or-drop, get_or_past}
-use Rattle.suite_content.specs.Names.{IsName, is_name_byte}
-use Rattle.suite_content.specs.code.Fronts.{number_with}
-use Rattle.suite_content.specs.code.Padding.{IsPadded, kept_length}
 
 -- each is a byte
 abbrev pub AreBytes : List ℕ → Type 0

@@ -1,3 +1,4 @@
+mod Vocabulary
 mod ByteOrder
 mod Lists
 mod Fronts

@@ -1,11 +1,7 @@
 -- Lists of names.
-use Rattle.std.specs.Prelude.{◌≡◌, ℕ, false, ◌&&◌, ◌-◌, ◌≤◌, List, [], ◌∷◌, ◌++◌, length, take, drop, codes, Option, Some, None, is_some}
-use Rattle.std.specs.List.{list_all, zip, flat_map}
+use Rattle.suite_content.proofs.Vocabulary.{◌≡◌, ℕ, false, ◌&&◌, ◌-◌, ◌≤◌, List, [], ◌∷◌, ◌++◌, length, take, drop, codes, Option, Some, None, is_some, list_all, zip, flat_map, get_or, refl, ap, ◌∙◌, arith, take_all, with_commas, names_in}
+use Rattle.suite_content.proofs.Vocabulary.{same_names}
 use Rattle.std.specs.Str.{bytes_eq}
-use Rattle.std.proofs.Common.{get_or, refl, ap, ◌∙◌, arith}
-use Rattle.std.proofs.lemmas.List.{take_all}
-use Rattle.suite_content.specs.Written.{with_commas}
-use Rattle.suite_content.specs.Folders.{names_in, same_names}
 
 -- a folder without names
 pub no_names : (folder : List (List ℕ × ℕ)) → names_in folder ≡ [] → folder ≡ []

@@ -1,6 +1,5 @@
 -- A number that is written behind a name.
-use Rattle.std.proofs.Common.{◌≡◌, ℕ, ◌+◌, ◌≤◌, List, ◌++◌, length, take, sym, ap, ◌∙◌, append_assoc, length-append}
-use Rattle.std.proofs.lemmas.List.{length-take-le, take_at}
+use Rattle.suite_content.proofs.Vocabulary.{◌≡◌, ℕ, ◌+◌, ◌≤◌, List, ◌++◌, length, take, sym, ap, ◌∙◌, append_assoc, length-append, length-take-le, take_at}
 use borrow.Rule.Slice.PartMut.{put_mid, post_of}
 
 -- eight bytes put in behind what ends at a place

@@ -1,9 +1,6 @@
 -- Names are the same where their lengths and all their places are.
-use Rattle.std.proofs.Common.{◌≡◌, ℕ, ◌&&◌, nat_eq, List, length, take, ap, sym, ◌∙◌}
-use Rattle.std.specs.Cmp.Lexicographic.{pointwise}
-use Rattle.std.proofs.lemmas.Bool.Decides.{Decides-eqb, Decides-and, Decides-like, same_from_decides}
+use Rattle.suite_content.proofs.Vocabulary.{◌≡◌, ℕ, ◌&&◌, nat_eq, List, length, take, ap, sym, ◌∙◌, pointwise, Decides-eqb, Decides-and, Decides-like, same_from_decides, IsPadded, padded, padded-take, kept_length}
 use Rattle.std.proofs.lemmas.Slice.Eq.{bytes_eq-Decides}
-use Rattle.suite_content.specs.code.Padding.{IsPadded, padded, padded-take, kept_length}
 
 pub same_places : (n m : ℕ) (xs ys : List ℕ) → IsPadded n xs → IsPadded m ys → (nat_eq n m && pointwise nat_eq xs ys) ≡ pointwise nat_eq (take n xs) (take m ys)
 same_places n m xs ys own other =

@@ -1,12 +1,5 @@
 -- What may be read begins nothing else that may be read.
-use Rattle.std.proofs.Common.{◌≡◌, ℕ, List, [], ◌++◌, Ok, sym, ap, ◌∙◌}
-use Rattle.std.proofs.lemmas.List.{append-nil}
-use Rattle.suite_prefix.specs.declared.copies.Replica.{Replica}
-use Rattle.suite_prefix.specs.declared.forms.Form.{Form}
-use Rattle.suite_prefix.specs.Bytes.{NoneBeginsAnother, bytes_in}
-use Rattle.suite_prefix.specs.Copies.{IsCopy}
-use Rattle.suite_prefix.specs.Forms.{CanHold}
-use Rattle.suite_prefix.specs.Reading.{Shape, shape_at, copy_of}
+use Rattle.suite_prefix.proofs.Vocabulary.{◌≡◌, ℕ, List, [], ◌++◌, Ok, sym, ap, ◌∙◌, append-nil, Replica, Form, NoneBeginsAnother, bytes_in, IsCopy, CanHold, Shape, shape_at, copy_of}
 use Rattle.suite_prefix.proofs.Loop.{ok_is}
 use Rattle.suite_prefix.proofs.ReadAgain.{shape_again}
 use Rattle.suite_prefix.proofs.ShapeOf.{shape_of, copy_back}

@@ -1,27 +1,10 @@
 -- What is read is a valid copy's, what a valid copy has is read, and faults tell apart.
-use Rattle.std.proofs.Common.{◌≡◌, ℕ, ◌<◌, true, ◌&&◌, get_or, length, List, [], ◌++◌, Result, Ok, Err, refl, sym, ap, subst, ◌∙◌, inl, inr, arith}
-use Rattle.std.specs.Prelude.{All, IfOk, IfErr, IfSome, MatchResult, Option, None, Some}
-use Rattle.std.proofs.lemmas.Bool.{and_from, cases_Bool, cases_lt}
-use Rattle.std.proofs.lemmas.List.{append-nil, get_or_past}
-use Rattle.std.proofs.lemmas.List.Elements.{All-map}
-use Rattle.acl_core.specs.declared.entry.Entry.{Entry}
-use Rattle.acl_core.specs.AccessLists.{IsAcl, IsCanonical}
-use Rattle.suite_prefix.specs.TwoLists.{default_entries}
-use Rattle.suite_content.specs.declared.content.Content.{Content}
-use Rattle.suite_content.specs.declared.content.Content.TheVariants.{Bytes, Names}
-use Rattle.suite_prefix.specs.declared.copies.Replica.{Replica}
-use Rattle.suite_prefix.specs.declared.forms.Form.{Form}
-use Rattle.suite_prefix.specs.declared.faults.CopyFault.{CopyFault}
-use Rattle.suite_prefix.specs.declared.faults.CopyFault.TheVariants.{Short, BadTag, NotCanonical, Invalid, TrailingBytes}
+use Rattle.suite_prefix.proofs.Vocabulary.{◌≡◌, ℕ, ◌<◌, true, ◌&&◌, get_or, length, List, [], ◌++◌, Result, Ok, Err, refl, sym, ap, subst, ◌∙◌, inl, inr, arith, All, IfOk, IfErr, IfSome, MatchResult, Option, None, Some, and_from}
+use Rattle.suite_prefix.proofs.Vocabulary.{cases_Bool, cases_lt, append-nil, get_or_past, All-map, Entry, IsAcl, IsCanonical, default_entries, Content, Bytes, Names, Replica, Form, CopyFault, Short, BadTag, NotCanonical, Invalid}
+use Rattle.suite_prefix.proofs.Vocabulary.{TrailingBytes, EntryShape, AreBytesOf, bytes_in, IsCopy, IsContent, CanHold, HoldsContent, SpellsCopy, IsFaultOf, IsFaultIn, IsOfValidCopy, Explains, FaultsTellApart, is_canonical, is_written}
+use Rattle.suite_prefix.proofs.Vocabulary.{numbers_belong, entries_rise, content_rises, IsWhole, Refuses, Shape, copy_of, shape_at}
 use Rattle.suite_prefix.specs.declared.faults.DecodeError.{DecodeError}
 use Rattle.suite_prefix.specs.declared.faults.DecodeError.TheVariants as errors
-use Rattle.suite_prefix.specs.declared.shapes.EntryShape.{EntryShape}
-use Rattle.suite_prefix.specs.Bytes.{AreBytesOf, bytes_in}
-use Rattle.suite_prefix.specs.Copies.{IsCopy, IsContent}
-use Rattle.suite_prefix.specs.Forms.{CanHold, HoldsContent}
-use Rattle.suite_prefix.specs.Faults.{SpellsCopy, IsFaultOf, IsFaultIn, IsOfValidCopy, Explains, FaultsTellApart, is_canonical, is_written, numbers_belong, entries_rise, content_rises}
-use Rattle.suite_prefix.specs.code.Judging.{IsWhole, Refuses}
-use Rattle.suite_prefix.specs.Reading.{Shape, copy_of, shape_at}
 use Rattle.suite_prefix.proofs.Back.{whole_again}
 use Rattle.suite_prefix.proofs.Judged.{canonical_parts}
 use Rattle.suite_prefix.proofs.Loop.{ok_is}
@@ -61,11 +44,10 @@ spells_shape form copy valid held content_held = record {
 
 -- the shape of a valid copy with nothing behind it has no fault
 no_fault : (form : Form) (copy : Replica) (fault : CopyFault) → IsCopy copy → CanHold form copy.prefix → HoldsContent form copy.content → IsFaultOf (shape_of form copy) [] fault → ⊥
-no_fault form copy Short valid held content_held h = h
-no_fault form copy BadTag valid held content_held h = h
 no_fault form copy NotCanonical valid held content_held h = let yes = canonical_shape form copy valid in absurd cc
 no_fault form copy Invalid valid held content_held h = h.1 (spells_shape form copy valid held content_held)
 no_fault form copy TrailingBytes valid held content_held h = h.1.1 refl
+no_fault form copy _ valid held content_held h = h
 
 -- the bytes of a valid copy are read as its shape, whatever was read of them
 pub read_whole : (bytes : List ℕ) (copy : Replica) → IsCopy copy → (has : AreBytesOf copy bytes) → shape_at bytes ≡ Ok (shape_of has.form copy, [])
@@ -134,8 +116,7 @@ one_of shape rest BadTag other h k = absurd h
 one_of shape rest fault Short h k = absurd k
 one_of shape rest fault BadTag h k = absurd k
 one_of shape rest NotCanonical NotCanonical h k = refl
-one_of shape rest NotCanonical Invalid h k = let yes = k.0 in absurd cc
-one_of shape rest NotCanonical TrailingBytes h k = let yes = k.0 in absurd cc
+one_of shape rest NotCanonical _ h k = let yes = k.0 in absurd cc
 one_of shape rest Invalid NotCanonical h k = let yes = h.0 in absurd cc
 one_of shape rest Invalid Invalid h k = refl
 one_of shape rest Invalid TrailingBytes h k = absurd (h.1 k.1.0)

@@ -1,40 +1,8 @@
 -- Reading more bytes gives the same with more behind it, and a bad tag stays one. So each proper front of a valid copy's bytes ends too early.
-use Rattle.std.proofs.Common.{◌≡◌, ◌≢◌, ℕ, zero, suc, Bool, true, false, cond, ltb, List, [], ◌∷◌, ◌++◌, length, Result, Ok, Err, refl, sym, ap, subst, ◌∙◌, inl, inr, arith}
-use Rattle.std.specs.Int.{Width, w16, w32, w64, byte_len}
-use Rattle.std.proofs.lemmas.Bool.{cases_lt, lt-ltb, le-ltb}
-use Rattle.std.proofs.lemmas.List.{length-append, take-append-le, drop-append-le}
-use Rattle.suite_content.specs.declared.content.Content.TheVariants.{Bytes, Names}
-use Rattle.suite_prefix.specs.declared.copies.PrefixKind.{PrefixKind}
-use Rattle.suite_prefix.specs.declared.copies.PrefixKind.TheVariants.{Absent, File, Folder}
-use Rattle.suite_prefix.specs.declared.forms.Form.{Form}
-use Rattle.suite_prefix.specs.declared.forms.Form.TheVariants.{One, Two}
-use Rattle.suite_prefix.specs.declared.faults.CopyFault.{CopyFault}
-use Rattle.suite_prefix.specs.declared.faults.CopyFault.TheVariants.{Short, BadTag, NotCanonical, Invalid, TrailingBytes}
-use Rattle.suite_prefix.specs.Faults.{IsFaultIn, FrontsAreShort}
-use Rattle.suite_prefix.specs.Reading.{
-  ◌>>=◌,
-  Shape,
-  byte_at,
-  number_at,
-  bytes_at,
-  default_at,
-  form_at,
-  kind_of_code,
-  identity_at,
-  code_at,
-  entry_at,
-  representative_at,
-  name_at,
-  many_at,
-  list_at,
-  lists_at,
-  listed_at,
-  votes_at,
-  file_at,
-  folder_at,
-  content_at,
-  shape_at,
-}
+use Rattle.suite_prefix.proofs.Vocabulary.{◌≡◌, ◌≢◌, ℕ, zero, suc, Bool, true, false, cond, ltb, List, [], ◌∷◌, ◌++◌, length, Result, Ok, Err, refl, sym, ap, subst, ◌∙◌, inl, inr, arith, Width, w16, w32, w64, byte_len, cases_lt, lt-ltb}
+use Rattle.suite_prefix.proofs.Vocabulary.{le-ltb, length-append, take-append-le, drop-append-le, Bytes, Names, PrefixKind, Folder, Form, One, Two, CopyFault, Short, BadTag, NotCanonical, Invalid, TrailingBytes, IsFaultIn, FrontsAreShort}
+use Rattle.suite_prefix.proofs.Vocabulary.{◌>>=◌, Shape, byte_at, number_at, bytes_at, default_at, form_at, kind_of_code, code_at, content_at}
+use Rattle.suite_prefix.specs.Reading.{identity_at, entry_at, representative_at, name_at, many_at, list_at, lists_at, listed_at, votes_at, file_at, folder_at, shape_at}
 use Rattle.suite_prefix.proofs.Back.{whole_again}
 use Rattle.suite_prefix.proofs.ShapeOf.{shape_of}
 use Rattle.suite_prefix.proofs.Takes.{identity_1, identity_2, identity_3, identity_4, entry_1, entry_2, votes_1, votes_2, shape_0, shape_1, shape_2, shape_3, shape_4, shape_5}
@@ -54,10 +22,7 @@ Extends more (Err fault) longer = Fails fault longer
 
 fails_then : {X Y : Type 0} (fault : CopyFault) (longer : Result (X × List ℕ) CopyFault) (f : X × List ℕ → Result (Y × List ℕ) CopyFault) → Fails fault longer → Fails fault (longer >>= f)
 fails_then Short longer f h = tt
-fails_then BadTag longer f h = ap (λ l. l >>= f) h
-fails_then NotCanonical longer f h = ap (λ l. l >>= f) h
-fails_then Invalid longer f h = ap (λ l. l >>= f) h
-fails_then TrailingBytes longer f h = ap (λ l. l >>= f) h
+fails_then _ longer f h = ap (λ l. l >>= f) h
 
 then_extends : {X Y : Type 0} (more : List ℕ) (r longer : Result (X × List ℕ) CopyFault) (f : X × List ℕ → Result (Y × List ℕ) CopyFault)
     → Extends more r longer → ((x : X × List ℕ) → Extends more (f x) (f (x.0, x.1 ++ more))) → Extends more (r >>= f) (longer >>= f)
@@ -66,10 +31,7 @@ then_extends more (Err fault) longer f h each = fails_then fault longer f h
 
 fails_again : (X : Type 0) (fault : CopyFault) → Fails {X = X} fault (Err fault)
 fails_again X Short = tt
-fails_again X BadTag = refl
-fails_again X NotCanonical = refl
-fails_again X Invalid = refl
-fails_again X TrailingBytes = refl
+fails_again X _ = refl
 
 same_then : {A Y : Type 0} (more : List ℕ) (r : Result A CopyFault) (f g : A → Result (Y × List ℕ) CopyFault) → ((a : A) → Extends more (f a) (g a)) → Extends more (r >>= f) (r >>= g)
 same_then more (Ok a) f g each = each a
@@ -186,9 +148,8 @@ folder_extends bytes more =
     then_extends more (many_at name_at count.0 count.1) (many_at name_at count.0 (count.1 ++ more)) (λ names. Ok (Names names.0, names.1)) (many_extend name_at name_extends count.0 count.1 more) (λ names. refl))
 
 content_extends : (kind : PrefixKind) (bytes more : List ℕ) → Extends more (content_at kind bytes) (content_at kind (bytes ++ more))
-content_extends Absent bytes more = file_extends bytes more
-content_extends File bytes more = file_extends bytes more
 content_extends Folder bytes more = folder_extends bytes more
+content_extends _ bytes more = file_extends bytes more
 
 form_extends : (bytes more : List ℕ) → Extends more (form_at bytes) (form_at (bytes ++ more))
 form_extends [] more = tt

@@ -1,6 +1,5 @@
 -- Pieces put one after the other.
-use Rattle.std.proofs.Common.{◌≡◌, ℕ, List, ◌++◌, Result, Ok, Err, ap, ◌∙◌, append_assoc}
-use Rattle.std.specs.Prelude.{OnOk}
+use Rattle.suite_prefix.proofs.Vocabulary.{◌≡◌, ℕ, List, ◌++◌, Result, Ok, Err, ap, ◌∙◌, append_assoc, OnOk}
 
 -- three pieces behind what was there, the last where it was put
 pub joined : {E : Type 0} (r : Result (Unit {0}) E) (old one two three a b c : List ℕ) → one ≡ old ++ a → two ≡ one ++ b → OnOk r (three ≡ two ++ c) → OnOk r (three ≡ old ++ ((a ++ b) ++ c))

@@ -1,30 +1,9 @@
--- A shape spells a valid copy exactly where each of its parts does.
-use Rattle.std.proofs.Common.{◌≡◌, ◌<◌, ◌≤◌, ◌^◌, true, List, [], ◌∷◌, length, map, None, refl, subst, sym, ap, ◌∙◌}
-use Rattle.std.specs.Prelude.{All, IfSome, IsTrue, ◌&&◌}
-use Rattle.suite_prefix.specs.TwoLists.{default_of}
-use Rattle.suite_prefix.proofs.Written.{entries_again}
-use Rattle.std.proofs.lemmas.Bool.{and_parts}
-use Rattle.std.proofs.lemmas.List.{length-map}
-use Rattle.std.proofs.lemmas.List.Elements.{All-map}
-use Rattle.std.proofs.Math.Nat.{mod-eq_of_lt}
-use Rattle.acl_core.specs.declared.entry.Tag.{Tag}
-use Rattle.acl_core.specs.declared.entry.Entry.{Entry}
-use Rattle.acl_core.specs.AccessLists.{IsAcl, IsCanonical}
-use Rattle.vote_core.specs.Quorums.{Representative}
+-- A shape spells a valid copy if each of its parts does.
+use Rattle.suite_prefix.proofs.Vocabulary.{◌≡◌, ◌<◌, ◌≤◌, ◌^◌, true, List, [], ◌∷◌, length, map, None, refl, subst, sym, ap, ◌∙◌, All, IfSome, IsTrue, ◌&&◌, default_of, and_parts, length-map, All-map, mod-eq_of_lt, Tag, Entry, IsAcl}
+use Rattle.suite_prefix.proofs.Vocabulary.{IsCanonical, number_of, qualifier, Content, Bytes, Names, Prefix, Form, One, Two, EntryShape, IsContent, CanHold, most_entries, most_servers, SpellsCopy, is_canonical, is_written, numbers_belong}
+use Rattle.suite_prefix.proofs.Vocabulary.{entries_rise, content_rises, FitsForm, ContentFits, IsWithin, IsSound, MakeLists, MakesDefault, Shape, copy_of, entry_from}
 use Rattle.acl_core.specs.Entries.{entry_of}
-use Rattle.acl_core.specs.Permissions.{number_of}
-use Rattle.acl_core.specs.Tags.{qualifier}
-use Rattle.suite_content.specs.declared.content.Content.{Content}
-use Rattle.suite_content.specs.declared.content.Content.TheVariants.{Bytes, Names}
-use Rattle.suite_prefix.specs.declared.copies.Prefix.{Prefix}
-use Rattle.suite_prefix.specs.declared.forms.Form.{Form}
-use Rattle.suite_prefix.specs.declared.forms.Form.TheVariants.{One, Two}
-use Rattle.suite_prefix.specs.declared.shapes.EntryShape.{EntryShape}
-use Rattle.suite_prefix.specs.Copies.{IsContent, PrefixFits}
-use Rattle.suite_prefix.specs.Forms.{CanHold, most_entries, most_servers}
-use Rattle.suite_prefix.specs.Faults.{SpellsCopy, is_canonical, is_written, numbers_belong, entries_rise, content_rises}
-use Rattle.suite_prefix.specs.code.Judging.{FitsForm, ContentFits, IsWithin, IsSound, MakeLists, MakesDefault}
-use Rattle.suite_prefix.specs.Reading.{Shape, copy_of, entry_from}
+use Rattle.suite_prefix.proofs.Written.{entries_again}
 use Rattle.suite_prefix.proofs.Orders.{canonical_if_rise, folder_if_rise}
 
 -- a canonical shape, part by part
@@ -51,30 +30,14 @@ default_acl : (entries : List Entry) → MakesDefault entries → IsCanonical en
 default_acl [] makes canonical = tt
 default_acl (e ∷ es) makes canonical = record { accepted = makes; canonical = canonical }
 
-makes_default : (entries : List Entry) → IfSome (default_of entries) IsAcl → MakesDefault entries
-makes_default [] acl = tt
-makes_default (e ∷ es) acl = acl.accepted
-
 content_spelled : (content : Content) → ContentFits content → content_rises content ≡ true → IsWithin content → IsContent content
 content_spelled (Bytes bytes) fits rises within = record { few = within; bytes_fit = fits }
 content_spelled (Names names) fits rises within = record { few = within.few; rising = folder_if_rise names rises; are_names = within.are_names; suites_fit = fits }
-
-content_within : (content : Content) → IsContent content → IsWithin content
-content_within (Bytes bytes) valid = valid.few
-content_within (Names names) valid = record { few = valid.few; are_names = valid.are_names }
 
 -- what keeps to the limits of a form can be held by it
 can_hold : (form : Form) (prefix : Prefix) → (form ≡ One → prefix.acl.default ≡ None) → length prefix.acl.access ≤ most_entries form → All (λ rep. rep.0 < most_servers form) prefix.votes.reps → CanHold form prefix
 can_hold One prefix no_default few known = record { no_default = no_default refl; few_entries = few; old_servers = known }
 can_hold Two prefix no_default few known = tt
-
-few_held : (form : Form) (prefix : Prefix) → PrefixFits prefix → CanHold form prefix → length prefix.acl.access ≤ most_entries form
-few_held One prefix fits held = held.few_entries
-few_held Two prefix fits held = fits.acl.access.accepted.few
-
-known_held : (form : Form) (prefix : Prefix) → PrefixFits prefix → CanHold form prefix → All (λ (rep : Representative). rep.0 < most_servers form) prefix.votes.reps
-known_held One prefix fits held = held.old_servers
-known_held Two prefix fits held = fits.votes.numbered
 
 as_many : (entries : List EntryShape) → length (map entry_from entries) ≡ length entries
 as_many entries = simp length-map
@@ -117,26 +80,6 @@ spells shape fits canonical sound accepted = record {
       (subst (λ n. n ≤ most_entries shape.form) (sym (as_many shape.entries)) sound.few) sound.votes.known;
   content_held = sound.content_held;
 }
-
-pub is_sound : (shape : Shape) → SpellsCopy shape → IsSound shape
-is_sound shape spelled = record {
-  permissions_known = spelled.permissions_known;
-  default_known = spelled.default_known;
-  rules = record {
-    absent_is_version_0 = spelled.valid.prefix.absent_is_version_0;
-    nothing = spelled.valid.prefix.nothing;
-    default_of_folder = spelled.valid.prefix.default_of_folder;
-    within = content_within shape.content spelled.valid.content;
-    absent_holds_version_0 = spelled.valid.absent_holds_version_0;
-    version_0_is_empty = spelled.valid.version_0_is_empty;
-  };
-  content_held = spelled.content_held;
-  few = subst (λ n. n ≤ most_entries shape.form) (as_many shape.entries) (few_held shape.form (copy_of shape).prefix spelled.valid.prefix.fits spelled.held);
-  votes = record { known = known_held shape.form (copy_of shape).prefix spelled.valid.prefix.fits spelled.held; valid = spelled.valid.prefix.fits.votes };
-}
-
-pub is_accepted : (shape : Shape) → SpellsCopy shape → MakeLists shape.entries shape.default
-is_accepted shape spelled = record { access = spelled.valid.prefix.fits.acl.access.accepted; default = makes_default (map entry_from shape.default) spelled.valid.prefix.fits.acl.default }
 
 -- an entry of the list of mode 000
 pub grants_nothing_if : (e : EntryShape) (tag : Tag) → e.tag ≡ tag → e.permissions ≡ 0 → entry_from e ≡ entry_of tag 0

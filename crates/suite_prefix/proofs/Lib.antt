@@ -1,3 +1,4 @@
+mod Vocabulary
 pub mod Openings
 pub mod Valid
 pub mod TestsExact

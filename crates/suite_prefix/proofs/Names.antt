@@ -1,10 +1,5 @@
 -- Names put one behind the other.
-use Rattle.std.proofs.Common.{◌≡◌, ℕ, List, [], ◌∷◌, ◌++◌, sym, ap, subst, ◌∙◌, append-nil}
-use Rattle.std.specs.Prelude.{All, ◌↔◌, IsTrue}
-use Rattle.std.proofs.lemmas.List.Elements.{All-cons, All-head, All-tail}
-use Rattle.suite_content.specs.Folders.{IsFolder}
-use Rattle.suite_content.specs.Names.{IsName}
-use Rattle.suite_prefix.specs.Faults.{names_rise}
+use Rattle.suite_prefix.proofs.Vocabulary.{◌≡◌, ℕ, List, [], ◌∷◌, ◌++◌, sym, ap, subst, ◌∙◌, append-nil, All, ◌↔◌, IsTrue, All-cons, All-head, All-tail, IsFolder, IsName, names_rise}
 use Rattle.suite_prefix.proofs.Orders.{folder_if_rise}
 
 -- where the first passes, all pass where the others do

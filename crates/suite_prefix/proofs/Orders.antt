@@ -1,25 +1,13 @@
 -- Entries of which each stands before the next are in canonical order, and names of which each is below the next are a folder's.
-use Rattle.std.proofs.Common.{◌≡◌, ℕ, suc, true, eqb, List, [], ◌∷◌, map, Less, refl, ap, arith}
-use Rattle.std.specs.Prelude.{All}
-use Rattle.std.specs.List.{AllByRecursion}
+use Rattle.suite_prefix.proofs.Vocabulary.{◌≡◌, ℕ, suc, true, eqb, List, [], ◌∷◌, map, Less, refl, ap, arith, All, AllByRecursion, and_parts, and_from, nat_tests, All-nil, All-cons, Tag, Entry, IsCanonical, qualifier, precedes, IsFolder}
+use Rattle.suite_prefix.proofs.Vocabulary.{name_cmp, EntryShape, numbers_belong, entries_rise, rise_above, names_rise, entry_from}
 use Rattle.std.specs.List.Sorted.{IsStrictlySortedBy}
 use Rattle.std.specs.Map.{keys_of}
 use Rattle.std.specs.Ordering.{is_lt}
 use Rattle.std.specs.declared.cmp.Ordering.{Ordering}
-use Rattle.std.specs.declared.cmp.Ordering.TheVariants as ord
 use Rattle.std.specs.Cmp.Lexicographic.{nat_list_cmp_total}
-use Rattle.std.proofs.lemmas.Bool.{and_parts, and_from}
-use Rattle.std.proofs.lemmas.Bool.Decides.{nat_tests}
-use Rattle.std.proofs.lemmas.List.Elements.{All-nil, All-cons}
 use Rattle.std.proofs.lemmas.List.Kept.{AllPairs-cons}
-use Rattle.acl_core.specs.declared.entry.Tag.{Tag}
-use Rattle.acl_core.specs.declared.entry.Entry.{Entry}
-use Rattle.acl_core.specs.AccessLists.{IsCanonical}
-use Rattle.acl_core.specs.Tags.{qualifier, precedes}
-use Rattle.suite_content.specs.Folders.{IsFolder, name_cmp}
-use Rattle.suite_prefix.specs.declared.shapes.EntryShape.{EntryShape}
-use Rattle.suite_prefix.specs.Faults.{numbers_belong, entries_rise, rise_above, names_rise}
-use Rattle.suite_prefix.specs.Reading.{entry_from}
+use Rattle.std.specs.declared.cmp.Ordering.TheVariants as ord
 use Rattle.suite_prefix.proofs.ShapeOf.{entry_shape}
 
 chain : (s t u : Tag) → precedes s t ≡ true → precedes t u ≡ true → precedes s u ≡ true
@@ -58,8 +46,7 @@ numbers_of_entries (e ∷ es) = and_from (eqb (qualifier e.tag) (qualifier e.tag
 
 less : (o : Ordering) → is_lt o ≡ true → o ≡ Less
 less ord.Less h = refl
-less ord.Equal h = absurd cc
-less ord.Greater h = absurd cc
+less _ h = absurd cc
 
 names_after : (name next : List ℕ) (names : List (List ℕ × ℕ)) → name_cmp name next ≡ Less → rise_above next names ≡ true → AllByRecursion (λ q. name_cmp name q ≡ Less) (keys_of names)
 names_after name next [] h rise = tt

@@ -1,38 +1,12 @@
 -- What was written is read again, whatever follows.
-use Rattle.std.proofs.Common.{◌≡◌, ℕ, suc, ◌^◌, ◌<◌, false, ltb, List, [], ◌∷◌, ◌++◌, length, map, Option, None, Result, Ok, refl, sym, ap, ◌∙◌, append_assoc, arith}
-use Rattle.std.specs.Prelude.{All}
-use Rattle.std.specs.List.{flat_map, AllByRecursion}
-use Rattle.std.specs.Int.{Width, w16, w32, w64, byte_len, from_be_bytes, to_be_bytes}
-use Rattle.std.proofs.lemmas.Bool.{le-ltb}
-use Rattle.std.proofs.lemmas.List.{take_at, drop_at, length-append}
-use Rattle.std.proofs.lemmas.List.Concat.{flat_map-cons}
-use Rattle.std.proofs.lemmas.List.Elements.{recursion_from_All}
+use Rattle.suite_prefix.proofs.Vocabulary.{◌≡◌, ℕ, suc, ◌^◌, ◌<◌, false, ltb, List, [], ◌∷◌, ◌++◌, length, map, Option, None, Result, Ok, refl, sym, ap, ◌∙◌, append_assoc, arith, All, flat_map, AllByRecursion, Width, w16, w32, w64}
+use Rattle.suite_prefix.proofs.Vocabulary.{byte_len, from_be_bytes, to_be_bytes, le-ltb, take_at, drop_at, length-append, flat_map-cons, recursion_from_All, Entry, Tag, UserObj, Lists, number_of, qualifier, Configuration, Representative}
+use Rattle.suite_prefix.proofs.Vocabulary.{kind_of, Content, Bytes, Names, PrefixKind, Absent, File, Folder, Prefix, Replica, Form, One, Two, kind_code, tag_code, entry_bytes, list_bytes, lists_bytes, representative_bytes, votes_bytes}
+use Rattle.suite_prefix.proofs.Vocabulary.{identity_bytes, name_bytes, content_bytes, bytes_in, NumbersFit, default_entries, IsCopy, PrefixFits, IsContent, held_by, CanHold, form_code, CopyFault, Identity}
 use Rattle.std.proofs.lemmas.Nat.{from_be_bytes-to_be_bytes_2, from_be_bytes-to_be_bytes_4, from_be_bytes-to_be_bytes_8}
-use Rattle.acl_core.specs.declared.entry.Entry.{Entry}
-use Rattle.acl_core.specs.declared.entry.Tag.{Tag}
-use Rattle.acl_core.specs.declared.entry.Tag.TheVariants.{UserObj, User, GroupObj, Group, Mask, Other}
-use Rattle.acl_core.specs.declared.lists.Lists.{Lists}
-use Rattle.acl_core.specs.Permissions.{number_of}
-use Rattle.acl_core.specs.Tags.{qualifier}
-use Rattle.vote_core.specs.Quorums.{Configuration, Representative}
-use Rattle.suite_content.specs.Contents.{kind_of}
-use Rattle.suite_content.specs.declared.content.Content.{Content}
-use Rattle.suite_content.specs.declared.content.Content.TheVariants.{Bytes, Names}
-use Rattle.suite_prefix.specs.declared.copies.PrefixKind.{PrefixKind}
-use Rattle.suite_prefix.specs.declared.copies.PrefixKind.TheVariants.{Absent, File, Folder}
-use Rattle.suite_prefix.specs.declared.copies.Prefix.{Prefix}
-use Rattle.suite_prefix.specs.declared.copies.Replica.{Replica}
-use Rattle.suite_prefix.specs.declared.forms.Form.{Form}
-use Rattle.suite_prefix.specs.declared.forms.Form.TheVariants.{One, Two}
-use Rattle.suite_prefix.specs.Bytes.{kind_code, tag_code, entry_bytes, list_bytes, lists_bytes, representative_bytes, votes_bytes, identity_bytes, name_bytes, content_bytes, bytes_in}
-use Rattle.suite_prefix.specs.TwoLists.{NumbersFit, default_entries}
-use Rattle.suite_prefix.specs.Copies.{IsCopy, PrefixFits, IsContent, held_by}
-use Rattle.suite_prefix.specs.Forms.{CanHold, form_code}
+use Rattle.suite_prefix.specs.Reading.{identity_at, entry_at, representative_at, name_at, many_at, list_at, lists_at, listed_at, votes_at, file_at, folder_at, shape_at, number_at, bytes_at, form_at, kind_of_code, code_at, content_at}
 use Rattle.suite_prefix.proofs.Joins.{five_pieces}
 use Rattle.suite_prefix.proofs.ShapeOf.{entry_shape, shape_of, tag_back}
-use Rattle.suite_prefix.specs.declared.faults.CopyFault.{CopyFault}
-use Rattle.suite_prefix.specs.declared.shapes.Identity.{Identity}
-use Rattle.suite_prefix.specs.Reading.{number_at, bytes_at, form_at, kind_of_code, identity_at, code_at, entry_at, representative_at, name_at, many_at, list_at, lists_at, listed_at, votes_at, file_at, folder_at, content_at, shape_at}
 
 -- ---- numbers and bytes
 
@@ -75,11 +49,7 @@ many_again one write shape Fits again (x ∷ xs) rest fits =
 
 code_again : (tag : Tag) (rest : List ℕ) → code_at (tag_code tag ∷ rest) ≡ Ok (tag_code tag, rest)
 code_again UserObj rest = refl
-code_again (User id) rest = refl
-code_again GroupObj rest = refl
-code_again (Group id) rest = refl
-code_again Mask rest = refl
-code_again Other rest = refl
+code_again _ rest = refl
 
 entry_again : (entry : Entry) (rest : List ℕ) → qualifier entry.tag < 2 ^ 32 → entry_at (entry_bytes entry ++ rest) ≡ Ok (entry_shape entry, rest)
 unfolding entry_at
@@ -156,8 +126,7 @@ votes_again votes rest r_fits w_fits =
 
 kind_again : (kind : PrefixKind) → kind_of_code (kind_code kind) ≡ Ok kind
 kind_again Absent = refl
-kind_again File = refl
-kind_again Folder = refl
+kind_again _ = refl
 
 abbrev pub identity_of : Prefix → Identity
 identity_of prefix = record { pver = prefix.pver; kind = prefix.kind; owner = prefix.owner; group = prefix.group }
@@ -194,8 +163,7 @@ pub content_again : (kind : PrefixKind) (content : Content) (rest : List ℕ) �
 content_again Absent (Bytes bytes) rest agree fits = file_again bytes rest (omega (arith, fits.few))
 content_again File (Bytes bytes) rest agree fits = file_again bytes rest (omega (arith, fits.few))
 content_again Folder (Names names) rest agree fits = folder_again names rest (omega (arith, fits.few)) fits.suites_fit
-content_again Absent (Names names) rest agree fits = absurd cc
-content_again File (Names names) rest agree fits = absurd cc
+content_again _ (Names names) rest agree fits = absurd cc
 content_again Folder (Bytes bytes) rest agree fits = absurd cc
 
 -- ---- a copy

@@ -1,29 +1,8 @@
 -- The bytes of a valid copy are a record of it, and what stands before its content is read again.
-use Rattle.std.proofs.Common.{◌≡◌, ℕ, ◌^◌, ◌<◌, List, [], ◌∷◌, ◌++◌, map, get_or, Result, Ok, Err, Option, None, Some, refl, sym, ap, subst, ◌∙◌}
-use Rattle.std.specs.Prelude.{All, IfSome, IsTrue}
-use Rattle.std.specs.Int.{w64, to_be_bytes}
-use Rattle.std.proofs.lemmas.List.Elements.{All-map}
-use Rattle.std.proofs.lemmas.List.{append-nil}
-use Rattle.acl_core.specs.declared.entry.Entry.{Entry}
-use Rattle.acl_core.specs.declared.lists.Lists.{Lists}
-use Rattle.acl_core.specs.AccessLists.{IsAcl}
-use Rattle.suite_content.specs.declared.content.Content.{Content}
-use Rattle.suite_content.specs.declared.content.Content.TheVariants.{Bytes, Names}
-use Rattle.suite_prefix.specs.code.Judging.{IsWithin}
-use Rattle.suite_prefix.specs.declared.copies.Prefix.{Prefix}
-use Rattle.suite_prefix.specs.declared.copies.Replica.{Replica}
-use Rattle.suite_prefix.specs.declared.forms.Form.{Form}
-use Rattle.suite_prefix.specs.declared.faults.CopyFault.{CopyFault}
-use Rattle.suite_prefix.specs.declared.shapes.EntryShape.{EntryShape}
-use Rattle.suite_prefix.specs.Bytes.{bytes_in, identity_bytes, lists_bytes, votes_bytes, content_bytes}
-use Rattle.suite_prefix.specs.Copies.{IsCopy, IsContent}
-use Rattle.suite_prefix.specs.Faults.{content_rises}
-use Rattle.suite_prefix.specs.Forms.{CanHold, form_code}
-use Rattle.suite_prefix.specs.Reading.{Reads, content_at, entry_from}
-use Rattle.suite_prefix.specs.TwoLists.{default_entries, default_of}
-use Rattle.suite_prefix.specs.code.Heads.{IsOfValid, MakesDefaultAcl, head_at, head_of, prefix_of}
-use Rattle.suite_prefix.specs.Stored.{Kept}
-use Rattle.suite_prefix.specs.code.Records.{IsRecord, kept_in, kept_read}
+use Rattle.suite_prefix.proofs.Vocabulary.{◌≡◌, ℕ, ◌^◌, ◌<◌, List, [], ◌∷◌, ◌++◌, map, get_or, Result, Ok, Err, Option, None, Some, refl, sym, ap, subst, ◌∙◌, All, IfSome, IsTrue, w64, to_be_bytes, All-map, append-nil, Entry, Lists, IsAcl}
+use Rattle.suite_prefix.proofs.Vocabulary.{Content, Bytes, Names, IsWithin, Prefix, Replica, Form, CopyFault, EntryShape, bytes_in, identity_bytes, lists_bytes, votes_bytes, content_bytes, IsCopy, IsContent, content_rises, CanHold}
+use Rattle.suite_prefix.proofs.Vocabulary.{form_code, Reads, content_at, entry_from, default_entries, IsOfValid, MakesDefaultAcl, head_of, prefix_of, Kept, IsRecord, kept_in, kept_read}
+use Rattle.suite_prefix.specs.code.Heads.{head_at}
 use Rattle.suite_prefix.proofs.Back.{whole_again}
 use Rattle.suite_prefix.proofs.Joins.{four_pieces}
 use Rattle.suite_prefix.proofs.Loop.{ok_is}
@@ -91,10 +70,6 @@ makes_default (Some list) acl = subst MakesDefaultAcl (sym (entries_back list)) 
 pub acl_if_some : (entries : List EntryShape) → (entries ≡ [] → ⊥) → MakesDefaultAcl (map entry_from entries) → IsAcl (map entry_from entries)
 acl_if_some [] some makes = absurd (some refl)
 acl_if_some (entry ∷ entries) some makes = makes
-
-pub default_if_some : (entries : List EntryShape) → (entries ≡ [] → ⊥) → default_of (map entry_from entries) ≡ Some (map entry_from entries)
-default_if_some [] some = absurd (some refl)
-default_if_some (entry ∷ entries) some = refl
 
 pub is_of_valid : (copy : Replica) → IsCopy copy → IsOfValid (head_of copy)
 is_of_valid copy valid = record {

@@ -1,22 +1,8 @@
 -- The shape in which a copy is written, and that it spells the copy.
-use Rattle.std.proofs.Common.{◌≡◌, ℕ, List, [], ◌∷◌, map, Option, None, Some, refl, ap, ◌∙◌}
-use Rattle.std.specs.Prelude.{IfSome}
-use Rattle.std.proofs.Math.Nat.{mod-eq_of_lt}
-use Rattle.acl_core.specs.declared.entry.Entry.{Entry}
-use Rattle.acl_core.specs.declared.lists.Lists.{Lists}
-use Rattle.acl_core.specs.AccessLists.{IsAcl}
+use Rattle.suite_prefix.proofs.Vocabulary.{◌≡◌, ℕ, List, [], ◌∷◌, map, Option, None, Some, refl, ap, ◌∙◌, IfSome, mod-eq_of_lt, Entry, Lists, IsAcl, Tag, UserObj, number_of, qualifier, Replica, Form, EntryShape, default_entries, default_of}
+use Rattle.suite_prefix.proofs.Vocabulary.{tag_code, Shape, tag_of, entry_from, copy_of}
 use Rattle.acl_core.specs.declared.perms.Perms.{Perms}
-use Rattle.acl_core.specs.declared.entry.Tag.{Tag}
-use Rattle.acl_core.specs.declared.entry.Tag.TheVariants.{UserObj, User, GroupObj, Group, Mask, Other}
-use Rattle.acl_core.specs.Permissions.{number_of}
-use Rattle.acl_core.specs.Tags.{qualifier}
 use Rattle.acl_core.proofs.EntryEquality.{same_by_fields}
-use Rattle.suite_prefix.specs.declared.copies.Replica.{Replica}
-use Rattle.suite_prefix.specs.declared.forms.Form.{Form}
-use Rattle.suite_prefix.specs.declared.shapes.EntryShape.{EntryShape}
-use Rattle.suite_prefix.specs.TwoLists.{default_entries, default_of}
-use Rattle.suite_prefix.specs.Bytes.{tag_code}
-use Rattle.suite_prefix.specs.Reading.{Shape, tag_of, entry_from, copy_of}
 
 abbrev pub entry_shape : Entry → EntryShape
 entry_shape entry = record { tag = entry.tag; number = qualifier entry.tag; permissions = number_of entry.perms }
@@ -34,11 +20,7 @@ shape_of form copy = record {
 
 pub tag_back : (tag : Tag) → tag_of (tag_code tag) (qualifier tag) ≡ tag
 tag_back UserObj = refl
-tag_back (User id) = refl
-tag_back GroupObj = refl
-tag_back (Group id) = refl
-tag_back Mask = refl
-tag_back Other = refl
+tag_back _ = refl
 
 perms_of : ℕ → Perms
 perms_of bits = record { 0 = bits }

@@ -1,31 +1,11 @@
 -- What is read is what was written: each part that a reader takes from the front of bytes is spelled so.
-use Rattle.std.proofs.Common.{◌≡◌, ℕ, zero, suc, ◌+◌, ◌^◌, ◌<◌, ◌≤◌, Bool, true, false, cond, ltb, List, [], ◌∷◌, ◌++◌, length, get_or, take, drop, All, Result, Ok, Err, refl, sym, ap, subst, ◌∙◌, append_assoc, arith, inl, inr}
-use Rattle.std.specs.List.{flat_map, AllByRecursion}
-use Rattle.std.specs.Int.{Width, w16, w32, w64, byte_len, from_be_bytes, to_be_bytes}
-use Rattle.std.proofs.lemmas.Bool.{cases_lt, ltb-false, le-ltb}
-use Rattle.std.proofs.lemmas.List.{take-append-drop, length-take, get_or-drop, get_or-take, get_or_past}
-use Rattle.std.proofs.lemmas.List.Concat.{flat_map-cons}
-use Rattle.std.proofs.lemmas.List.Elements.{All-from_recursion}
+use Rattle.suite_prefix.proofs.Vocabulary.{◌≡◌, ℕ, zero, suc, ◌+◌, ◌^◌, ◌<◌, ◌≤◌, Bool, true, false, cond, ltb, List, [], ◌∷◌, ◌++◌, length, get_or, take, drop, All, Result, Ok, Err, refl, sym, ap, subst, ◌∙◌, append_assoc, arith, inl, inr}
+use Rattle.suite_prefix.proofs.Vocabulary.{flat_map, AllByRecursion, Width, w16, w32, w64, byte_len, from_be_bytes, to_be_bytes, cases_lt, ltb-false, le-ltb, take-append-drop, length-take, get_or-drop, get_or-take, get_or_past}
+use Rattle.suite_prefix.proofs.Vocabulary.{flat_map-cons, All-from_recursion, qualifier, Configuration, Representative, kind_of, Content, Bytes, Names, PrefixKind, Absent, File, Folder, Form, One, Two, CopyFault, Short, BadTag, EntryShape}
+use Rattle.suite_prefix.proofs.Vocabulary.{Identity, kind_code, tag_code, representative_bytes, name_bytes, content_bytes, held_by, form_code, FitsForm, ContentFits, ◌>>=◌, Shape, byte_at, number_at, bytes_at, default_at, form_at}
+use Rattle.suite_prefix.proofs.Vocabulary.{kind_of_code, code_at, tag_of, content_at}
 use Rattle.std.proofs.lemmas.Nat.{be_bytes_2, be_bytes_4, be_bytes_8}
-use Rattle.acl_core.specs.Tags.{qualifier}
-use Rattle.vote_core.specs.Quorums.{Configuration, Representative}
-use Rattle.suite_content.specs.Contents.{kind_of}
-use Rattle.suite_content.specs.declared.content.Content.{Content}
-use Rattle.suite_content.specs.declared.content.Content.TheVariants.{Bytes, Names}
-use Rattle.suite_prefix.specs.declared.copies.PrefixKind.{PrefixKind}
-use Rattle.suite_prefix.specs.declared.copies.PrefixKind.TheVariants.{Absent, File, Folder}
-use Rattle.suite_prefix.specs.declared.forms.Form.{Form}
-use Rattle.suite_prefix.specs.declared.forms.Form.TheVariants.{One, Two}
-use Rattle.suite_prefix.specs.declared.faults.CopyFault.{CopyFault}
-use Rattle.suite_prefix.specs.declared.faults.CopyFault.TheVariants.{Short, BadTag}
-use Rattle.suite_prefix.specs.declared.shapes.EntryShape.{EntryShape}
-use Rattle.suite_prefix.specs.declared.shapes.Identity.{Identity}
-use Rattle.suite_prefix.specs.Bytes.{kind_code, tag_code, representative_bytes, name_bytes, content_bytes}
-use Rattle.suite_prefix.specs.Copies.{held_by}
-use Rattle.suite_prefix.specs.Forms.{form_code}
-use Rattle.suite_prefix.specs.code.Judging.{FitsForm, ContentFits}
-use Rattle.suite_prefix.specs.Reading.{◌>>=◌, Shape, byte_at, number_at, bytes_at, default_at, form_at, kind_of_code, identity_at, code_at, tag_of, entry_at}
-use Rattle.suite_prefix.specs.Reading.{representative_at, name_at, many_at, list_at, lists_at, listed_at, votes_at, file_at, folder_at, content_at, shape_at}
+use Rattle.suite_prefix.specs.Reading.{identity_at, entry_at, representative_at, name_at, many_at, list_at, lists_at, listed_at, votes_at, file_at, folder_at, shape_at}
 use Rattle.suite_prefix.proofs.Loop.{ok_is}
 
 -- ---- bytes

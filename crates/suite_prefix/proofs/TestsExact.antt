@@ -1,22 +1,8 @@
 -- The tests of valid prefixes and copies are true exactly of these, where the parts fit their types; and the parts of valid copies do.
-use Rattle.std.proofs.Common.{◌≡◌, ℕ, suc, zero, true, List, [], ◌∷◌, Option, None, Some, is_some, length, refl, ap, arith}
-use Rattle.std.specs.Prelude.{◌==◌, nat_lt, IsTrue, ◌&&◌, not, if◌then◌else◌}
+use Rattle.suite_prefix.proofs.Vocabulary.{◌≡◌, ℕ, suc, zero, true, List, [], ◌∷◌, Option, None, Some, is_some, length, refl, ap, arith, ◌==◌, nat_lt, IsTrue, ◌&&◌, not, if◌then◌else◌, and_parts, and_from, cond-true, nat_tests, Entry}
+use Rattle.suite_prefix.proofs.Vocabulary.{Lists, same_lists_decides, kind_of, empty_content, Content, Bytes, Names, PrefixKind, Absent, File, Folder, Prefix, Replica, PrefixFits, IsPrefix, IsNothing, IsContent, IsCopy, held_by}
+use Rattle.suite_prefix.proofs.Vocabulary.{closed_lists, is_closed, is_nothing, keeps_rules, is_valid_prefix, is_absent, holds, is_empty, is_within_limits, version_agrees, is_valid_copy}
 use Rattle.std.specs.Cmp.{unsigned_Decides}
-use Rattle.std.proofs.lemmas.Bool.{and_parts, and_from, cond-true}
-use Rattle.std.proofs.lemmas.Bool.Decides.{nat_tests}
-use Rattle.acl_core.specs.declared.entry.Entry.{Entry}
-use Rattle.acl_core.specs.declared.lists.Lists.{Lists}
-use Rattle.acl_core.proofs.ListsEquality.{same_lists_decides}
-use Rattle.suite_content.specs.Contents.{kind_of, empty_content}
-use Rattle.suite_content.specs.declared.content.Content.{Content}
-use Rattle.suite_content.specs.declared.content.Content.TheVariants.{Bytes, Names}
-use Rattle.suite_prefix.specs.declared.copies.PrefixKind.{PrefixKind}
-use Rattle.suite_prefix.specs.declared.copies.PrefixKind.TheVariants.{Absent, File, Folder}
-use Rattle.suite_prefix.specs.declared.copies.Prefix.{Prefix}
-use Rattle.suite_prefix.specs.declared.copies.Replica.{Replica}
-use Rattle.suite_prefix.specs.Copies.{PrefixFits, IsPrefix, IsNothing, IsContent, IsCopy, held_by}
-use Rattle.suite_prefix.specs.TwoLists.{closed_lists}
-use Rattle.suite_prefix.specs.Tests.{is_closed, is_nothing, keeps_rules, is_valid_prefix, is_absent, holds, is_empty, is_within_limits, version_agrees, is_valid_copy}
 use Rattle.suite_prefix.specs.TestsExact.{ContentFits, CopyFits, TestsAreExact}
 
 -- ---- prefixes
@@ -142,14 +128,12 @@ record Agrees (dver : ℕ) (kind : PrefixKind) (content : Content) : Type 0 wher
 agrees_if : (dver : ℕ) (kind : PrefixKind) (content : Content) → IsTrue (if nat_lt 0 dver then not (is_absent kind) else is_empty content) → Agrees dver kind content
 agrees_if zero kind content passes = record { absent_holds_version_0 = λ absent. refl; version_0_is_empty = λ none. empty_if content passes }
 agrees_if (suc n) Absent content passes = let above = some_above n in absurd cc
-agrees_if (suc n) File content passes = record { absent_holds_version_0 = λ absent. absurd cc; version_0_is_empty = λ none. absurd cc }
-agrees_if (suc n) Folder content passes = record { absent_holds_version_0 = λ absent. absurd cc; version_0_is_empty = λ none. absurd cc }
+agrees_if (suc n) _ content passes = record { absent_holds_version_0 = λ absent. absurd cc; version_0_is_empty = λ none. absurd cc }
 
 if_agrees : (dver : ℕ) (kind : PrefixKind) (content : Content) → Agrees dver kind content → IsTrue (if nat_lt 0 dver then not (is_absent kind) else is_empty content)
 if_agrees zero kind content agrees = if_empty content (agrees.version_0_is_empty refl)
 if_agrees (suc n) Absent content agrees = let none = agrees.absent_holds_version_0 refl in absurd cc
-if_agrees (suc n) File content agrees = cond-true _ _ _ (some_above n)
-if_agrees (suc n) Folder content agrees = cond-true _ _ _ (some_above n)
+if_agrees (suc n) _ content agrees = cond-true _ _ _ (some_above n)
 
 -- ---- copies
 

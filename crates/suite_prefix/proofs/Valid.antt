@@ -1,12 +1,8 @@
 -- Valid prefixes are those of valid copies.
-use Rattle.std.proofs.Common.{◌≡◌, refl, subst, arith}
+use Rattle.suite_prefix.proofs.Vocabulary.{◌≡◌, refl, subst, arith, kind_of, empty_content, Prefix, Replica, IsPrefix, IsOfSomeCopy, IsContent, held_by}
 use Rattle.std.specs.List.Sorted.{IsStrictlySortedBy}
-use Rattle.suite_content.specs.Contents.{kind_of, empty_content}
 use Rattle.suite_content.specs.declared.content.Kind.{Kind}
 use Rattle.suite_content.specs.declared.content.Kind.TheVariants as holds
-use Rattle.suite_prefix.specs.declared.copies.Prefix.{Prefix}
-use Rattle.suite_prefix.specs.declared.copies.Replica.{Replica}
-use Rattle.suite_prefix.specs.Copies.{IsPrefix, IsOfSomeCopy, IsContent, held_by}
 
 empty_fits : (kind : Kind) → IsContent (empty_content kind)
 unfolding IsStrictlySortedBy

@@ -1,22 +1,7 @@
 -- A canonical shape is how its copy is written.
-use Rattle.std.proofs.Common.{◌≡◌, ℕ, ◌<◌, true, eqb, List, [], ◌∷◌, ◌++◌, length, map, All, refl, sym, ap, ◌∙◌, append_assoc}
-use Rattle.std.specs.List.{flat_map}
-use Rattle.std.specs.Int.{w16, w32, w64, to_be_bytes}
-use Rattle.std.proofs.lemmas.Bool.{eqb-true, and_parts}
-use Rattle.std.proofs.lemmas.List.{append-nil, length-map}
-use Rattle.std.proofs.lemmas.List.Concat.{flat_map-cons}
-use Rattle.std.proofs.lemmas.List.Elements.{All-head, All-tail}
-use Rattle.std.proofs.Math.Nat.{mod-eq_of_lt}
-use Rattle.acl_core.specs.declared.entry.Entry.{Entry}
-use Rattle.acl_core.specs.Tags.{qualifier}
-use Rattle.suite_prefix.specs.declared.forms.Form.{Form}
-use Rattle.suite_prefix.specs.declared.forms.Form.TheVariants.{One, Two}
-use Rattle.suite_prefix.specs.declared.shapes.EntryShape.{EntryShape}
-use Rattle.suite_prefix.specs.Bytes.{tag_code, entry_bytes, list_bytes, lists_bytes, representative_bytes, content_bytes, bytes_in}
-use Rattle.suite_prefix.specs.TwoLists.{default_entries, default_of}
-use Rattle.suite_prefix.specs.Faults.{numbers_belong}
-use Rattle.suite_prefix.specs.Forms.{form_code}
-use Rattle.suite_prefix.specs.Reading.{Shape, entry_from, copy_of}
+use Rattle.suite_prefix.proofs.Vocabulary.{◌≡◌, ℕ, ◌<◌, true, eqb, List, [], ◌∷◌, ◌++◌, length, map, All, refl, sym, ap, ◌∙◌, append_assoc, flat_map, w16, w32, w64, to_be_bytes, eqb-true, and_parts, append-nil, length-map, flat_map-cons}
+use Rattle.suite_prefix.proofs.Vocabulary.{All-head, All-tail, mod-eq_of_lt, Entry, qualifier, Form, One, Two, EntryShape, tag_code, entry_bytes, list_bytes, lists_bytes, representative_bytes, content_bytes, bytes_in, default_entries}
+use Rattle.suite_prefix.proofs.Vocabulary.{default_of, numbers_belong, form_code, Shape, entry_from, copy_of}
 use Rattle.suite_prefix.proofs.Takes.{entry_text, identity_text, list_text, lists_text, shape_text, votes_text}
 
 same_entry_text : (e : EntryShape) → e.number ≡ qualifier e.tag → e.permissions < 8 → entry_text e ≡ entry_bytes (entry_from e)

@@ -1,8 +1,9 @@
 -- How many steps a transaction takes.
-use Rattle.txn_core.proofs.Vocabulary.{◌≡◌, ℕ, ◌+◌, ◌≤◌, Bool, true, false, cond, List, [], ◌∷◌, ◌++◌, Option, Some, None, refl, sym, ap, subst, ◌∙◌, arith, ◌==◌, ◌&&◌, ◌||◌, ◌*◌, length, list_all, suc-mul, eqb-true, and_parts}
-use Rattle.txn_core.proofs.Vocabulary.{nat_tests, Identity, Op, Request, Suites, suite_of, parts_at, Response, Transaction, Fixed, Task, home_of, Phase, Gathering, Fetching, Widening, Preparing, Deciding, Finishing, Doing, Running}
-use Rattle.txn_core.proofs.Vocabulary.{RunningSweep, request_in, changes_of, decision_of, Agent, Event, Take, Forget, next_in, next_of, take, begin, forget, is_idle, Exchange, exchange_of, exchanges, of_job, locks, is_decide, count_of}
-use Rattle.txn_core.proofs.Vocabulary.{among, asks_only, is_late, LateStepsAreFew, names_of, names_only, EndsInTime}
+use Rattle.txn_core.proofs.Vocabulary.{◌≡◌, ℕ, ◌+◌, ◌≤◌, Bool, true, false, cond, List, [], ◌∷◌, ◌++◌, Option, Some, None, refl, sym, ap, subst, ◌∙◌, arith, ◌==◌, ◌&&◌, ◌||◌, ◌*◌, length, list_all, eqb-true, and_parts, nat_tests, Identity}
+use Rattle.txn_core.proofs.Vocabulary.{Op, Request, Suites, suite_of, parts_at, Response, Transaction, Fixed, Task, home_of, Phase, Gathering, Fetching, Widening, Preparing, Deciding, Finishing, Doing, Running, RunningSweep, request_in}
+use Rattle.txn_core.proofs.Vocabulary.{changes_of, decision_of, Agent, Event, Take, Forget, next_in, next_of, take, begin, forget, is_idle, Exchange, exchange_of, exchanges, of_job, locks, is_decide, count_of, among, asks_only, is_late}
+use Rattle.txn_core.proofs.Vocabulary.{LateStepsAreFew, names_of, names_only, EndsInTime}
+use Rattle.std.proofs.Math.Nat.{suc-mul}
 use Rattle.rep_core.specs.declared.request.Request.TheVariants as request
 use Rattle.txn_core.proofs.Asks.{asks_same, asked_as, fetched_as}
 use Rattle.txn_core.proofs.Once.{decide_is_sent_once}
@@ -143,9 +144,6 @@ telling_more servers suites one past is asked =
 
 decision_more : (servers suites : List ℕ) (one : Exchange) (past : List Exchange) → is_decide one.request ≡ true → 1 + total_of servers suites past ≤ total_of servers suites (one ∷ past)
 decision_more servers suites one past is = hit_decision servers suites _ _ _ _ _ _ _ _ (more_of one past) (one_now (is_decide one.request) (count_of (λ one. is_decide one.request) past) is)
-
-same_request : (p : Request → Bool) (b : Bool) (asked other : Request) → asked ≡ other → p other ≡ b → p asked ≡ b
-same_request p b asked other same is = ap p same ∙ is
 
 one_more : (servers suites : List ℕ) (one : Exchange) (past : List Exchange) → among servers one.server ≡ true → is_ours one.request ≡ true → names_of suites one.request ≡ true
     → 1 + total_of servers suites past ≤ total_of servers suites (one ∷ past)

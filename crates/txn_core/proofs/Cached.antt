@@ -1,9 +1,8 @@
 -- What a step leaves in the cache.
 use Rattle.txn_core.proofs.Vocabulary.{◌≡◌, ℕ, Bool, true, false, cond, ◌⊎◌, inl, inr, Some, refl, ap, subst, ◌==◌, same_Some, Content, Request, Reply, Entry, Cache, searched, put_has, searched_has, ReadPoint, GatheredSuite, Suites}
-use Rattle.txn_core.proofs.Vocabulary.{suite_of, Response, Replied, Fixed, Task, Phase, Fetching, Executes, Point, point, EndsIn, Move, opens, MovesTo, entry_of, Hears, gets, Step, after_search, Gathered, execute, after_response}
-use Rattle.txn_core.proofs.Vocabulary.{given_in}
-use Rattle.rep_core.specs.declared.reply.Reply.TheVariants as reply
+use Rattle.txn_core.proofs.Vocabulary.{suite_of, Response, Replied, Fixed, Task, Phase, Fetching, Executes, Point, point, EndsIn, Move, opens, MovesTo, entry_of, Hears, gets, Step, after_search, Gathered, execute, after_response, given_in}
 use Rattle.weak_cache.proofs.Origins.{Has}
+use Rattle.rep_core.specs.declared.reply.Reply.TheVariants as reply
 use Rattle.txn_core.proofs.Moving.{kept, left_by, execute_moves, response_moves}
 
 -- ---- what follows a word
@@ -48,14 +47,7 @@ pub record PutBy (fixed : Fixed) (task : Task) (suites : Suites) (phase : Phase)
 
 pub given_is : (said : Reply) (content : Content) → given_in said ≡ Some content → (dver : ℕ) × (said ≡ reply.Given dver content)
 given_is (reply.Given dver other) content is = (dver, ap (reply.Given dver) (same_Some other content is))
-given_is (reply.Held prefix dver) content is = cc
-given_is (reply.Busy holder prepared) content is = cc
-given_is reply.Down content is = cc
-given_is reply.Lost content is = cc
-given_is reply.Prepared content is = cc
-given_is (reply.Verdict v) content is = cc
-given_is reply.Done content is = cc
-given_is (reply.Locked locks) content is = cc
+given_is _ content is = cc
 
 hears_has : (fixed : Fixed) (task : Task) (cache : Cache) (suites : Suites) (x : Entry) (server : ℕ) (asked : Request) {phase : Phase} {response : Response} {heard : Point} → Hears fixed task cache suites server asked phase response heard
     → Has heard.cache x → Has cache x ⊎ PutBy fixed task suites phase response x

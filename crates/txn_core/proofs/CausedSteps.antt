@@ -1,19 +1,17 @@
 -- Each step leaves what is caused: a phase that stands on what was told, or an end with its cause.
-use Rattle.txn_core.proofs.Vocabulary.{◌≡◌, ℕ, true, false, cond, List, [], ◌∷◌, ◌++◌, Option, Some, None, Ok, Err, refl, sym, inl, inr, ap, subst, ◌∙◌, ◌==◌, ◌&&◌, not, length, same_Some, Content, Decision, Request, Reply, Verdict}
-use Rattle.txn_core.proofs.Vocabulary.{Lack, is_prepared, fits, Hold, Know, Told, Said, Prefix, LockMode, Shared, Exclusive, Has, Collector, all_told, raise, tell, mode_of, Asked, Next, Ask, Current, Short, next, Cache, put, ReadPoint}
-use Rattle.txn_core.proofs.Vocabulary.{GatheredSuite, Suites, suite_of, with_suite, settled, told_in, parts_at, Response, Cause, Ending, Replied, Lacked, Unavailable, Busy, Lost, Overruled, HomeDown, Full, Memory, Answered, Refused}
-use Rattle.txn_core.proofs.Vocabulary.{Swept, Undecided, Granted, home_of, Fixed, Task, Proposal, Phase, Gathering, Fetching, Widening, Preparing, Deciding, Finishing, Step, Gathered, tell_end, give_up, prepare, locked_at, short_cause}
-use Rattle.txn_core.proofs.Vocabulary.{gather_by, widen_by, widen_one, widened, widen_all, to_widen, opened, start_from, heard_on, raised_or_new, keep_content, heard_of, said_to, proceed, execute, collected, hear, fetched, prepared}
-use Rattle.txn_core.proofs.Vocabulary.{after_lack, after_response, asked_by, asked_for, fetched_at, fetched_for, request_in, changes_of, decision_of, given_in, verdict_in, ending_by, cause_of_abort, lack_cause, Exchange, locks}
-use Rattle.txn_core.proofs.Vocabulary.{is_decide, told_of, all_fit, says_aborted, says_down, is_finish, stops}
+use Rattle.txn_core.proofs.Vocabulary.{◌≡◌, ℕ, true, false, cond, List, [], ◌∷◌, ◌++◌, Option, Some, None, Ok, Err, refl, sym, inl, inr, ap, subst, ◌∙◌, ◌==◌, ◌&&◌, not, length, same_Some, Content, Decision, Request, Reply, Verdict, Lack}
+use Rattle.txn_core.proofs.Vocabulary.{is_prepared, fits, Hold, Know, Told, Said, Prefix, LockMode, Shared, Exclusive, Has, Collector, all_told, raise, tell, mode_of, Asked, Next, Ask, Current, Short, next, Cache, put, ReadPoint}
+use Rattle.txn_core.proofs.Vocabulary.{GatheredSuite, Suites, suite_of, with_suite, settled, told_in, parts_at, Response, Cause, Ending, Replied, Lacked, Unavailable, Busy, Lost, Full, Undecided, Granted, home_of, Fixed, Task, Proposal}
+use Rattle.txn_core.proofs.Vocabulary.{Phase, Gathering, Fetching, Widening, Preparing, Deciding, Finishing, Step, Gathered, tell_end, give_up, prepare, locked_at, short_cause, gather_by, widen_by, widen_one, widened, widen_all, to_widen}
+use Rattle.txn_core.proofs.Vocabulary.{opened, start_from, heard_on, raised_or_new, keep_content, heard_of, said_to, proceed, execute, collected, hear, fetched, after_lack, after_response, asked_by, asked_for, fetched_at, fetched_for}
+use Rattle.txn_core.proofs.Vocabulary.{request_in, changes_of, decision_of, given_in, verdict_in, ending_by, cause_of_abort, lack_cause, Exchange, locks, is_decide, told_of, all_fit, Outcome as Executed}
+use Rattle.txn_core.specs.Undecided.{says_aborted, says_down, is_finish, stops, loses}
 use Rattle.rep_core.specs.declared.request.Request.TheVariants as request
 use Rattle.rep_core.specs.declared.reply.Reply.TheVariants as reply
 use Rattle.rep_core.specs.declared.reply.Verdict.TheVariants as verdict
 use Rattle.rep_core.specs.declared.stamped.Lack.TheVariants as lack
-use Rattle.file_exec.specs.declared.executor.Outcome.{Outcome as Executed}
 use Rattle.file_exec.specs.declared.executor.Outcome.TheVariants as exec
 use Rattle.suite_collect.specs.Collecting as collecting
-use Rattle.txn_core.specs.Undecided.{loses}
 use Rattle.txn_core.proofs.Asks.{asks_same, asked_as, fetched_as}
 use Rattle.txn_core.proofs.Fetches.{exclusive_needed}
 use Rattle.txn_core.proofs.Gathers.{self, at_with, Each, EachBut, each_but, each_with, but_with, tell_start, Base, Knows, AllGathered, Wants, Sets, Grants, wants_more, sets_more, grants_more}
@@ -48,17 +46,13 @@ module _ (fixed : Fixed) (task : Task) (Old : Base) (Loose : ℕ → Prefix → 
   still_caused past cache server asked response none (Unavailable suite had wanting) is = short_still past cache server asked response none suite had wanting None is
   still_caused past cache server asked response none (Busy at holder) is = (is.0, is.1, is.2, short_still past cache server asked response none is.0 is.1 is.2 (Some (at, holder)) is.3)
   still_caused past cache server asked response none (Lost at) is = was_more past _ at _ is
-  still_caused past cache server asked response none Overruled is = (is.0, was_more past _ is.0 _ is.1)
-  still_caused past cache server asked response none HomeDown is = (is.0, was_more past _ is.0 _ is.1)
   still_caused past cache server asked response none (Full at) is = was_more past _ at _ is
-  still_caused past cache server asked response none Memory is = (is.0, was_more past _ is.0 _ is.1)
+  still_caused past cache server asked response none _ is = (is.0, was_more past _ is.0 _ is.1)
 
   still_ended : (past : List Exchange) (cache : Cache) (server : ℕ) (asked : Request) (response : Response) → ((number : ℕ) → locks number asked ≡ false) → (ending : Ending) → EndCaused fixed task Old Loose past ending
       → EndCaused fixed task Old (OrFresh fixed task cache (push past server asked response) Loose) (push past server asked response) ending
   still_ended past cache server asked response none (Undecided cause) is fine = still_caused past cache server asked response none cause (is (both_fit past (record { server = server; request = asked; response = response } ∷ []) fine).0)
-  still_ended past cache server asked response none (Answered answers) is fine = tt
-  still_ended past cache server asked response none (Refused refusal) is fine = tt
-  still_ended past cache server asked response none (Swept broken finished left) is fine = tt
+  still_ended past cache server asked response none _ is fine = tt
 
   short_caused : (L : ℕ → Prefix → Type 0) (past : List Exchange) (number : ℕ) (collector : Collector) (had wanting : ℕ) (busy : Option (ℕ × ℕ)) → all_told collector ≡ Tells past number → next collector ≡ Short had wanting busy
       → Begun Old.start L number collector
@@ -91,9 +85,7 @@ module _ (fixed : Fixed) (task : Task) (Old : Base) (Loose : ℕ → Prefix → 
   caused_gather past cache suites number suite (Short had wanting busy) are others there same asking is =
       caused_give_up past cache suites (short_cause number had wanting busy) (λ _. short_caused (OrFresh fixed task cache past Loose) past number suite.collector had wanting busy same is
       (elim asking.start [ inl old ↦ inl old | inr fresh ↦ inr (inr fresh, same ∙ fresh.untold) ]) asking.wide asking.wanted)
-  caused_gather past cache suites number suite (Ask server asked) are others there same asking is =
-      (refl, (are, others, λ found at. subst (Asking fixed task Old (OrFresh fixed task cache past Old.start) past number) (same_Some suite found (sym there ∙ at)) asking))
-  caused_gather past cache suites number suite (Current prefix dver members) are others there same asking is =
+  caused_gather past cache suites number suite _ are others there same asking is =
       (refl, (are, others, λ found at. subst (Asking fixed task Old (OrFresh fixed task cache past Old.start) past number) (same_Some suite found (sym there ∙ at)) asking))
 
   -- what is gathered: a suite that is there, or a new one
@@ -218,8 +210,6 @@ module _ (fixed : Fixed) (task : Task) (Old : Base) (Loose : ℕ → Prefix → 
 
       at : (after : Next) → next suite.collector ≡ after → asked_by task number after ≡ Some (server, asked) → Leaves fixed task Old Loose (push past server asked (Replied said))
           (hear task cache suites phase number suite server asked (said_to asked said) (λ suite. go_on (with_suite number suite suites)))
-      at (Current prefix dver members) asks is = cc
-      at (Short had wanting busy) asks is = cc
       at (Ask who question) asks is = of (said_to asked said) refl
         where
           of : (heard : Option Said) → said_to asked said ≡ heard → Leaves fixed task Old Loose (push past server asked (Replied said))
@@ -248,6 +238,7 @@ module _ (fixed : Fixed) (task : Task) (Old : Base) (Loose : ℕ → Prefix → 
                 settles = settles_on fixed task Old past number suite one x told who question asks asking;
                 more = more;
               }) refl
+      at _ asks is = cc
 
   -- ---- other responses
 
@@ -324,13 +315,7 @@ module _ (fixed : Fixed) (task : Task) (Old : Base) (Loose : ℕ → Prefix → 
   decided_caused L past server t decision (reply.Verdict verdict.Aborted) fine =
       (server, was_now past server (request.Decide t decision) (Replied (reply.Verdict verdict.Aborted)) (λ asked response. is_decide asked && says_aborted response) refl)
   decided_caused L past server t decision reply.Down fine = (server, was_now past server (request.Decide t decision) (Replied reply.Down) (λ asked response. is_decide asked && says_down response) refl)
-  decided_caused L past server t decision (reply.Held prefix dver) fine = cc
-  decided_caused L past server t decision (reply.Busy holder prepared) fine = cc
-  decided_caused L past server t decision reply.Lost fine = cc
-  decided_caused L past server t decision (reply.Given dver content) fine = cc
-  decided_caused L past server t decision reply.Prepared fine = cc
-  decided_caused L past server t decision reply.Done fine = cc
-  decided_caused L past server t decision (reply.Locked locks) fine = cc
+  decided_caused L past server t decision _ fine = cc
 
   pub caused_response : (past : List Exchange) (cache : Cache) (suites : Suites) (phase : Phase) (server : ℕ) (asked : Request) (response : Response) → request_in fixed task suites phase ≡ Some (server, asked)
       → StandsOn fixed task Old Old.start Loose past suites phase

@@ -1,14 +1,14 @@
 -- What causes an undecided end, and what a phase stands on.
-use Rattle.txn_core.proofs.Vocabulary.{◌≡◌, ℕ, Bool, true, false, cond, List, [], ◌∷◌, ◌++◌, Option, Some, None, refl, sym, ◌⊎◌, ap, subst, ◌∙◌, ◌==◌, ◌&&◌, eqb-true, Contains-append_left, Contains-push, list_all-append, Part, Request}
-use Rattle.txn_core.proofs.Vocabulary.{Reply, is_prepared, fits, Told, Said, Prefix, Has, Collector, all_told, mode_of, request_for, Asked, Poll, Upgrade, Next, Ask, Current, Short, next, Cache, GatheredSuite, Suites, suite_of}
-use Rattle.txn_core.proofs.Vocabulary.{with_suite, told_in, Response, Cause, Ending, Replied, Unavailable, Busy, Lost, Overruled, HomeDown, Full, Memory, Answered, Refused, Swept, Undecided, Fixed, Task, Phase, Gathering, Fetching}
-use Rattle.txn_core.proofs.Vocabulary.{Widening, Preparing, Deciding, Finishing, TransactionRun, After, GoesOn, Ends, Step, to_widen, start_from, said_to, prepared, asked_by, given_in, Exchange, locks, is_decide, told_of, told_by}
-use Rattle.txn_core.proofs.Vocabulary.{more_told, fits_response, all_fit, Was, says_aborted, says_down, stops}
+use Rattle.txn_core.proofs.Vocabulary.{◌≡◌, ℕ, Bool, true, false, cond, List, [], ◌∷◌, ◌++◌, Option, Some, None, refl, sym, ◌⊎◌, ap, subst, ◌∙◌, ◌==◌, ◌&&◌, eqb-true, Contains-append_left, Contains-push, Part, Request, Reply, is_prepared}
+use Rattle.txn_core.proofs.Vocabulary.{fits, Told, Said, Prefix, Has, Collector, all_told, mode_of, request_for, Asked, Poll, Upgrade, Next, Ask, Short, next, Cache, GatheredSuite, Suites, suite_of, with_suite, told_in, Response, Cause}
+use Rattle.txn_core.proofs.Vocabulary.{Ending, Replied, Unavailable, Busy, Lost, Overruled, HomeDown, Full, Memory, Undecided, Fixed, Task, Phase, Gathering, Fetching, Widening, Finishing, TransactionRun, After, GoesOn, Ends, Step}
+use Rattle.txn_core.proofs.Vocabulary.{to_widen, start_from, said_to, asked_by, given_in, Exchange, locks, is_decide, told_of, told_by, more_told, fits_response, all_fit}
+use Rattle.std.proofs.lemmas.List.Folds.{list_all-append}
+use Rattle.txn_core.specs.Undecided.{Was, says_aborted, says_down, stops, loses}
 use Rattle.rep_core.specs.declared.request.Request.TheVariants as request
 use Rattle.rep_core.specs.declared.reply.Reply.TheVariants as reply
 use Rattle.rep_core.specs.declared.stamped.Lack.TheVariants as lack
 use Rattle.suite_collect.specs.Collecting as collecting
-use Rattle.txn_core.specs.Undecided.{loses}
 use Rattle.txn_core.proofs.Asks.{asks_same}
 use Rattle.txn_core.proofs.Gathers.{self, with_at, Each, EachBut, Base, Wants, Sets, Grants, Kept, Asking}
 use Rattle.txn_core.proofs.ToldLists.{Are, are_with}
@@ -16,46 +16,20 @@ use Rattle.txn_core.proofs.ToldLists.{Are, are_with}
 -- ---- replies that lose a lock
 
 lost_lock : (t number : ℕ) (question : Asked) (said : Reply) → fits (request_for t number question) said ≡ true → said_to (request_for t number question) said ≡ None → loses (request_for t number question) (Replied said) ≡ true
-lost_lock t number (Poll mode) (reply.Held prefix dver) fine none = cc
-lost_lock t number (Poll mode) (reply.Busy holder prepared) fine none = cc
-lost_lock t number (Poll mode) reply.Down fine none = cc
 lost_lock t number (Poll mode) reply.Lost fine none = refl
-lost_lock t number (Poll mode) (reply.Given dver content) fine none = cc
-lost_lock t number (Poll mode) reply.Prepared fine none = cc
-lost_lock t number (Poll mode) (reply.Verdict v) fine none = cc
-lost_lock t number (Poll mode) reply.Done fine none = cc
-lost_lock t number (Poll mode) (reply.Locked locks) fine none = cc
-lost_lock t number Upgrade (reply.Held prefix dver) fine none = cc
-lost_lock t number Upgrade (reply.Busy holder prepared) fine none = cc
 lost_lock t number Upgrade reply.Down fine none = refl
 lost_lock t number Upgrade reply.Lost fine none = refl
-lost_lock t number Upgrade (reply.Given dver content) fine none = cc
-lost_lock t number Upgrade reply.Prepared fine none = cc
-lost_lock t number Upgrade (reply.Verdict v) fine none = cc
-lost_lock t number Upgrade reply.Done fine none = cc
-lost_lock t number Upgrade (reply.Locked locks) fine none = cc
+lost_lock t number _ _ fine none = cc
 
 pub lost_fetch : (t number : ℕ) (said : Reply) → fits (request.Fetch t number) said ≡ true → given_in said ≡ None → loses (request.Fetch t number) (Replied said) ≡ true
-lost_fetch t number (reply.Held prefix dver) fine none = cc
-lost_fetch t number (reply.Busy holder prepared) fine none = cc
 lost_fetch t number reply.Down fine none = refl
 lost_fetch t number reply.Lost fine none = refl
-lost_fetch t number (reply.Given dver content) fine none = cc
-lost_fetch t number reply.Prepared fine none = cc
-lost_fetch t number (reply.Verdict v) fine none = cc
-lost_fetch t number reply.Done fine none = cc
-lost_fetch t number (reply.Locked locks) fine none = cc
+lost_fetch t number _ fine none = cc
 
 pub lost_prepare : (t : ℕ) (parts : List Part) (said : Reply) → fits (request.Prepare t parts) said ≡ true → is_prepared said ≡ false → loses (request.Prepare t parts) (Replied said) ≡ true
-lost_prepare t parts (reply.Held prefix dver) fine none = cc
-lost_prepare t parts (reply.Busy holder prepared) fine none = cc
 lost_prepare t parts reply.Down fine none = refl
 lost_prepare t parts reply.Lost fine none = refl
-lost_prepare t parts (reply.Given dver content) fine none = cc
-lost_prepare t parts reply.Prepared fine none = cc
-lost_prepare t parts (reply.Verdict v) fine none = cc
-lost_prepare t parts reply.Done fine none = cc
-lost_prepare t parts (reply.Locked locks) fine none = cc
+lost_prepare t parts _ fine none = cc
 
 -- ---- causes
 
@@ -89,9 +63,7 @@ CausedBy fixed task Old Loose past Memory = (server : ℕ) × Was past server (s
 
 abbrev pub EndIs : Fixed → Task → Base → (ℕ → Prefix → Type 0) → List Exchange → Ending → Type 0
 EndIs fixed task Old Loose past (Undecided cause) = CausedBy fixed task Old Loose past cause
-EndIs fixed task Old Loose past (Answered answers) = Unit {0}
-EndIs fixed task Old Loose past (Refused refusal) = Unit {0}
-EndIs fixed task Old Loose past (Swept broken finished left) = Unit {0}
+EndIs fixed task Old Loose past _ = Unit {0}
 
 -- where all that was told fits
 abbrev pub EndCaused : Fixed → Task → Base → (ℕ → Prefix → Type 0) → List Exchange → Ending → Type 0
@@ -104,9 +76,8 @@ StandsOn fixed task Old Now Loose past suites (Gathering number) =
 StandsOn fixed task Old Now Loose past suites (Fetching number) = Are (Tells past) suites × Each (Kept fixed task Old past) suites
 StandsOn fixed task Old Now Loose past suites (Widening left granted) =
     Are (Tells past) suites × Each (Kept fixed task Old past) suites × Grants fixed task Old past granted.answers granted.changes × ((number : ℕ) → Has left number → Has (to_widen granted.changes) number)
-StandsOn fixed task Old Now Loose past suites (Preparing left outcome) = Unit {0}
-StandsOn fixed task Old Now Loose past suites (Deciding outcome) = Unit {0}
 StandsOn fixed task Old Now Loose past suites (Finishing servers v ending) = EndCaused fixed task Old Loose past ending
+StandsOn fixed task Old Now Loose past suites _ = Unit {0}
 
 -- the same where nothing is said of contents
 abbrev pub started_from : (ℕ → Prefix → Type 0) → Base
@@ -178,8 +149,7 @@ pub lost_asked : (task : Task) (number : ℕ) (after : Next) (server : ℕ) (ask
     → loses asked (Replied said) ≡ true
 lost_asked task number (Ask who question) server asked said is =
     subst (λ asked. fits asked said ≡ true → said_to asked said ≡ None → loses asked (Replied said) ≡ true) (asks_same who server (request_for task.t number question) asked is) (lost_lock task.t number question said)
-lost_asked task number (Current prefix dver members) server asked said is = cc
-lost_asked task number (Short had wanting busy) server asked said is = cc
+lost_asked task number _ server asked said is = cc
 
 -- what was told of each suite, once one of them heard something
 pub tells_heard : (past : List Exchange) (number server : ℕ) (asked : Request) (said : Reply) (heard : Said) → ((other : ℕ) → locks other asked ≡ (number == other)) → said_to asked said ≡ Some heard

@@ -1,11 +1,10 @@
 -- Which contents are to be had: without asking, or as a server gave them.
 use Rattle.txn_core.proofs.Vocabulary.{◌≡◌, ℕ, zero, suc, Bool, true, false, cond, ◌⊎◌, inl, inr, List, [], ◌∷◌, ◌++◌, Option, Some, None, refl, sym, ap, subst, ◌∙◌, ◌==◌, Contains, eqb-true, same_Some, append-nil, append_assoc}
-use Rattle.txn_core.proofs.Vocabulary.{Contains-append_left, Contains-push, Content, empty_content, held_by, Request, Reply, Hold, Know, Cache, content_at, searched, search_keeps_all, ReadPoint, GatheredSuite, suite_of, Response}
-use Rattle.txn_core.proofs.Vocabulary.{Replied, Lacked, Job, Fixed, Task, Executes, Point, point, Move, opens, MovesTo, Step, Gathered, opened, or_all, open_needed, open_suite, open_first, opened_with, free_content, after_search}
-use Rattle.txn_core.proofs.Vocabulary.{heard_on, execute, Agent, Event, begin, after_all, Exchange, of_job, IsContentOf}
+use Rattle.txn_core.proofs.Vocabulary.{Contains-append_left, Contains-push, Content, empty_content, held_by, Request, Reply, Hold, Know, Cache, content_at, searched, search_keeps_all, ReadPoint, GatheredSuite, suite_of, Response, Replied}
+use Rattle.txn_core.proofs.Vocabulary.{Lacked, Job, Fixed, Task, Executes, Point, point, Move, opens, MovesTo, Step, Gathered, opened, or_all, open_needed, open_suite, open_first, opened_with, free_content, after_search, heard_on, execute}
+use Rattle.txn_core.proofs.Vocabulary.{Agent, Event, begin, after_all, Exchange, of_job, IsContentOf, Outcome as Executed}
 use Rattle.rep_core.specs.declared.request.Request.TheVariants as request
 use Rattle.rep_core.specs.declared.reply.Reply.TheVariants as reply
-use Rattle.file_exec.specs.declared.executor.Outcome.{Outcome as Executed}
 use Rattle.file_exec.specs.declared.executor.Outcome.TheVariants as exec
 use Rattle.txn_core.proofs.Moving.{kept, execute_moves}
 use Rattle.txn_core.proofs.Gathers.{Each, each_but, each_with}
@@ -84,8 +83,7 @@ each_opened start task K opening (suc n) fixed all same each = of (heard_on fixe
     needed' : (heard : Executed) (more : Gathered) → open_needed task all heard ≡ Some more → ((number dver : ℕ) → content_at more.cache task.site number dver ≡ content_at start task.site number dver) × Each K more.suites
     needed' (exec.Need (Know number)) more is = at_suite number (suite_of all.suites number) more refl is
     needed' (exec.Need (Hold number mode)) more is = cc
-    needed' (exec.Done answers changes) more is = cc
-    needed' (exec.Refused refusal) more is = cc
+    needed' _ more is = cc
 
     of : (heard : Executed)
         → ((more : Gathered) → ((number dver : ℕ) → content_at more.cache task.site number dver ≡ content_at start task.site number dver) → Each K more.suites → Each K (opened n fixed task more).suites)

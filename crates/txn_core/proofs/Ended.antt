@@ -1,6 +1,6 @@
 -- The end of a transaction, as its code goes about it.
-use Rattle.txn_core.proofs.Vocabulary.{◌≡◌, ℕ, List, [], ◌∷◌, Option, refl, sym, ap, ◌∙◌, subst, Verdict, Lack, Cache, Ending, Task, Proposal, Phase, Finishing, TransactionRun, Steps, phase_of, Suites, locked_at, tell_end, give_up}
-use Rattle.txn_core.proofs.Vocabulary.{finish, prepare, after_lack, lack_cause}
+use Rattle.txn_core.proofs.Vocabulary.{◌≡◌, ℕ, List, [], ◌∷◌, Option, refl, sym, ap, ◌∙◌, subst, Verdict, Lack, Cache, Ending, Task, Proposal, Phase, Finishing, TransactionRun, Steps, phase_of, Suites, locked_at, tell_end, give_up, finish}
+use Rattle.txn_core.proofs.Vocabulary.{prepare, after_lack, lack_cause}
 use Rattle.txn_core.specs.declared.phase.Phase.{Phase as Coded}
 use Rattle.txn_core.specs.declared.phase.Phase.TheVariants as coded
 

@@ -1,17 +1,18 @@
 -- A transaction fetches no content twice.
-use Rattle.txn_core.proofs.Vocabulary.{◌≡◌, ℕ, ◌+◌, ◌≤◌, Bool, true, false, cond, List, [], ◌∷◌, ◌++◌, Option, Some, None, Ok, Err, refl, sym, ap, subst, ◌∙◌, arith, ◌==◌, ◌&&◌, ◌*◌, nat_lt, is_some, unsigned_tied, eqb-true}
-use Rattle.txn_core.proofs.Vocabulary.{nat_cmp_total, same_Some, get-insert, Content, Answer, Refusal, Identity, Op, LockMode, Shared, Exclusive, serves, Request, Verdict, Need, Hold, Know, Known, Heard, Needs, Done, answered}
-use Rattle.txn_core.proofs.Vocabulary.{needs_what_is_unmet, next, Cache, ReadPoint, GatheredSuite, Suites, suite_of, with_suite, known_of, Response, Cause, Ending, Undecided, Transaction, home_of, Fixed, Task, Proposal, Phase}
-use Rattle.txn_core.proofs.Vocabulary.{Gathering, Fetching, Widening, Preparing, Deciding, Finishing, TransactionRun, Doing, Running, RunningSweep, After, GoesOn, Ends, parts_at, Stage, Executes, Widens, Asks, Prepares, PreparesAt}
-use Rattle.txn_core.proofs.Vocabulary.{GivesUp, Tells, TellsAt, Point, point, EndsIn, Move, opens, gathers, lacks_lock, refuses, grants, passes, widens, widens_by, lacks_wide, prepares, MovesTo, Collects, gathering, widening, Hears}
-use Rattle.txn_core.proofs.Vocabulary.{asks_on, settles, gets, Step, Gathered, tell_end, give_up, prepare, locked_at, heard_on, raised_or_new, execute, after_response, asked_for, fetched_at, fetched_for, request_in, changes_of}
-use Rattle.txn_core.proofs.Vocabulary.{decision_of, Agent, Event, Take, Forget, next_in, next_of, take_in, take, begin, started, forget, is_idle, has_sense, max_jobs, Exchange, exchange_of, exchanges, of_job, count_of}
+use Rattle.txn_core.proofs.Vocabulary.{◌≡◌, ℕ, ◌+◌, ◌≤◌, Bool, true, false, cond, List, [], ◌∷◌, ◌++◌, Option, Some, None, Ok, Err, refl, sym, ap, subst, ◌∙◌, arith, ◌==◌, ◌&&◌, ◌*◌, nat_lt, is_some, unsigned_tied, eqb-true, nat_cmp_total}
+use Rattle.txn_core.proofs.Vocabulary.{same_Some, get-insert, Content, Answer, Identity, Op, LockMode, Shared, Exclusive, serves, Request, Verdict, Hold, Know, Known, Heard, Needs, Done, answered, next, Cache, ReadPoint, GatheredSuite}
+use Rattle.txn_core.proofs.Vocabulary.{Suites, suite_of, with_suite, known_of, Response, Cause, Ending, Undecided, Transaction, home_of, Fixed, Task, Proposal, Phase, Gathering, Fetching, Widening, Preparing, Deciding, Finishing}
+use Rattle.txn_core.proofs.Vocabulary.{TransactionRun, Doing, Running, RunningSweep, After, GoesOn, Ends, parts_at, Stage, Executes, Widens, Asks, Prepares, PreparesAt, GivesUp, Tells, TellsAt, Point, point, EndsIn, Move, opens, gathers}
+use Rattle.txn_core.proofs.Vocabulary.{lacks_lock, refuses, grants, passes, widens, widens_by, lacks_wide, prepares, MovesTo, Collects, gathering, widening, Hears, asks_on, settles, gets, Step, Gathered, tell_end, give_up, prepare}
+use Rattle.txn_core.proofs.Vocabulary.{locked_at, heard_on, raised_or_new, execute, after_response, asked_for, fetched_at, fetched_for, request_in, changes_of, decision_of, Agent, Event, Take, Forget, next_in, next_of, take_in, take, begin}
+use Rattle.txn_core.proofs.Vocabulary.{started, forget, is_idle, has_sense, max_jobs, Exchange, exchange_of, exchanges, of_job, count_of, Outcome as Executed, fetches as fetches'}
+use Rattle.file_ops.specs.declared.refusal.Refusal.{Refusal}
+use Rattle.file_exec.specs.declared.need.Need.{Need}
+use Rattle.file_exec.proofs.Unmet.{needs_what_is_unmet}
 use Rattle.rep_core.specs.declared.request.Request.TheVariants as request
 use Rattle.rep_core.specs.declared.reply.Verdict.TheVariants as verdict
-use Rattle.file_exec.specs.declared.executor.Outcome.{Outcome as Executed}
 use Rattle.file_exec.specs.declared.executor.Outcome.TheVariants as exec
 use Rattle.file_exec.specs.Known as known
-use Rattle.txn_core.specs.Moves.{fetches as fetches'}
 use Rattle.txn_core.proofs.Moving.{kept, collects_asks, execute_moves, response_moves}
 use Rattle.txn_core.specs.Agents as agents
 use Rattle.txn_core.proofs.Asks.{asks_same, asked_as}
@@ -98,8 +99,7 @@ more_content suite content = one_most (Some suite)
 -- what the executor needs is not there
 pub need_in : Executed → Option Need
 need_in (exec.Need need) = Some need
-need_in (exec.Done answers changes) = None
-need_in (exec.Refused refusal) = None
+need_in _ = None
 
 pub needed_first : (known' : Known) (heard : Heard (List Answer) Refusal) (need : Need) → answered known' heard ≡ exec.Need need → heard ≡ Needs need
 unfolding need_in
@@ -305,9 +305,7 @@ phase_bounded : (before : ℕ → ℕ) (suites : Suites) (phase : Phase) → InP
 phase_bounded before suites (Gathering number) in' = bounded_by before suites in'
 phase_bounded before suites (Fetching number) in' = bounded_by before suites in'.0
 phase_bounded before suites (Widening left granted) in' = bounded_by before suites in'
-phase_bounded before suites (Preparing left outcome) in' = in'
-phase_bounded before suites (Deciding outcome) in' = in'
-phase_bounded before suites (Finishing servers v ending) in' = in'
+phase_bounded before suites _ in' = in'
 
 in_bounded : (before : ℕ → ℕ) (doing : Option Doing) → InDoing before doing → Bounded before
 in_bounded before (Some (Running txn_run)) in' = phase_bounded before txn_run.suites txn_run.phase in'

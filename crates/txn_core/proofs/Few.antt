@@ -1,9 +1,9 @@
 -- A transaction is prepared, decided and told in few steps.
 use Rattle.txn_core.proofs.Vocabulary.{◌≡◌, ℕ, zero, suc, ◌+◌, ◌≤◌, ◌<◌, Bool, true, false, cond, List, [], ◌∷◌, ◌++◌, Option, Some, None, refl, sym, ap, subst, arith, ◌&&◌, ◌==◌, ◌*◌, filter, nat_lt, eqb-true, nat_tests, same_Some}
 use Rattle.txn_core.proofs.Vocabulary.{Identity, max_servers, Op, is_prepared, Request, Verdict, Cache, Suites, suite_of, has_locks, Response, Cause, Ending, Replied, Lacked, Lost, Undecided, Transaction, Fixed, Task, Proposal, Phase}
-use Rattle.txn_core.proofs.Vocabulary.{Gathering, Fetching, Widening, Preparing, Deciding, Finishing, TransactionRun, Doing, Running, RunningSweep, After, GoesOn, Ends, numbers_from, tell_end, give_up, prepare, locked_at}
-use Rattle.txn_core.proofs.Vocabulary.{after_response, request_in, decision_of, verdict_in, ending_by, cause_of_abort, lack_cause, Agent, Event, Take, Forget, next_in, next_of, left, take_in, take, begin, started, forget, is_idle}
-use Rattle.txn_core.proofs.Vocabulary.{has_sense, max_jobs, Exchange, exchange_of, exchanges, of_job, count_of}
+use Rattle.txn_core.proofs.Vocabulary.{Gathering, Fetching, Widening, Preparing, Deciding, Finishing, TransactionRun, Doing, Running, RunningSweep, After, GoesOn, Ends, numbers_from, tell_end, give_up, prepare, locked_at, after_response}
+use Rattle.txn_core.proofs.Vocabulary.{request_in, decision_of, verdict_in, ending_by, cause_of_abort, lack_cause, Agent, Event, Take, Forget, next_in, next_of, left, take_in, take, begin, started, forget, is_idle, has_sense, max_jobs}
+use Rattle.txn_core.proofs.Vocabulary.{Exchange, exchange_of, exchanges, of_job, count_of}
 use Rattle.rep_core.specs.declared.request.Request.TheVariants as request
 use Rattle.rep_core.specs.declared.reply.Verdict.TheVariants as verdict
 use Rattle.txn_core.proofs.Asks.{asks_same, asked_as, fetched_as}
@@ -81,12 +81,10 @@ few_prepare who task cache suites outcome [] = omega arith
 few_prepare who task cache suites outcome (server ∷ servers) = omega arith
 
 few_early : (who : ℕ) (task : Task) (suites : Suites) (phase : Phase) → IsEarly phase → IsFew who (GoesOn (record { task = task; suites = suites; phase = phase }))
-few_early who task suites (Gathering number) is = omega arith
-few_early who task suites (Fetching number) is = omega arith
-few_early who task suites (Widening left granted) is = omega arith
 few_early who task suites (Preparing servers outcome) is = absurd is
 few_early who task suites (Deciding outcome) is = absurd is
 few_early who task suites (Finishing servers v ending) is = absurd is
+few_early who task suites _ is = omega arith
 
 few_given_up : (who : ℕ) (task : Task) (cache : Cache) (suites : Suites) (cause : Cause) → IsFew who (give_up task cache suites cause).after
 few_given_up who task cache suites cause = let few = few_finish who task cache suites verdict.Aborted (Undecided cause) in omega (arith, few)

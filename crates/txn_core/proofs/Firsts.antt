@@ -1,7 +1,6 @@
 -- What a sweep asks of the first of the locks that are left, which are in their order.
-use Rattle.txn_core.proofs.Vocabulary.{◌≡◌, ◌≤◌, ◌+◌, ◌==◌, ℕ, zero, suc, Bool, true, false, cond, List, [], ◌∷◌, length, drop, refl, sym, ap, ◌∙◌, arith, Some, not, nat_le, ◌&&◌, ◌||◌, list_any, IsPartitionedBy, IsPartitionPoint}
-use Rattle.txn_core.proofs.Vocabulary.{and_parts, length-drop, nat_tests, Lock, before, has_prepared, Resolving, Breaking, above, in_order, others}
-use Rattle.std.proofs.Common.{take}
+use Rattle.txn_core.proofs.Vocabulary.{list_any, IsPartitionedBy, IsPartitionPoint, and_parts, length-drop, nat_tests, Lock, before, has_prepared, Resolving, Breaking, above, in_order, others}
+use Rattle.std.proofs.Common.{take, ◌≡◌, ◌≤◌, ◌+◌, ◌==◌, ℕ, zero, suc, Bool, true, false, cond, List, [], ◌∷◌, length, drop, refl, sym, ap, ◌∙◌, arith, Some, not, nat_le, ◌&&◌, ◌||◌}
 use Rattle.txn_core.specs.code.SweepRunFields.{first_of}
 use Rattle.txn_core.proofs.Places.{first_pass}
 

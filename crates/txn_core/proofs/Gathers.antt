@@ -1,10 +1,10 @@
 -- What is kept of the suites that a transaction gathers: from where each was gathered, what its first Current gave, and to which votes it was widened.
 use Rattle.txn_core.proofs.Vocabulary.{◌≡◌, ℕ, Bool, true, false, cond, ◌⊎◌, inl, inr, List, [], ◌∷◌, ◌++◌, Option, Some, None, refl, sym, ap, subst, ◌∙◌, ◌==◌, map, filter, option_map, nat_cmp, is_at, unsigned_tied, eqb-true, eq-eqb}
-use Rattle.txn_core.proofs.Vocabulary.{false≢true, same_Some, append-nil, append_assoc, nat_cmp_total, get-insert, Configuration, Content, Prefix, LockMode, Answer, Change, Hold, Told, Said, Collector, told_since, all_told, tell_at}
-use Rattle.txn_core.proofs.Vocabulary.{tell, collect, Asked, Next, Current, Ask, next, Has, ReadPoint, GatheredSuite, Suites, suite_of, with_suite, source_of, first_or, settled, change_of, Response, Replied, Lacked, Changes, Fixed}
-use Rattle.txn_core.proofs.Vocabulary.{Task, heard_on, votes_then, votes_after, to_widen, widened, said_to, Exchange, locks, told_of, told_by, more_told, gathered_from, IsCurrent, FirstGave}
-use Rattle.file_exec.specs.declared.executor.Outcome.TheVariants as exec
+use Rattle.txn_core.proofs.Vocabulary.{false≢true, same_Some, append-nil, append_assoc, nat_cmp_total, get-insert, Configuration, Content, Prefix, LockMode, Answer, Change, Hold, Told, Said, Collector, told_since, all_told, tell_at, tell}
+use Rattle.txn_core.proofs.Vocabulary.{collect, Asked, Next, Current, Ask, next, Has, ReadPoint, GatheredSuite, Suites, suite_of, with_suite, source_of, first_or, settled, change_of, Response, Replied, Lacked, Changes, Fixed, Task}
+use Rattle.txn_core.proofs.Vocabulary.{heard_on, votes_then, votes_after, to_widen, widened, said_to, Exchange, locks, told_of, told_by, more_told, gathered_from, IsCurrent, FirstGave}
 use Rattle.suite_collect.specs.Collecting.{Widening}
+use Rattle.file_exec.specs.declared.executor.Outcome.TheVariants as exec
 
 -- ---- lists
 

@@ -1,7 +1,7 @@
 -- What is known of the suites that were gathered grows with them.
 use Rattle.txn_core.proofs.Vocabulary.{◌≡◌, ℕ, Bool, true, false, cond, [], ◌∷◌, Option, Some, None, Less, refl, sym, ap, subst, ◌∙◌, nat_cmp, is_eq, is_some, not, ◌||◌, option_or, AllByRecursion, keys_of, nat_cmp_total, exact_unsigned}
-use Rattle.txn_core.proofs.Vocabulary.{sorted_head, sorted_tail, none-some, same_Some, equal_if, get-insert, IsOrdered, LockMode, Shared, Exclusive, serves, KnownSuite, Known, IsMore, IsMoreAt, MoreKnown, ReadPoint, GatheredSuite}
-use Rattle.txn_core.proofs.Vocabulary.{Suites, suite_of, with_suite, known_row, known_if, known_of, PendingQuorum, settled_with}
+use Rattle.txn_core.proofs.Vocabulary.{sorted_head, sorted_tail, none-some, same_Some, equal_if, get-insert, IsOrdered, LockMode, Shared, Exclusive, serves, KnownSuite, Known, IsMore, IsMoreAt, MoreKnown, ReadPoint, GatheredSuite, Suites}
+use Rattle.txn_core.proofs.Vocabulary.{suite_of, with_suite, known_row, known_if, known_of, PendingQuorum, settled_with}
 use Rattle.file_exec.specs.Known as known
 use Rattle.txn_core.proofs.Setting.{known_at}
 

@@ -1,17 +1,15 @@
 -- What a suite heard, and how its transaction goes on by it.
-use Rattle.txn_core.proofs.Vocabulary.{◌≡◌, ℕ, true, List, Option, Some, None, Result, Ok, Err, refl, sym, ap, subst, ◌∙◌, nat_cmp, IsOrdered, get_insert_here, Reply, Request, Lack, is_held, Service, Reached, Cache, Limited, option_map}
-use Rattle.txn_core.proofs.Vocabulary.{IfErr, OnErr, AllocError, none-some, same_Some, Told, Content, Cause, Ending, Flow, On, Ended, Resources, Learned, Quorum, PendingQuorum, Fetched, Lacked, Replied, Fixed, TransactionRun, Granted}
-use Rattle.txn_core.proofs.Vocabulary.{Phase, Running, After, GoesOn, Ends, ReadPoint, GatheredSuite, Suites, suite_of, with_suite, Step, after_lack, execute, fetched, gather_by, give_up, given_in, keep_content, request_of, widen_all}
-use Rattle.txn_core.proofs.Vocabulary.{GoesBy, IsStep, IsUntouched, IsWidenedBy, IsWidenedFrom, Keeps, fixed_by, given, held, held_from, held_where_asked, replied, CompletesAt, HearsAt, IsSettled, IsSound, SettlesAt, asks_in, heard_at}
-use Rattle.txn_core.proofs.Vocabulary.{on_hearing, content_kept, learned, kept_of, shelved, IsReachedBy, IsReachedIn, changed_at, first_at, settled_with, with_content, gather_again, Becomes, taken, HasUnused}
+use Rattle.txn_core.proofs.Vocabulary.{◌≡◌, ℕ, List, Option, Some, None, Result, Ok, Err, refl, sym, ap, subst, ◌∙◌, nat_cmp, IsOrdered, Reply, Request, Lack, Service, Reached, Cache, Limited, option_map, IfErr, OnErr, AllocError}
+use Rattle.txn_core.proofs.Vocabulary.{none-some, same_Some, Told, Content, Cause, Ending, Flow, On, Ended, Resources, Learned, PendingQuorum, Fetched, Lacked, Fixed, TransactionRun, Granted, Phase, Running, After, GoesOn, Ends, ReadPoint}
+use Rattle.txn_core.proofs.Vocabulary.{GatheredSuite, Suites, suite_of, with_suite, Step, after_lack, execute, fetched, gather_by, give_up, given_in, keep_content, request_of, widen_all, CompletesAt, HearsAt, IsSettled, SettlesAt, asks_in}
+use Rattle.txn_core.proofs.Vocabulary.{heard_at, on_hearing, content_kept, learned, kept_of, shelved, IsReachedBy, IsReachedIn, changed_at, first_at, settled_with, with_content, gather_again, Becomes, taken, HasUnused, left as begun}
+use Rattle.sorted_map.specs.Numbers.{get_insert_here}
+use Rattle.txn_core.specs.declared.learned.Learned.TheVariants.{Quorum, Content as Given}
 use Rattle.suite_collect.specs.declared.hearing.Hearing.TheVariants.{Lost, Asks, Short, Quorum as Complete}
-use Rattle.txn_core.specs.declared.ending.Cause.TheVariants as cause
-use Rattle.txn_core.specs.declared.learned.Learned.TheVariants.{Content as Given}
-use Rattle.txn_core.specs.Agents.{left as begun}
-use Rattle.txn_core.specs.code.Goings.{widened}
+use Rattle.txn_core.specs.code.Goings.{widened, GoesBy, IsStep, IsUntouched, IsWidenedBy, IsWidenedFrom, Keeps, fixed_by, given, held, held_from, held_where_asked, replied}
 use Rattle.txn_core.specs.code.Hearing.{Hearing}
-use Rattle.txn_core.proofs.InPlace.{at_lost, at_asks, at_short, at_quorum, held_at, settled_at, sound_at, settles_there, settles_lost}
-use Rattle.txn_core.proofs.Replies.{server_of}
+use Rattle.txn_core.specs.declared.ending.Cause.TheVariants as cause
+use Rattle.txn_core.proofs.InPlace.{at_lost, at_asks, at_short, at_quorum, settled_at, settles_there, settles_lost}
 use Rattle.txn_core.proofs.Reaching.{IsLate, gives_up, goes_gather, goes_unless, late, reached_asks, reached_at, reached_short}
 
 module _ (before mid : TransactionRun) (number server : ℕ) (said : Reply) where
@@ -116,23 +114,7 @@ module _ (resources : Resources) (before mid : TransactionRun) (number server : 
           keeps = keeps;
           reached = goes_unless resources.fixed_parts resources.progress again flow after cache (goes_gather resources.fixed_parts resources.progress mid.task cache mid.suites number (suite_of mid.suites number) reaches) (gathers cache);
         }
-
-  -- with a quorum nothing changes yet
-  module _ (last : Told) (hears : HearsAt found' number (Complete last) before said mid) where
-    pub quorum_same : mid ≡ before
-    quorum_same = (at_quorum before mid number said last found' hears).1
-
-    pub quorum_held : is_held said ≡ true
-    quorum_held = held_at last said found' (at_quorum before mid number said last found' hears).0
-
-    pub quorum_sound : IsSound last
-    quorum_sound = sound_at last said found' (at_quorum before mid number said last found' hears).0
-
-    pub quorum_completes : CompletesAt (suite_of mid.suites number) last said
-    quorum_completes = subst (λ (txn_run : TransactionRun). CompletesAt (suite_of txn_run.suites number) last said) (sym quorum_same) (at_quorum before mid number said last found' hears).0
-
-    pub quorum_step : (flow : Flow) (after : TransactionRun) (left : Resources) → IsStep resources (held (fixed_by resources) mid resources.cache.entries number server said) flow after left → IsStep resources held' flow after left
-    quorum_step flow after left is = subst (λ (txn_run : TransactionRun). IsStep resources (held (fixed_by resources) txn_run resources.cache.entries number server said) flow after left) quorum_same is
+    -- with a quorum nothing changes yet
 
 -- whom a suite asks
 module _ (before : TransactionRun) (number server : ℕ) (said : Reply) (asks : Some server ≡ asks_in before number) where
@@ -144,20 +126,6 @@ module _ (before : TransactionRun) (number server : ℕ) (said : Reply) (asks : 
   widened_asked flow after is = subst (λ (found : Option ℕ). IsWidenedFrom found before number said flow after) asks is
 
 -- where it asks nobody, nothing comes of it
-module _ (before after : TransactionRun) (number : ℕ) (said : Reply) (none : None ≡ asks_in before number) (same : after ≡ before) where
-  pub held_unasked : (resources : Resources) → HasUnused resources.cache.entries → IsReachedIn resources.fixed_parts before.task before.suites resources.progress
-      → IsStep resources (held_where_asked resources before number said) On after resources
-  held_unasked resources unused reached =
-      subst (λ (found : Option ℕ). IsStep resources (held_from (fixed_by resources) before resources.cache.entries number found said) On after resources) none
-      (subst (λ (txn_run : TransactionRun). IsStep resources (held_from (fixed_by resources) before resources.cache.entries number None said) On txn_run resources) (sym same)
-      (record {
-        steps = (refl, (refl, refl));
-        keeps = record { fixed_parts = refl; limits = refl; unused = unused };
-        reached = reached_at before.phase (IsReachedIn resources.fixed_parts before.task before.suites resources.progress) reached;
-      }))
-
-  pub widened_unasked : IsWidenedFrom (asks_in before number) before number said On after
-  widened_unasked = subst (λ (found : Option ℕ). IsWidenedFrom found before number said On after) none (refl, same)
 
 -- the transaction is executed then
 module _ (resources : Resources) (txn_run : TransactionRun) (number server : ℕ) (said : Reply) where
@@ -188,9 +156,6 @@ module _ (before mid : TransactionRun) (number server : ℕ) (said : Reply) (cac
       → GoesBy (give_up mid.task cache mid.suites (cause.Lost server)) flow after cache → GoesBy widened' flow after cache
   widened_lost flow after hears up = lost_goes before mid number server said cache (λ suite. widens (with_suite number suite before.suites)) flow after hears up
 
-  pub widened_asks : HearsAt (suite_of before.suites number) number Asks before said mid → GoesBy widened' On mid cache
-  widened_asks hears = asks_goes before mid number server said cache (λ suite. widens (with_suite number suite before.suites)) hears
-
   pub widened_short : (flow : Flow) (after : TransactionRun) → HearsAt (suite_of before.suites number) number Short before said mid
       → GoesBy (gather_again mid.task cache mid.suites number (suite_of mid.suites number)) flow after cache → GoesBy widened' flow after cache
   widened_short flow after hears gathers = short_goes before mid number server said cache (λ suite. widens (with_suite number suite before.suites)) flow after hears gathers
@@ -199,9 +164,6 @@ module _ (before mid : TransactionRun) (number server : ℕ) (said : Reply) (cac
   module _ (last : Told) (hears : HearsAt (suite_of before.suites number) number (Complete last) before said mid) where
     abbrev pub at_mid : CompletesAt (suite_of before.suites number) last said × (mid ≡ before)
     at_mid = at_quorum before mid number said last (suite_of before.suites number) hears
-
-    pub widened_sound : IsSound last
-    widened_sound = sound_at last said (suite_of before.suites number) at_mid.0
 
     pub widened_completes : CompletesAt (suite_of mid.suites number) last said
     widened_completes = subst (λ (txn_run : TransactionRun). CompletesAt (suite_of txn_run.suites number) last said) (sym at_mid.1) at_mid.0
@@ -274,10 +236,6 @@ kept_untouched resources before left after unused untouched = record {
   unused = subst (λ (cache : Limited). HasUnused cache.entries) (sym untouched.cache) unused;
 }
 
--- it may be executed again, or will not be
-pub reached_by : (service : Service) (txn_run : TransactionRun) (reached : Reached) → IsReachedIn service txn_run.task txn_run.suites reached → IsReachedBy service txn_run reached
-reached_by service txn_run reached is = reached_at txn_run.phase (IsReachedIn service txn_run.task txn_run.suites reached) is
-
 -- ---- what was asked was not served
 
 module _ (txn_run : TransactionRun) (cache : Cache) (lack : Lack) (fixed : Fixed) where
@@ -289,19 +247,6 @@ module _ (txn_run : TransactionRun) (cache : Cache) (lack : Lack) (fixed : Fixed
   pub lack_of_none : (asked : Option (ℕ × Request)) → None ≡ option_map (λ (asked : ℕ × Request). asked.0) asked → GoesBy (taken fixed txn_run cache asked (Lacked lack)) On txn_run cache
   lack_of_none (Some asked) none = absurd (none-some asked.0 none)
   lack_of_none None none = (refl, (refl, refl))
-
--- where nothing is asked, nothing comes of a reply
-pub nothing_asked : (resources : Resources) (txn_run : TransactionRun) (said : Reply) → HasUnused resources.cache.entries → IsReachedBy resources.fixed_parts txn_run resources.progress
-    → server_of (request_of (fixed_by resources) txn_run) ≡ None → IsStep resources (replied resources txn_run said) On txn_run resources
-nothing_asked resources txn_run said unused reached none = record {
-  steps = of (request_of (fixed_by resources) txn_run) none;
-  keeps = record { fixed_parts = refl; limits = refl; unused = unused };
-  reached = reached;
-}
-  where
-    of : (asked : Option (ℕ × Request)) → server_of asked ≡ None → GoesBy (taken (fixed_by resources) txn_run resources.cache.entries asked (Replied said)) On txn_run resources.cache.entries
-    of (Some asked) none = absurd (none-some asked.0 (sym none))
-    of None none = (refl, (refl, refl))
 
 -- ---- a content
 

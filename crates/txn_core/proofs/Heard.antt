@@ -1,10 +1,9 @@
 -- What comes of a reply to what a suite asks, as a transaction goes on by it.
-use Rattle.txn_core.proofs.Vocabulary.{◌≡◌, ℕ, List, [], ◌∷◌, Option, Some, None, cond, true, false, refl, sym, ap, ◌∙◌, none-some, ◌==◌, find, is_some, unwrap_or, option_map, option_or, Prefix, Reply, Said, Told, newest, shown, IsAsk}
-use Rattle.txn_core.proofs.Vocabulary.{IsShort, has_quorum, read_point, Collector, Asked, Poll, Upgrade, Next, Current, Ask, Short, counted, is_member, members_of, version, tell, request_for, mode_of, mode_asked, next, gives_of, Cache}
-use Rattle.txn_core.proofs.Vocabulary.{ReadPoint, GatheredSuite, Suites, first_or, settled, source_of, Task, Phase, Step, said_to, collected, hear, PendingQuorum, heard_next, heard_one, heard, on_hearing, FallsShort, IsFirstAfter}
-use Rattle.txn_core.proofs.Vocabulary.{IsSettled, settled_with}
+use Rattle.txn_core.proofs.Vocabulary.{◌≡◌, ℕ, List, [], ◌∷◌, Option, Some, None, cond, true, false, refl, sym, ap, ◌∙◌, none-some, ◌==◌, find, unwrap_or, option_map, option_or, Prefix, Reply, Said, Told, newest, shown, IsAsk, IsShort}
+use Rattle.txn_core.proofs.Vocabulary.{has_quorum, read_point, gives_of, Cache, ReadPoint, GatheredSuite, Suites, first_or, settled, source_of, Task, Phase, Step, said_to, collected, hear, PendingQuorum, heard_next, heard_one, heard}
+use Rattle.txn_core.proofs.Vocabulary.{on_hearing, FallsShort, IsFirstAfter, IsSettled, settled_with}
+use Rattle.suite_collect.specs.Collecting.{Widening, told_by, Collector, Asked, Poll, Upgrade, Next, Current, Ask, Short, counted, is_member, members_of, version, tell, request_for, mode_of, mode_asked, next}
 use Rattle.rep_core.specs.declared.reply.Reply.TheVariants as reply
-use Rattle.suite_collect.specs.Collecting.{Widening, told_by}
 use Rattle.suite_collect.specs.Collecting as collecting
 use Rattle.txn_core.specs.code.Hearing as hearing
 
@@ -15,11 +14,7 @@ same_said t number asked (reply.Busy holder prepared) = refl
 same_said t number (Poll mode) reply.Down = refl
 same_said t number Upgrade reply.Down = refl
 same_said t number asked reply.Lost = refl
-same_said t number asked (reply.Given dver content) = refl
-same_said t number asked reply.Prepared = refl
-same_said t number asked (reply.Verdict v) = refl
-same_said t number asked reply.Done = refl
-same_said t number asked (reply.Locked locks) = refl
+same_said t number asked _ = refl
 
 pub same_mode : (t number : ℕ) (asked : Asked) → mode_of (request_for t number asked) ≡ mode_asked asked
 same_mode t number (Poll mode) = refl
@@ -28,8 +23,7 @@ same_mode t number Upgrade = refl
 module _ (task : Task) (cache : Cache) (suites : Suites) (phase : Phase) (number : ℕ) (suite : GatheredSuite) (server : ℕ) (go_on : GatheredSuite → Step) where
   next_is : (after : GatheredSuite) (next : Next) → collected task cache suites phase number after next go_on ≡ on_hearing task cache suites phase number server (heard_next after next) go_on
   next_is after (Current prefix dver members) = refl
-  next_is after (Ask at asked) = refl
-  next_is after (Short got needed busy) = refl
+  next_is after _ = refl
 
   one_is : (asked : Asked) (what : Option Said) → hear task cache suites phase number suite server (request_for task.t number asked) what go_on
       ≡ on_hearing task cache suites phase number server (heard_one suite (option_map (λ said. record { server = server; mode = mode_asked asked; said = said }) what)) go_on
@@ -99,8 +93,7 @@ module _ (suite : GatheredSuite) (answer : Reply) where
       of (Current prefix dver members) is quorum =
           ap (λ first. hearing.Settled (record suite { collector = c; first = first; mode = c.mode })) (sym (first prefix dver members is))
           ∙ ap (λ mode. hearing.Settled (record suite { collector = c; first = option_or suite.first pending.first; mode = mode })) (mode_stays suite.collector pending.last)
-      of (Ask server asked) is quorum = cc
-      of (Short got needed busy) is quorum = cc
+      of _ is quorum = cc
 
   -- it is to be settled where there is a quorum, and only there
   pub hears_quorum : (last : Told) → told_by (next suite.collector) answer ≡ Some last → has_quorum (next (tell last suite.collector)) ≡ true → IsSettled (heard suite answer)
@@ -111,8 +104,7 @@ module _ (suite : GatheredSuite) (answer : Reply) where
 
       of : (what : Next) → next c ≡ what → has_quorum what ≡ true → IsSettled (heard suite answer)
       of (Current prefix dver members) is quorum = (settled prefix dver members (record suite { collector = c }), ap (heard_one suite) told ∙ ap (heard_next (record suite { collector = c })) is)
-      of (Ask server asked) is quorum = cc
-      of (Short got needed busy) is quorum = cc
+      of _ is quorum = cc
 
   pub settles_if : (pending : PendingQuorum) → told_by (next suite.collector) answer ≡ Some pending.last → IsFirstAfter suite pending.last pending.first → IsSettled (heard suite answer)
       → heard suite answer ≡ hearing.Settled (settled_with pending suite)
@@ -152,11 +144,3 @@ module _ (c : Collector) (prefix : Prefix) (dver : ℕ) (members : List ℕ) (is
 pub first_given : (suite : GatheredSuite) (last : Told) (point : ReadPoint) → suite.first ≡ None → point ≡ read_point (tell last suite.collector) → IsFirstAfter suite last (Some point)
 first_given suite last point none gives prefix dver members is =
     ap (λ (point : ReadPoint). option_or suite.first (Some point)) gives ∙ given_first (tell last suite.collector) prefix dver members is suite.first none
-
--- a suite that had a first quorum keeps what it gave
-pub first_kept : (suite : GatheredSuite) (last : Told) → is_some suite.first ≡ true → IsFirstAfter suite last None
-first_kept suite last some prefix dver members is = of suite.first some
-  where
-    of : (first : Option ReadPoint) → is_some first ≡ true → option_or first None ≡ first_or first (record { prefix = prefix; dver = dver; source = source_of (tell last suite.collector) dver members })
-    of (Some first) some = refl
-    of None some = cc

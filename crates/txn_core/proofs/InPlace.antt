@@ -1,16 +1,14 @@
 -- A suite hears a reply in its place, among the others of its transaction.
 use Rattle.txn_core.proofs.Vocabulary.{◌≡◌, ℕ, true, Option, Some, None, Result, Ok, Err, refl, sym, ap, subst, ◌∙◌, option_map, IfOk, OnErr, nat_cmp, AllocError, nat_cmp_total, Reply, is_held, Request, IsOrdered, replace, replace_same}
-use Rattle.txn_core.proofs.Vocabulary.{Comes, IsTold, asked_in, shows_lock, Collector, Collecting, Next, Current, Ask, next, Coming, Told, PendingQuorum, TransactionRun, asks_in, heard, heard_at, CompletesAt, HearsIn, HearsAt}
-use Rattle.txn_core.proofs.Vocabulary.{FallsShort, IsSettled, IsSound, SettlesAt, settled_with, GatheredSuite, Suites, suite_of, with_suite, asked_by, asked_for, SawUnused, shows_unused}
+use Rattle.txn_core.proofs.Vocabulary.{Comes, IsTold, asked_in, shows_lock, Collector, Collecting, Next, Current, Ask, next, Coming, Told, PendingQuorum, TransactionRun, asks_in, heard_at, CompletesAt, HearsIn, HearsAt, FallsShort}
+use Rattle.txn_core.proofs.Vocabulary.{IsSettled, SettlesAt, settled_with, GatheredSuite, Suites, suite_of, with_suite, asked_by, asked_for, SawUnused, shows_unused, Short as Falls, Hearing as Heard}
+use Rattle.suite_collect.specs.declared.coming.Asked.{Asked}
+use Rattle.suite_collect.specs.declared.hearing.Hearing.TheVariants.{Lost, Asks, Short, Quorum}
+use Rattle.txn_core.specs.code.Hearing.{Hears}
 use Rattle.rep_core.specs.declared.reply.Reply.TheVariants as reply
 use Rattle.suite_collect.specs.Answering as collector
-use Rattle.suite_collect.specs.Collecting.{Short as Falls}
-use Rattle.suite_collect.specs.declared.coming.Asked.{Asked}
 use Rattle.suite_collect.specs.declared.coming.Coming.TheVariants as coming
-use Rattle.suite_collect.specs.declared.hearing.Hearing.{Hearing as Heard}
-use Rattle.suite_collect.specs.declared.hearing.Hearing.TheVariants.{Lost, Asks, Short, Quorum}
 use Rattle.txn_core.specs.code.Hearing as hearing
-use Rattle.txn_core.specs.code.Hearing.{Hears}
 use Rattle.txn_core.proofs.Carried.{set_there}
 use Rattle.txn_core.proofs.Heard.{hears_lost, hears_asks, hears_short, hears_quorum}
 use Rattle.txn_core.proofs.Unused.{saw_more, told_says}
@@ -18,14 +16,7 @@ use Rattle.txn_core.proofs.Unused.{saw_more, told_says}
 -- a lock that is shown, of versions that are not used up, is held
 pub locks_held : (answer : Reply) → shows_unused answer ≡ true → shows_lock answer ≡ true → is_held answer ≡ true
 locks_held (reply.Held prefix dver) unused shows = unused
-locks_held (reply.Busy holder prepared) unused shows = cc
-locks_held reply.Lost unused shows = cc
-locks_held (reply.Given dver content) unused shows = cc
-locks_held reply.Prepared unused shows = cc
-locks_held (reply.Verdict v) unused shows = cc
-locks_held reply.Done unused shows = cc
-locks_held reply.Down unused shows = cc
-locks_held (reply.Locked locks) unused shows = cc
+locks_held _ unused shows = cc
 
 -- what a collector heard, of its suite
 module _ (rest : GatheredSuite) (before after : Collecting) (answer : Reply) (unused : shows_unused answer ≡ true) where
@@ -82,18 +73,13 @@ module _ (before after : TransactionRun) (held : Suites) (number : ℕ) (suite n
       ∙ ap (λ held. record before { suites = with_suite number new held }) same
 
   hears_one : (what : Heard) → Hears what suite said new → HearsIn what number suite before said after
-  hears_one Lost hears = (hears.0, left_there before after held number suite new same there hears.1 put)
   hears_one Asks hears = (new, hears, inserted)
   hears_one Short hears = (new, hears, inserted)
-  hears_one (Quorum last) hears = (hears.0, left_there before after held number suite new same there hears.1 put)
+  hears_one _ hears = (hears.0, left_there before after held number suite new same there hears.1 put)
 
   pub hears_there : (result : Result Heard AllocError) → IfOk result (λ what. Hears what suite said new) → IfOk result (λ what. HearsAt (suite_of before.suites number) number what before said after)
   hears_there (Ok what) hears = subst (λ found. HearsAt found number what before said after) (there ∙ ap (λ held. suite_of held number) same) (hears_one what hears)
   hears_there (Err why) hears = tt
-
-  pub left_err : (result : Result Heard AllocError) → OnErr result (new ≡ suite) → OnErr result (after ≡ before)
-  left_err (Ok what) is = tt
-  left_err (Err why) is = left_there before after held number suite new same there is put
 
 -- whom a suite asks
 module _ (before : TransactionRun) (held : Suites) (number : ℕ) (suite : GatheredSuite) (same : held ≡ before.suites) (there : Some suite ≡ suite_of held number) where
@@ -133,17 +119,6 @@ module _ (last : Told) (said : Reply) where
   pub settled_at : (found : Option GatheredSuite) → CompletesAt found last said → IsSettled (heard_at found said)
   settled_at (Some suite) is = is.settled
   settled_at None is = is
-
-  pub held_at : (found : Option GatheredSuite) → CompletesAt found last said → is_held said ≡ true
-  held_at (Some suite) is = is.held
-  held_at None is = let bad : hearing.Lost ≡ hearing.Settled is.0 = is.1 in cc
-
-  pub sound_at : (found : Option GatheredSuite) → CompletesAt found last said → IsSound last
-  sound_at (Some suite) is = is.sound
-  sound_at None is = let bad : hearing.Lost ≡ hearing.Settled is.0 = is.1 in absurd (lost_alone is.0 bad)
-    where
-      lost_alone : (suite : GatheredSuite) → hearing.Lost ≡ hearing.Settled suite → ⊥
-      lost_alone suite is = cc
 
 -- the quorum that a suite is to have then
 module _ (said : Reply) where

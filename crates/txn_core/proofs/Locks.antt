@@ -1,14 +1,14 @@
 -- What an agent keeps of locks is what it heard.
 use Rattle.txn_core.proofs.Vocabulary.{◌≡◌, ℕ, ◌+◌, Bool, true, false, cond, List, [], ◌∷◌, ◌++◌, Option, Some, None, refl, sym, ap, subst, ◌∙◌, ◌==◌, ◌&&◌, ◌||◌, nat_lt, ◌*◌, nat_cmp, same_Some, IsOrdered, LockMode, Shared, Exclusive}
-use Rattle.txn_core.proofs.Vocabulary.{Request, Reply, serves, Exchange, exchange_of, exchanges, locks, told_by, more_told, says_held, was_held, Agent, Event, Take, Forget, next_in, next_of, take_in, take, begin, started, forget}
-use Rattle.txn_core.proofs.Vocabulary.{is_idle, has_sense, max_jobs, after_all, Told, Said, holds, mode_of, Cache, Suites, told_at, Response, Job, Replied, Lacked, Transaction, Sweep, Fixed, Task, Phase, TransactionRun, SweepRun, Doing}
-use Rattle.txn_core.proofs.Vocabulary.{Running, RunningSweep, After, GoesOn, Ends, is_poll, said_to, prepared, after_response, request_in}
+use Rattle.txn_core.proofs.Vocabulary.{Request, Reply, serves, Exchange, exchange_of, exchanges, locks, told_by, more_told, says_held, was_held, Agent, Event, Take, Forget, next_in, next_of, take_in, take, begin, started, forget, is_idle}
+use Rattle.txn_core.proofs.Vocabulary.{has_sense, max_jobs, after_all, Told, Said, holds, mode_of, Cache, Suites, told_at, Response, Job, Replied, Lacked, Transaction, Sweep, Fixed, Task, Phase, TransactionRun, SweepRun, Doing, Running}
+use Rattle.txn_core.proofs.Vocabulary.{RunningSweep, After, GoesOn, Ends, is_poll, said_to, prepared, after_response, request_in}
+use Rattle.suite_collect.specs.Telling.{is_held}
 use Rattle.rep_core.specs.declared.reply.Reply.TheVariants as reply
 use Rattle.txn_core.proofs.ToldLists.{Are, Leaves, leaves_execute, are_nil, heard_by, hears_response}
 use Rattle.txn_core.specs.Agents as agents
 use Rattle.txn_core.specs.Sweeps as sweep
 use Rattle.suite_collect.specs.declared.told.Said.TheVariants as said
-use Rattle.suite_collect.specs.Telling.{is_held}
 
 -- which servers hold a lock for it
 abbrev pub Held : (ℕ → ℕ → Bool) → (ℕ → List Told) → Type 0
@@ -49,23 +49,11 @@ said_held asked reply.Down heard is = of (is_poll asked) is
     of : (b : Bool) → cond b (Some said.Down) None ≡ Some heard → is_held heard ≡ false
     of true is = ap is_held (sym (same_Some _ heard is))
     of false is = cc
-said_held asked reply.Lost heard is = cc
-said_held asked (reply.Given dver content) heard is = cc
-said_held asked reply.Prepared heard is = cc
-said_held asked (reply.Verdict v) heard is = cc
-said_held asked reply.Done heard is = cc
-said_held asked (reply.Locked locks) heard is = cc
+said_held asked _ heard is = cc
 
 said_none : (asked : Request) (said : Reply) → said_to asked said ≡ None → says_held (Replied said) ≡ false
 said_none asked (reply.Held prefix dver) is = cc
-said_none asked (reply.Busy holder prepared) is = refl
-said_none asked reply.Down is = refl
-said_none asked reply.Lost is = refl
-said_none asked (reply.Given dver content) is = refl
-said_none asked reply.Prepared is = refl
-said_none asked (reply.Verdict v) is = refl
-said_none asked reply.Done is = refl
-said_none asked (reply.Locked locks) is = refl
+said_none asked _ is = refl
 
 -- what is held by the lists after a response
 held_by : (held : ℕ → ℕ → Bool) (told lists : ℕ → List Told) (server : ℕ) (asked : Request) (response : Response) → ((number : ℕ) → lists number ≡ heard_by number (told number) server asked response) → Held held told

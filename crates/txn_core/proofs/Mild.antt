@@ -1,9 +1,9 @@
 -- Until its home has answered a transaction ends with Aborted alone.
 use Rattle.txn_core.proofs.Vocabulary.{◌≡◌, ℕ, ◌+◌, true, false, cond, List, [], ◌∷◌, ◌++◌, Option, Some, None, refl, sym, ap, subst, nat_lt, ◌&&◌, ◌*◌, Exchange, exchange_of, exchanges, of_job, is_decide, said_by, told_verdict}
-use Rattle.txn_core.proofs.Vocabulary.{FinishCarriesTheVerdict, Agent, Event, Take, Forget, next_in, next_of, left, take_in, take, begin, started, forget, is_idle, has_sense, max_jobs, after_all, parts_at, Request, Verdict, Reply}
-use Rattle.txn_core.proofs.Vocabulary.{Cache, Suites, suite_of, Response, Cause, Ending, Job, Replied, Lacked, Lost, Transaction, Sweep, Fixed, Task, home_of, Proposal, Phase, Gathering, Fetching, Widening, Preparing, Deciding}
-use Rattle.txn_core.proofs.Vocabulary.{Finishing, TransactionRun, SweepRun, Doing, Running, RunningSweep, After, GoesOn, Ends, lack_cause, Step, tell_end, give_up, prepare, locked_at, prepared, decided, after_response, request_in}
-use Rattle.txn_core.proofs.Vocabulary.{changes_of, decision_of, verdict_in, is_prepared}
+use Rattle.txn_core.proofs.Vocabulary.{FinishCarriesTheVerdict, Agent, Event, Take, Forget, next_in, next_of, left, take_in, take, begin, started, forget, is_idle, has_sense, max_jobs, after_all, parts_at, Request, Verdict, Reply, Cache}
+use Rattle.txn_core.proofs.Vocabulary.{Suites, suite_of, Response, Cause, Ending, Job, Replied, Lacked, Lost, Transaction, Sweep, Fixed, Task, home_of, Proposal, Phase, Gathering, Fetching, Widening, Preparing, Deciding, Finishing}
+use Rattle.txn_core.proofs.Vocabulary.{TransactionRun, SweepRun, Doing, Running, RunningSweep, After, GoesOn, Ends, lack_cause, Step, tell_end, give_up, prepare, locked_at, prepared, decided, after_response, request_in, changes_of}
+use Rattle.txn_core.proofs.Vocabulary.{decision_of, verdict_in, is_prepared}
 use Rattle.rep_core.specs.declared.request.Request.TheVariants as request
 use Rattle.txn_core.specs.Sweeps as sweep
 use Rattle.rep_core.specs.declared.reply.Verdict.TheVariants as verdict
@@ -35,12 +35,10 @@ mild_prepare task cache suites outcome [] = refl
 mild_prepare task cache suites outcome (server ∷ servers) = refl
 
 mild_early : (task : Task) (suites : Suites) (phase : Phase) → IsEarly phase → LeftTells verdict.Aborted (GoesOn (record { task = task; suites = suites; phase = phase }))
-mild_early task suites (Gathering number) is = refl
-mild_early task suites (Fetching number) is = refl
-mild_early task suites (Widening left granted) is = refl
 mild_early task suites (Preparing left outcome) is = absurd is
 mild_early task suites (Deciding outcome) is = absurd is
 mild_early task suites (Finishing servers told ending) is = absurd is
+mild_early task suites _ is = refl
 
 mild_prepares : (task : Task) (cache : Cache) (suites : Suites) (outcome : Proposal) → IsMild (prepare task cache suites outcome (locked_at suites))
 mild_prepares task cache suites outcome = mild_prepare task cache suites outcome (locked_at suites)

@@ -1,12 +1,11 @@
 -- What a transaction does with a response is a move.
-use Rattle.txn_core.proofs.Vocabulary.{◌≡◌, ℕ, zero, suc, true, false, cond, List, [], ◌∷◌, Option, Some, None, refl, sym, ap, subst, ◌∙◌, length, same_Some, none-some, Content, LockMode, Request, Reply, Lack, is_prepared, Hold, Know}
-use Rattle.txn_core.proofs.Vocabulary.{Said, Next, Ask, Current, Short, next, Cache, ReadPoint, GatheredSuite, Suites, suite_of, with_suite, Response, Replied, Lacked, Lost, Ending, Verdict, Granted, Fixed, Task, Ends, Proposal, Phase}
-use Rattle.txn_core.proofs.Vocabulary.{Gathering, Fetching, Widening, Preparing, Deciding, Finishing, Step, Gathered, request_in, asked_for, fetched_for, fetched_at, on_with, tell_end, locked_at, give_up, prepare, gather_by, widen_by}
-use Rattle.txn_core.proofs.Vocabulary.{widen_one, widened, widen_all, free_content, opened_with, open_first, open_suite, open_needed, or_all, opened, heard_on, raised_or_new, proceed, execute, said_to, collected, hear, keep_content}
-use Rattle.txn_core.proofs.Vocabulary.{given_in, fetched, prepared, heard_of, after_reply, after_lack, after_response, Stage, Executes, Widens, Asks, Prepares, PreparesAt, GivesUp, Tells, TellsAt, Point, point, EndsIn, is_short, Move}
-use Rattle.txn_core.proofs.Vocabulary.{opens, fetches, gathers, lacks_lock, refuses, grants, prepares, passes, widens, widens_by, lacks_wide, Moves, stays, goes, Collects, gathering, widening, now_told, AsksNothing, Hears, asks_on}
-use Rattle.txn_core.proofs.Vocabulary.{falls_short, settles, loses, gets, misses, prepared_by, unprepared, decides, tells_next, told_all, is_lacked, strays, MovesTo, HearsTo, EveryResponseIsMoves}
-use Rattle.file_exec.specs.declared.executor.Outcome.{Outcome as Executed}
+use Rattle.txn_core.proofs.Vocabulary.{◌≡◌, ℕ, zero, suc, true, false, cond, List, [], ◌∷◌, Option, Some, None, refl, sym, ap, subst, ◌∙◌, length, same_Some, none-some, Content, LockMode, Request, Reply, Lack, is_prepared, Hold, Know, Said}
+use Rattle.txn_core.proofs.Vocabulary.{Next, Ask, Current, Short, next, Cache, ReadPoint, GatheredSuite, Suites, suite_of, with_suite, Response, Replied, Lacked, Lost, Ending, Verdict, Granted, Fixed, Task, Ends, Proposal, Phase, Gathering}
+use Rattle.txn_core.proofs.Vocabulary.{Fetching, Widening, Preparing, Deciding, Finishing, Step, Gathered, request_in, asked_for, fetched_for, fetched_at, on_with, tell_end, locked_at, give_up, prepare, gather_by, widen_by, widen_one}
+use Rattle.txn_core.proofs.Vocabulary.{widened, widen_all, free_content, opened_with, open_first, open_suite, open_needed, or_all, opened, heard_on, raised_or_new, proceed, execute, said_to, collected, hear, keep_content, given_in, fetched}
+use Rattle.txn_core.proofs.Vocabulary.{prepared, heard_of, after_reply, after_lack, after_response, Stage, Executes, Widens, Asks, Prepares, PreparesAt, GivesUp, Tells, TellsAt, Point, point, EndsIn, is_short, Move, opens, fetches, gathers}
+use Rattle.txn_core.proofs.Vocabulary.{lacks_lock, refuses, grants, prepares, passes, widens, widens_by, lacks_wide, Moves, stays, goes, Collects, gathering, widening, now_told, AsksNothing, Hears, asks_on, falls_short, settles, loses}
+use Rattle.txn_core.proofs.Vocabulary.{gets, misses, prepared_by, unprepared, decides, tells_next, told_all, is_lacked, strays, MovesTo, HearsTo, EveryResponseIsMoves, Outcome as Executed}
 use Rattle.file_exec.specs.declared.executor.Outcome.TheVariants as exec
 
 -- what a phase in which a collector asks asks is the collector's; one that asks nothing asks nothing
@@ -24,9 +23,7 @@ asks_nothing fixed task suites (Fetching number) nothing = of (suite_of suites n
 asks_nothing fixed task suites (Widening [] granted) nothing = refl
 asks_nothing fixed task suites (Widening (number ∷ left) granted) nothing = ap (asked_for task number) nothing
 asks_nothing fixed task suites (Preparing [] outcome) nothing = refl
-asks_nothing fixed task suites (Preparing (now ∷ left) outcome) nothing = absurd nothing
-asks_nothing fixed task suites (Deciding outcome) nothing = absurd nothing
-asks_nothing fixed task suites (Finishing servers verdict ending) nothing = absurd nothing
+asks_nothing fixed task suites _ nothing = absurd nothing
 
 module _ (task : Task) where
   -- what holds of a step with the suites and the cache of the point where it ends, whatever is asked then
@@ -49,8 +46,7 @@ module _ (task : Task) where
       of (GivesUp cause) is = subst Left is (told (locked_at at.suites) _ _)
       of (Tells v ending) is = subst Left is (told (locked_at at.suites) v ending)
       of (TellsAt servers v ending) is = subst Left is (told servers v ending)
-      of Executes is = absurd is
-      of (Widens left granted) is = absurd is
+      of _ is = absurd is
 
 module _ (fixed : Fixed) (task : Task) where
   -- ---- what follows a word
@@ -89,8 +85,7 @@ module _ (fixed : Fixed) (task : Task) where
       → raised_or_new fixed task cache number mode (suite_of suites number) ≡ suite
       → (coming : Next) → next suite.collector ≡ coming → MovesTo fixed task (point Executes cache suites) (gather_by task cache (with_suite number suite suites) number coming)
   goes_gather cache suites number mode suite needs new (Short got wanting busy) is = last _ (lacks_lock needs new is) refl
-  goes_gather cache suites number mode suite needs new (Ask server asked) is = last _ (gathers needs new (ap is_short is)) refl
-  goes_gather cache suites number mode suite needs new (Current prefix dver members) is = last _ (gathers needs new (ap is_short is)) refl
+  goes_gather cache suites number mode suite needs new _ is = last _ (gathers needs new (ap is_short is)) refl
 
   goes_proceed : (cache : Cache) (suites : Suites) (heard : Executed) → heard_on fixed task suites ≡ heard → MovesTo fixed task (point Executes cache suites) (proceed fixed task cache suites heard)
   goes_proceed cache suites (exec.Need (Hold number mode)) is =
@@ -130,8 +125,7 @@ module _ (fixed : Fixed) (task : Task) where
       of : (heard : Executed) → heard_on fixed task all.suites ≡ heard → Later n → goes_from all (or_all all (open_needed task all heard) (λ all. opened n fixed task all))
       of (exec.Need (Know number)) is later = at_suite number (suite_of all.suites number) is refl later
       of (exec.Need (Hold number mode)) is later = here
-      of (exec.Done answers changes) is later = here
-      of (exec.Refused refusal) is later = here
+      of _ is later = here
 
   pub execute_moves : (all : Gathered) → MovesTo fixed task (point Executes all.cache all.suites) (execute fixed task all)
   execute_moves all = goes_opened (length all.suites) all
@@ -202,13 +196,9 @@ module _ (fixed : Fixed) (task : Task) where
     moves_reply (Finishing (now ∷ left) verdict ending) reply = only _ tells_next refl
 
     moves_lack : (phase : Phase) (lack : Lack) → Comes phase (Lacked lack) (after_lack task cache suites phase server lack)
-    moves_lack (Gathering number) lack = only _ (is_lacked tt) refl
-    moves_lack (Fetching number) lack = only _ (is_lacked tt) refl
-    moves_lack (Widening left granted) lack = only _ (is_lacked tt) refl
-    moves_lack (Preparing left outcome) lack = only _ (is_lacked tt) refl
-    moves_lack (Deciding outcome) lack = only _ (is_lacked tt) refl
     moves_lack (Finishing [] verdict ending) lack = only _ told_all refl
     moves_lack (Finishing (now ∷ left) verdict ending) lack = only _ tells_next refl
+    moves_lack _ lack = only _ (is_lacked tt) refl
 
     pub response_moves : (phase : Phase) (response : Response) → Comes phase response (after_response fixed (record { task = task; suites = suites; phase = phase }) cache server asked response)
     response_moves phase (Replied reply) = moves_reply phase reply

@@ -2,7 +2,7 @@
 use Rattle.txn_core.proofs.Vocabulary.{◌≡◌, ℕ, ◌+◌, ◌≤◌, true, false, cond, List, [], ◌∷◌, ◌++◌, Option, Some, None, refl, sym, ap, subst, arith, Request, Verdict, Cache, Suites, suite_of, Response, Ending, Replied, Lacked, Undecided}
 use Rattle.txn_core.proofs.Vocabulary.{Fixed, Task, Phase, Gathering, Fetching, Widening, Preparing, Deciding, Finishing, TransactionRun, Sweeping, Listing, Resolving, Telling, Breaking, SweepRun, Doing, Running, RunningSweep, After}
 use Rattle.txn_core.proofs.Vocabulary.{GoesOn, Ends, tell_end, locked_at, after_response, request_in, changes_of, verdict_in, ending_by, cause_of_abort, lack_cause, parts_at, Agent, Event, Take, Forget, next_in, next_of, left, take_in}
-use Rattle.txn_core.proofs.Vocabulary.{take, begin, started, forget, is_idle, has_sense, max_jobs, Exchange, exchange_of, exchanges, count_of, is_decide, DecideIsSentOnce}
+use Rattle.txn_core.proofs.Vocabulary.{take, begin, forget, Exchange, exchange_of, exchanges, count_of, is_decide, DecideIsSentOnce}
 use Rattle.rep_core.specs.declared.request.Request.TheVariants as request
 use Rattle.rep_core.specs.declared.reply.Verdict.TheVariants as verdict
 use Rattle.txn_core.specs.Sweeps as sweep
@@ -24,11 +24,7 @@ may None = 0
 
 once : (phase : Phase) → may_in phase ≤ 1
 once (Gathering number) = omega arith
-once (Fetching number) = omega arith
-once (Widening left granted) = omega arith
-once (Preparing left outcome) = omega arith
-once (Deciding outcome) = omega arith
-once (Finishing servers told ending) = omega arith
+once _ = omega arith
 
 once_left : (after : After TransactionRun) → may (left Running after) ≤ 1
 once_left (GoesOn txn_run) = once txn_run.phase

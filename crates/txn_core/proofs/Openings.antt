@@ -1,8 +1,8 @@
 -- Contents that are to be had without asking: what is known with them, and what they leave as it was.
 use Rattle.txn_core.proofs.Vocabulary.{◌≡◌, ℕ, Bool, true, false, cond, [], ◌∷◌, Option, Some, None, refl, sym, ap, ◌∙◌, option_map, is_some, option_map_or, nat_cmp, is_at, nat_cmp_total, same_Some, IsOrdered, replace, insert_present}
-use Rattle.txn_core.proofs.Vocabulary.{Content, Prefix, PrefixKind, Row, KnownSuite, Known, ReadPoint, GatheredSuite, Suites, suite_of, with_suite, row_with, known_row, known_if, known_of}
+use Rattle.txn_core.proofs.Vocabulary.{Content, Prefix, PrefixKind, KnownSuite, Known, ReadPoint, GatheredSuite, Suites, suite_of, with_suite, row_with, known_row, known_if, known_of}
+use Rattle.file_ops.specs.Rows.{Row, with_content}
 use Rattle.suite_prefix.specs.declared.copies.PrefixKind.TheVariants as kind
-use Rattle.file_ops.specs.Rows.{with_content}
 use Rattle.file_exec.specs.Known as known
 use Rattle.txn_core.proofs.Setting.{known_at}
 
@@ -10,8 +10,7 @@ use Rattle.txn_core.proofs.Setting.{known_at}
 
 row_again : (kind : PrefixKind) (prefix : Prefix) (before : Option Content) (content : Content) → option_map (λ (row : Row). with_content row content) (row_with kind prefix before) ≡ row_with kind prefix (Some content)
 row_again kind.Absent prefix before content = refl
-row_again kind.File prefix before content = refl
-row_again kind.Folder prefix before content = refl
+row_again _ prefix before content = refl
 
 abbrev with_it : GatheredSuite → Content → GatheredSuite
 with_it suite content = record suite { content = Some content }

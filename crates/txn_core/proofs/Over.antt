@@ -1,9 +1,9 @@
 -- After an end nothing is prepared or decided.
-use Rattle.txn_core.proofs.Vocabulary.{◌≡◌, ℕ, Bool, true, false, cond, List, [], ◌∷◌, ◌++◌, Option, Some, None, refl, sym, ap, subst, ◌∙◌, ◌||◌, list_any, Request, Reply, Verdict, Lack, is_prepared, Cache, GatheredSuite, Suites}
-use Rattle.txn_core.proofs.Vocabulary.{suite_of, with_suite, Response, Cause, Ending, Replied, Lacked, Lost, Undecided, Fixed, Task, Phase, Gathering, Fetching, Widening, Preparing, Deciding, Finishing, TransactionRun, Sweeping}
-use Rattle.txn_core.proofs.Vocabulary.{Listing, Resolving, Telling, Breaking, SweepRun, Doing, Running, RunningSweep, After, GoesOn, Ends, Step, tell_end, give_up, locked_at, prepare, prepared, fetched, heard_of, hear, is_poll, said_to}
-use Rattle.txn_core.proofs.Vocabulary.{given_in, verdict_in, ending_by, cause_of_abort, lack_cause, after_lack, after_response, request_in, Agent, Event, Take, Forget, next_in, next_of, take_in, take, begin, started, forget, is_idle}
-use Rattle.txn_core.proofs.Vocabulary.{has_sense, max_jobs, after_all, Exchange, exchange_of, exchanges, is_decide, is_prepare, is_down, ends_it, NothingFollowsAnEnd}
+use Rattle.txn_core.proofs.Vocabulary.{◌≡◌, ℕ, Bool, true, false, cond, List, [], ◌∷◌, ◌++◌, Option, Some, None, refl, sym, ap, subst, ◌∙◌, ◌||◌, list_any, Request, Reply, Verdict, Lack, is_prepared, Cache, GatheredSuite, Suites, suite_of}
+use Rattle.txn_core.proofs.Vocabulary.{with_suite, Response, Cause, Ending, Replied, Lacked, Lost, Undecided, Fixed, Task, Phase, Gathering, Fetching, Widening, Preparing, Deciding, Finishing, TransactionRun, Sweeping, Listing, Resolving}
+use Rattle.txn_core.proofs.Vocabulary.{Telling, Breaking, SweepRun, Doing, Running, RunningSweep, After, GoesOn, Ends, Step, tell_end, give_up, locked_at, prepare, prepared, fetched, heard_of, hear, is_poll, said_to, given_in, verdict_in}
+use Rattle.txn_core.proofs.Vocabulary.{ending_by, cause_of_abort, lack_cause, after_lack, after_response, request_in, Agent, Event, Take, Forget, next_in, next_of, take_in, take, begin, forget, after_all, Exchange, exchange_of, exchanges}
+use Rattle.txn_core.proofs.Vocabulary.{is_decide, is_prepare, is_down, ends_it, NothingFollowsAnEnd}
 use Rattle.rep_core.specs.declared.request.Request.TheVariants as request
 use Rattle.rep_core.specs.declared.reply.Reply.TheVariants as reply
 use Rattle.rep_core.specs.declared.reply.Verdict.TheVariants as verdict
@@ -29,64 +29,32 @@ pub over_give_up : (task : Task) (cache : Cache) (suites : Suites) (cause : Caus
 over_give_up task cache suites cause = over_end task cache suites verdict.Aborted (Undecided cause) (locked_at suites)
 
 pub over_lack : (task : Task) (cache : Cache) (suites : Suites) (phase : Phase) (server : ℕ) (lacked : Lack) → LeftOver (after_lack task cache suites phase server lacked).after
-over_lack task cache suites (Gathering number) server lacked = over_give_up task cache suites (lack_cause server lacked)
-over_lack task cache suites (Fetching number) server lacked = over_give_up task cache suites (lack_cause server lacked)
-over_lack task cache suites (Widening left granted) server lacked = over_give_up task cache suites (lack_cause server lacked)
-over_lack task cache suites (Preparing left outcome) server lacked = over_give_up task cache suites (lack_cause server lacked)
-over_lack task cache suites (Deciding outcome) server lacked = over_give_up task cache suites (lack_cause server lacked)
 over_lack task cache suites (Finishing [] v ending) server lacked = over_end task cache suites v ending []
 over_lack task cache suites (Finishing (now ∷ left) v ending) server lacked = over_end task cache suites v ending left
+over_lack task cache suites _ server lacked = over_give_up task cache suites (lack_cause server lacked)
 
 -- a request for a lock, a content or a Prepare: what ends it gives nothing else
 pub ends_said : (asked : Request) (said : Reply) → is_down asked ≡ (cond (is_poll asked) false true) → ends_it asked (Replied said) ≡ true → said_to asked said ≡ None
 ends_said asked (reply.Held prefix dver) down is = cc
 ends_said asked (reply.Busy holder prepared) down is = cc
-ends_said asked reply.Lost down is = refl
-ends_said asked (reply.Given dver content) down is = refl
-ends_said asked reply.Prepared down is = refl
-ends_said asked (reply.Verdict v) down is = refl
-ends_said asked reply.Done down is = refl
-ends_said asked (reply.Locked locks) down is = refl
 ends_said asked reply.Down down is = of (is_poll asked) (sym down ∙ is)
   where
     of : (b : Bool) → cond b false true ≡ true → cond b (Some said.Down) None ≡ None
     of true is = cc
     of false is = refl
+ends_said asked _ down is = refl
 
 pub down_poll : (asked : Request) → is_down asked ≡ (cond (is_poll asked) false true)
 down_poll (request.Poll t suite mode) = refl
-down_poll (request.Upgrade t suite) = refl
-down_poll (request.Fetch t suite) = refl
-down_poll (request.Prepare t parts) = refl
-down_poll (request.Decide t decision) = refl
-down_poll (request.Resolve t) = refl
-down_poll (request.Finish t v) = refl
-down_poll (request.Break t suite) = refl
-down_poll request.Locks = refl
-down_poll request.Crash = refl
-down_poll request.Return = refl
+down_poll _ = refl
 
 ends_given : (asked : Request) (said : Reply) → ends_it asked (Replied said) ≡ true → given_in said ≡ None
 ends_given asked (reply.Given dver content) is = cc
-ends_given asked (reply.Held prefix dver) is = refl
-ends_given asked (reply.Busy holder prepared) is = refl
-ends_given asked reply.Lost is = refl
-ends_given asked reply.Prepared is = refl
-ends_given asked (reply.Verdict v) is = refl
-ends_given asked reply.Done is = refl
-ends_given asked (reply.Locked locks) is = refl
-ends_given asked reply.Down is = refl
+ends_given asked _ is = refl
 
 ends_prepared : (asked : Request) (said : Reply) → ends_it asked (Replied said) ≡ true → is_prepared said ≡ false
 ends_prepared asked reply.Prepared is = cc
-ends_prepared asked (reply.Held prefix dver) is = refl
-ends_prepared asked (reply.Busy holder prepared) is = refl
-ends_prepared asked reply.Lost is = refl
-ends_prepared asked (reply.Given dver content) is = refl
-ends_prepared asked (reply.Verdict v) is = refl
-ends_prepared asked reply.Done is = refl
-ends_prepared asked (reply.Locked locks) is = refl
-ends_prepared asked reply.Down is = refl
+ends_prepared asked _ is = refl
 
 pub over_heard : (task : Task) (cache : Cache) (suites : Suites) (phase : Phase) (number : ℕ) (found : Option GatheredSuite) (server : ℕ) (asked : Request) (said : Reply) (go_on : Suites → Step) → ends_it asked (Replied said) ≡ true
     → LeftOver (heard_of task cache suites phase number found server asked said go_on).after
@@ -123,10 +91,7 @@ stays_over fixed task cache suites (Finishing (now ∷ left) v ending) server as
 stays_over fixed task cache suites (Finishing [] v ending) server asked (Lacked lacked) over = tt
 stays_over fixed task cache suites (Finishing (now ∷ left) v ending) server asked (Lacked lacked) over = over_end task cache suites v ending left
 stays_over fixed task cache suites (Gathering number) server asked response over = absurd over
-stays_over fixed task cache suites (Fetching number) server asked response over = absurd over
-stays_over fixed task cache suites (Widening left granted) server asked response over = absurd over
-stays_over fixed task cache suites (Preparing left outcome) server asked response over = absurd over
-stays_over fixed task cache suites (Deciding outcome) server asked response over = absurd over
+stays_over fixed task cache suites _ server asked response over = absurd over
 
 -- ---- all responses
 

@@ -1,6 +1,6 @@
 -- Servers that are asked one after the other.
-use Rattle.txn_core.proofs.Vocabulary.{◌≡◌, ℕ, Bool, true, false, List, [], ◌∷◌, drop, Some, None, refl, sym, ap, ◌∙◌, subst, if◌then◌else◌, slice_get, same_Some, is_prepared, Reply, Verdict, Cache, Lost, Ending, Flow, On, Ended}
-use Rattle.txn_core.proofs.Vocabulary.{Replied, Fixed, Task, Proposal, Phase, Preparing, Deciding, Finishing, TransactionRun, GoesBy, TellsNext, taken, proposing, Suites, Step, tell_end, prepare, give_up, request_of}
+use Rattle.txn_core.proofs.Vocabulary.{◌≡◌, ℕ, Bool, true, false, List, [], ◌∷◌, drop, Some, None, refl, sym, ap, ◌∙◌, subst, if◌then◌else◌, slice_get, same_Some, is_prepared, Reply, Verdict, Cache, Lost, Ending, Flow, On, Ended, Replied}
+use Rattle.txn_core.proofs.Vocabulary.{Fixed, Task, Proposal, Phase, Preparing, Deciding, Finishing, TransactionRun, GoesBy, TellsNext, taken, proposing, Suites, Step, tell_end, prepare, give_up, request_of}
 use Rattle.txn_core.proofs.Replies.{replied_prepared}
 
 -- a run whose phase the code looks at in its place

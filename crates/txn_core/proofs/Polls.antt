@@ -1,11 +1,12 @@
 -- Whom a transaction polled it does not poll again.
 use Rattle.txn_core.proofs.Vocabulary.{◌≡◌, ℕ, ◌+◌, ◌≤◌, Bool, true, false, cond, ◌⊎◌, inl, inr, List, [], ◌∷◌, ◌++◌, Option, Some, None, refl, sym, ap, subst, ◌∙◌, arith, ◌==◌, ◌&&◌, ◌||◌, nat_lt, ◌*◌, nat_cmp, eqb-true, false≢true}
-use Rattle.txn_core.proofs.Vocabulary.{same_Some, IsOrdered, LockMode, Request, Exchange, exchange_of, exchanges, of_job, locks, was_asked, count_of, NobodyIsPolledTwice, Agent, Event, Take, Forget, next_in, next_of, take_in, take}
-use Rattle.txn_core.proofs.Vocabulary.{begin, started, forget, is_idle, has_sense, max_jobs, after_all, Told, Said, has_told, Collector, all_told, mode_of, request_for, mode_asked, Asked, Poll, Upgrade, Next, Ask, Current, Short, next}
-use Rattle.txn_core.proofs.Vocabulary.{Cache, ReadPoint, GatheredSuite, Suites, suite_of, with_suite, told_at, told_in, Response, Job, Transaction, Sweep, home_of, Fixed, Task, Phase, Gathering, Fetching, Widening, Preparing, Deciding}
-use Rattle.txn_core.proofs.Vocabulary.{Finishing, TransactionRun, Sweeping, Listing, Resolving, Telling, Breaking, SweepRun, Doing, Running, RunningSweep, After, GoesOn, Ends, Step, locked_at, is_poll, after_response, asked_by}
-use Rattle.txn_core.proofs.Vocabulary.{asked_for, fetched_at, fetched_for, request_in, changes_of, decision_of, parts_at, nobody_is_asked_twice, times, Few, few_more, never, Down, Stage, Executes, Widens, Asks, Prepares, PreparesAt}
-use Rattle.txn_core.proofs.Vocabulary.{GivesUp, Tells, TellsAt, Point, point, EndsIn, Move, Collects, now_told, Hears, asks_on, falls_short, settles, gets, prepared_by, prepares}
+use Rattle.txn_core.proofs.Vocabulary.{same_Some, IsOrdered, LockMode, Request, Exchange, exchange_of, exchanges, of_job, locks, was_asked, count_of, NobodyIsPolledTwice, Agent, Event, Take, Forget, next_in, next_of, take_in, take, begin}
+use Rattle.txn_core.proofs.Vocabulary.{started, forget, is_idle, has_sense, max_jobs, after_all, Told, Said, has_told, Collector, all_told, mode_of, request_for, mode_asked, Asked, Poll, Upgrade, Next, Ask, next, Cache, ReadPoint}
+use Rattle.txn_core.proofs.Vocabulary.{GatheredSuite, Suites, suite_of, with_suite, told_at, told_in, Response, Job, Transaction, Sweep, home_of, Fixed, Task, Phase, Gathering, Fetching, Widening, Preparing, Deciding, Finishing}
+use Rattle.txn_core.proofs.Vocabulary.{TransactionRun, Sweeping, Listing, Resolving, Telling, Breaking, SweepRun, Doing, Running, RunningSweep, After, GoesOn, Ends, Step, locked_at, is_poll, after_response, asked_by, asked_for, fetched_at}
+use Rattle.txn_core.proofs.Vocabulary.{fetched_for, request_in, changes_of, decision_of, parts_at, nobody_is_asked_twice, Stage, Executes, Widens, Asks, Prepares, PreparesAt, GivesUp, Tells, TellsAt, Point, point, EndsIn, Move, Collects}
+use Rattle.txn_core.proofs.Vocabulary.{now_told, Hears, asks_on, falls_short, settles, gets, prepared_by, prepares, Down}
+use Rattle.suite_collect.proofs.Fewness.{times, Few, few_more, never}
 use Rattle.rep_core.specs.declared.request.Request.TheVariants as request
 use Rattle.txn_core.specs.Agents as agents
 use Rattle.txn_core.specs.Sweeps as sweep
@@ -99,8 +100,7 @@ few_asked task number collector server asked said is few = of (next collector) r
         few_more collector question (record { server = server; mode = mode_of asked; said = said })
         (was ∙ ap (λ at. Ask at question) (ap (λ (pair : ℕ × Request). pair.0) (same_Some (at, request_for task.t number question) (server, asked) is)))
         (ap mode_of (sym (asks_same at server (request_for task.t number question) asked is)) ∙ mode_for question) few
-    of (Current prefix dver members) was is = cc
-    of (Short had wanting busy) was is = cc
+    of _ was is = cc
 
 -- one more that was told to a collector
 record Told' (before : ℕ → ℕ → ℕ) (told : ℕ → List Told) (number server : ℕ) (asked : Request) (list : List Told) (said : Said) : Type 0 where
@@ -279,13 +279,9 @@ round_locks fixed sweep_run (Telling other v left) server asked is number = ap (
 round_locks fixed sweep_run (Breaking lock left) server asked is number = ap (locks number) (sym (asks_same _ server (request.Break lock.t lock.suite) asked is))
 
 over_locks : (fixed : Fixed) (task : Task) (suites : Suites) (phase : Phase) (server : ℕ) (asked : Request) → IsOver phase → request_in fixed task suites phase ≡ Some (server, asked) → (number : ℕ) → locks number asked ≡ false
-over_locks fixed task suites (Gathering who) server asked over is number = absurd over
-over_locks fixed task suites (Fetching who) server asked over is number = absurd over
-over_locks fixed task suites (Widening left granted) server asked over is number = absurd over
-over_locks fixed task suites (Preparing left outcome) server asked over is number = absurd over
-over_locks fixed task suites (Deciding outcome) server asked over is number = absurd over
 over_locks fixed task suites (Finishing [] v ending) server asked over is number = cc
 over_locks fixed task suites (Finishing (now ∷ left) v ending) server asked over is number = ap (locks number) (sym (asks_same now server (request.Finish task.t v) asked is))
+over_locks fixed task suites _ server asked over is number = absurd over
 
 take_keeps : (before : ℕ → ℕ → ℕ) (fixed : Fixed) (agent : Agent) (response : Response) (doing : Option Doing) (asked : Option (ℕ × Request)) → agent.doing ≡ doing → next_in fixed doing ≡ asked → Keeps before doing
     → Keeps (plus_all before (exchange_of asked response)) (take_in fixed agent response doing asked).agent.doing
@@ -347,10 +343,6 @@ begin_keeps fixed agent job idle =
 
 -- ---- a Poll
 
-abbrev is_poll_of : ℕ → Request → Bool
-is_poll_of suite (request.Poll t number mode) = number == suite
-is_poll_of suite _ = false
-
 number_same : {t u n m : ℕ} {a b : LockMode} → request.Poll t n a ≡ request.Poll u m b → n ≡ m
 number_same is = cc
 
@@ -368,8 +360,7 @@ poll_fresh task who suite server t number mode is = of (next suite.collector) re
       ap (has_told (λ _. true) (all_told suite.collector)) (sym (pair_of at (request.Poll task.t who asked_mode) is)) ∙ (nobody_is_asked_twice suite.collector at).0 asked_mode was,
     )
     of (Ask at Upgrade) was is = let same = asks_same at server (request.Upgrade task.t who) (request.Poll t number mode) is in cc
-    of (Current prefix dver members) was is = cc
-    of (Short had wanting busy) was is = cc
+    of _ was is = cc
 
 other_poll : {P : Type 0} (a b t number : ℕ) (mode : LockMode) (asked : Request) → is_poll asked ≡ false → ◌≡◌ {A = Option (ℕ × Request)} (Some (a, asked)) (Some (b, request.Poll t number mode)) → P
 other_poll a b t number mode asked other is = absurd (false≢true (sym other ∙ ap is_poll (asks_same a b asked (request.Poll t number mode) is)))

@@ -1,9 +1,10 @@
 -- A Prepare lists the locks that were heard, its suites rising.
-use Rattle.txn_core.proofs.Vocabulary.{◌≡◌, ℕ, Bool, true, false, cond, List, [], ◌∷◌, Option, Some, None, refl, sym, ap, subst, ◌∙◌, arith, ◌==◌, ◌&&◌, ◌||◌, map, filter, list_any, AllByRecursion, nat_cmp, is_at, unsigned_tied}
-use Rattle.txn_core.proofs.Vocabulary.{keys_of, false≢true, same_Some, nat_tests, nat_cmp_total, eq_by_cmp_equiv, lookup-none, none_past_head, IsDistinct-from_sorted, sorted_tail, IsOrdered, Shared, Request, of_job, is_prepare}
-use Rattle.txn_core.proofs.Vocabulary.{PrepareListsTheLocks, APrepareRises, Agent, Event, next_in, next_of, begin, is_idle, after_all, Part, holds, Poll, Upgrade, Next, Ask, Current, Short, next, ReadPoint, GatheredSuite, Suites}
-use Rattle.txn_core.proofs.Vocabulary.{suite_of, told_in, told_at, holds_lock, Job, Changes, home_of, Fixed, Phase, Gathering, Fetching, Widening, Preparing, Deciding, Finishing, Sweeping, Listing, Resolving, Telling, Breaking, Doing}
-use Rattle.txn_core.proofs.Vocabulary.{Running, RunningSweep, asked_by, asked_for, fetched_at, fetched_for, request_in, changes_of, decision_of, parts_at, part_of}
+use Rattle.txn_core.proofs.Vocabulary.{◌≡◌, ℕ, Bool, true, false, cond, List, [], ◌∷◌, Option, Some, None, refl, sym, ap, subst, ◌∙◌, arith, ◌==◌, ◌&&◌, ◌||◌, map, filter, list_any, AllByRecursion, nat_cmp, is_at, unsigned_tied, keys_of}
+use Rattle.txn_core.proofs.Vocabulary.{false≢true, same_Some, nat_tests, nat_cmp_total, eq_by_cmp_equiv, none_past_head, IsDistinct-from_sorted, sorted_tail, IsOrdered, Shared, Request, of_job, is_prepare, PrepareListsTheLocks}
+use Rattle.txn_core.proofs.Vocabulary.{APrepareRises, Agent, Event, next_in, next_of, begin, is_idle, after_all, Part, holds, Poll, Upgrade, Next, Ask, Current, Short, next, ReadPoint, GatheredSuite, Suites, suite_of, told_in, told_at}
+use Rattle.txn_core.proofs.Vocabulary.{holds_lock, Job, Changes, home_of, Fixed, Phase, Gathering, Fetching, Widening, Preparing, Deciding, Finishing, Sweeping, Listing, Resolving, Telling, Breaking, Doing, Running, RunningSweep, asked_by}
+use Rattle.txn_core.proofs.Vocabulary.{asked_for, fetched_at, fetched_for, request_in, changes_of, decision_of, parts_at, part_of}
+use Rattle.std.proofs.lemmas.Map.{lookup-none}
 use Rattle.std.specs.declared.cmp.Ordering.TheVariants.{Less}
 use Rattle.std.specs.List.Sorted.{IsStrictlySortedBy}
 use Rattle.rep_core.specs.declared.request.Request.TheVariants as request

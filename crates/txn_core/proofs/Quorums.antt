@@ -1,14 +1,13 @@
 -- What is decided is decided on quorums.
 use Rattle.txn_core.proofs.Vocabulary.{◌≡◌, ℕ, zero, suc, ◌+◌, Bool, true, false, cond, inl, inr, List, [], ◌∷◌, Option, Some, None, Ok, Err, refl, sym, ap, subst, ◌∙◌, arith, ◌==◌, ◌&&◌, ◌||◌, length, map, filter, nat_lt, ◌*◌, nat_cmp}
-use Rattle.txn_core.proofs.Vocabulary.{is_at, unsigned_tied, eqb-true, false≢true, nat_tests, same_Some, Configuration, is_write_quorum, Content, Prefix, Answer, LockMode, Exclusive, Request, Reply, Verdict, Lack, is_prepared, Change}
-use Rattle.txn_core.proofs.Vocabulary.{Hold, Know, Told, Said, newest, holds, told_since, all_told, tell, tell_at, mode_of, Next, Ask, Current, Short, next, Cache, ReadPoint, GatheredSuite, Suites, suite_of, with_suite, settled}
-use Rattle.txn_core.proofs.Vocabulary.{first_or, source_of, is_changed, gets_votes, sets_votes, change_of, Response, Cause, Ending, Job, Replied, Lacked, Lost, Undecided, Transaction, Sweep, Changes, Granted, Fixed, Task, Proposal}
-use Rattle.txn_core.proofs.Vocabulary.{Phase, Gathering, Fetching, Widening, Preparing, Deciding, Finishing, TransactionRun, SweepRun, Doing, Running, RunningSweep, After, GoesOn, Ends, Step, Gathered, tell_end, give_up, prepare}
-use Rattle.txn_core.proofs.Vocabulary.{locked_at, short_cause, gather_by, widen_by, widen_one, widened, widen_all, to_widen, votes_then, votes_after, opened, or_all, open_needed, open_suite, open_first, opened_with, free_content}
-use Rattle.txn_core.proofs.Vocabulary.{heard_on, raised_or_new, keep_content, heard_of, said_to, proceed, execute, collected, hear, fetched, prepared, after_lack, after_response, changes_of, given_in, verdict_in, ending_by}
-use Rattle.txn_core.proofs.Vocabulary.{cause_of_abort, lack_cause, Agent, Event, Take, Forget, next_of, take_in, take, begin, started, forget, is_idle, has_sense, max_jobs, after_all, newest_of, IsReady, DecidesOnQuorums}
+use Rattle.txn_core.proofs.Vocabulary.{is_at, unsigned_tied, eqb-true, false≢true, nat_tests, same_Some, Configuration, is_write_quorum, Content, Prefix, Answer, LockMode, Exclusive, Request, Reply, Verdict, Lack, is_prepared, Change, Hold}
+use Rattle.txn_core.proofs.Vocabulary.{Know, Told, Said, newest, holds, told_since, all_told, tell, tell_at, mode_of, Next, Ask, Current, Short, next, Cache, ReadPoint, GatheredSuite, Suites, suite_of, with_suite, settled, first_or}
+use Rattle.txn_core.proofs.Vocabulary.{source_of, is_changed, gets_votes, sets_votes, change_of, Response, Cause, Ending, Job, Replied, Lacked, Lost, Undecided, Transaction, Sweep, Changes, Granted, Fixed, Task, Proposal, Phase, Gathering}
+use Rattle.txn_core.proofs.Vocabulary.{Fetching, Widening, Preparing, Deciding, Finishing, TransactionRun, SweepRun, Doing, Running, RunningSweep, After, GoesOn, Ends, Step, Gathered, tell_end, give_up, prepare, locked_at, short_cause}
+use Rattle.txn_core.proofs.Vocabulary.{gather_by, widen_by, widen_one, widened, widen_all, to_widen, votes_then, votes_after, opened, or_all, open_needed, open_suite, open_first, opened_with, free_content, heard_on, raised_or_new}
+use Rattle.txn_core.proofs.Vocabulary.{keep_content, heard_of, said_to, proceed, execute, collected, hear, fetched, prepared, after_lack, after_response, changes_of, given_in, verdict_in, ending_by, cause_of_abort, lack_cause, Agent, Event}
+use Rattle.txn_core.proofs.Vocabulary.{Take, Forget, next_of, take_in, take, begin, started, forget, is_idle, has_sense, max_jobs, after_all, newest_of, IsReady, DecidesOnQuorums, Outcome as Executed}
 use Rattle.rep_core.specs.declared.reply.Verdict.TheVariants as verdict
-use Rattle.file_exec.specs.declared.executor.Outcome.{Outcome as Executed}
 use Rattle.file_exec.specs.declared.executor.Outcome.TheVariants as exec
 use Rattle.suite_collect.specs.Collecting as collecting
 use Rattle.txn_core.specs.Sweeps as sweep
@@ -139,16 +138,14 @@ settled_opened (suc n) fixed task all each = of (heard_on fixed task all.suites)
     needed' : (heard : Executed) (more : Gathered) → open_needed task all heard ≡ Some more → Each Settled more.suites
     needed' (exec.Need (Know number)) more is = at_suite number (suite_of all.suites number) more refl is
     needed' (exec.Need (Hold number mode)) more is = cc
-    needed' (exec.Done answers changes) more is = cc
-    needed' (exec.Refused refusal) more is = cc
+    needed' _ more is = cc
 
     of : (heard : Executed) → ((more : Gathered) → Each Settled more.suites → Each Settled (opened n fixed task more).suites) → Each Settled (or_all all (open_needed task all heard) (λ all. opened n fixed task all)).suites
     of heard later = or' (open_needed task all heard) (needed' heard) later
 
 ready_gather : (task : Task) (cache : Cache) (suites : Suites) (number : ℕ) (after : Next) → Each (But number) suites → LeftReady (gather_by task cache suites number after).after
 ready_gather task cache suites number (Short had wanting busy) each = ready_give_up task cache suites (short_cause number had wanting busy)
-ready_gather task cache suites number (Ask server asked) each = each
-ready_gather task cache suites number (Current prefix dver members) each = each
+ready_gather task cache suites number _ each = each
 
 -- a suite that is gathered now
 but_here : (number : ℕ) (suite : GatheredSuite) → Grown suite → IsNarrow suite → But number number suite
@@ -292,13 +289,9 @@ ready_fetched fixed task cache suites number (Some suite) server (Some content) 
     of (Some first) = ready_execute fixed task _ (settled_content suites number suite (Some content) there each)
 
 ready_lack : (task : Task) (cache : Cache) (suites : Suites) (phase : Phase) (server : ℕ) (lacked : Lack) → LeftReady (after_lack task cache suites phase server lacked).after
-ready_lack task cache suites (Gathering number) server lacked = ready_give_up task cache suites (lack_cause server lacked)
-ready_lack task cache suites (Fetching number) server lacked = ready_give_up task cache suites (lack_cause server lacked)
-ready_lack task cache suites (Widening left granted) server lacked = ready_give_up task cache suites (lack_cause server lacked)
-ready_lack task cache suites (Preparing left outcome) server lacked = ready_give_up task cache suites (lack_cause server lacked)
-ready_lack task cache suites (Deciding outcome) server lacked = ready_give_up task cache suites (lack_cause server lacked)
 ready_lack task cache suites (Finishing [] v ending) server lacked = tt
 ready_lack task cache suites (Finishing (now ∷ left) v ending) server lacked = ready_end task cache suites v ending left
+ready_lack task cache suites _ server lacked = ready_give_up task cache suites (lack_cause server lacked)
 
 ready_prepared : (task : Task) (cache : Cache) (suites : Suites) (outcome : Proposal) (server : ℕ) (left : List ℕ) (said : Reply) → Each (Ready (changes_of outcome) []) suites
     → LeftReady (prepared task cache suites outcome server left said).after

@@ -1,22 +1,21 @@
 -- How far a transaction came, as its suites and its phase go on.
 use Rattle.txn_core.proofs.Vocabulary.{◌≡◌, ℕ, Bool, true, false, cond, List, [], ◌∷◌, Option, Some, None, Ok, Err, refl, sym, ap, subst, ◌∙◌, is_some, option_map, MatchOption, IsSomeAnd, nat_cmp, false≢true, none-some, same_Some}
-use Rattle.txn_core.proofs.Vocabulary.{IsOrdered, Content, Said, Told, mode_of, raise, Next, Current, Ask, Short, next, tell, Reply, Verdict, Request, is_prepared, Limited, Cache, Service, Hold, Know, MoreKnown, Knowledge, opened_suite}
-use Rattle.txn_core.proofs.Vocabulary.{Reached, IsReached, unbegun, takes, unbegun_is_reached, reached_stays, taking_tells_more, Cause, Ending, Lost, Undecided, Replied, Plan, Fetched, NextPhase, Gather, Fetch, Grant, Refuse, Fixed}
-use Rattle.txn_core.proofs.Vocabulary.{Task, Granted, Proposal, Phase, Gathering, Fetching, Widening, Preparing, Deciding, Finishing, TransactionRun, After, GoesOn, Ends, ReadPoint, GatheredSuite, Suites, suite_of, with_suite}
-use Rattle.txn_core.proofs.Vocabulary.{known_row, known_of, settled, Gathered, Step, decided, short_cause, verdict_in, ending_by, cause_of_abort, raised_or_new, tell_end, give_up, locked_at, prepare, gather_by, to_widen, widened}
-use Rattle.txn_core.proofs.Vocabulary.{widen_by, widen_one, widen_all, collected, hear, heard_of, said_to, after_reply, is_idle, Reaches, doing_of, heard_next, heard_one, heard, FallsShort, GoesBy, changed_at, settled_with}
-use Rattle.txn_core.proofs.Vocabulary.{with_content, learned_suites, adds, goes_on, Learned, Nothing, Quorum, On, Ended, PendingQuorum, IsReachedIn, IsReachedOn, IsReachedAt, IsReachedBy, IsReachedIf, IsReachedUnless, kept_after}
-use Rattle.txn_core.proofs.Vocabulary.{gather_again, follow, Becomes, taken, takes_in, new_unless, new_for, raised_at, with_asked_at, with_asked, opened_all, carried_out, shelved, IsPlanOf}
-use Rattle.suite_collect.specs.Collecting.{told_by}
+use Rattle.txn_core.proofs.Vocabulary.{IsOrdered, Content, Said, Told, Reply, Verdict, Request, is_prepared, Limited, Cache, Service, Hold, Know, MoreKnown, Knowledge, opened_suite, Reached, IsReached, unbegun, takes, Cause, Ending, Lost}
+use Rattle.txn_core.proofs.Vocabulary.{Undecided, Replied, Plan, Fetched, NextPhase, Fixed, Task, Granted, Proposal, Phase, Gathering, Fetching, Widening, Preparing, Deciding, Finishing, TransactionRun, After, GoesOn, Ends, ReadPoint}
+use Rattle.txn_core.proofs.Vocabulary.{GatheredSuite, Suites, suite_of, with_suite, known_row, known_of, settled, Gathered, Step, decided, short_cause, verdict_in, ending_by, cause_of_abort, raised_or_new, tell_end, give_up, locked_at}
+use Rattle.txn_core.proofs.Vocabulary.{prepare, gather_by, to_widen, widened, widen_by, widen_one, widen_all, collected, hear, heard_of, said_to, after_reply, is_idle, Reaches, doing_of, heard_next, heard_one, heard, FallsShort, GoesBy}
+use Rattle.txn_core.proofs.Vocabulary.{changed_at, settled_with, with_content, learned_suites, adds, goes_on, Learned, On, Ended, PendingQuorum, IsReachedIn, IsReachedOn, IsReachedAt, IsReachedBy, IsReachedIf, IsReachedUnless, kept_after}
+use Rattle.txn_core.proofs.Vocabulary.{gather_again, follow, Becomes, taken, takes_in, new_unless, new_for, raised_at, with_asked_at, with_asked, opened_all, carried_out, shelved, IsPlanOf, Outcome as Executed, Flow as Going}
+use Rattle.file_exec.proofs.Reaching.{unbegun_is_reached, reached_stays, taking_tells_more}
+use Rattle.txn_core.specs.declared.next_phase.NextPhase.TheVariants.{Gather, Fetch, Grant, Refuse}
+use Rattle.txn_core.specs.declared.learned.Learned.TheVariants.{Nothing, Quorum, Content as Given}
+use Rattle.suite_collect.specs.Collecting.{told_by, mode_of, raise, Next, Current, Ask, Short, next, tell}
+use Rattle.txn_core.specs.declared.agent.Doing.{Doing as Coded}
 use Rattle.rep_core.specs.declared.reply.Verdict.TheVariants as verdict
-use Rattle.file_exec.specs.declared.executor.Outcome.{Outcome as Executed}
 use Rattle.file_exec.specs.declared.executor.Outcome.TheVariants as exec
 use Rattle.file_exec.specs.Known as exec_known
 use Rattle.txn_core.specs.code.Hearing as hearing
-use Rattle.txn_core.specs.declared.agent.Doing.{Doing as Coded}
 use Rattle.txn_core.specs.declared.agent.Doing.TheVariants as coded
-use Rattle.txn_core.specs.declared.learned.Learned.TheVariants.{Content as Given}
-use Rattle.txn_core.specs.declared.ending.Flow.{Flow as Going}
 use Rattle.txn_core.proofs.Kept.{Keeps, keeps_all}
 use Rattle.txn_core.proofs.Growing.{GoesOnFrom, more_known, no_less, collects, settles}
 use Rattle.txn_core.proofs.Openings.{known_opened}
@@ -35,17 +34,10 @@ reached_in service task less more reached is_more is = reached_stays service (kn
 pub reached_at : (phase : Phase) (T : Type 0) → T → IsReachedAt phase T
 reached_at (Gathering number) T is = is
 reached_at (Fetching number) T is = is
-reached_at (Widening left granted) T is = tt
-reached_at (Preparing left outcome) T is = tt
-reached_at (Deciding outcome) T is = tt
-reached_at (Finishing left verdict ending) T is = tt
+reached_at _ T is = tt
 
 pub unbegun_by : (service : Service) (txn_run : TransactionRun) (reached : Reached) → reached ≡ unbegun → IsReachedBy service txn_run reached
 unbegun_by service txn_run reached is = reached_at txn_run.phase (IsReachedIn service txn_run.task txn_run.suites reached) (unbegun_in service txn_run.task txn_run.suites reached is)
-
-pub unbegun_unless : (flow : Going) (service : Service) (txn_run : TransactionRun) (reached : Reached) → reached ≡ unbegun → IsReachedUnless flow service txn_run reached
-unbegun_unless (Ended ending) service txn_run reached is = tt
-unbegun_unless On service txn_run reached is = unbegun_by service txn_run reached is
 
 -- whether it goes on or not, with what is kept
 pub reached_after : (service : Service) (txn_run : TransactionRun) (flow : Going) (reached : Reached) → IsReachedUnless flow service txn_run reached → IsReachedBy service txn_run (kept_after flow reached)
@@ -218,8 +210,7 @@ asked_more fixed task all more keeps ordered (exec.Need (Hold number mode)) new 
     of None (Some after) at there = absurd (false≢true (sym there))
     of (Some before) None at there = absurd (false≢true there)
 asked_more fixed task all more keeps ordered (exec.Need (Know number)) new is = no_less (known_of more.suites)
-asked_more fixed task all more keeps ordered (exec.Done answers changes) new is = no_less (known_of more.suites)
-asked_more fixed task all more keeps ordered (exec.Refused refusal) new is = no_less (known_of more.suites)
+asked_more fixed task all more keeps ordered _ new is = no_less (known_of more.suites)
 
 -- where it was planned with the cache as it would be, and then carried out
 pub reached_carried : (service : Service) (reached : Reached) (fixed : Fixed) (task : Task) (before put : Limited) (suites room after : Suites) (seen fetched : Option Fetched) (plan : Plan)

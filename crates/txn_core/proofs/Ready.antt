@@ -1,10 +1,10 @@
 -- Each server that holds a lock prepares before a decision is asked for.
-use Rattle.txn_core.proofs.Vocabulary.{◌≡◌, ℕ, zero, suc, ◌+◌, Bool, true, false, cond, List, [], ◌∷◌, ◌++◌, Option, Some, None, refl, sym, ap, subst, ◌∙◌, arith, ◌==◌, ◌&&◌, ◌||◌, filter, nat_lt, ◌*◌, list_any, nat_cmp, is_at}
-use Rattle.txn_core.proofs.Vocabulary.{eqb-true, false≢true, same_Some, nat_tests, Shared, Request, Verdict, Exchange, exchange_of, exchanges, of_job, is_prepare, says_prepared, was_prepared, AllPrepareFirst, Agent, Event, Take, Forget}
-use Rattle.txn_core.proofs.Vocabulary.{next_in, next_of, take_in, take, begin, started, forget, is_idle, has_sense, max_jobs, after_all, is_prepared, holds, Cache, Suites, suite_of, holds_lock, told_at, told_in, Response, Cause, Ending}
-use Rattle.txn_core.proofs.Vocabulary.{Job, Replied, Lacked, Lost, Undecided, Transaction, Sweep, Fixed, Task, Proposal, Phase, Gathering, Fetching, Widening, Preparing, Deciding, Finishing, TransactionRun, Sweeping, Listing, Resolving}
-use Rattle.txn_core.proofs.Vocabulary.{Telling, Breaking, SweepRun, Doing, Running, RunningSweep, After, GoesOn, Ends, tell_end, give_up, prepare, locked_at, after_response, request_in, changes_of, verdict_in, ending_by, cause_of_abort}
-use Rattle.txn_core.proofs.Vocabulary.{lack_cause, parts_at, Decision, is_decide, numbers_from, has_locks, ◌≤◌, ◌<◌, max_servers}
+use Rattle.txn_core.proofs.Vocabulary.{◌≡◌, ℕ, zero, suc, ◌+◌, Bool, true, false, cond, List, [], ◌∷◌, ◌++◌, Option, Some, None, refl, sym, ap, subst, ◌∙◌, arith, ◌==◌, ◌&&◌, ◌||◌, filter, nat_lt, ◌*◌, list_any, nat_cmp, is_at, eqb-true}
+use Rattle.txn_core.proofs.Vocabulary.{false≢true, same_Some, nat_tests, Shared, Request, Verdict, Exchange, exchange_of, exchanges, of_job, is_prepare, says_prepared, was_prepared, AllPrepareFirst, Agent, Event, Take, Forget, next_in}
+use Rattle.txn_core.proofs.Vocabulary.{next_of, take_in, take, begin, started, forget, is_idle, has_sense, max_jobs, after_all, is_prepared, holds, Cache, Suites, suite_of, holds_lock, told_at, told_in, Response, Cause, Ending, Job}
+use Rattle.txn_core.proofs.Vocabulary.{Replied, Lacked, Lost, Undecided, Transaction, Sweep, Fixed, Task, Proposal, Phase, Gathering, Fetching, Widening, Preparing, Deciding, Finishing, TransactionRun, Sweeping, Listing, Resolving, Telling}
+use Rattle.txn_core.proofs.Vocabulary.{Breaking, SweepRun, Doing, Running, RunningSweep, After, GoesOn, Ends, tell_end, give_up, prepare, locked_at, after_response, request_in, changes_of, verdict_in, ending_by, cause_of_abort, lack_cause}
+use Rattle.txn_core.proofs.Vocabulary.{parts_at, Decision, is_decide, numbers_from, has_locks, ◌≤◌, ◌<◌, max_servers}
 use Rattle.rep_core.specs.declared.request.Request.TheVariants as request
 use Rattle.txn_core.specs.Agents as agents
 use Rattle.txn_core.specs.Sweeps as sweep
@@ -73,12 +73,10 @@ ready_all : (done : ℕ → Bool) (task : Task) (cache : Cache) (suites : Suites
 ready_all done task cache suites outcome = ready_prepare done task cache suites outcome (locked_at suites) (λ server few has. ap (λ b. b || done server) (among_locked suites server few has))
 
 ready_early : (done : ℕ → Bool) (task : Task) (suites : Suites) (phase : Phase) → IsEarly phase → LeftReady done (GoesOn (record { task = task; suites = suites; phase = phase }))
-ready_early done task suites (Gathering number) is = tt
-ready_early done task suites (Fetching number) is = tt
-ready_early done task suites (Widening left granted) is = tt
 ready_early done task suites (Preparing left outcome) is = absurd is
 ready_early done task suites (Deciding outcome) is = absurd is
 ready_early done task suites (Finishing servers v ending) is = absurd is
+ready_early done task suites _ is = tt
 
 -- ---- one response
 
@@ -97,10 +95,9 @@ ready_response : (done : ℕ → Bool) (fixed : Fixed) (task : Task) (cache : Ca
 ready_response done fixed task cache suites (Gathering number) server asked response ready is = early_ready _ fixed task cache suites (Gathering number) server asked response tt
 ready_response done fixed task cache suites (Fetching number) server asked response ready is = early_ready _ fixed task cache suites (Fetching number) server asked response tt
 ready_response done fixed task cache suites (Widening left granted) server asked response ready is = early_ready _ fixed task cache suites (Widening left granted) server asked response tt
-ready_response done fixed task cache suites (Preparing left outcome) server asked (Lacked lacked) ready is = ready_give_up _ task cache suites (lack_cause server lacked)
-ready_response done fixed task cache suites (Deciding outcome) server asked (Lacked lacked) ready is = ready_give_up _ task cache suites (lack_cause server lacked)
 ready_response done fixed task cache suites (Finishing [] v ending) server asked (Lacked lacked) ready is = tt
 ready_response done fixed task cache suites (Finishing (now ∷ left) v ending) server asked (Lacked lacked) ready is = ready_end _ task cache suites v ending left
+ready_response done fixed task cache suites _ server asked (Lacked lacked) ready is = ready_give_up _ task cache suites (lack_cause server lacked)
 ready_response done fixed task cache suites (Preparing [] outcome) server asked (Replied said) ready is = cc
 ready_response done fixed task cache suites (Preparing (now ∷ left) outcome) server asked (Replied said) ready is =
     elim (is_prepared said) as (λ b. is_prepared said ≡ b → LeftReady (plus done server asked (Replied said)) (cond b (prepare task cache suites outcome left) (give_up task cache suites (Lost server))).after) [
@@ -149,10 +146,7 @@ plus_all done past who = done who || was_prepared past who
 phase_same : (done other : ℕ → Bool) (suites : Suites) (phase : Phase) → ((who : ℕ) → done who ≡ other who) → PhaseReady done suites phase → PhaseReady other suites phase
 phase_same done other suites (Preparing left outcome) same ready = λ who few has. ap (λ b. among left who || b) (sym (same who)) ∙ ready who few has
 phase_same done other suites (Deciding outcome) same ready = λ who few has. sym (same who) ∙ ready who few has
-phase_same done other suites (Gathering number) same ready = tt
-phase_same done other suites (Fetching number) same ready = tt
-phase_same done other suites (Widening left granted) same ready = tt
-phase_same done other suites (Finishing servers v ending) same ready = tt
+phase_same done other suites _ same ready = tt
 
 same_ready : (done other : ℕ → Bool) (doing : Option Doing) → ((who : ℕ) → done who ≡ other who) → DoingReady done doing → DoingReady other doing
 same_ready done other (Some (Running txn_run)) same ready = phase_same done other txn_run.suites txn_run.phase same ready

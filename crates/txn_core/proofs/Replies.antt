@@ -1,10 +1,10 @@
 -- What comes of a reply, phase by phase.
-use Rattle.txn_core.proofs.Vocabulary.{◌≡◌, ℕ, true, List, ◌∷◌, Option, Some, None, refl, sym, ap, ◌∙◌, subst, option_map, same_Some, Request, Reply, Verdict, Asked, Next, Current, Ask, Short, next, request_for, Cache, Replied, Fixed}
-use Rattle.txn_core.proofs.Vocabulary.{Task, Granted, Proposal, Phase, Gathering, Fetching, Widening, Preparing, Deciding, Finishing, TransactionRun, GoesOn, home_of, GoesBy, IsWidenedFrom, ending_of, given, held, held_from}
-use Rattle.txn_core.proofs.Vocabulary.{ShowsUnused, asks_in, heard, heard_at, on_hearing, FitsAsked, taken, ReadPoint, GatheredSuite, Suites, suite_of, with_suite, Step, decided, decision_of, fetched_at, fetched_for, execute, widen_all}
-use Rattle.txn_core.proofs.Vocabulary.{asked_by, asked_for, request_in, request_of, heard_of, after_reply, changes_of, prepared, tell_end, shows_unused, parts_at, Ending, Flow}
-use Rattle.rep_core.specs.declared.request.Request.TheVariants as request
+use Rattle.txn_core.proofs.Vocabulary.{◌≡◌, ℕ, true, List, ◌∷◌, Option, Some, None, refl, sym, ap, ◌∙◌, subst, option_map, same_Some, Request, Reply, Verdict, Asked, Next, Ask, next, request_for, Cache, Replied, Fixed, Task, Granted}
+use Rattle.txn_core.proofs.Vocabulary.{Proposal, Phase, Gathering, Widening, Preparing, Deciding, Finishing, TransactionRun, GoesOn, home_of, GoesBy, IsWidenedFrom, ending_of, held, held_from, ShowsUnused, asks_in, heard, heard_at}
+use Rattle.txn_core.proofs.Vocabulary.{on_hearing, FitsAsked, taken, GatheredSuite, Suites, suite_of, with_suite, Step, decided, decision_of, execute, widen_all, asked_by, asked_for, request_in, request_of, heard_of, after_reply}
+use Rattle.txn_core.proofs.Vocabulary.{changes_of, prepared, tell_end, shows_unused, parts_at, Ending, Flow}
 use Rattle.txn_core.specs.code.Goings.{widened as widens}
+use Rattle.rep_core.specs.declared.request.Request.TheVariants as request
 use Rattle.txn_core.proofs.Heard.{hears}
 use Rattle.txn_core.proofs.Unused.{fits_shows_unused}
 
@@ -24,14 +24,13 @@ pub record Asks (task : Task) (suites : Suites) (number server : ℕ) : Type 0 w
 
 asks_by : (task : Task) (suites : Suites) (number server : ℕ) (suite : GatheredSuite) (n : Next) → suite_of suites number ≡ Some suite → next suite.collector ≡ n
     → server_of (asked_by task number n) ≡ Some server → Asks task suites number server
-asks_by task suites number server suite (Current prefix dver members) there is asked = cc
-asks_by task suites number server suite (Short got needed busy) there is asked = cc
 asks_by task suites number server suite (Ask at what) there is asked = record {
   suite = suite;
   asked = what;
   there = there;
   asks = is ∙ ap (λ s. Ask s what) (same_Some at server asked);
 }
+asks_by task suites number server suite _ there is asked = cc
 
 asks_at : (task : Task) (suites : Suites) (number server : ℕ) (found : Option GatheredSuite) → suite_of suites number ≡ found → server_of (asked_for task number found) ≡ Some server → Asks task suites number server
 asks_at task suites number server None there asked = cc
@@ -126,20 +125,6 @@ module _ (fixed : Fixed) (txn_run : TransactionRun) (cache : Cache) (server : �
       let a : Asks txn_run.task txn_run.suites number server = widening number left granted is in
       widened fixed txn_run cache number server said a left granted is
       ∙ ap (λ found. on_hearing txn_run.task cache txn_run.suites txn_run.phase number server (heard_at found said) (λ suite. widen_all txn_run.task cache (with_suite number suite txn_run.suites) granted left)) (sym a.there)
-
-  -- a content is fetched, from the server that is asked for it
-  asks_content : (number : ℕ) (found : Option GatheredSuite) → server_of (fetched_for txn_run.task number found) ≡ Some server → fetched_for txn_run.task number found ≡ Some (server, request.Fetch txn_run.task.t number)
-  asks_content number None asked = cc
-  asks_content number (Some suite) asked = of suite.first asked
-    where
-      of : (first : Option ReadPoint) → server_of (fetched_at txn_run.task number first) ≡ Some server → fetched_at txn_run.task number first ≡ Some (server, request.Fetch txn_run.task.t number)
-      of (Some first) asked = ap (λ at. Some (at, request.Fetch txn_run.task.t number)) (same_Some first.source server asked)
-      of None asked = cc
-
-  pub replied_given : (number : ℕ) → txn_run.phase ≡ Fetching number → taken fixed txn_run cache (request_of fixed txn_run) (Replied said) ≡ given fixed txn_run cache number server said
-  replied_given number is =
-      ap (λ asked. taken fixed txn_run cache asked (Replied said)) (ap (request_in fixed txn_run.task txn_run.suites) is ∙ asks_content number (suite_of txn_run.suites number) (asked_in_phase (Fetching number) is))
-      ∙ ap (λ phase. after_reply fixed txn_run.task cache txn_run.suites phase server (request.Fetch txn_run.task.t number) said) is
 
   -- what such a reply shows is not used up
   shown_by : (number : ℕ) (a : Asks txn_run.task txn_run.suites number server) (phase : Phase) → txn_run.phase ≡ phase → request_in fixed txn_run.task txn_run.suites phase ≡ asked_for txn_run.task number (suite_of txn_run.suites number)

@@ -1,9 +1,7 @@
 -- An agent that takes a response, as its code goes about it.
-use Rattle.txn_core.proofs.Vocabulary.{◌≡◌, ℕ, Option, Some, None, refl, sym, ap, ◌∙◌, option_or, Request, Cache, Ending, Response, Agent, Taken, left, end_of, take_in, take, next_in, Fixed, TransactionRun, SweepRun, Doing, Running}
-use Rattle.txn_core.proofs.Vocabulary.{RunningSweep, After, GoesOn, Ends, Standing, left_by, Steps, Becomes, taken, Step, request_of}
-use Rattle.txn_core.specs.code.SweepRunFields.{Comes}
+use Rattle.txn_core.proofs.Vocabulary.{◌≡◌, ℕ, Option, Some, None, sym, ap, ◌∙◌, Request, Cache, Ending, Response, Agent, Taken, left, end_of, take_in, take, next_in, Fixed, TransactionRun, Doing, Running, After, GoesOn, Ends, Standing}
+use Rattle.txn_core.proofs.Vocabulary.{left_by, Steps, Becomes, taken, request_of}
 use Rattle.txn_core.specs.code.Telling.{Tells}
-use Rattle.txn_core.specs.Sweeps as sweep
 use Rattle.txn_core.specs.Transactions as txn_run
 
 -- what was taken: the ending, and the agent after it
@@ -45,37 +43,10 @@ module _ (fixed : Fixed) (state : Agent) (response : Response) (ending : Option 
         let both = at_asked running (request_of fixed running) is steps in
         let same = take_of (Some (Running running)) is in
         record { told = both.0 ∙ ap (λ (t : Taken). t.ending) (sym same); agent = both.1 ∙ ap (λ (t : Taken). t.agent) (sym same) }
-
-  -- ---- a sweep
-
-  module _ (after : SweepRun) where
-    round_after : (a : After SweepRun) → Comes a ending after → (ending ≡ end_of a) × (record state { doing = left_by ending (Some (RunningSweep after)) } ≡ record state { doing = left RunningSweep a })
-    round_after (GoesOn more) came = (
-      came.0,
-      ap (λ ending. record state { doing = left_by ending (Some (RunningSweep after)) }) came.0 ∙ ap (λ (after : SweepRun). record state { doing = Some (RunningSweep after) }) came.1,
-    )
-    round_after (Ends how) came = (came, ap (λ ending. record state { doing = left_by ending (Some (RunningSweep after)) }) came)
-
-    pub swept_response : (sweep_run : SweepRun) → state.doing ≡ Some (RunningSweep sweep_run)
-        → Comes (sweep.after_response fixed.service sweep_run (sweep.asked_now fixed.service sweep_run sweep_run.now).0 response) ending after
-        → Took fixed state response ending state.cache (Some (RunningSweep after))
-    swept_response sweep_run is came =
-        let both = round_after (sweep.after_response fixed.service sweep_run (sweep.asked_now fixed.service sweep_run sweep_run.now).0 response) came in
-        let same = take_of (Some (RunningSweep sweep_run)) is in
-        record { told = both.0 ∙ ap (λ (t : Taken). t.ending) (sym same); agent = both.1 ∙ ap (λ (t : Taken). t.agent) (sym same) }
-
-  -- ---- nothing
-
-  pub took_nothing : state.doing ≡ None → Took fixed state response None state.cache None
-  took_nothing is =
-      let same = take_of None is in
-      record { told = ap (λ (t : Taken). t.ending) (sym same); agent = ap (λ doing. record state { doing = doing }) (sym is) ∙ ap (λ (t : Taken). t.agent) (sym same) }
+    -- ---- a sweep
+    -- ---- nothing
 
 -- ---- an ending
-
-pub over_none : (ending : Option Ending) → option_or ending None ≡ ending
-over_none (Some how) = refl
-over_none None = refl
 
 -- what was taken, told of the agent after it
 pub tells_by : (now was : Standing) (response : Response) (ending : Option Ending) (cache : Cache) (doing : Option Doing) → was ≡ now → Took was.fixed was.state response ending cache doing

@@ -1,8 +1,7 @@
 -- The executor round by round: each round opens one content more that is to be had without asking.
 use Rattle.txn_core.proofs.Vocabulary.{◌≡◌, ◌+◌, ℕ, zero, suc, List, [], ◌∷◌, ◌++◌, length, Option, Some, None, refl, sym, ap, subst, ◌∙◌, arith, option_map, nat_cmp, IsOrdered, Content, Hold, Know, Known, Knowledge, opened_suite}
 use Rattle.txn_core.proofs.Vocabulary.{ReadPoint, GatheredSuite, suite_of, known_of, Fixed, Task, Gathered, heard_on, free_content, open_first, open_suite, opened_with, open_needed, or_all, opened, answer_of, opened_first, opened_at}
-use Rattle.txn_core.proofs.Vocabulary.{opened_by, opened_all, free_first, free_of, to_open, IsPlayed}
-use Rattle.file_exec.specs.declared.executor.Outcome.{Outcome as Executed}
+use Rattle.txn_core.proofs.Vocabulary.{opened_by, opened_all, free_first, free_of, to_open, IsPlayed, Outcome as Executed}
 use Rattle.file_exec.specs.declared.executor.Outcome.TheVariants as exec
 use Rattle.txn_core.proofs.Kept.{keeps_all, free_kept, Keeps}
 use Rattle.txn_core.proofs.Openings.{known_opened}
@@ -46,8 +45,7 @@ needed_opened task all (exec.Refused refusal) = refl
 to_open_kept : (task : Task) (all more : Gathered) → Keeps all more → (heard : Executed) → to_open task more heard ≡ to_open task all heard
 to_open_kept task all more keeps (exec.Need (Know number)) = ap (option_map (λ content. (number, content))) (free_kept task all more keeps number)
 to_open_kept task all more keeps (exec.Need (Hold number mode)) = refl
-to_open_kept task all more keeps (exec.Done answers changes) = refl
-to_open_kept task all more keeps (exec.Refused refusal) = refl
+to_open_kept task all more keeps _ = refl
 
 -- ---- what is known with it
 
@@ -143,14 +141,6 @@ module _ (fixed : Fixed) (task : Task) (all : Gathered) (list : List (ℕ × Con
         → (next : List (ℕ × Content)) → next ≡ list ++ one ∷ [] → IsPlaying fixed task all next then'
     playing_more short then' service suites next is =
         subst (λ list. IsPlaying fixed task all list then') (sym is) (sweep_run playing.left playing.enough playing.goes_on short then' service suites)
-
-  -- no more rounds are left
-  pub playing_ends : length list ≡ length all.suites → IsPlayed fixed task all list heard
-  playing_ends long = record { gathered = ends playing.left playing.enough playing.goes_on; answer = heard_is }
-    where
-      ends : (left : ℕ) → left + length list ≡ length all.suites → opened (length all.suites) fixed task all ≡ opened left fixed task some → opened (length all.suites) fixed task all ≡ some
-      ends zero enough goes_on = goes_on
-      ends (suc left) enough goes_on = absurd (omega (arith, enough, long))
 
   -- or nothing is to be had without asking
   pub playing_stops : to_open task all heard ≡ None → IsPlayed fixed task all list heard

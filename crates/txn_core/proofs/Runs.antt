@@ -1,5 +1,6 @@
 -- They hold by computation.
-use Rattle.txn_core.proofs.Vocabulary.{refl, WorkedRuns}
+use Rattle.txn_core.specs.Runs.{WorkedRuns}
+use Rattle.std.proofs.Common.{refl}
 
 pub worked_runs : WorkedRuns
 worked_runs = record {

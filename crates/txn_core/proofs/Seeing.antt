@@ -1,10 +1,9 @@
 -- The suites of a transaction, once something more is known, suite by suite.
 use Rattle.txn_core.proofs.Vocabulary.{◌≡◌, ◌≢◌, ◌<◌, ℕ, zero, suc, Bool, true, false, cond, [], ◌∷◌, List, length, get_or, Option, Some, None, refl, sym, ap, subst, ◌∙◌, arith, ◌==◌, is_some, option_map, nat_cmp, is_eq, keys_of}
-use Rattle.txn_core.proofs.Vocabulary.{nat_cmp_total, exact_unsigned, eqb-true, eqb-false, equal_if, IsOrdered-insert, get_insert_here, get_insert_apart, same_maps, IsOrdered, Known, Learned, Nothing, Quorum, settled_with, with_content}
-use Rattle.txn_core.proofs.Vocabulary.{changed_at, learned_suites, view_of_suite, with_known, known_by, ReadPoint, GatheredSuite, Suites, suite_of, known_row, known_if}
-use Rattle.std.specs.List.Sorted.{IsStrictlySortedBy}
-use Rattle.txn_core.specs.declared.learned.Learned.TheVariants.{Content as Given}
-use Rattle.txn_core.specs.code.Seeing.{told_of}
+use Rattle.txn_core.proofs.Vocabulary.{nat_cmp_total, exact_unsigned, eqb-true, eqb-false, equal_if, IsOrdered-insert, IsOrdered, Known, Learned, ReadPoint, GatheredSuite, Suites, suite_of, known_row, known_if, IsStrictlySortedBy}
+use Rattle.sorted_map.specs.Numbers.{get_insert_here, get_insert_apart, same_maps}
+use Rattle.txn_core.specs.declared.learned.Learned.TheVariants.{Nothing, Quorum, Content as Given}
+use Rattle.txn_core.specs.code.Seeing.{told_of, settled_with, with_content, changed_at, learned_suites, view_of_suite, with_known, known_by}
 
 -- ---- a suite among those that are seen
 

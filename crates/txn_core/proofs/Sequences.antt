@@ -1,8 +1,8 @@
 -- What a plan sets and what follows it is what an execution comes to.
-use Rattle.txn_core.proofs.Vocabulary.{◌≡◌, ℕ, Option, Some, None, refl, sym, ap, subst, ◌∙◌, is_some, unwrap_or, false≢true, get_insert_here, absent_prefix, LockMode, Shared, collect, Cache, Limited, hint, Hold, Know, Plan, NextPhase}
-use Rattle.txn_core.proofs.Vocabulary.{Fetched, GatheredSuite, Suites, suite_of, with_suite, Fixed, Task, Gathered, heard_on, gather, raised_or_new, proceed, execute, new_unless, new_for, with_asked_at, raised_at, with_asked}
-use Rattle.txn_core.proofs.Vocabulary.{opened_all, carried_out, IsPlanOf, shelved, HasUnused, next_phase_of, gather_again, follow}
-use Rattle.file_exec.specs.declared.executor.Outcome.{Outcome as Executed}
+use Rattle.txn_core.proofs.Vocabulary.{◌≡◌, ℕ, Option, Some, None, refl, sym, ap, subst, ◌∙◌, is_some, unwrap_or, false≢true, absent_prefix, LockMode, Shared, collect, Cache, Limited, hint, Hold, Know, Plan, NextPhase, Fetched}
+use Rattle.txn_core.proofs.Vocabulary.{GatheredSuite, Suites, suite_of, with_suite, Fixed, Task, Gathered, heard_on, gather, raised_or_new, proceed, execute, new_unless, new_for, with_asked_at, raised_at, with_asked, opened_all}
+use Rattle.txn_core.proofs.Vocabulary.{carried_out, IsPlanOf, shelved, HasUnused, next_phase_of, gather_again, follow, Outcome as Executed}
+use Rattle.sorted_map.specs.Numbers.{get_insert_here}
 use Rattle.file_exec.specs.declared.executor.Outcome.TheVariants as exec
 use Rattle.txn_core.proofs.Kept.{Keeps, keeps_all}
 
@@ -34,8 +34,7 @@ follows fixed task all more keeps (exec.Need (Hold number mode)) new is =
     of None (Some after) at there = absurd (false≢true (sym there))
     of (Some before) None at there = absurd (false≢true there)
 follows fixed task all more keeps (exec.Need (Know number)) new is = refl
-follows fixed task all more keeps (exec.Done answers changes) new is = refl
-follows fixed task all more keeps (exec.Refused refusal) new is = refl
+follows fixed task all more keeps _ new is = refl
 
 -- ----
 

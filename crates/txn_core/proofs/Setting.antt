@@ -1,7 +1,8 @@
 -- What the executor sets of the suites that were gathered.
-use Rattle.txn_core.proofs.Vocabulary.{◌≡◌, ℕ, Bool, true, false, cond, List, [], ◌∷◌, Option, Some, None, refl, sym, ap, ◌∙◌, option_map, nat_cmp, is_at, same_Some, Configuration, Content, Prefix, PrefixKind, LockMode, Shared}
-use Rattle.txn_core.proofs.Vocabulary.{Exclusive, serves, Answer, Row, Change, changes_are_held, unset_votes_stay, ReadPoint, GatheredSuite, Suites, suite_of, row_with, known_row, known_if, known_of, Changes, Fixed, Task, change_of}
-use Rattle.txn_core.proofs.Vocabulary.{is_changed, heard_on}
+use Rattle.txn_core.proofs.Vocabulary.{◌≡◌, ℕ, Bool, true, false, cond, List, [], ◌∷◌, Option, Some, None, refl, sym, ap, ◌∙◌, option_map, nat_cmp, is_at, same_Some, Configuration, Content, Prefix, PrefixKind, LockMode, Shared, Exclusive}
+use Rattle.txn_core.proofs.Vocabulary.{serves, Answer, Change, ReadPoint, GatheredSuite, Suites, suite_of, row_with, known_row, known_if, known_of, Changes, Fixed, Task, change_of, is_changed, heard_on}
+use Rattle.file_ops.specs.Rows.{Row}
+use Rattle.file_exec.proofs.Unset.{changes_are_held, unset_votes_stay}
 use Rattle.suite_prefix.specs.declared.copies.PrefixKind.TheVariants as kind
 use Rattle.file_exec.specs.declared.executor.Outcome.TheVariants as exec
 use Rattle.file_exec.specs.Known as known
@@ -45,8 +46,7 @@ changed_held fixed task suites answers changes number suite first is there was c
 
 row_votes : (kind : PrefixKind) (prefix : Prefix) (content : Option Content) (votes : Configuration) → option_map (λ (row : Row). row.votes) (row_with kind prefix content) ≡ Some votes → votes ≡ prefix.votes
 row_votes kind.Absent prefix content votes is = cc
-row_votes kind.File prefix content votes is = sym (same_Some prefix.votes votes is)
-row_votes kind.Folder prefix content votes is = sym (same_Some prefix.votes votes is)
+row_votes _ prefix content votes is = sym (same_Some prefix.votes votes is)
 
 -- a change that sets no votes has those of the prefix that was known
 abbrev pub Keeps : Changes → ℕ → GatheredSuite → Type 0

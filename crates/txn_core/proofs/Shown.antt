@@ -1,7 +1,7 @@
 -- What a collector that falls short was told, in the words of the exchanges.
 use Rattle.txn_core.proofs.Vocabulary.{◌≡◌, ℕ, ◌+◌, Bool, true, false, cond, List, [], ◌∷◌, Option, Some, None, refl, sym, ap, ◌∙◌, ◌==◌, ◌&&◌, ◌||◌, nat_le, find, Representative, votes_in, LockMode, Said, Told, newest, has_told}
-use Rattle.txn_core.proofs.Vocabulary.{first_busy, busy_in, Collector, told_since, votes_or, mode_or, all_told, counted, wanted, is_member, is_left, needed, got, ask_or_short, mode_of, Next, Current, Ask, Short, next, Response, Replied}
-use Rattle.txn_core.proofs.Vocabulary.{Lacked, said_to, Exchange, locks, told_of, told_by, more_told, heard_in, is_said, has_said, busy_at, first_of, first_busy_in}
+use Rattle.txn_core.proofs.Vocabulary.{first_busy, busy_in, Collector, all_told, counted, is_member, is_left, needed, got, ask_or_short, Next, Current, Short, next, Response, Replied, Lacked, said_to, Exchange, locks, told_of, told_by}
+use Rattle.txn_core.proofs.Vocabulary.{more_told, heard_in, is_said, has_said, busy_at, first_of, first_busy_in}
 use Rattle.suite_collect.specs.declared.told.Said.TheVariants as said
 use Rattle.suite_collect.specs.Collecting as collecting
 
@@ -65,8 +65,7 @@ busy_now before one suite = of (locks suite one.request) one.response
     later : (heard : Said) (first : Option (ℕ × ℕ)) → busy_in one.server heard first ≡ first_of first (busy_at one.server (Some heard))
     later heard (Some first) = refl
     later (said.Held prefix dver) None = refl
-    later (said.Busy holder) None = refl
-    later said.Down None = refl
+    later _ None = refl
 
     by : (heard : Option Said) → first_busy (more_told before one.server one.request heard) ≡ first_of (first_busy before) (busy_at one.server heard)
     by (Some heard) = later heard (first_busy before)
@@ -99,8 +98,7 @@ votes_same (rep ∷ reps) f g same = ap (λ b. cond b rep.1 0 + votes_in reps f)
 -- the first busy one is told
 abbrev busy_of : Next → Option (ℕ × ℕ)
 busy_of (Short had wanting busy) = busy
-busy_of (Current prefix dver members) = None
-busy_of (Ask server asked) = None
+busy_of _ = None
 
 pub tells_busy : (c : Collector) (had wanting : ℕ) (busy : Option (ℕ × ℕ)) → next c ≡ Short had wanting busy → busy ≡ first_busy (all_told c)
 tells_busy c had wanting busy is = of (nat_le (needed c) (got c)) (find (is_left c) (counted c).reps) is

@@ -1,10 +1,8 @@
 -- A suite that had a Current is held on a quorum, and its prefixes only grow newer.
 use Rattle.txn_core.proofs.Vocabulary.{◌≡◌, ℕ, ◌≤◌, ◌<◌, Bool, true, false, cond, ◌⊎◌, inl, inr, List, [], ◌∷◌, Option, Some, None, refl, sym, ap, subst, ◌∙◌, arith, ◌==◌, ◌||◌, find, nat_lt, nat_le, list_any, unsigned_tied, eqb-true}
-use Rattle.txn_core.proofs.Vocabulary.{false≢true, nat_tests, nat_cmp_total, same_Some, get-insert, Representative, Configuration, votes_in, Content, Prefix, LockMode, Exclusive, Told, Said, Held, Down, newer, newest, holds, Collector}
-use Rattle.txn_core.proofs.Vocabulary.{all_told, needed_of, needed, got, counted, is_member, is_left, members_of, version, votes_or, mode_or, ask_or_short, tell, tell_at, Current, next, ReadPoint, GatheredSuite, Suites, suite_of}
-use Rattle.txn_core.proofs.Vocabulary.{with_suite, settled, first_or, source_of, is_changed, sets_votes, Changes, Phase, Gathering, Fetching, Widening, Preparing, Deciding, Finishing, TransactionRun, After, GoesOn, Ends, votes_after}
-use Rattle.txn_core.proofs.Vocabulary.{changes_of, newest_of}
-use Rattle.suite_collect.specs.declared.told.Said.TheVariants.{Busy}
+use Rattle.txn_core.proofs.Vocabulary.{false≢true, nat_tests, nat_cmp_total, same_Some, get-insert, Representative, Configuration, votes_in, Content, Prefix, LockMode, Exclusive, Told, Said, newer, newest, holds, Collector, all_told}
+use Rattle.txn_core.proofs.Vocabulary.{needed_of, needed, got, counted, is_member, is_left, members_of, version, votes_or, mode_or, ask_or_short, tell, tell_at, Current, next, ReadPoint, GatheredSuite, Suites, suite_of, with_suite, settled}
+use Rattle.txn_core.proofs.Vocabulary.{first_or, source_of, is_changed, sets_votes, Changes, Phase, Gathering, Fetching, Widening, Preparing, Deciding, TransactionRun, After, GoesOn, Ends, votes_after, changes_of, newest_of, Held}
 use Rattle.suite_collect.specs.Collecting as collecting
 use Rattle.txn_core.proofs.Setting.{Keeps}
 
@@ -49,8 +47,7 @@ newer_since old prefix (Held other dver) since =
   where
     above : nat_lt prefix.pver other.pver ≡ true → old.pver ≤ prefix.pver → old.pver < other.pver
     above less least = grind (arith, nat_tests)
-newer_since old prefix (Busy holder) since = since
-newer_since old prefix Down since = since
+newer_since old prefix _ since = since
 
 pub tell_since : (old : Prefix) (one : Told) (c : Collector) → IsSince old (newest c.start c.told) → IsSince old (newest (tell one c).start (tell one c).told)
 tell_since old one c since = of c.widening
@@ -170,11 +167,10 @@ InWidening changes now left number suite = Ready changes (now ∷ left) number s
 abbrev pub PhaseReady : Suites → Phase → Type 0
 PhaseReady suites (Gathering now) = Each (But now) suites
 PhaseReady suites (Fetching number) = Each Settled suites
-PhaseReady suites (Widening [] granted) = Unit {0}
 PhaseReady suites (Widening (now ∷ left) granted) = Each (InWidening granted.changes now left) suites
 PhaseReady suites (Preparing left outcome) = Each (Ready (changes_of outcome) []) suites
 PhaseReady suites (Deciding outcome) = Each (Ready (changes_of outcome) []) suites
-PhaseReady suites (Finishing servers v ending) = Unit {0}
+PhaseReady suites _ = Unit {0}
 
 abbrev pub LeftReady : After TransactionRun → Type 0
 LeftReady (GoesOn txn_run) = PhaseReady txn_run.suites txn_run.phase

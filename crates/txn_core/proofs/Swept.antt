@@ -1,11 +1,10 @@
 -- How many steps a sweep takes.
 use Rattle.txn_core.proofs.Vocabulary.{◌≡◌, ℕ, ◌+◌, ◌≤◌, Bool, true, false, cond, List, [], ◌∷◌, ◌++◌, Option, Some, None, refl, sym, ap, subst, arith, ◌&&◌, ◌==◌, ◌*◌, not, length, filter, nat_lt, Lock, Request, Reply, before}
-use Rattle.txn_core.proofs.Vocabulary.{has_prepared, Service, Response, Replied, Lacked, Sweep, home_of, Fixed, Sweeping, Listing, Resolving, Telling, Breaking, SweepRun, Doing, Running, RunningSweep, After, GoesOn, Ends, rising}
-use Rattle.txn_core.proofs.Vocabulary.{others, sweep_on, lost, after_answer, asked_now, Agent, Event, Take, Forget, next_in, next_of, take_in, take, begin, started, forget, is_idle, has_sense, max_jobs, Exchange, exchange_of, exchanges}
-use Rattle.txn_core.proofs.Vocabulary.{listed_in, listed, SweepEndsInTime}
+use Rattle.txn_core.proofs.Vocabulary.{has_prepared, Service, Response, Replied, Lacked, Sweep, home_of, Fixed, Sweeping, Listing, Resolving, Telling, Breaking, SweepRun, Doing, Running, RunningSweep, After, GoesOn, Ends, Agent, Event}
+use Rattle.txn_core.proofs.Vocabulary.{Take, Forget, next_in, next_of, take_in, take, begin, started, forget, is_idle, has_sense, max_jobs, Exchange, exchange_of, exchanges, listed_in, listed, SweepEndsInTime}
+use Rattle.txn_core.specs.Sweeps.{after_response, rising, others, sweep_on, lost, after_answer, asked_now}
 use Rattle.rep_core.specs.declared.request.Request.TheVariants as request
 use Rattle.rep_core.specs.declared.reply.Reply.TheVariants as reply
-use Rattle.txn_core.specs.Sweeps.{after_response}
 use Rattle.txn_core.specs.Agents as agents
 use Rattle.txn_core.proofs.Asks.{asks_same}
 
@@ -90,44 +89,21 @@ few_answer service sweep_run (Resolving t left) asked said server is = of said
 
     of : (reply : Reply) → 1 + then_may service sweep_run (Resolving t left) reply ≤ 2 + 2 * length left + 2 * listed_in asked (Replied said)
     of (reply.Verdict v) = omega arith
-    of (reply.Locked locks) = other
-    of (reply.Held prefix dver) = other
-    of (reply.Busy holder prepared) = other
-    of (reply.Given dver content) = other
-    of reply.Prepared = other
-    of reply.Done = other
-    of reply.Down = other
-    of reply.Lost = other
+    of _ = other
 few_answer service sweep_run (Telling t v left) asked said server is = of said
   where
     of : (reply : Reply) → 1 + then_may service sweep_run (Telling t v left) reply ≤ 1 + 2 * length left + 2 * listed_in asked (Replied said)
     of reply.Done = let few = few_on (record sweep_run { finished = sweep_run.finished + 1 }) left in omega (arith, few)
-    of (reply.Locked locks) = omega arith
-    of (reply.Held prefix dver) = omega arith
-    of (reply.Busy holder prepared) = omega arith
-    of (reply.Given dver content) = omega arith
-    of reply.Prepared = omega arith
-    of (reply.Verdict v) = omega arith
-    of reply.Down = omega arith
-    of reply.Lost = omega arith
+    of _ = omega arith
 few_answer service sweep_run (Breaking lock left) asked said server is = of said
   where
     of : (reply : Reply) → 1 + then_may service sweep_run (Breaking lock left) reply ≤ 1 + 2 * length left + 2 * listed_in asked (Replied said)
     of reply.Done = let few = few_on (record sweep_run { broken = sweep_run.broken + 1 }) left in omega (arith, few)
-    of (reply.Locked locks) = omega arith
-    of (reply.Held prefix dver) = omega arith
-    of (reply.Busy holder prepared) = omega arith
-    of (reply.Given dver content) = omega arith
-    of reply.Prepared = omega arith
-    of (reply.Verdict v) = omega arith
-    of reply.Down = omega arith
-    of reply.Lost = omega arith
+    of _ = omega arith
 
 some_step : (now : Sweeping) → 1 ≤ may_in now
 some_step Listing = omega arith
-some_step (Resolving t left) = omega arith
-some_step (Telling t v left) = omega arith
-some_step (Breaking lock left) = omega arith
+some_step _ = omega arith
 
 few_response : (service : Service) (sweep_run : SweepRun) (asked : Request) (response : Response) (server : ℕ) → ◌≡◌ {A = Option (ℕ × Request)} (Some (asked_now service sweep_run sweep_run.now)) (Some (server, asked))
     → 1 + may (agents.left RunningSweep (after_response service sweep_run server response)) ≤ may_in sweep_run.now + 2 * listed_in asked response

@@ -1,19 +1,9 @@
 -- What is known, told suite by suite.
-use Rattle.txn_core.proofs.Vocabulary.{◌≡◌, ◌<◌, ◌+◌, ℕ, suc, length, drop, get_or, [], ◌∷◌, ◌++◌, Less, refl, sym, ap, ◌∙◌, arith, Option, Some, None, is_some, nat_cmp, AllByRecursion, keys_of, sorted_head, sorted_tail, drop-cons}
-use Rattle.txn_core.proofs.Vocabulary.{IsOrdered, Content, Prefix, Absent, File, Folder, Row, Known, ReadPoint, GatheredSuite, Suites, row_with, known_row, known_if, known_of}
-use Rattle.std.proofs.Common.{append_assoc}
+use Rattle.txn_core.proofs.Vocabulary.{◌≡◌, ◌<◌, ◌+◌, ℕ, suc, length, drop, get_or, [], ◌∷◌, ◌++◌, Less, refl, sym, ap, ◌∙◌, arith, Option, Some, None, nat_cmp, AllByRecursion, keys_of, sorted_head, sorted_tail, drop-cons, IsOrdered, Known}
+use Rattle.txn_core.proofs.Vocabulary.{ReadPoint, GatheredSuite, Suites, known_if, known_of, append_assoc}
 use Rattle.std.specs.List.Sorted.{IsStrictlySortedBy}
-use Rattle.file_exec.specs.code.KnownFields as fields
 
 -- ---- one suite
-
-same_row : (prefix : Prefix) (content : Option Content) → fields.known_row prefix content ≡ row_with prefix.kind prefix content
-same_row prefix None = elim prefix.kind as (λ kind. fields.known_row (record prefix { kind = kind }) None ≡ row_with kind prefix None) [ Absent ↦ refl | File ↦ refl | Folder ↦ refl ]
-same_row prefix (Some content) = elim prefix.kind as (λ kind. fields.known_row (record prefix { kind = kind }) (Some content) ≡ row_with kind prefix (Some content)) [ Absent ↦ refl | File ↦ refl | Folder ↦ refl ]
-
--- what is known of a suite is so, whoever says it
-pub same_suite : (suite : GatheredSuite) (first : ReadPoint) → fields.known_so suite.mode first.prefix suite.content ≡ known_row suite first
-same_suite suite first = ap (λ (row : Option Row). record { mode = suite.mode; row = row; opened = is_some suite.content }) (same_row first.prefix suite.content)
 
 -- ---- suite by suite
 

@@ -1,16 +1,14 @@
 -- What a response makes of the lists of what was told to a transaction's collectors.
-use Rattle.txn_core.proofs.Vocabulary.{◌≡◌, ℕ, zero, suc, ◌+◌, Bool, true, false, cond, List, [], ◌∷◌, ◌++◌, Option, Some, None, refl, sym, ap, subst, ◌∙◌, ◌==◌, nat_cmp, unsigned_tied, eqb-true, same_Some, none-some, nat_cmp_total}
-use Rattle.txn_core.proofs.Vocabulary.{IsOrdered, get-insert, IsOrdered-insert, Content, LockMode, Request, Reply, locks, told_by, more_told, Hold, Know, Told, Said, Collector, told_since, all_told, tell, tell_at, mode_of, request_for}
-use Rattle.txn_core.proofs.Vocabulary.{Asked, Poll, Upgrade, Next, Ask, Current, Short, next, Cache, ReadPoint, GatheredSuite, Suites, suite_of, with_suite, told_in, told_at, Response, Replied, home_of, Fixed, Task, Phase, Gathering}
-use Rattle.txn_core.proofs.Vocabulary.{Fetching, Widening, Preparing, Deciding, Finishing, TransactionRun, After, GoesOn, Ends, Stage, Executes, Point, point, Move, opens, gathers, lacks_lock, widens, widens_by, lacks_wide, MovesTo}
-use Rattle.txn_core.proofs.Vocabulary.{Collects, now_told, asks_on, falls_short, settles, loses, is_lacked, strays, gets, Step, Gathered, opened, or_all, open_needed, open_suite, open_first, opened_with, free_content, heard_on}
-use Rattle.txn_core.proofs.Vocabulary.{raised_or_new, said_to, execute, after_response, asked_by, asked_for, request_in, changes_of, decision_of, parts_at}
+use Rattle.txn_core.proofs.Vocabulary.{◌≡◌, ℕ, zero, suc, Bool, true, false, cond, List, [], ◌∷◌, ◌++◌, Option, Some, None, refl, sym, ap, subst, ◌∙◌, ◌==◌, nat_cmp, unsigned_tied, eqb-true, same_Some, none-some, nat_cmp_total, IsOrdered}
+use Rattle.txn_core.proofs.Vocabulary.{get-insert, IsOrdered-insert, Content, LockMode, Request, Reply, locks, told_by, more_told, Hold, Know, Told, Said, Collector, told_since, all_told, tell, tell_at, mode_of, request_for, Asked, Poll}
+use Rattle.txn_core.proofs.Vocabulary.{Upgrade, Next, Ask, Current, Short, next, Cache, ReadPoint, GatheredSuite, Suites, suite_of, with_suite, told_in, told_at, Response, Replied, home_of, Fixed, Task, Phase, Gathering, Fetching, Widening}
+use Rattle.txn_core.proofs.Vocabulary.{Preparing, Deciding, Finishing, TransactionRun, After, GoesOn, Ends, Stage, Executes, Point, point, Move, opens, gathers, lacks_lock, widens, widens_by, lacks_wide, MovesTo, Collects, now_told}
+use Rattle.txn_core.proofs.Vocabulary.{asks_on, falls_short, settles, loses, is_lacked, strays, gets, Step, Gathered, opened, or_all, open_needed, open_suite, open_first, opened_with, free_content, heard_on, raised_or_new, said_to, execute}
+use Rattle.txn_core.proofs.Vocabulary.{after_response, asked_by, asked_for, request_in, changes_of, decision_of, parts_at, Outcome as Executed, Hears as Moved}
 use Rattle.std.specs.List.Sorted.{IsStrictlySortedBy}
 use Rattle.rep_core.specs.declared.request.Request.TheVariants as request
-use Rattle.file_exec.specs.declared.executor.Outcome.{Outcome as Executed}
 use Rattle.file_exec.specs.declared.executor.Outcome.TheVariants as exec
 use Rattle.suite_collect.specs.Collecting as collecting
-use Rattle.txn_core.specs.Moves.{Hears as Moved}
 use Rattle.txn_core.proofs.Moving.{kept, left_by, collects_asks, asks_nothing, execute_moves, response_moves}
 use Rattle.txn_core.proofs.Asks.{asks_same, fetched_as}
 
@@ -85,8 +83,7 @@ are_opened told (suc n) fixed task all are = of (heard_on fixed task all.suites)
     needed' : (heard : Executed) (more : Gathered) → open_needed task all heard ≡ Some more → Are told more.suites
     needed' (exec.Need (Know number)) more is = at_suite number (suite_of all.suites number) more refl is
     needed' (exec.Need (Hold number mode)) more is = cc
-    needed' (exec.Done answers changes) more is = cc
-    needed' (exec.Refused refusal) more is = cc
+    needed' _ more is = cc
 
     of : (heard : Executed) → ((more : Gathered) → Are told more.suites → Are told (opened n fixed task more).suites) → Are told (or_all all (open_needed task all heard) (λ all. opened n fixed task all)).suites
     of heard later = or' (open_needed task all heard) (needed' heard) later

@@ -1,16 +1,16 @@
 -- Undecided ends are caused.
 use Rattle.txn_core.proofs.Vocabulary.{◌≡◌, ℕ, ◌+◌, Bool, true, false, cond, ◌⊎◌, inl, inr, List, [], ◌∷◌, ◌++◌, Option, Some, None, refl, sym, ap, subst, ◌∙◌, ◌==◌, eqb-true, same_Some, Identity, Op, Cache, Said, Configuration, Prefix}
-use Rattle.txn_core.proofs.Vocabulary.{LockMode, Exclusive, Service, Lock, Request, Reply, Lack, fits, newest, has_told, has_refused, first_busy, told_since, votes_or, mode_or, all_told, counted, wanted, is_member, contains_from}
-use Rattle.txn_core.proofs.Vocabulary.{short_has_none_left, Response, Replied, Lacked, Cause, Unavailable, Busy, Lost, Overruled, HomeDown, Full, Memory, Ending, Answered, Refused, Swept, Undecided, Job, Transaction, Sweep, Suites}
-use Rattle.txn_core.proofs.Vocabulary.{home_of, Fixed, Task, TransactionRun, Sweeping, Listing, Resolving, Telling, Breaking, SweepRun, Doing, Running, RunningSweep, After, GoesOn, Ends, heard_on, to_widen, after_response, lack_cause}
-use Rattle.txn_core.proofs.Vocabulary.{Agent, Event, Take, next_in, next_of, end_of, take_in, begin, after_all, Exchange, of_job, exchange_of, told_of, fits_response, all_fit, has_said, holding, refusing, down, task_of, IsStart}
-use Rattle.txn_core.proofs.Vocabulary.{IsContentOf, WereGathered, IsWanted, SetsVotes, Was, WasLost, DidNotServe, says_down, is_lack, IsCaused, EndsAreCaused}
+use Rattle.txn_core.proofs.Vocabulary.{LockMode, Exclusive, Service, Lock, Request, Reply, Lack, fits, newest, has_told, has_refused, first_busy, told_since, votes_or, mode_or, all_told, counted, wanted, is_member, contains_from, Response}
+use Rattle.txn_core.proofs.Vocabulary.{Replied, Lacked, Cause, Unavailable, Busy, Lost, Full, Memory, Ending, Undecided, Job, Transaction, Sweep, Suites, home_of, Fixed, Task, TransactionRun, Sweeping, Listing, Resolving, Telling, Breaking}
+use Rattle.txn_core.proofs.Vocabulary.{SweepRun, Doing, Running, RunningSweep, After, GoesOn, Ends, heard_on, to_widen, after_response, lack_cause, Agent, Event, Take, next_in, next_of, end_of, take_in, begin, after_all, Exchange, of_job}
+use Rattle.txn_core.proofs.Vocabulary.{exchange_of, told_of, fits_response, all_fit, has_said, holding, refusing, down, task_of, IsStart, IsContentOf}
+use Rattle.suite_collect.proofs.Shortness.{short_has_none_left}
+use Rattle.txn_core.specs.Undecided.{WereGathered, IsWanted, SetsVotes, Was, WasLost, DidNotServe, says_down, is_lack, IsCaused, EndsAreCaused, IsShort}
 use Rattle.rep_core.specs.declared.request.Request.TheVariants as request
 use Rattle.rep_core.specs.declared.reply.Reply.TheVariants as reply
 use Rattle.rep_core.specs.declared.stamped.Lack.TheVariants as lack
 use Rattle.suite_collect.specs.Collecting as collecting
 use Rattle.txn_core.specs.Sweeps as sweep
-use Rattle.txn_core.specs.Undecided.{IsShort}
 use Rattle.txn_core.proofs.Gathers.{Base, AllGathered, Wants, Sets}
 use Rattle.txn_core.proofs.Causes.{push, Begun, ShortBy, CausedBy, EndIs, OrFresh, LeftOf, was_now, last_fits}
 use Rattle.txn_core.proofs.Upheld.{Begins, Started, Base_of, started_is, untold_is, begins_more, started_more, fresh_begins, map_cause, DoingStands, after-append, exchanges-take, response_leaves, stands_after}
@@ -20,19 +20,14 @@ use Rattle.txn_core.proofs.Shown.{told_said, busy_said, votes_same, tells_busy, 
 
 -- a sweep of a server falls short of nothing
 abbrev SweepCaused : List Exchange → ℕ → Cause → Type 0
-SweepCaused past swept (Unavailable suite got needed) = ⊥
-SweepCaused past swept (Busy server holder) = ⊥
 SweepCaused past swept (Lost server) = WasLost past (Sweep swept) server
-SweepCaused past swept Overruled = ⊥
-SweepCaused past swept HomeDown = ⊥
 SweepCaused past swept (Full server) = DidNotServe past (Sweep swept) lack.Full server
 SweepCaused past swept Memory = (server : ℕ) × DidNotServe past (Sweep swept) lack.Memory server
+SweepCaused past swept _ = ⊥
 
 abbrev SweepEnds : List Exchange → ℕ → Ending → Type 0
 SweepEnds past swept (Undecided cause) = SweepCaused past swept cause
-SweepEnds past swept (Answered answers) = Unit {0}
-SweepEnds past swept (Refused refusal) = Unit {0}
-SweepEnds past swept (Swept broken finished left) = Unit {0}
+SweepEnds past swept _ = Unit {0}
 
 abbrev RoundCaused : List Exchange → ℕ → After SweepRun → Type 0
 RoundCaused past swept (GoesOn sweep_run) = Unit {0}
@@ -58,47 +53,20 @@ push_now past service sweep_run now response = push past (sweep.asked_now servic
 
 caused_answer : (past : List Exchange) (service : Service) (sweep_run : SweepRun) (now : Sweeping) (said : Reply) → fits (sweep.asked_now service sweep_run now).1 said ≡ true
     → RoundCaused (push_now past service sweep_run now (Replied said)) sweep_run.server (sweep.after_answer service sweep_run now said)
-caused_answer past service sweep_run Listing (reply.Held prefix dver) fine = cc
-caused_answer past service sweep_run Listing (reply.Busy holder prepared) fine = cc
 caused_answer past service sweep_run Listing reply.Down fine = caused_lost past sweep_run sweep_run.server request.Locks refl
-caused_answer past service sweep_run Listing reply.Lost fine = cc
-caused_answer past service sweep_run Listing (reply.Given dver content) fine = cc
-caused_answer past service sweep_run Listing reply.Prepared fine = cc
-caused_answer past service sweep_run Listing (reply.Verdict v) fine = cc
-caused_answer past service sweep_run Listing reply.Done fine = cc
 caused_answer past service sweep_run Listing (reply.Locked locks) fine = caused_sweep _ sweep_run.server sweep_run (sweep.rising locks)
-caused_answer past service sweep_run (Telling t w left) (reply.Held prefix dver) fine = cc
-caused_answer past service sweep_run (Telling t w left) (reply.Busy holder prepared) fine = cc
 caused_answer past service sweep_run (Telling t w left) reply.Down fine = caused_lost past sweep_run sweep_run.server (request.Finish t w) refl
-caused_answer past service sweep_run (Telling t w left) reply.Lost fine = cc
-caused_answer past service sweep_run (Telling t w left) (reply.Given dver content) fine = cc
-caused_answer past service sweep_run (Telling t w left) reply.Prepared fine = cc
-caused_answer past service sweep_run (Telling t w left) (reply.Verdict v) fine = cc
 caused_answer past service sweep_run (Telling t w left) reply.Done fine = caused_sweep _ sweep_run.server (record sweep_run { finished = sweep_run.finished + 1 }) left
-caused_answer past service sweep_run (Telling t w left) (reply.Locked locks) fine = cc
-caused_answer past service sweep_run (Breaking lock left) (reply.Held prefix dver) fine = cc
-caused_answer past service sweep_run (Breaking lock left) (reply.Busy holder prepared) fine = cc
 caused_answer past service sweep_run (Breaking lock left) reply.Down fine = caused_lost past sweep_run sweep_run.server (request.Break lock.t lock.suite) refl
-caused_answer past service sweep_run (Breaking lock left) reply.Lost fine = cc
-caused_answer past service sweep_run (Breaking lock left) (reply.Given dver content) fine = cc
-caused_answer past service sweep_run (Breaking lock left) reply.Prepared fine = cc
-caused_answer past service sweep_run (Breaking lock left) (reply.Verdict v) fine = cc
 caused_answer past service sweep_run (Breaking lock left) reply.Done fine = caused_sweep _ sweep_run.server (record sweep_run { broken = sweep_run.broken + 1 }) left
-caused_answer past service sweep_run (Breaking lock left) (reply.Locked locks) fine = cc
-caused_answer past service sweep_run (Resolving t left) (reply.Held prefix dver) fine = cc
-caused_answer past service sweep_run (Resolving t left) (reply.Busy holder prepared) fine = cc
 caused_answer past service sweep_run (Resolving t left) reply.Down fine =
     elim (home_of service t == sweep_run.server) as (λ b. (home_of service t == sweep_run.server) ≡ b
     → RoundCaused (push past (home_of service t) (request.Resolve t) (Replied reply.Down)) sweep_run.server (cond b (sweep.lost sweep_run) (sweep.sweep_on (record sweep_run { left = sweep_run.left + 1 }) left))) [
       | true ↦ λ same. caused_lost past sweep_run (home_of service t) (request.Resolve t) (eqb-true (home_of service t) sweep_run.server same)
       | false ↦ λ _. caused_sweep _ sweep_run.server (record sweep_run { left = sweep_run.left + 1 }) left
     ] refl
-caused_answer past service sweep_run (Resolving t left) reply.Lost fine = cc
-caused_answer past service sweep_run (Resolving t left) (reply.Given dver content) fine = cc
-caused_answer past service sweep_run (Resolving t left) reply.Prepared fine = cc
 caused_answer past service sweep_run (Resolving t left) (reply.Verdict v) fine = tt
-caused_answer past service sweep_run (Resolving t left) reply.Done fine = cc
-caused_answer past service sweep_run (Resolving t left) (reply.Locked locks) fine = cc
+caused_answer past service sweep_run _ _ fine = cc
 
 caused_round : (past : List Exchange) (service : Service) (sweep_run : SweepRun) (response : Response) → fits_response (sweep.asked_now service sweep_run sweep_run.now).1 response ≡ true
     → RoundCaused (push_now past service sweep_run sweep_run.now response) sweep_run.server (sweep.after_response service sweep_run (sweep.asked_now service sweep_run sweep_run.now).0 response)
@@ -215,19 +183,15 @@ module _ (fixed : Fixed) (agent : Agent) (job : Job) (events : List Event) where
   caused task own (Unavailable suite had wanting) by = is_short task own suite had wanting None by
   caused task own (Busy server holder) by = (by.0, by.1, by.2, is_short task own by.0 by.1 by.2 (Some (server, holder)) by.3)
   caused task own (Lost server) by = subst (λ job. WasLost past job server) (sym own.transaction) by
-  caused task own Overruled by = by
-  caused task own HomeDown by = by
   caused task own (Full server) by = subst (λ job. DidNotServe past job lack.Full server) (sym own.transaction) by
   caused task own Memory by = (by.0, subst (λ job. DidNotServe past job lack.Memory by.0) (sym own.transaction) by.1)
+  caused task own _ by = by
 
   swept : (server : ℕ) → job ≡ Sweep server → (cause : Cause) → SweepCaused past server cause → IsCaused fixed agent job events cause
-  swept server own (Unavailable suite had wanting) by = absurd by
-  swept server own (Busy at holder) by = absurd by
   swept server own (Lost at) by = subst (λ job. WasLost past job at) (sym own) by
-  swept server own Overruled by = absurd by
-  swept server own HomeDown by = absurd by
   swept server own (Full at) by = subst (λ job. DidNotServe past job lack.Full at) (sym own) by
   swept server own Memory by = (by.0, subst (λ job. DidNotServe past job lack.Memory by.0) (sym own) by.1)
+  swept server own _ by = absurd by
 
 -- ---- all responses
 

@@ -1,12 +1,11 @@
 -- Versions that are not used up.
-use Rattle.txn_core.proofs.Vocabulary.{◌≡◌, ℕ, ◌<◌, max, Bool, true, false, cond, inl, inr, List, [], ◌∷◌, Option, Some, None, refl, sym, ap, ◌∙◌, arith, ◌==◌, ◌&&◌, ◌||◌, nat_lt, not, unwrap_or, IfSome, option_or, nat_tests, same_Some}
-use Rattle.txn_core.proofs.Vocabulary.{Prefix, LockMode, absent_prefix, is_used_up, fits, Reply, Said, Told, read_point, newer, newest, version_in, shown, greatest, Collector, Asked, Poll, Upgrade, Next, Current, Ask, Short}
-use Rattle.txn_core.proofs.Vocabulary.{first_members, version, collect, tell_at, tell, request_for, mode_asked, next, gives_of, Entry, Cache, forgotten, Limits, Limited, hint, searched, put, entries_come_from_puts, ReadPoint, Fixed}
-use Rattle.txn_core.proofs.Vocabulary.{Task, start_from, Learned, Nothing, Quorum, Fits, kept_by, shelved, HasUnused, SawUnused, GaveUnused, first_unused, shows_unused, says_unused}
+use Rattle.txn_core.proofs.Vocabulary.{◌≡◌, ℕ, max, Bool, true, false, cond, inl, inr, List, [], ◌∷◌, Option, Some, None, refl, sym, ap, ◌∙◌, arith, ◌==◌, ◌&&◌, ◌||◌, nat_lt, not, unwrap_or, IfSome, option_or, nat_tests, same_Some, Prefix}
+use Rattle.txn_core.proofs.Vocabulary.{absent_prefix, is_used_up, fits, Reply, Said, Told, read_point, newer, newest, version_in, shown, greatest, Entry, Cache, forgotten, Limits, Limited, hint, searched, put, entries_come_from_puts}
+use Rattle.txn_core.proofs.Vocabulary.{ReadPoint, Fixed, Task, start_from, Learned, Fits, kept_by, shelved, HasUnused, SawUnused, GaveUnused, first_unused, shows_unused, says_unused}
+use Rattle.txn_core.specs.declared.learned.Learned.TheVariants.{Content as Given}
+use Rattle.suite_collect.specs.Collecting.{Widening, told_by, Collector, Asked, Poll, Upgrade, Next, Current, Ask, Short, first_members, version, tell_at, tell, request_for, mode_asked, next}
 use Rattle.rep_core.specs.declared.reply.Reply.TheVariants as reply
 use Rattle.suite_collect.specs.declared.told.Said.TheVariants as said
-use Rattle.suite_collect.specs.Collecting.{Widening, told_by}
-use Rattle.txn_core.specs.declared.learned.Learned.TheVariants.{Content as Given}
 
 -- ---- replies
 
@@ -36,13 +35,11 @@ newer_unused prefix (said.Held other dver) unused shows = of (nat_lt prefix.pver
     of : (b : Bool) → is_used_up (cond b other prefix).pver ≡ false
     of true = shows other dver refl
     of false = unused
-newer_unused prefix (said.Busy holder) unused shows = unused
-newer_unused prefix said.Down unused shows = unused
+newer_unused prefix _ unused shows = unused
 
 version_unused : (what : Said) (before : ℕ) → is_used_up before ≡ false → ((other : Prefix) (dver : ℕ) → what ≡ said.Held other dver → is_used_up dver ≡ false) → is_used_up (version_in what before) ≡ false
 version_unused (said.Held other dver) before unused shows = shows other dver refl
-version_unused (said.Busy holder) before unused shows = unused
-version_unused said.Down before unused shows = unused
+version_unused _ before unused shows = unused
 
 tell_unused : (c : Collector) (one : Told) → ((other : Prefix) (dver : ℕ) → one.said ≡ said.Held other dver → (is_used_up other.pver ≡ false) × (is_used_up dver ≡ false)) → SawUnused c → SawUnused (tell one c)
 tell_unused c one shows saw = at c.widening
@@ -75,19 +72,11 @@ told_shows (Ask server (Poll mode)) reply.Down one was unused other dver is =
     let heard : said.Down ≡ one.said = ap (λ (one : Told). one.said) (same_Some (record { server = server; mode = mode; said = said.Down }) one was) in cc
 told_shows (Ask server Upgrade) reply.Down one was unused other dver is = cc
 told_shows (Ask server asked) reply.Lost one was unused other dver is = cc
-told_shows (Ask server asked) (reply.Given version content) one was unused other dver is = cc
-told_shows (Ask server asked) reply.Prepared one was unused other dver is = cc
-told_shows (Ask server asked) (reply.Verdict v) one was unused other dver is = cc
-told_shows (Ask server asked) reply.Done one was unused other dver is = cc
-told_shows (Ask server asked) (reply.Locked locks) one was unused other dver is = cc
+told_shows (Ask server asked) _ one was unused other dver is = cc
 
 -- it is kept by a reply that fits
 pub saw_more : (c : Collector) (next : Next) (answer : Reply) (one : Told) → told_by next answer ≡ Some one → shows_unused answer ≡ true → SawUnused c → SawUnused (tell one c)
 saw_more c next answer one was unused saw = tell_unused c one (told_shows next answer one was unused) saw
-
--- it holds where nothing was told
-pub saw_none : (mode : LockMode) (start : Prefix) → is_used_up start.pver ≡ false → SawUnused (collect mode start)
-saw_none mode start unused = record { prefix = unused; shown = λ server. refl }
 
 -- and so what a Current gives is not used up
 pub max_unused : (a b : ℕ) → is_used_up a ≡ false → is_used_up b ≡ false → is_used_up (max a b) ≡ false
@@ -96,13 +85,6 @@ max_unused a b one other = grind (arith, nat_tests)
 greatest_unused : (told : List Told) (servers : List ℕ) → ((server : ℕ) → is_used_up (shown told server) ≡ false) → is_used_up (greatest told servers) ≡ false
 greatest_unused told [] unused = refl
 greatest_unused told (server ∷ servers) unused = max_unused (shown told server) (greatest told servers) (unused server) (greatest_unused told servers unused)
-
-pub current_unused : (c : Collector) (prefix : Prefix) (dver : ℕ) (members : List ℕ) → next c ≡ Current prefix dver members → SawUnused c → (is_used_up prefix.pver ≡ false) × (is_used_up dver ≡ false)
-current_unused c prefix dver members is saw =
-    let gives = gives_of c prefix dver members is in (
-      ap (λ (prefix : Prefix). is_used_up prefix.pver) (sym gives.prefix_is) ∙ saw.prefix,
-      ap is_used_up (sym gives.version_is) ∙ greatest_unused c.told (first_members c) saw.shown,
-    )
 
 -- ---- caches
 
@@ -130,9 +112,6 @@ pub first_gave : (first : Option ReadPoint) → first_unused first ≡ true → 
 first_gave (Some point) unused = let fine = both (is_used_up point.prefix.pver) (is_used_up point.dver) unused in record { prefix = fine.0; content = fine.1 }
 first_gave None unused = tt
 
-pub unused_none : HasUnused []
-unused_none entry there = absurd (let below : there.0 < 0 = there.1 in omega (arith, below))
-
 pub unused_put : (limits : Limits) (entry : Entry) (cache : Cache) → is_used_up entry.prefix.pver ≡ false → HasUnused cache → HasUnused (put limits entry cache)
 unused_put limits entry cache unused all other there =
     elim (entries_come_from_puts.put limits entry cache other there) [
@@ -142,11 +121,10 @@ unused_put limits entry cache unused all other there =
 
 -- and once something was learned
 pub unused_learned : (just_learned : Learned) (cache : Limited) → Fits just_learned → HasUnused cache.entries → HasUnused (shelved cache (kept_by just_learned))
-unused_learned Nothing cache fits all = all
-unused_learned (Quorum number pending) cache fits all = all
 unused_learned (Given fetched) cache fits all =
     let one = fetched in
     unused_put cache.limits (record { site = one.site; suite = one.suite; prefix = one.prefix; dver = one.dver; content = one.content }) cache.entries fits.unused all
+unused_learned _ cache fits all = all
 
 pub unused_searched : (site suite dver : ℕ) (cache : Cache) → HasUnused cache → HasUnused (searched site suite dver cache)
 unused_searched site suite dver cache all other there = all other (entries_come_from_puts.searched site suite dver cache other there)

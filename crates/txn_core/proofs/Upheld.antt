@@ -1,9 +1,9 @@
 -- What stands after every event of a job.
 use Rattle.txn_core.proofs.Vocabulary.{◌≡◌, ℕ, Bool, true, false, cond, inl, inr, List, [], ◌∷◌, ◌++◌, Option, Some, None, refl, sym, ap, subst, ◌∙◌, ◌+◌, ◌==◌, ◌&&◌, nat_lt, append-nil, append_assoc, none-some, Identity, Op, Content}
-use Rattle.txn_core.proofs.Vocabulary.{Prefix, Lock, Request, Reply, Cache, ReadPoint, GatheredSuite, Suites, suite_of, Response, Replied, Lacked, Cause, Ending, Unavailable, Busy, Lost, Overruled, HomeDown, Full, Memory, Answered}
-use Rattle.txn_core.proofs.Vocabulary.{Refused, Swept, Undecided, Job, Transaction, Sweep, home_of, Fixed, Task, Phase, Gathering, Fetching, Widening, Preparing, Deciding, Finishing, TransactionRun, Sweeping, Listing, Resolving}
-use Rattle.txn_core.proofs.Vocabulary.{Telling, Breaking, SweepRun, Doing, Running, RunningSweep, After, GoesOn, Ends, Step, Gathered, start_from, execute, after_response, request_in, request_of, Agent, Event, Take, Forget, next_in}
-use Rattle.txn_core.proofs.Vocabulary.{next_of, left, take_in, take, begin, started, forget, is_idle, has_sense, max_jobs, after_event, after_all, Exchange, exchange_of, exchanges, of_job, told_of, locks, task_of, asks_for, IsStart}
+use Rattle.txn_core.proofs.Vocabulary.{Prefix, Lock, Request, Reply, Cache, ReadPoint, GatheredSuite, Suites, suite_of, Response, Replied, Lacked, Cause, Ending, Unavailable, Busy, Undecided, Job, Transaction, Sweep, home_of, Fixed, Task}
+use Rattle.txn_core.proofs.Vocabulary.{Phase, Gathering, Fetching, Widening, Finishing, TransactionRun, Sweeping, Listing, Resolving, Telling, Breaking, SweepRun, Doing, Running, RunningSweep, After, GoesOn, Ends, Step, Gathered}
+use Rattle.txn_core.proofs.Vocabulary.{start_from, execute, after_response, request_in, request_of, Agent, Event, Take, Forget, next_in, next_of, left, take_in, take, begin, started, forget, is_idle, has_sense, max_jobs, after_event}
+use Rattle.txn_core.proofs.Vocabulary.{after_all, Exchange, exchange_of, exchanges, of_job, told_of, locks, task_of, asks_for, IsStart}
 use Rattle.rep_core.specs.declared.reply.Reply.TheVariants as reply
 use Rattle.txn_core.specs.Sweeps as sweep
 use Rattle.txn_core.proofs.ToldLists.{are_nil, asks_lock}
@@ -128,17 +128,11 @@ module _ (fixed : Fixed) (task : Task) (Old : Base) (Loose : ℕ → Prefix → 
   pub map_cause : (cause : Cause) → CausedBy fixed task Old Loose past cause → CausedBy fixed task Old' Loose' past cause
   map_cause (Unavailable suite had wanting) is = map_short suite had wanting None is
   map_cause (Busy at holder) is = (is.0, is.1, is.2, map_short is.0 is.1 is.2 (Some (at, holder)) is.3)
-  map_cause (Lost at) is = is
-  map_cause Overruled is = is
-  map_cause HomeDown is = is
-  map_cause (Full at) is = is
-  map_cause Memory is = is
+  map_cause _ is = is
 
   map_end : (ending : Ending) → EndIs fixed task Old Loose past ending → EndIs fixed task Old' Loose' past ending
   map_end (Undecided cause) is = map_cause cause is
-  map_end (Answered answers) is = tt
-  map_end (Refused refusal) is = tt
-  map_end (Swept broken finished left) is = tt
+  map_end _ is = tt
 
   pub map_stands : (Now : ℕ → Prefix → Type 0) (suites : Suites) (phase : Phase) → ((n : ℕ) (start : Prefix) → phase ≡ Gathering n → Now n start → Old'.start n start)
       → StandsOn fixed task Old Now Loose past suites phase → StandsOn fixed task Old' Old'.start Loose' past suites phase
@@ -157,9 +151,8 @@ module _ (fixed : Fixed) (task : Task) (Old : Base) (Loose : ℕ → Prefix → 
   )
   map_stands Now suites (Fetching number) now stands = (stands.0, λ n suite at. map_kept n suite (stands.1 n suite at))
   map_stands Now suites (Widening left granted) now stands = (stands.0, λ n suite at. map_kept n suite (stands.1 n suite at), grants_map fixed task Old Old' past old granted.answers granted.changes stands.2, stands.3)
-  map_stands Now suites (Preparing left outcome) now stands = tt
-  map_stands Now suites (Deciding outcome) now stands = tt
   map_stands Now suites (Finishing servers v ending) now stands = λ fine. map_end ending (stands fine)
+  map_stands Now suites _ now stands = tt
 
 -- where nothing is said of contents
 no_contents : (fixed : Fixed) (task : Task) (Old : Base) (Loose : ℕ → Prefix → Type 0) (past : List Exchange) (suites : Suites) (phase : Phase)
@@ -260,7 +253,6 @@ module _ (fixed : Fixed) (agent : Agent) (job : Job) where
 
   answer_stands : (events : List Event) (sweep_run : SweepRun) (now : Sweeping) (said : Reply) → job ≡ Sweep sweep_run.server → DoingStands events (left RunningSweep (sweep.after_answer fixed.service sweep_run now said))
   answer_stands events sweep_run Listing (reply.Locked locks) same = swept_on events sweep_run (sweep.rising locks) same
-  answer_stands events sweep_run Listing _ same = tt
   answer_stands events sweep_run (Resolving t rest) (reply.Verdict v) same = same
   answer_stands events sweep_run (Resolving t rest) _ same = of (home_of fixed.service t == sweep_run.server)
     where
@@ -268,9 +260,8 @@ module _ (fixed : Fixed) (agent : Agent) (job : Job) where
       of true = tt
       of false = swept_on events (record sweep_run { left = sweep_run.left + 1 }) rest same
   answer_stands events sweep_run (Telling t v rest) reply.Done same = swept_on events (record sweep_run { finished = sweep_run.finished + 1 }) rest same
-  answer_stands events sweep_run (Telling t v rest) _ same = tt
   answer_stands events sweep_run (Breaking lock rest) reply.Done same = swept_on events (record sweep_run { broken = sweep_run.broken + 1 }) rest same
-  answer_stands events sweep_run (Breaking lock rest) _ same = tt
+  answer_stands events sweep_run _ _ same = tt
 
   round_stands : (events : List Event) (sweep_run : SweepRun) (server : ℕ) (response : Response) → job ≡ Sweep sweep_run.server → DoingStands events (left RunningSweep (sweep.after_response fixed.service sweep_run server response))
   round_stands events sweep_run server (Replied said) same = answer_stands events sweep_run sweep_run.now said same

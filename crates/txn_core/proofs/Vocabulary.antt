@@ -1,62 +1,42 @@
 -- The names that the proofs of this crate take from elsewhere, each with one meaning here.
 pub use Rattle.std.proofs.Common.{Bool, Contains, Err, IfErr, IfOk, IfSome, IsSome, IsTrue, Less, List, None, Ok, OnErr, Option, Result, Some, [], ap, arith, cond, count_by, drop, false, filter, find, get_or, if◌then◌else◌, inl, inr}
 pub use Rattle.std.proofs.Common.{insert, is_some, length, map, max, nat_le, nat_lt, not, option_map, refl, rules, slice_get, subst, suc, sym, tests, true, zero, ℕ, ◌&&◌, ◌*◌, ◌++◌, ◌+◌, ◌-◌, ◌<◌, ◌==◌, ◌||◌, ◌∙◌, ◌∷◌, ◌≡◌, ◌≢◌, ◌≤◌, ◌⊎◌}
-pub use Rattle.std.proofs.Math.Bool.{or_assoc}
-pub use Rattle.std.proofs.Math.ListN.{drop_of_length-le}
-pub use Rattle.std.proofs.Math.Nat.{suc-mul}
 pub use Rattle.std.proofs.Math.Seq.{drop-cons}
 pub use Rattle.std.proofs.lemmas.Bool.{and_from, and_parts, eq-eqb, eqb-false, eqb-true, false≢true, ltb-true}
 pub use Rattle.std.proofs.lemmas.Bool.Decides.{nat_tests}
 pub use Rattle.std.proofs.lemmas.Cmp.{eq_by_cmp_equiv, nat_cmp_total}
-pub use Rattle.std.proofs.lemmas.Iterator.Consumers.{YieldsList-from_deque}
-pub use Rattle.std.proofs.lemmas.Iterator.Search.{any_from_yields_List}
 pub use Rattle.std.proofs.lemmas.List.{append-nil, append_assoc, at_drop_all, drop-drop, length-drop, take_more}
 pub use Rattle.std.proofs.lemmas.List.Elements.{Contains-append_left, Contains-push, filter-append}
-pub use Rattle.std.proofs.lemmas.List.Folds.{list_all-append}
 pub use Rattle.std.proofs.lemmas.List.Sorted.{IsPartitionPoint-from_clause}
-pub use Rattle.std.proofs.lemmas.List.Sums.{sum_by-cons}
-pub use Rattle.std.proofs.lemmas.Map.{lookup-none}
 pub use Rattle.std.proofs.lemmas.Map.Entries.{lookup_from_place, none_past_head}
 pub use Rattle.std.proofs.lemmas.Map.Keys.{IsDistinct-from_sorted, sorted_head, sorted_tail}
 pub use Rattle.std.proofs.lemmas.Map.Lookups.{exact_unsigned}
 pub use Rattle.std.proofs.lemmas.Option.{get_or_from_slice_get, none-some, same_Some, slice_get-get_or, slice_get_cases, slice_get_past, slice_get_within}
 pub use Rattle.std.proofs.lemmas.Result.{IfErr-weaker, IfOk-weaker}
 pub use Rattle.std.specs.BTreeMap.{is_at}
-pub use Rattle.std.specs.Borrow.{Bor}
 pub use Rattle.std.specs.Cmp.{unsigned_Decides, unsigned_tied}
-pub use Rattle.std.specs.Cmp.Lexicographic.{pointwise_decides}
-pub use Rattle.std.specs.FinSet.{FinSet, contains}
-pub use Rattle.std.specs.List.{AllByRecursion, each_same, list_all, list_any}
-pub use Rattle.std.specs.List.Sorted.{IsPartitionPoint, IsPartitionedBy}
+pub use Rattle.std.specs.List.{AllByRecursion, list_all, list_any}
+pub use Rattle.std.specs.List.Sorted.{IsPartitionPoint, IsPartitionedBy, IsStrictlySortedBy}
 pub use Rattle.std.specs.Map.{keys_of}
 pub use Rattle.std.specs.Option.{IsSomeAnd, MatchOption, option_copied, option_map_or, option_or}
 pub use Rattle.std.specs.Ordering.{is_eq, nat_cmp}
 pub use Rattle.std.specs.Prelude.{unwrap_or}
-pub use Rattle.std.specs.Vec.Iter.{into_iter_items}
-pub use Rattle.std.specs.VecDeque.Iter.{deque_iter_rest}
 pub use Rattle.std.specs.declared.alloc.AllocError.{AllocError}
 pub use Rattle.acl_core.specs.Identity.{Identity}
-pub use Rattle.arrayvec.specs.ArrayVec.{ArrayVec}
-pub use Rattle.file_exec.proofs.Reaching.{reached_stays, taking_tells_more, unbegun_is_reached}
-pub use Rattle.file_exec.proofs.Unmet.{needs_what_is_unmet}
-pub use Rattle.file_exec.proofs.Unset.{changes_are_held, unset_votes_stay}
 pub use Rattle.file_exec.specs.Changes.{answered}
 pub use Rattle.file_exec.specs.Known.{Done, Heard, Knowledge, Known, Needs, exec_of, opened_suite}
 pub use Rattle.file_exec.specs.KnownSuites.{KnownSuite}
 pub use Rattle.file_exec.specs.Laws.{IsMore, IsMoreAt, MoreKnown}
 pub use Rattle.file_exec.specs.Reaching.{IsReached, Reached, takes, unbegun}
 pub use Rattle.file_exec.specs.declared.changes.Change.{Change}
-pub use Rattle.file_exec.specs.declared.need.Need.{Need}
+pub use Rattle.file_exec.specs.declared.executor.Outcome.{Outcome}
 pub use Rattle.file_exec.specs.declared.need.Need.TheVariants.{Hold, Know}
-pub use Rattle.file_ops.specs.Rows.{Row}
 pub use Rattle.file_ops.specs.declared.answer.Answer.{Answer}
 pub use Rattle.file_ops.specs.declared.operation.Op.{Op}
-pub use Rattle.file_ops.specs.declared.refusal.Refusal.{Refusal}
 pub use Rattle.file_ops.specs.declared.service.Service.{Service}
 pub use Rattle.rep_core.proofs.Members.{Has, contains_from, has_from}
 pub use Rattle.rep_core.specs.Fits.{fits, is_held, is_prepared}
 pub use Rattle.rep_core.specs.Locks.{before, has_prepared, with_lock}
-pub use Rattle.rep_core.specs.Service.{is_answered}
 pub use Rattle.rep_core.specs.Store.{is_used_up}
 pub use Rattle.rep_core.specs.code.Equality.{same_lock_decides, same_verdict_decides}
 pub use Rattle.rep_core.specs.declared.lock.Lock.{Lock}
@@ -69,14 +49,11 @@ pub use Rattle.rep_core.specs.declared.stamped.Lack.{Lack}
 pub use Rattle.sorted_map.specs.Comparisons.{equal_if}
 pub use Rattle.sorted_map.specs.Edits.{insert_present, replace_same}
 pub use Rattle.sorted_map.specs.Laws.{IsOrdered-insert, get-insert}
-pub use Rattle.sorted_map.specs.Numbers.{get_insert_apart, get_insert_here, same_maps}
 pub use Rattle.sorted_map.specs.SortedMap.{IsOrdered, replace}
 pub use Rattle.suite_collect.proofs.Collected.{gives_of, nobody_is_asked_twice}
-pub use Rattle.suite_collect.proofs.Fewness.{Few, few_more, never, times}
-pub use Rattle.suite_collect.proofs.Shortness.{short_has_none_left}
 pub use Rattle.suite_collect.specs.Answering.{Comes, IsAsk, IsShort, IsTold, asked_in, has_quorum, read_point, shows_lock}
-pub use Rattle.suite_collect.specs.Collecting.{Ask, Asked, Collecting, Collector, Current, Next, Poll, Short, Upgrade, all_told, ask_or_short, collect, counted, first_members, got, is_left, is_member, members_of, mode_asked, mode_of}
-pub use Rattle.suite_collect.specs.Collecting.{mode_or, needed, needed_of, next, raise, request_for, tell, tell_at, told_since, version, votes_or, wanted, widen}
+pub use Rattle.suite_collect.specs.Collecting.{Ask, Asked, Collecting, Collector, Current, Next, Poll, Short, Upgrade, all_told, ask_or_short, collect, counted, got, is_left, is_member, members_of, mode_asked, mode_of, mode_or, needed}
+pub use Rattle.suite_collect.specs.Collecting.{needed_of, next, raise, request_for, tell, tell_at, told_since, version, votes_or, wanted, widen}
 pub use Rattle.suite_collect.specs.Telling.{busy_in, first_busy, greatest, has_refused, has_told, holds, newer, newest, shown, version_in}
 pub use Rattle.suite_collect.specs.declared.coming.Coming.{Coming}
 pub use Rattle.suite_collect.specs.declared.hearing.Hearing.{Hearing}
@@ -90,7 +67,6 @@ pub use Rattle.suite_prefix.specs.Copies.{held_by}
 pub use Rattle.suite_prefix.specs.LockModes.{serves}
 pub use Rattle.suite_prefix.specs.declared.copies.Prefix.{Prefix}
 pub use Rattle.suite_prefix.specs.declared.copies.PrefixKind.{PrefixKind}
-pub use Rattle.suite_prefix.specs.declared.copies.PrefixKind.TheVariants.{Absent, File, Folder}
 pub use Rattle.suite_prefix.specs.declared.lock_mode.LockMode.{LockMode}
 pub use Rattle.suite_prefix.specs.declared.lock_mode.LockMode.TheVariants.{Exclusive, Shared}
 pub use Rattle.vote_core.specs.Quorums.{Configuration, Representative, is_write_quorum, votes_in}
@@ -110,28 +86,25 @@ pub use Rattle.txn_core.specs.Laws.{task_of, told_by, told_of, told_verdict, was
 pub use Rattle.txn_core.specs.Moves.{Asks, AsksNothing, Collects, EndsIn, EveryResponseIsMoves, Executes, GivesUp, Hears, HearsTo, Move, Moves, MovesTo, Point, Prepares, PreparesAt, Stage, Tells, TellsAt, Widens, asks_on, decides, entry_of}
 pub use Rattle.txn_core.specs.Moves.{falls_short, fetches, gathering, gathers, gets, goes, grants, is_lacked, is_short, lacks_lock, lacks_wide, loses, misses, now_told, opens, passes, point, prepared_by, prepares, refuses, settles, stays}
 pub use Rattle.txn_core.specs.Moves.{strays, tells_next, told_all, unprepared, widening, widens, widens_by}
-pub use Rattle.txn_core.specs.Runs.{WorkedRuns}
 pub use Rattle.txn_core.specs.Standing.{FitsAsked, Standing, left_by}
 pub use Rattle.txn_core.specs.Suites.{GatheredSuite, ReadPoint, Suites, first_or, has_locks, holds_lock, known_if, known_of, known_row, row_with, settled, source_of, suite_of, told_at, told_in, with_suite}
-pub use Rattle.txn_core.specs.Sweeps.{after_answer, asked_now, lost, others, rising, sweep_on}
+pub use Rattle.txn_core.specs.Sweeps.{others, rising}
 pub use Rattle.txn_core.specs.Transactions.{Gathered, Step, after_lack, after_reply, after_response, after_search, asked_by, asked_for, cause_of_abort, changes_of, collected, decided, decision_of, ending_by, execute, fetched, fetched_at}
 pub use Rattle.txn_core.specs.Transactions.{fetched_for, finish, free_content, gather, gather_by, give_up, given_in, hear, heard_of, heard_on, is_poll, keep_content, lack_cause, locked_at, numbers_from, on_with, open_first, open_needed}
 pub use Rattle.txn_core.specs.Transactions.{open_suite, opened, opened_with, or_all, prepare, prepared, proceed, raised_or_new, request_in, request_of, said_to, short_cause, start_from, tell_end, to_widen, verdict_in, votes_after}
 pub use Rattle.txn_core.specs.Transactions.{votes_then, widen_all, widen_by, widen_one, widened}
-pub use Rattle.txn_core.specs.Undecided.{DidNotServe, EndsAreCaused, IsCaused, IsWanted, SetsVotes, Was, WasLost, WereGathered, is_finish, is_lack, says_aborted, says_down, stops}
 pub use Rattle.txn_core.specs.Wanting.{by_asking, by_reply, by_taking}
 pub use Rattle.txn_core.specs.Writing.{change_of, gets_votes, is_changed, part_of, parts_at, sets_votes}
 pub use Rattle.txn_core.specs.code.AgentFields.{Reaches, doing_of, standing_of}
-pub use Rattle.txn_core.specs.code.Equality.{same_ending_decides}
-pub use Rattle.txn_core.specs.code.Goings.{Begins, GoesBy, IsStep, IsUntouched, IsWidenedBy, IsWidenedFrom, Keeps, TellsNext, begun, ending_of, executed, fixed_by, given, held, held_from, held_where_asked, replied}
-pub use Rattle.txn_core.specs.code.Hearing.{CompletesAt, FallsShort, HearsAt, HearsFrom, HearsIn, IsFirstAfter, IsSettled, IsSound, SettlesAt, SettlesBy, ShowsUnused, asks_in, heard, heard_at, heard_next, heard_one, on_hearing}
+pub use Rattle.txn_core.specs.code.Goings.{Begins, GoesBy, IsStep, IsUntouched, IsWidenedFrom, Keeps, TellsNext, begun, ending_of, executed, fixed_by, held, held_from, replied}
+pub use Rattle.txn_core.specs.code.Hearing.{CompletesAt, FallsShort, HearsAt, HearsFrom, HearsIn, IsFirstAfter, IsSettled, SettlesAt, SettlesBy, ShowsUnused, asks_in, heard, heard_at, heard_next, heard_one, on_hearing}
 pub use Rattle.txn_core.specs.code.Learning.{Fits, IsKeepable, adds, content_kept, goes_on, kept_by, learned}
 pub use Rattle.txn_core.specs.code.NextPhases.{follow, gather_again, next_phase_of}
 pub use Rattle.txn_core.specs.code.Planning.{answer_of}
 pub use Rattle.txn_core.specs.code.Plans.{IsPlanOf, IsPlayed, carried_out, entries_on, fixed_in, free_first, free_of, kept_of, new_for, new_unless, opened_all, opened_at, opened_by, opened_first, raised_at, seen_on, shelved, takes_in}
 pub use Rattle.txn_core.specs.code.Plans.{to_open, with_asked, with_asked_at}
 pub use Rattle.txn_core.specs.code.Reaching.{IsReachedAt, IsReachedBy, IsReachedIf, IsReachedIn, IsReachedOn, IsReachedUnless, kept_after}
-pub use Rattle.txn_core.specs.code.Seeing.{Viewed, changed_at, first_at, known_by, learned_suites, seen_in, settled_with, view_of_suite, with_content, with_known}
+pub use Rattle.txn_core.specs.code.Seeing.{Viewed, changed_at, first_at, known_by, learned_suites, seen_in, settled_with, with_content}
 pub use Rattle.txn_core.specs.code.Sorting.{above, in_order}
 pub use Rattle.txn_core.specs.code.Steps.{Becomes, Steps, WidensTo, taken}
 pub use Rattle.txn_core.specs.code.TransactionRunFields.{phase_of, proposing}
@@ -140,15 +113,13 @@ pub use Rattle.txn_core.specs.declared.cache_after.Fetched.{Fetched}
 pub use Rattle.txn_core.specs.declared.ending.Cause.{Cause}
 pub use Rattle.txn_core.specs.declared.ending.Cause.TheVariants.{Busy, Full, HomeDown, Lost, Memory, Overruled, Unavailable}
 pub use Rattle.txn_core.specs.declared.ending.Ending.{Ending}
-pub use Rattle.txn_core.specs.declared.ending.Ending.TheVariants.{Answered, Refused, Swept, Undecided}
+pub use Rattle.txn_core.specs.declared.ending.Ending.TheVariants.{Undecided}
 pub use Rattle.txn_core.specs.declared.ending.Flow.{Flow}
 pub use Rattle.txn_core.specs.declared.ending.Flow.TheVariants.{Ended, On}
 pub use Rattle.txn_core.specs.declared.job.Job.{Job}
 pub use Rattle.txn_core.specs.declared.job.Job.TheVariants.{Sweep, Transaction}
 pub use Rattle.txn_core.specs.declared.learned.Learned.{Learned}
-pub use Rattle.txn_core.specs.declared.learned.Learned.TheVariants.{Nothing, Quorum}
 pub use Rattle.txn_core.specs.declared.next_phase.NextPhase.{NextPhase}
-pub use Rattle.txn_core.specs.declared.next_phase.NextPhase.TheVariants.{Fetch, Gather, Grant, Refuse}
 pub use Rattle.txn_core.specs.declared.pending_quorum.PendingQuorum.{PendingQuorum}
 pub use Rattle.txn_core.specs.declared.plan.Plan.{Plan}
 pub use Rattle.txn_core.specs.declared.resources.Resources.{Resources}

@@ -1,11 +1,12 @@
 -- The suites that get votes are widened one after the other.
 use Rattle.txn_core.proofs.Vocabulary.{◌≡◌, ℕ, ◌+◌, suc, true, false, cond, List, [], ◌∷◌, drop, map, length, get_or, ◌≤◌, ◌<◌, ◌⊎◌, inl, inr, refl, sym, ap, ◌∙◌, subst, arith, filter, slice_get, Option, Some, None, Ok, IsSome, nat_cmp}
-use Rattle.txn_core.proofs.Vocabulary.{drop-cons, drop_of_length-le, nat_cmp_total, eq_by_cmp_equiv, lookup_from_place, IsDistinct-from_sorted, slice_get_within, get_or_from_slice_get, slice_get_cases, none-some, IsOrdered, replace}
-use Rattle.txn_core.proofs.Vocabulary.{insert_present, Configuration, Change, Next, widen, next, Cache, Coming, Comes, Changes, Granted, Task, Widening, TransactionRun, Steps, WidensTo, Ending, GatheredSuite, Suites, suite_of}
-use Rattle.txn_core.proofs.Vocabulary.{with_suite, Step, on_with, give_up, short_cause, to_widen, votes_then, widened, widen_by, widen_one, widen_all, prepare, locked_at, change_of}
-use Rattle.suite_collect.specs.declared.coming.Coming.TheVariants as coming
+use Rattle.txn_core.proofs.Vocabulary.{drop-cons, nat_cmp_total, eq_by_cmp_equiv, lookup_from_place, IsDistinct-from_sorted, slice_get_within, get_or_from_slice_get, slice_get_cases, none-some, IsOrdered, replace, insert_present}
+use Rattle.txn_core.proofs.Vocabulary.{Configuration, Change, Next, widen, next, Cache, Coming, Comes, Changes, Granted, Task, Widening, TransactionRun, Steps, WidensTo, Ending, GatheredSuite, Suites, suite_of, with_suite, Step, on_with}
+use Rattle.txn_core.proofs.Vocabulary.{give_up, short_cause, to_widen, votes_then, widened, widen_by, widen_one, widen_all, prepare, locked_at, change_of}
+use Rattle.std.proofs.Math.ListN.{drop_of_length-le}
 use Rattle.suite_collect.specs.declared.coming.Asked.{Asked}
 use Rattle.txn_core.specs.code.Steps.{Widens}
+use Rattle.suite_collect.specs.declared.coming.Coming.TheVariants as coming
 
 -- ---- the changes from a place on
 
@@ -93,12 +94,6 @@ pub record Left (start : TransactionRun) (from : ℕ) (granted : Granted) (now :
   pub same : (cache : Cache) → widen_all start.task cache start.suites granted (to_widen (drop from granted.changes)) ≡ widen_all now.task cache now.suites granted (to_widen (drop at granted.changes))
 
 module _ (start : TransactionRun) (from : ℕ) (granted : Granted) (now : TransactionRun) (at : ℕ) (left : Left start from granted now at) where
-  pub left_passed : (number : ℕ) (change : Change) → slice_get granted.changes at ≡ Some (number, change) → change.votes ≡ false → Left start from granted now (at + 1)
-  left_passed number change is unset = record {
-    task = left.task;
-    same = λ cache. left.same cache ∙ ap (λ l. widen_all now.task cache now.suites granted l) (passed granted.changes at (number, change) is unset);
-  }
-
   -- once all are widened the servers prepare
   ended : (given : Changes) → drop at given ≡ [] → to_widen (drop at given) ≡ []
   ended given none = ap to_widen none

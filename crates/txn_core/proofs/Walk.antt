@@ -1,7 +1,7 @@
 -- One walk through what a transaction does with a response, for each claim on what is left after it.
-use Rattle.txn_core.proofs.Vocabulary.{ℕ, subst, Request, next, Cache, Suites, Response, Cause, Fixed, Task, Proposal, Phase, Gathering, Fetching, Widening, TransactionRun, After, GoesOn, Stage, Executes, Widens, Asks, Prepares}
-use Rattle.txn_core.proofs.Vocabulary.{PreparesAt, GivesUp, Tells, TellsAt, Point, point, EndsIn, Move, prepares, MovesTo, gathering, widening, Hears, settles, prepared_by, decides, tells_next, told_all, asks_on, Step, Gathered}
-use Rattle.txn_core.proofs.Vocabulary.{give_up, prepare, locked_at, execute, after_response}
+use Rattle.txn_core.proofs.Vocabulary.{ℕ, subst, Request, next, Cache, Suites, Response, Cause, Fixed, Task, Proposal, Phase, Gathering, Fetching, Widening, TransactionRun, After, GoesOn, Stage, Executes, Widens, Asks, Prepares, PreparesAt}
+use Rattle.txn_core.proofs.Vocabulary.{GivesUp, Tells, TellsAt, Point, point, EndsIn, Move, prepares, MovesTo, gathering, widening, Hears, settles, prepared_by, decides, tells_next, told_all, asks_on, Step, Gathered, give_up, prepare}
+use Rattle.txn_core.proofs.Vocabulary.{locked_at, execute, after_response}
 use Rattle.txn_core.proofs.Moving.{kept, execute_moves, response_moves}
 
 -- a phase in which locks and contents are gathered

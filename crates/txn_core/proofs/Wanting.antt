@@ -1,7 +1,7 @@
 -- Where memory may be wanting, phase by phase.
-use Rattle.txn_core.proofs.Vocabulary.{◌≡◌, ℕ, true, false, Option, Some, None, Result, Ok, Err, refl, sym, ap, ◌∙◌, List, ◌∷◌, is_some, IfErr, AllocError, Reply, is_held, is_answered, Asked, Poll, Upgrade, request_for, Flow, Response}
-use Rattle.txn_core.proofs.Vocabulary.{Replied, Agent, next_in, next_of, Fixed, Proposal, Gathering, Fetching, Widening, Deciding, Granted, TransactionRun, Doing, ReadPoint, GatheredSuite, suite_of, given_in, verdict_in, asked_by}
-use Rattle.txn_core.proofs.Vocabulary.{asked_for, fetched_at, fetched_for, request_in, request_of, by_reply, by_taking, asks_in}
+use Rattle.txn_core.proofs.Vocabulary.{◌≡◌, ℕ, true, false, Option, Some, None, Result, Ok, Err, refl, sym, ap, ◌∙◌, List, ◌∷◌, is_some, IfErr, AllocError, Reply, is_held, Asked, Poll, Upgrade, request_for, Flow, Replied, Fixed, Proposal}
+use Rattle.txn_core.proofs.Vocabulary.{Gathering, Widening, Deciding, Granted, TransactionRun, suite_of, verdict_in, asked_by, asked_for, request_in, request_of, by_reply, by_taking, asks_in}
+use Rattle.rep_core.specs.Service.{is_answered}
 use Rattle.rep_core.specs.declared.reply.Verdict.TheVariants as verdict
 use Rattle.txn_core.proofs.Replies.{server_of, asked_at, asks_of}
 
@@ -35,22 +35,6 @@ module _ (fixed : Fixed) (txn_run : TransactionRun) (server : ℕ) (said : Reply
       → IfErr result (λ _. is_held said ≡ true) → IfErr result (λ _. by_taking (request_of fixed txn_run) (Replied said) ≡ true)
   widening_wants number left granted result is asked told = told_if number result (ap (request_in fixed txn_run.task txn_run.suites) is) asked told
 
-  -- a content is fetched
-  fetched_wants : (number : ℕ) (found : Option GatheredSuite) → server_of (fetched_for txn_run.task number found) ≡ Some server → is_some (given_in said) ≡ true → by_taking (fetched_for txn_run.task number found) (Replied said) ≡ true
-  fetched_wants number None asked given = cc
-  fetched_wants number (Some suite) asked given = at suite.first asked
-    where
-      at : (first : Option ReadPoint) → server_of (fetched_at txn_run.task number first) ≡ Some server → by_taking (fetched_at txn_run.task number first) (Replied said) ≡ true
-      at (Some first) asked = given
-      at None asked = cc
-
-  pub fetching_wants : (number : ℕ) (result : Result Flow AllocError) → txn_run.phase ≡ Fetching number → server_of (request_of fixed txn_run) ≡ Some server → IfErr result (λ _. is_some (given_in said) ≡ true)
-      → IfErr result (λ _. by_taking (request_of fixed txn_run) (Replied said) ≡ true)
-  fetching_wants number (Ok ending) is asked given = tt
-  fetching_wants number (Err why) is asked given =
-      let same : request_of fixed txn_run ≡ fetched_for txn_run.task number (suite_of txn_run.suites number) = ap (request_in fixed txn_run.task txn_run.suites) is in
-      ap (λ what. by_taking what (Replied said)) same ∙ fetched_wants number (suite_of txn_run.suites number) (ap server_of (sym same) ∙ asked) given
-
 unasked_wants : (P : Type 0) (result : Result Flow AllocError) → IfErr result (λ _. false ≡ true) → IfErr result (λ _. P)
 unasked_wants P (Ok flow) some = tt
 unasked_wants P (Err why) some = cc
@@ -81,6 +65,3 @@ deciding_wants fixed txn_run said outcome (Ok ending) is answered = tt
 deciding_wants fixed txn_run said outcome (Err why) is answered = ap (λ phase. by_taking (request_in fixed txn_run.task txn_run.suites phase) (Replied said)) is ∙ answered
 
 -- ---- an agent
-
-pub taking_wants : (fixed : Fixed) (state : Agent) (response : Response) (doing : Option Doing) → state.doing ≡ doing → by_taking (next_in fixed doing) response ≡ true → by_taking (next_of fixed state) response ≡ true
-taking_wants fixed state response doing is wants = ap (λ doing. by_taking (next_in fixed doing) response) is ∙ wants

@@ -1,8 +1,8 @@
 -- What is written is fixed before the first Prepare.
 use Rattle.txn_core.proofs.Vocabulary.{◌≡◌, ℕ, true, false, cond, inl, inr, List, [], ◌∷◌, ◌++◌, Option, Some, None, refl, sym, ap, subst, ◌∙◌, false≢true, same_Some, Has, has_from, is_prepared, Part, Request, Verdict, Cache, Suites}
-use Rattle.txn_core.proofs.Vocabulary.{suite_of, parts_at, Response, Ending, Replied, Lacked, Lost, Undecided, Changes, home_of, Fixed, Task, Proposal, Phase, Gathering, Fetching, Widening, Preparing, Deciding, Finishing, Sweeping}
-use Rattle.txn_core.proofs.Vocabulary.{Listing, Resolving, Telling, Breaking, SweepRun, Doing, Running, RunningSweep, After, GoesOn, Ends, tell_end, give_up, prepare, locked_at, after_response, request_in, changes_of, decision_of}
-use Rattle.txn_core.proofs.Vocabulary.{verdict_in, ending_by, cause_of_abort, lack_cause, Agent, Event, Take, Forget, next_in, next_of, take_in, take, begin, forget, Exchange, exchange_of, exchanges, is_prepare, WhatIsWrittenIsFixed}
+use Rattle.txn_core.proofs.Vocabulary.{suite_of, parts_at, Response, Ending, Replied, Lacked, Lost, Undecided, Changes, home_of, Fixed, Task, Proposal, Phase, Gathering, Fetching, Widening, Preparing, Deciding, Finishing, Sweeping, Listing}
+use Rattle.txn_core.proofs.Vocabulary.{Resolving, Telling, Breaking, SweepRun, Doing, Running, RunningSweep, After, GoesOn, Ends, tell_end, give_up, prepare, locked_at, after_response, request_in, changes_of, decision_of, verdict_in}
+use Rattle.txn_core.proofs.Vocabulary.{ending_by, cause_of_abort, lack_cause, Agent, Event, Take, Forget, next_in, next_of, take_in, take, begin, forget, Exchange, exchange_of, exchanges, is_prepare, WhatIsWrittenIsFixed}
 use Rattle.rep_core.specs.declared.request.Request.TheVariants as request
 use Rattle.rep_core.specs.declared.reply.Verdict.TheVariants as verdict
 use Rattle.txn_core.specs.Sweeps as sweep
@@ -43,12 +43,10 @@ some_of : {later : List Exchange} → AllWrite later → SomeWrites later
 some_of all = record { suites = []; changes = []; writes = all [] [] }
 
 some_phase : (suites : Suites) (phase : Phase) (later : List Exchange) → InPhase suites phase later → SomeWrites later
-some_phase suites (Gathering number) later in' = in'
-some_phase suites (Fetching number) later in' = in'
-some_phase suites (Widening left granted) later in' = in'
 some_phase suites (Preparing left outcome) later in' = record { suites = suites; changes = changes_of outcome; writes = in' }
 some_phase suites (Deciding outcome) later in' = record { suites = suites; changes = changes_of outcome; writes = in' }
 some_phase suites (Finishing servers v ending) later in' = some_of in'
+some_phase suites _ later in' = in'
 
 some_doing : (doing : Option Doing) (later : List Exchange) → InDoing doing later → SomeWrites later
 some_doing (Some (Running txn_run)) later in' = some_phase txn_run.suites txn_run.phase later in'
@@ -154,12 +152,10 @@ all_none : AllWrite []
 all_none = λ suites changes. tt
 
 phase_none : (suites : Suites) (phase : Phase) → InPhase suites phase []
-phase_none suites (Gathering number) = some_of all_none
-phase_none suites (Fetching number) = some_of all_none
-phase_none suites (Widening left granted) = some_of all_none
 phase_none suites (Preparing left outcome) = tt
 phase_none suites (Deciding outcome) = tt
 phase_none suites (Finishing servers v ending) = all_none
+phase_none suites _ = some_of all_none
 
 doing_none : (doing : Option Doing) → InDoing doing []
 doing_none (Some (Running txn_run)) = phase_none txn_run.suites txn_run.phase

@@ -1,9 +1,5 @@
 -- Servers that are listed twice.
-use Rattle.std.proofs.Common.{◌≡◌, ℕ, Bool, true, false, ◌||◌, eqb, List, [], ◌∷◌, refl, sym, ap, ◌∙◌}
-use Rattle.std.specs.List.{list_any}
-use Rattle.std.proofs.lemmas.Bool.{or_from}
-use Rattle.vote_core.specs.Quorums.{Representative}
-use Rattle.vote_core.specs.Validity.{lists_twice}
+use Rattle.vote_core.proofs.Vocabulary.{◌≡◌, ℕ, Bool, true, false, ◌||◌, eqb, List, [], ◌∷◌, refl, sym, ap, ◌∙◌, list_any, or_from, Representative, lists_twice}
 
 -- whether a server of a set is listed
 abbrev pub lists_one : (ℕ → Bool) → List Representative → Bool

@@ -1,15 +1,11 @@
 -- Votes have no fault exactly where they are accepted.
-use Rattle.std.proofs.Common.{◌≡◌, ℕ, ◌+◌, ◌*◌, ◌<◌, ◌≤◌, Bool, true, false, ◌||◌, eqb, ltb, leb, List, [], ◌∷◌, map, length, All, Option, Some, None, cond, refl, sym, inl, inr, arith}
-use Rattle.std.specs.List.{list_any, IsDistinct, AllByRecursion as EachLater}
-use Rattle.std.proofs.lemmas.Bool.{or_parts, or_from, or_cases, eqb-true, eqb-false, ne_eqb, ltb-false, leb-false, lt-leb, le-ltb}
-use Rattle.std.proofs.lemmas.List.{length-map}
+use Rattle.vote_core.proofs.Vocabulary.{◌≡◌, ℕ, ◌+◌, ◌*◌, ◌<◌, ◌≤◌, Bool, true, false, ◌||◌, eqb, ltb, leb, List, [], ◌∷◌, map, length, All, Option, Some, None, cond, refl, sym, inl, inr, arith, or_parts, or_from, or_cases, eqb-true}
+use Rattle.vote_core.proofs.Vocabulary.{eqb-false, ne_eqb, ltb-false, leb-false, lt-leb, le-ltb, length-map, MAX_SERVERS, Representative, Configuration, total_votes, IsValid, IsAccepted, is_out_of_range, lists_twice, has_fault, first_fault}
+use Rattle.std.specs.List.{IsDistinct, list_any, AllByRecursion as EachLater}
 use Rattle.std.proofs.lemmas.List.Elements.{All-nil, All-cons, All-head, All-tail}
 use Rattle.std.proofs.lemmas.Map.Steps.{length-le_from_distinct_below}
-use Rattle.vote_core.specs.declared.TheConstants.{MAX_SERVERS}
-use Rattle.vote_core.specs.Quorums.{Representative, Configuration, total_votes}
 use Rattle.vote_core.specs.declared.fault.VotesFault.{VotesFault}
 use Rattle.vote_core.specs.declared.fault.VotesFault.TheVariants.{Empty, UnknownServer, ListedTwice, NoVotes, ThresholdOutOfRange, ReadMissesWrite, WritesDisjoint}
-use Rattle.vote_core.specs.Validity.{IsValid, IsAccepted, is_out_of_range, lists_twice, has_fault, first_fault}
 
 -- each server is known, and has a number that a set can hold
 pub each_known : (servers : ℕ) (reps : List Representative) → list_any (λ rep. leb servers rep.0 || leb MAX_SERVERS rep.0) reps ≡ false

@@ -1,10 +1,6 @@
 -- Representatives written over the front of an array, as `Votes` keeps them.
-use Rattle.std.proofs.Common.{◌≡◌, List, ◌++◌, length, take, drop, replicate, sym, subst}
+use Rattle.vote_core.proofs.Vocabulary.{◌≡◌, List, ◌++◌, length, take, drop, replicate, sym, subst, MAX_SERVERS, Representative, Configuration, IsValid, no_votes}
 use Rattle.std.proofs.Math.Seq.{take-append_seam}
-use Rattle.vote_core.specs.declared.TheConstants.{MAX_SERVERS}
-use Rattle.vote_core.specs.Quorums.{Representative, Configuration}
-use Rattle.vote_core.specs.Validity.{IsValid}
-use Rattle.vote_core.specs.code.VotesFields.{no_votes}
 use Rattle.vote_core.specs.code.Padding.{IsPadded, padded_front}
 use Rattle.vote_core.proofs.Faults.{few_if_valid}
 

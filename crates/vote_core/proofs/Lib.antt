@@ -1,3 +1,4 @@
+mod Vocabulary
 pub mod ServerSets
 pub mod Within
 pub mod Doubles

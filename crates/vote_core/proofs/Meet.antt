@@ -1,8 +1,6 @@
 -- Quorums that must meet do.
-use Rattle.std.proofs.Common.{◌≡◌, ℕ, ◌+◌, ◌<◌, Bool, true, false, cond, List, [], ◌∷◌, refl, inl, inr, arith, IsTrue}
-use Rattle.std.proofs.lemmas.Bool.{leb-true, eq-eqb, cases_order}
-use Rattle.vote_core.specs.Quorums.{Representative, Configuration, votes_in, total_votes, SharedMember, ReadsMeetWrites, WritesMeet}
-use Rattle.vote_core.specs.Validity.{IsValid}
+use Rattle.vote_core.proofs.Vocabulary.{◌≡◌, ℕ, ◌+◌, ◌<◌, Bool, true, false, cond, List, [], ◌∷◌, refl, inl, inr, arith, IsTrue, leb-true, eq-eqb, cases_order, Representative, Configuration, votes_in, total_votes, SharedMember}
+use Rattle.vote_core.proofs.Vocabulary.{ReadsMeetWrites, WritesMeet, IsValid}
 
 -- a member of the rest is one of the whole
 in_rest : (rep : Representative) (reps : List Representative) (first second : ℕ → Bool) → SharedMember reps first second → SharedMember (rep ∷ reps) first second

@@ -1,8 +1,6 @@
 -- The votes of one server.
-use Rattle.std.proofs.Common.{◌≡◌, ℕ, false, eqb, option_map, unwrap_or, List, [], ◌∷◌, map, refl, sym, ap, ◌∙◌, zero-add, inl, inr, arith}
-use Rattle.std.specs.List.{find, IsDistinct, AllByRecursion as EachLater}
-use Rattle.std.proofs.lemmas.Bool.{cases_Bool, eqb-true, eqb-false, ne_eqb}
-use Rattle.vote_core.specs.Quorums.{Representative, votes_at}
+use Rattle.vote_core.proofs.Vocabulary.{◌≡◌, ℕ, false, eqb, option_map, unwrap_or, List, [], ◌∷◌, map, refl, sym, ap, ◌∙◌, zero-add, inl, inr, arith, cases_Bool, eqb-true, eqb-false, ne_eqb, Representative, votes_at}
+use Rattle.std.specs.List.{IsDistinct, find, AllByRecursion as EachLater}
 
 -- a server that is not listed has no votes
 not_listed : (server : ℕ) (reps : List Representative) → EachLater (λ other. eqb server other ≡ false) (map (λ rep. rep.0) reps) → votes_at reps server ≡ 0

@@ -1,9 +1,6 @@
 -- What crates above use of sets of servers: a wider set has more votes, and a quorum has a voting member.
-use Rattle.std.proofs.Common.{◌≡◌, ℕ, ◌<◌, ◌≤◌, Bool, true, false, cond, eqb, IsTrue, List, [], ◌∷◌, length, get_or, zero, suc, refl, inl, inr, arith}
-use Rattle.std.specs.List.{Any}
-use Rattle.std.proofs.lemmas.Bool.{cases_Bool, cases_lt, leb-true, le-leb, eq-eqb, eqb-true}
-use Rattle.vote_core.specs.Quorums.{Representative, Configuration, votes_in, votes_at, total_votes, is_read_quorum, is_write_quorum, SharedMember}
-use Rattle.vote_core.specs.Validity.{IsValid}
+use Rattle.vote_core.proofs.Vocabulary.{◌≡◌, ℕ, ◌<◌, ◌≤◌, Bool, true, false, cond, eqb, IsTrue, List, [], ◌∷◌, suc, refl, inl, inr, arith, Any, cases_Bool, cases_lt, le-leb, eqb-true, Representative, Configuration, votes_in, votes_at}
+use Rattle.vote_core.proofs.Vocabulary.{total_votes, is_read_quorum, is_write_quorum, SharedMember, IsValid}
 use Rattle.vote_core.proofs.Meet.{reads_meet_writes, writes_meet}
 
 part : (b c : Bool) (n : ℕ) → (b ≡ true → c ≡ true) → cond b n 0 ≤ cond c n 0
@@ -15,13 +12,6 @@ pub votes_in-wider : (reps : List Representative) (set wider : ℕ → Bool) →
 votes_in-wider [] set wider h = omega arith
 votes_in-wider (rep ∷ reps) set wider h = omega (arith, part (set rep.0) (wider rep.0) rep.1 (h rep.0), votes_in-wider reps set wider h)
 
--- a set with a quorum in it is a quorum
-pub read_quorum-wider : (votes : Configuration) (set wider : ℕ → Bool) → ((server : ℕ) → IsTrue (set server) → IsTrue (wider server)) → IsTrue (is_read_quorum votes set) → IsTrue (is_read_quorum votes wider)
-read_quorum-wider votes set wider h quorum = le-leb votes.r (votes_in votes.reps wider) (omega (arith, leb-true votes.r (votes_in votes.reps set) quorum, votes_in-wider votes.reps set wider h))
-
-pub write_quorum-wider : (votes : Configuration) (set wider : ℕ → Bool) → ((server : ℕ) → IsTrue (set server) → IsTrue (wider server)) → IsTrue (is_write_quorum votes set) → IsTrue (is_write_quorum votes wider)
-write_quorum-wider votes set wider h quorum = le-leb votes.w (votes_in votes.reps wider) (omega (arith, leb-true votes.w (votes_in votes.reps set) quorum, votes_in-wider votes.reps set wider h))
-
 -- all servers together are a write quorum of valid votes
 everyone_writes : (votes : Configuration) → IsValid votes → IsTrue (is_write_quorum votes (λ _. true))
 everyone_writes votes valid = le-leb votes.w (total_votes votes.reps) valid.w_in_range.1
@@ -32,12 +22,6 @@ read_quorum_has_member votes valid set quorum = reads_meet_writes votes valid se
 
 pub write_quorum_has_member : (votes : Configuration) → IsValid votes → (set : ℕ → Bool) → IsTrue (is_write_quorum votes set) → SharedMember votes.reps set (λ _. true)
 write_quorum_has_member votes valid set quorum = writes_meet votes valid set (λ _. true) quorum (everyone_writes votes valid)
-
--- a server has the votes that stand at each of its places
-pub votes_at-listed : (reps : List Representative) (k : ℕ) (d : Representative) → k < length reps → (get_or reps k d).1 ≤ votes_at reps (get_or reps k d).0
-votes_at-listed [] k d inside = absurd (omega arith)
-votes_at-listed (rep ∷ reps) zero d inside = rw (eq-eqb rep.0 rep.0 refl) (omega arith)
-votes_at-listed (rep ∷ reps) (suc k) d inside = let later = votes_at-listed reps k d (omega arith) in omega (arith, later)
 
 -- a server with a vote is listed with it
 pub voting_listed : (reps : List Representative) (server : ℕ) → 0 < votes_at reps server → Any (λ rep. (rep.0 ≡ server) × (0 < rep.1)) reps

@@ -1,14 +1,8 @@
 -- What a word's changes do to the set that it stands for.
-use Rattle.std.proofs.Common.{◌≡◌, ℕ, ◌*◌, ◌%◌, ◌^◌, ◌<◌, ◌≤◌, Bool, ◌&&◌, ◌||◌, eqb, ltb, max, bit_or, w32, true, false, refl, sym, ap, ◌∙◌, inl, inr, arith}
-use Rattle.std.proofs.lemmas.Bool.{cases_eq, and_right, eq-eqb, ne_eqb, lt-ltb}
-use Rattle.std.proofs.lemmas.Bool.Decides.{nat_tests}
-use Rattle.std.proofs.lemmas.Nat.Bits.{bit_at-lt, bit_at_or, bit_at-zero, bit_at_set_same, bit_at_set_other}
-use Rattle.std.specs.Int.{bit_at}
-use Rattle.std.specs.Ordering.{nat_cmp}
-use Rattle.std.specs.Cmp.{nat_cmp_total, unsigned_tied}
-use Rattle.std.specs.FinSet as set
+use Rattle.vote_core.proofs.Vocabulary.{◌≡◌, ℕ, ◌*◌, ◌%◌, ◌^◌, ◌<◌, ◌≤◌, Bool, ◌&&◌, ◌||◌, eqb, ltb, max, bit_or, w32, true, false, refl, sym, ap, ◌∙◌, inl, inr, arith, cases_eq, and_right, eq-eqb, ne_eqb, lt-ltb, nat_tests, bit_at-lt}
+use Rattle.vote_core.proofs.Vocabulary.{bit_at_or, bit_at-zero, bit_at_set_same, bit_at_set_other, bit_at, nat_cmp, nat_cmp_total, unsigned_tied, contains-set_below}
 use Rattle.vote_core.specs.code.ServerBits.{set_below}
-use Rattle.vote_core.specs.code.ServerBitLaws.{contains-set_below}
+use Rattle.std.specs.FinSet as set
 
 -- a server is in a set to which one is added if it is that one or was in it
 pub contains_inserted : (members : set.FinSet nat_cmp) (k q : ℕ) → set.contains (set.insert members k) q ≡ (eqb q k || set.contains members q)

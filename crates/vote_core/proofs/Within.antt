@@ -1,21 +1,10 @@
 -- Sets whose servers are all numbered below some number.
-use Rattle.std.proofs.Common.{◌≡◌, ℕ, zero, suc, ◌+◌, ◌*◌, ◌/◌, ◌%◌, ◌^◌, ◌<◌, ◌≤◌, Bool, true, cond, ◌||◌, List, [], ◌∷◌, eqb, ltb, refl, sym, ap, subst, ◌∙◌, zero-add, inl, inr, arith}
+use Rattle.vote_core.proofs.Vocabulary.{◌≡◌, ℕ, zero, suc, ◌+◌, ◌*◌, ◌/◌, ◌%◌, ◌^◌, ◌<◌, ◌≤◌, Bool, true, cond, ◌||◌, List, [], ◌∷◌, eqb, ltb, refl, sym, ap, subst, ◌∙◌, zero-add, inl, inr, arith, list_any, list_all, nat_cmp, eq_by_cmp}
+use Rattle.vote_core.proofs.Vocabulary.{unsigned_tied, FinSet, contains, items, contains-items, cases_eq, cases_Bool, and_parts, and_from, eq-eqb, ne_eqb, ltb-true, ltb-false, lt-ltb, eqb-true, false≢true, same_from_decides, bit_at_above}
+use Rattle.vote_core.proofs.Vocabulary.{div-eq_of_lt, lt-div-mul-add, bit_at, mod_below, pow_pos, are_below, same_servers, same_servers_decides, word_part, word-set_below, contains-set_below}
 use Rattle.std.specs.Bool.{Decides}
-use Rattle.std.specs.List.{list_any, list_all}
-use Rattle.std.specs.Ordering.{nat_cmp, eq_by_cmp}
-use Rattle.std.specs.Cmp.{unsigned_tied}
-use Rattle.std.specs.FinSet.{FinSet, contains, items, contains-items}
 use Rattle.std.proofs.Math.Bool.{or-true}
-use Rattle.std.proofs.lemmas.Bool.{cases_eq, cases_Bool, and_parts, and_from, eq-eqb, ne_eqb, ltb-true, ltb-false, lt-ltb, eqb-true, false≢true}
-use Rattle.std.proofs.lemmas.Bool.Decides.{same_from_decides}
-use Rattle.std.proofs.lemmas.Nat.Bits.{bit_at_above}
-use Rattle.std.proofs.Math.Nat.{div-eq_of_lt, lt-div-mul-add}
-use Rattle.std.specs.Int.{bit_at}
-use Rattle.std.proofs.lemmas.Nat.{mod_below, pow_pos}
-use Rattle.vote_core.specs.Servers.{are_below}
-use Rattle.vote_core.specs.code.SameServers.{same_servers, same_servers_decides}
 use Rattle.vote_core.specs.code.ServerBits.{set_below, word_below}
-use Rattle.vote_core.specs.code.ServerBitLaws.{word_part, word-set_below, contains-set_below}
 
 has : ℕ → List ℕ → Bool
 has q ks = list_any (eq_by_cmp nat_cmp q) ks

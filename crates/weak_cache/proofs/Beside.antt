@@ -1,13 +1,8 @@
 -- What is found beside a new entry.
-use Rattle.std.proofs.Common.{◌≡◌, ℕ, ◌+◌, ◌-◌, ◌≤◌, ◌<◌, leb, ltb, Bool, true, false, cond, not, ◌&&◌, ◌⊎◌, inl, inr, zero, suc, Option, None, Some, [], ◌∷◌, ◌++◌, length, refl, sym, ap, ◌∙◌, arith, eq-eqb, append-nil, length-append}
-use Rattle.std.specs.Prelude.{◌==◌, filter, find, is_some, IsSome, IsTrue}
-use Rattle.std.proofs.lemmas.Bool.{eqb-true, false≢true, le-leb, lt-ltb, leb-true, ltb-true}
-use Rattle.std.specs.Option.{option_copied}
+use Rattle.weak_cache.proofs.Vocabulary.{◌≡◌, ℕ, ◌+◌, ◌-◌, ◌≤◌, ◌<◌, leb, ltb, Bool, true, false, cond, not, ◌&&◌, ◌⊎◌, inl, inr, zero, suc, Option, None, Some, [], ◌∷◌, ◌++◌, length, refl, sym, ap, ◌∙◌, arith, eq-eqb, append-nil}
+use Rattle.weak_cache.proofs.Vocabulary.{length-append, ◌==◌, filter, find, is_some, IsSome, IsTrue, eqb-true, false≢true, le-leb, lt-ltb, leb-true, ltb-true, option_copied, last_of, Entry, Cache, size_of, sum_of, is_at, is_of, list_of}
+use Rattle.weak_cache.proofs.Vocabulary.{forgotten, entry_of, without, Limits, has_room, put, at_version, content_at, in_front, used, searched, within_quota, within_budget, stays, room_after}
 use denote.Bor.{Bor}
-use Rattle.recency.specs.Order.{last_of}
-use Rattle.weak_cache.specs.Entries.{Entry, Cache, size_of, sum_of, is_at, is_of, list_of, forgotten, entry_of, without}
-use Rattle.weak_cache.specs.Cache.{Limits, has_room, put, at_version, content_at, in_front, used, searched, within_quota, within_budget}
-use Rattle.weak_cache.specs.code.Beside.{stays, room_after}
 use Rattle.weak_cache.proofs.Fewer.{Fewer, fewer_filter, list_fewer, sum_fewer, length_fewer}
 use Rattle.weak_cache.proofs.Keeping.{both, sum_of-append, quota_fits, budget_fits, budget_evicts}
 use Rattle.weak_cache.proofs.Found.{find_kept, find_gone, of_same}

@@ -1,11 +1,6 @@
 -- The counts of entries when one comes or goes.
-use Rattle.std.proofs.Common.{◌≡◌, ℕ, ◌+◌, ◌-◌, ◌≤◌, ◌<◌, ◌≢◌, true, false, cond, [], ◌∷◌, ◌++◌, set, not, refl, sym, ap, ◌∙◌, arith, length-append, eq-eqb}
-use Rattle.std.specs.Prelude.{slice_index}
-use Rattle.std.proofs.lemmas.Bool.{eqb-true, false≢true}
-use Rattle.std.proofs.lemmas.List.{get_or-set_same, get_or-set_other, length-set}
-use Rattle.weak_cache.specs.Entries.{Entry, Cache, size_of, sum_of, is_at, list_of, forgotten}
-use Rattle.weak_cache.specs.declared.tally.Sums.{Sums}
-use Rattle.weak_cache.specs.code.Counts.{IsEntry, IsTally}
+use Rattle.weak_cache.proofs.Vocabulary.{◌≡◌, ℕ, ◌+◌, ◌-◌, ◌≤◌, ◌<◌, ◌≢◌, true, false, cond, [], ◌∷◌, ◌++◌, set, not, refl, sym, ap, ◌∙◌, arith, length-append, eq-eqb, slice_index, eqb-true, false≢true, get_or-set_same, get_or-set_other}
+use Rattle.weak_cache.proofs.Vocabulary.{length-set, Entry, Cache, size_of, sum_of, is_at, list_of, forgotten, Sums, IsEntry, IsTally}
 use Rattle.weak_cache.proofs.Keeping.{sum_of-append}
 
 -- with an entry of a site that takes so many bytes
@@ -63,22 +58,6 @@ tally_dropped t newer e older small h = record {
   all = length-set t.sites e.site (slice_index t.sites e.site - size_of e.content) ∙ h.all;
 }
 
-pub tally_added : (t : Sums) (e : Entry) (c : Cache) → e.site < 16 → IsTally t c → IsTally (added t e.site (size_of e.content)) (e ∷ c)
-tally_added t e c small h = record {
-  count = omega (arith, h.count);
-  sum = omega (arith, h.sum);
-  sites = λ site fits. elim (is_at site e) as (λ b. is_at site e ≡ b → slice_index (set t.sites e.site (slice_index t.sites e.site + size_of e.content)) site ≡ sum_of (cond b (e ∷ list_of site c) (list_of site c))) [
-    | true ↦ λ own.
-        let same : e.site ≡ site = eqb-true e.site site own in
-        let here : slice_index (set t.sites e.site (slice_index t.sites e.site + size_of e.content)) e.site
-        ≡ slice_index t.sites e.site + size_of e.content = get_or-set_same t.sites e.site (slice_index t.sites e.site + size_of e.content) 0 (omega (arith, h.all, small)) in
-        let value : slice_index (set t.sites e.site (slice_index t.sites e.site + size_of e.content)) e.site ≡ size_of e.content + sum_of (list_of e.site c) = omega (arith, here, h.sites e.site small) in
-        ap (slice_index (set t.sites e.site (slice_index t.sites e.site + size_of e.content))) (sym same) ∙ value ∙ ap (λ s. size_of e.content + sum_of (list_of s c)) same
-    | false ↦ λ other. get_or-set_other t.sites e.site site (slice_index t.sites e.site + size_of e.content) 0 (apart site e other) ∙ h.sites site fits
-  ] refl;
-  all = length-set t.sites e.site (slice_index t.sites e.site + size_of e.content) ∙ h.all;
-}
-
 -- what goes was counted
 pub counted_between : (t : Sums) (newer : Cache) (e : Entry) (older : Cache) → e.site < 16 → IsTally t (newer ++ e ∷ older) → (size_of e.content ≤ t.sum) × (size_of e.content ≤ slice_index t.sites e.site) × (1 ≤ t.count)
 counted_between t newer e older small h = (
@@ -91,10 +70,6 @@ counted_between t newer e older small h = (
 pub tally_less : (t : Sums) (newer : Cache) (e : Entry) (older : Cache) (site size at : ℕ) → at ≡ site → e.site < 16 → IsEntry e site size → IsTally t (newer ++ e ∷ older)
     → IsTally (record { count = t.count - 1; sum = t.sum - size; sites = set t.sites at (slice_index t.sites at - size) }) (newer ++ older)
 tally_less t newer e older site size at place small is h = rw (place, sym is.own_site, sym is.own_size) (tally_dropped t newer e older small h)
-
-pub tally_more : (t : Sums) (e : Entry) (c : Cache) (site size at : ℕ) → at ≡ site → e.site < 16 → IsEntry e site size → IsTally t c
-    → IsTally (record { count = t.count + 1; sum = t.sum + size; sites = set t.sites at (slice_index t.sites at + size) }) (e ∷ c)
-tally_more t e c site size at place small is h = rw (place, sym is.own_site, sym is.own_size) (tally_added t e c small h)
 
 -- an entry that becomes the newest
 pub tally_moved : (t : Sums) (newer : Cache) (e : Entry) (older : Cache) → IsTally t (newer ++ e ∷ older) → IsTally t (e ∷ newer ++ older)

@@ -1,8 +1,5 @@
 -- A list with fewer entries than another is within what that one is within.
-use Rattle.std.proofs.Common.{◌≡◌, ℕ, ◌+◌, ◌≤◌, Bool, true, false, cond, [], ◌∷◌, ◌++◌, length, refl, ap, arith}
-use Rattle.std.specs.Prelude.{filter}
-use Rattle.weak_cache.specs.Entries.{Entry, Cache, size_of, sum_of, is_at, is_of, list_of}
-use Rattle.weak_cache.specs.Cache.{Limits, IsWithin}
+use Rattle.weak_cache.proofs.Vocabulary.{◌≡◌, ℕ, ◌+◌, ◌≤◌, Bool, true, false, cond, [], ◌∷◌, ◌++◌, length, refl, ap, arith, filter, Entry, Cache, size_of, sum_of, is_at, is_of, list_of, Limits, IsWithin}
 
 -- what entries come to together
 abbrev pub total : (Entry → ℕ) → Cache → ℕ

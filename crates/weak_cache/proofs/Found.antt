@@ -1,15 +1,10 @@
 -- What is found was put.
-use Rattle.std.proofs.Common.{◌≡◌, ℕ, ◌-◌, leb, ltb, Bool, true, false, cond, not, ◌&&◌, ◌⊎◌, inl, inr, Option, None, Some, List, [], ◌∷◌, refl, sym, ap, ◌∙◌}
-use Rattle.std.specs.Prelude.{◌==◌, filter, find, is_some, option_map}
-use Rattle.std.specs.List.{list_all}
-use Rattle.std.proofs.lemmas.Bool.{eqb-true, false≢true}
-use Rattle.weak_cache.specs.Entries.{Entry, Cache, size_of, is_at, is_of, forgotten, entry_of, without}
-use Rattle.weak_cache.specs.Cache.{Limits, content_at, at_version, in_front, used, searched, has_room, put, within_quota, within_budget}
-use Rattle.weak_cache.specs.code.Beside.{stays}
+use Rattle.weak_cache.proofs.Vocabulary.{◌≡◌, ℕ, ◌-◌, leb, ltb, Bool, true, false, cond, not, ◌&&◌, ◌⊎◌, inl, inr, Option, None, Some, List, [], ◌∷◌, refl, sym, ap, ◌∙◌, ◌==◌, filter, find, is_some, option_map, list_all, eqb-true}
+use Rattle.weak_cache.proofs.Vocabulary.{false≢true, Entry, Cache, size_of, is_at, is_of, forgotten, entry_of, without, Limits, content_at, at_version, in_front, used, searched, has_room, put, within_quota, within_budget, stays}
 use Rattle.weak_cache.specs.Calls.{Call, ContentAt, Put, Forget, after, run, spares, WasPut}
 use Rattle.weak_cache.specs.Laws.{HintWasPut, ContentWasPut, FoundWasPut}
-use Rattle.weak_cache.proofs.Keeping.{both}
 use Rattle.std.specs.Cmp.Derive.{both_true}
+use Rattle.weak_cache.proofs.Keeping.{both}
 use Rattle.weak_cache.proofs.Puts.{beside, put_is, put_none, same_number}
 
 -- ---- a list that some entries left

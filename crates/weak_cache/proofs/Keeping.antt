@@ -1,10 +1,6 @@
 -- What is left where the oldest entries go.
-use Rattle.std.proofs.Common.{◌≡◌, ℕ, ◌+◌, ◌-◌, ◌<◌, ◌≤◌, leb, ltb, Bool, true, false, cond, not, ◌&&◌, ◌⊎◌, inl, inr, [], ◌∷◌, ◌++◌, length, refl, sym, ap, ◌∙◌, arith, append-nil}
-use Rattle.std.specs.Prelude.{filter}
-use Rattle.std.proofs.lemmas.List.Elements.{filter-append}
-use Rattle.std.proofs.lemmas.Bool.{le-leb, leb-true, lt-ltb, ltb-true}
-use Rattle.weak_cache.specs.Entries.{Entry, Cache, size_of, sum_of, is_at, list_of, forgotten}
-use Rattle.weak_cache.specs.Cache.{within_quota, within_budget}
+use Rattle.weak_cache.proofs.Vocabulary.{◌≡◌, ℕ, ◌+◌, ◌-◌, ◌<◌, ◌≤◌, leb, ltb, Bool, true, false, cond, not, ◌&&◌, ◌⊎◌, inl, inr, [], ◌∷◌, ◌++◌, length, refl, sym, ap, ◌∙◌, arith, append-nil, filter, filter-append, le-leb, leb-true, lt-ltb}
+use Rattle.weak_cache.proofs.Vocabulary.{ltb-true, Entry, Cache, size_of, sum_of, is_at, list_of, forgotten, within_quota, within_budget}
 use Rattle.weak_cache.proofs.Fewer.{Fewer, fewer_same, fewer_none, fewer_more, fewer_without, fewer_filter}
 
 abbrev with' : Entry → Cache → Cache

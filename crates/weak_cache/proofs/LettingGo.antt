@@ -1,11 +1,6 @@
 -- The newest that have room are what is left where the oldest go while there is too much.
-use Rattle.std.proofs.Common.{◌≡◌, ℕ, ◌-◌, ◌<◌, leb, ltb, Bool, true, false, cond, not, ◌||◌, ◌⊎◌, inl, inr, [], ◌∷◌, ◌++◌, length, reverse, refl, sym, ap, ◌∙◌, arith}
-use Rattle.std.proofs.lemmas.List.{append-nil, length-reverse, reverse-append, reverse-reverse}
-use Rattle.std.proofs.lemmas.List.Elements.{filter-append}
-use Rattle.std.proofs.lemmas.Bool.{ltb-true, ltb-false}
-use Rattle.weak_cache.specs.Entries.{Entry, Cache, size_of, sum_of, is_at, list_of, forgotten, without}
-use Rattle.weak_cache.specs.Cache.{Limits, has_room, within_quota, within_budget}
-use Rattle.weak_cache.specs.LettingGo.{lets_go_at, is_above, lets_go, OldestGo}
+use Rattle.weak_cache.proofs.Vocabulary.{◌≡◌, ℕ, ◌-◌, ◌<◌, leb, ltb, Bool, true, false, cond, not, ◌||◌, ◌⊎◌, inl, inr, [], ◌∷◌, ◌++◌, length, reverse, refl, sym, ap, ◌∙◌, arith, append-nil, length-reverse, reverse-append, reverse-reverse}
+use Rattle.weak_cache.proofs.Vocabulary.{filter-append, ltb-true, ltb-false, Entry, Cache, size_of, sum_of, is_at, list_of, forgotten, without, Limits, has_room, within_quota, within_budget, lets_go_at, is_above, lets_go, OldestGo}
 use Rattle.weak_cache.proofs.Keeping.{sum_of-append, quota_fits, quota_evicts, budget_fits, budget_evicts}
 
 abbrev with' : Entry → Cache → Cache

@@ -1,3 +1,4 @@
+mod Vocabulary
 pub mod Fewer
 pub mod Keeping
 pub mod Puts

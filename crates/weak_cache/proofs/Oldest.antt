@@ -1,13 +1,8 @@
 -- The oldest entries on a shelf, as they go.
-use Rattle.std.proofs.Common.{◌≡◌, ℕ, ◌+◌, ◌≤◌, ◌<◌, Bool, true, List, [], ◌∷◌, ◌++◌, length, map, Some, None, inl, inr, refl, sym, ap, ◌∙◌, subst, arith, ne_eqb, length-append, eq-eqb}
-use Rattle.std.specs.Prelude.{filter, option_map}
-use Rattle.std.proofs.lemmas.List.Elements.{filter-append}
-use Rattle.recency.specs.Paths.{In, Once}
-use Rattle.recency.specs.Order.{last_of}
-use Rattle.recency.specs.Shelf.{value_of, without}
+use Rattle.weak_cache.proofs.Vocabulary.{◌≡◌, ℕ, ◌+◌, ◌≤◌, ◌<◌, Bool, true, List, [], ◌∷◌, ◌++◌, length, map, Some, None, inl, inr, refl, sym, ap, ◌∙◌, subst, arith, ne_eqb, length-append, eq-eqb, filter, option_map, filter-append, In}
+use Rattle.weak_cache.proofs.Vocabulary.{Once, last_of, value_of, Entry, Cache, is_of, list_of, entry_of, size_of, sum_of, Slotted, values, Sited}
+use Rattle.recency.specs.Shelf.{without}
 use Rattle.recency.specs.Shelf as shelf
-use Rattle.weak_cache.specs.Entries.{Entry, Cache, is_of, list_of, entry_of, size_of, sum_of}
-use Rattle.weak_cache.specs.code.Shelved.{Slotted, values, Sited}
 use Rattle.weak_cache.proofs.Keeping.{EndsAt, sum_of-append}
 use Rattle.weak_cache.proofs.Shelving.{slots_of, oldest_cut, oldest_cut_of, none_oldest_of, values_append, sited_between, site_behind, list_is, count_between, none_found}
 

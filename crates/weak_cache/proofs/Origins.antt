@@ -1,10 +1,8 @@
 -- Where the entries of a cache come from.
-use Rattle.std.proofs.Common.{◌≡◌, ℕ, suc, ◌-◌, leb, ltb, Bool, true, false, cond, not, ◌&&◌, ◌⊎◌, inl, inr, Option, None, Some, [], ◌∷◌, refl, sym, ap, subst, ◌∙◌, arith}
-use Rattle.std.specs.Prelude.{filter, find, is_some, option_map, All, Contains}
-use Rattle.std.proofs.lemmas.List.Elements.{All-nil, All-cons, All-weaker, All-contains}
+use Rattle.weak_cache.proofs.Vocabulary.{◌≡◌, ℕ, suc, ◌-◌, leb, ltb, Bool, true, false, cond, not, ◌&&◌, ◌⊎◌, inl, inr, Option, None, Some, [], ◌∷◌, refl, sym, ap, subst, ◌∙◌, arith, filter, find, is_some, option_map, All, Contains}
+use Rattle.weak_cache.proofs.Vocabulary.{All-nil, All-cons, All-weaker, All-contains, Entry, Cache, size_of, is_at, is_of, forgotten, entry_of, without, Limits, content_at, at_version, in_front, used, searched, has_room, put, within_quota}
+use Rattle.weak_cache.proofs.Vocabulary.{within_budget}
 use Rattle.suite_prefix.specs.declared.copies.Prefix.{Prefix}
-use Rattle.weak_cache.specs.Entries.{Entry, Cache, size_of, is_at, is_of, forgotten, entry_of, without}
-use Rattle.weak_cache.specs.Cache.{Limits, content_at, at_version, in_front, used, searched, has_room, put, within_quota, within_budget}
 use Rattle.weak_cache.specs.Laws.{SearchKeepsAll, EntriesComeFromPuts}
 use Rattle.weak_cache.proofs.Found.{find_passes, searched_found}
 use Rattle.weak_cache.proofs.Puts.{beside, put_is, put_none}

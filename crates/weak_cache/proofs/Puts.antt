@@ -1,15 +1,8 @@
 -- What a cache is after a put.
-use Rattle.std.proofs.Common.{◌≡◌, ℕ, ◌-◌, ◌≤◌, leb, ltb, true, false, cond, not, ◌&&◌, [], ◌∷◌, ◌++◌, length, refl, sym, ap, ◌∙◌, arith, eq-eqb}
-use Rattle.std.specs.Prelude.{◌==◌, filter}
-use Rattle.std.proofs.lemmas.Bool.{leb-true, ltb-true, eqb-true}
-use Rattle.weak_cache.specs.Entries.{Entry, Cache, size_of, sum_of, is_at, is_of, list_of, without}
-use Rattle.weak_cache.specs.Cache.{Limits, IsWithin, has_room, put, within_quota, within_budget}
-use Rattle.weak_cache.proofs.Fewer.{Fewer, fewer_filter, fewer_then, fewer_moved, within_fewer, list_fewer, once_fewer}
+use Rattle.weak_cache.proofs.Vocabulary.{◌≡◌, ℕ, ◌-◌, ◌≤◌, leb, ltb, true, false, cond, not, ◌&&◌, [], ◌∷◌, length, refl, sym, ap, ◌∙◌, arith, eq-eqb, ◌==◌, filter, leb-true, ltb-true, eqb-true, Entry, Cache, size_of, sum_of, is_at, is_of}
+use Rattle.weak_cache.proofs.Vocabulary.{list_of, without, Limits, IsWithin, has_room, put, within_quota, within_budget}
+use Rattle.weak_cache.proofs.Fewer.{Fewer, fewer_filter, fewer_then, list_fewer, once_fewer}
 use Rattle.weak_cache.proofs.Keeping.{both, quota_fewer, quota_sum, budget_fewer, budget_sum}
-
-pub within_moved : (limits : Limits) (c moved newer : Cache) (e : Entry) (older : Cache) → c ≡ newer ++ e ∷ older → moved ≡ e ∷ newer ++ older
-    → IsWithin (record { limits = limits; entries = c }) → IsWithin (record { limits = limits; entries = moved })
-within_moved limits c moved newer e older parts is h = within_fewer limits moved c h (rw (parts, is) (fewer_moved newer e older))
 
 -- what is kept beside a new entry
 abbrev pub beside : Limits → Entry → Cache → Cache

@@ -1,8 +1,5 @@
 -- A cache that was searched is within what it was within.
-use Rattle.std.proofs.Common.{◌≡◌, ℕ, ◌≤◌, true, false, cond, None, Some, ◌∷◌, ◌++◌, length, refl, ap, arith}
-use Rattle.std.specs.Prelude.{filter, is_some}
-use Rattle.weak_cache.specs.Entries.{Entry, Cache, is_of, entry_of, without}
-use Rattle.weak_cache.specs.Cache.{Limits, IsWithin, in_front, used, content_at, searched}
+use Rattle.weak_cache.proofs.Vocabulary.{◌≡◌, ℕ, ◌≤◌, true, false, cond, None, Some, ◌∷◌, ◌++◌, length, refl, ap, arith, filter, is_some, Entry, Cache, is_of, entry_of, without, Limits, IsWithin, in_front, used, content_at, searched}
 use Rattle.weak_cache.proofs.Fewer.{Fewer, fewer_moved, within_fewer}
 use Rattle.weak_cache.proofs.Shelving.{find_cut, count_between, alone}
 

@@ -1,19 +1,12 @@
 -- The entries on a shelf, as one comes or goes.
-use Rattle.std.proofs.Common.{◌≡◌, ℕ, ◌+◌, ◌≤◌, inl, inr, Bool, true, false, cond, not, List, [], ◌∷◌, ◌++◌, length, map, Option, Some, None, refl, sym, ap, ◌∙◌, subst, arith, eq-eqb, ne_eqb, length-append}
-use Rattle.std.specs.Prelude.{◌==◌, ◌&&◌, filter, find, option_map}
-use Rattle.std.proofs.lemmas.Bool.{eqb-true}
-use Rattle.recency.specs.Paths.{In, Once}
-use Rattle.recency.specs.Order.{first_of, last_of}
-use Rattle.recency.specs.Shelf.{Shelf, is_in, value_of, without, touched, older_than}
-use Rattle.recency.specs.Shelf as shelf
-use Rattle.indexmap.specs.IndexMap.{get_by}
+use Rattle.weak_cache.proofs.Vocabulary.{◌≡◌, ℕ, ◌+◌, ◌≤◌, inl, inr, Bool, true, false, cond, not, List, [], ◌∷◌, ◌++◌, length, map, Option, Some, None, refl, sym, ap, ◌∙◌, subst, arith, eq-eqb, ne_eqb, length-append, ◌==◌, ◌&&◌, filter}
+use Rattle.weak_cache.proofs.Vocabulary.{find, option_map, eqb-true, In, Once, first_of, last_of, Shelf, is_in, value_of, touched, older_than, get_by, Entry, Cache, is_at, is_of, sum_of, list_of, entry_of, Sums, IsTally, Slotted, values}
+use Rattle.weak_cache.proofs.Vocabulary.{same_key, has_key, slot_in, Sited, from_slot, from_on, IsKept}
+use Rattle.recency.specs.Shelf.{without}
 use Rattle.std.specs.Map.{lookup}
-use Rattle.weak_cache.specs.Entries.{Entry, Cache, is_at, is_of, sum_of, list_of, entry_of}
-use Rattle.weak_cache.specs.Entries as entries
 use Rattle.weak_cache.specs.declared.kept.Kept.{Kept}
-use Rattle.weak_cache.specs.declared.tally.Sums.{Sums}
-use Rattle.weak_cache.specs.code.Counts.{IsTally}
-use Rattle.weak_cache.specs.code.Shelved.{Slotted, values, same_key, has_key, slot_in, Sited, from_slot, from_on, IsKept}
+use Rattle.recency.specs.Shelf as shelf
+use Rattle.weak_cache.specs.Entries as entries
 use Rattle.weak_cache.proofs.Fewer.{fewer_moved, fewer_then, fewer_without, fewer_same, once_fewer}
 use Rattle.weak_cache.proofs.Keeping.{both, sum_of-append}
 use Rattle.weak_cache.proofs.Counting.{tally_moved}
@@ -202,13 +195,6 @@ key_none site suite shelved is =
       | None ↦ λ found _. find_values site suite shelved ∙ ap (option_map (λ (s : Slotted). s.value)) found
       | Some s ↦ λ _ h. absurd (cc h)
     ] refl is
-
-pub none_key : (site suite : ℕ) (shelved : List Slotted) → entry_of (values shelved) site suite ≡ None → slot_in site suite shelved ≡ None
-none_key site suite shelved none =
-    elim (find (has_key site suite) shelved) as (λ o. find (has_key site suite) shelved ≡ o → option_map (λ (s : Slotted). s.slot) o ≡ None) [
-      | None ↦ λ _. refl
-      | Some s ↦ λ found. absurd (let e = sym none ∙ find_values site suite shelved ∙ ap (option_map (λ (s : Slotted). s.value)) found in cc e)
-    ] refl
 
 -- what is replaced: it is of the key, and the others are what is left without the key
 pub replaced : (site suite slot : ℕ) (shelved : List Slotted) (v : Entry) → Once (slots_of shelved) → OnceEach shelved → slot_in site suite shelved ≡ Some slot → value_of slot shelved ≡ Some v

@@ -1,12 +1,7 @@
 -- What each call finds in a site's list and leaves of it.
-use Rattle.std.proofs.Common.{◌≡◌, ◌≢◌, ℕ, ◌-◌, ◌<◌, leb, ltb, Bool, true, false, cond, not, ◌&&◌, ◌||◌, ◌⊎◌, inl, inr, Option, None, Some, [], ◌∷◌, ◌++◌, length, refl, sym, ap, ◌∙◌, arith}
-use Rattle.std.specs.Prelude.{◌==◌, filter, is_some, option_map}
-use Rattle.std.proofs.lemmas.List.{append-nil}
-use Rattle.std.proofs.lemmas.List.Elements.{filter-append}
-use Rattle.std.proofs.lemmas.Bool.{eqb-true, false≢true, leb-true, leb-false, lt-ltb, ltb-true, ltb-false}
-use Rattle.weak_cache.specs.Entries.{Entry, Cache, size_of, sum_of, is_at, is_of, list_of, forgotten, entry_of, without}
-use Rattle.weak_cache.specs.Cache.{Limits, at_version, in_front, searched, has_room, put, within_quota, within_budget}
-use Rattle.weak_cache.specs.LettingGo.{is_above}
+use Rattle.weak_cache.proofs.Vocabulary.{◌≡◌, ◌≢◌, ℕ, ◌-◌, ◌<◌, leb, ltb, Bool, true, false, cond, not, ◌&&◌, ◌||◌, ◌⊎◌, inl, inr, Option, None, Some, [], ◌∷◌, ◌++◌, length, refl, sym, ap, ◌∙◌, arith, ◌==◌, filter, is_some, option_map}
+use Rattle.weak_cache.proofs.Vocabulary.{append-nil, filter-append, eqb-true, false≢true, leb-true, leb-false, lt-ltb, ltb-true, ltb-false, Entry, Cache, size_of, sum_of, is_at, is_of, list_of, forgotten, entry_of, without, Limits}
+use Rattle.weak_cache.proofs.Vocabulary.{at_version, in_front, searched, has_room, put, within_quota, within_budget, is_above}
 use Rattle.weak_cache.specs.SiteLists.{with_new, PutLeaves, SiteLists}
 use Rattle.weak_cache.proofs.Keeping.{both, forgotten_list}
 use Rattle.weak_cache.proofs.Found.{find_kept, find_passes}

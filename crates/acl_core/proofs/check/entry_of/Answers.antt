@@ -1,9 +1,4 @@
-use Rattle.std.proofs.Common.{◌≡◌, ℕ, ◌<◌, ◌≤◌, true, false, cond, [], ◌∷◌, length, get_or, refl, sym, ap, ◌∙◌, rules, arith}
-use Rattle.std.specs.List.Sorted.{IsPartitionPoint}
-use Rattle.std.proofs.lemmas.List.{get_or_default}
-use Rattle.std.proofs.lemmas.List.Sorted.{IsPartitionPoint-from_clause}
-use Rattle.acl_core.specs.declared.entry.Entry.{Entry}
-use Rattle.acl_core.specs.Tags.{same_tag, precedes}
+use Rattle.acl_core.proofs.Vocabulary.{◌≡◌, ℕ, ◌<◌, true, false, cond, [], ◌∷◌, length, get_or, sym, ap, ◌∙◌, rules, arith, get_or_default, IsPartitionPoint-from_clause, Entry, same_tag, precedes}
 use Rattle.acl_core.proofs.OneEntry.{tag_lt, tag_lt_is, before_in_front, one_at, none_at_end}
 use Rattle.acl_core.proofs.check.entry_of.Goals as goal
 use Rattle.acl_core.proofs.check.entry_of.Goals.{else-place-entries-via-then-place-entries+else-eq, else-place-entries-via-else-place-entries}

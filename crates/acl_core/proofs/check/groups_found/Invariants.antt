@@ -1,7 +1,4 @@
-use Rattle.std.proofs.Common.{◌≡◌, filter, find, length}
-use Rattle.acl_core.specs.declared.entry.Entry.{Entry}
-use Rattle.acl_core.specs.Checks.{matches}
-use Rattle.acl_core.specs.Checks.Case.{OfGroups}
+use Rattle.acl_core.proofs.Vocabulary.{◌≡◌, filter, find, length, Entry, matches, OfGroups}
 use Rattle.acl_core.proofs.check.groups_found.Given as goal
 
 abbrev pub invariant-loop-rest : goal.invariant-loop-rest

@@ -1,6 +1,4 @@
-use Rattle.std.proofs.Common.{◌≡◌, ◌-◌, length, true, false, rules, arith}
-use Rattle.acl_core.specs.declared.entry.Tag.TheVariants.{Mask}
-use Rattle.acl_core.specs.Tags.{same_tag}
+use Rattle.acl_core.proofs.Vocabulary.{◌≡◌, ◌-◌, length, true, false, rules, arith, Mask, same_tag}
 use Rattle.acl_core.proofs.TagFacts.{same_tag_is}
 use Rattle.acl_core.proofs.Ends.{mask_there, no_mask, no_mask_in_short}
 use Rattle.acl_core.proofs.check.mask_of.Goals as goal

@@ -1,5 +1,4 @@
-use Rattle.std.proofs.Common.{◌∙◌, ◌-◌, ap, length, sym, arith}
-use Rattle.acl_core.specs.Checks.{one_grants}
+use Rattle.acl_core.proofs.Vocabulary.{◌∙◌, ◌-◌, ap, length, sym, arith, one_grants}
 use Rattle.acl_core.proofs.Ends.{granted_by_one, others_last}
 use Rattle.acl_core.proofs.check.others_grant.Goals as goal
 

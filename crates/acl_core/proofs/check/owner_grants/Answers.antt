@@ -1,5 +1,4 @@
-use Rattle.std.proofs.Common.{◌∙◌, ap, sym, arith}
-use Rattle.acl_core.specs.Checks.{one_grants}
+use Rattle.acl_core.proofs.Vocabulary.{◌∙◌, ap, sym, arith, one_grants}
 use Rattle.acl_core.proofs.Ends.{granted_by_one, owner_first}
 use Rattle.acl_core.proofs.check.owner_grants.Goals as goal
 

@@ -1,6 +1,4 @@
-use Rattle.std.proofs.Common.{◌≡◌, ◌∙◌, ap, sym, false, rules, arith}
-use Rattle.acl_core.specs.declared.entry.Entry.{Entry}
-use Rattle.acl_core.specs.Tags.{is_user}
+use Rattle.acl_core.proofs.Vocabulary.{◌≡◌, ◌∙◌, ap, sym, false, rules, arith, Entry, is_user}
 use Rattle.acl_core.proofs.Ends.{no_user, no_user_in_short}
 use Rattle.acl_core.proofs.check.user_entry.Goals as goal
 

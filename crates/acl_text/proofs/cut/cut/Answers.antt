@@ -1,4 +1,4 @@
-use Rattle.acl_text.proofs.Vocabulary.{arith}
+use Rattle.std.proofs.Common.{arith}
 use Rattle.acl_text.proofs.Splits.{split_whole, split_at_first}
 use Rattle.acl_text.proofs.cut.cut.Goals as goal
 

@@ -1,4 +1,4 @@
-use Rattle.acl_text.proofs.Vocabulary.{arith}
+use Rattle.std.proofs.Common.{arith}
 use Rattle.acl_text.proofs.Splits.{first_place, no_place, split_whole, split_at_first}
 use Rattle.acl_text.proofs.cut.cut_line.Goals as goal
 

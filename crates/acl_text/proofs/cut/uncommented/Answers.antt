@@ -1,5 +1,4 @@
-use Rattle.acl_text.proofs.Vocabulary.{take, ap, sym, arith}
-use Rattle.std.proofs.Common.{take_all}
+use Rattle.acl_text.proofs.Vocabulary.{take, ap, sym, arith, take_all}
 use Rattle.acl_text.proofs.Splits.{first_place, no_place}
 use Rattle.acl_text.proofs.cut.uncommented.Goals as goal
 

@@ -1,4 +1,4 @@
-use Rattle.acl_text.proofs.Vocabulary.{refl}
+use Rattle.std.proofs.Common.{refl}
 use Rattle.acl_text.proofs.Granting.{digits_name}
 use Rattle.acl_text.proofs.item.numbered.Goals as goal
 

@@ -1,5 +1,5 @@
-use Rattle.acl_text.proofs.Vocabulary.{◌≡◌, ◌∙◌, false, Result, Ok, Err, ap, sym, rules, MatchOption-at_some, IsOkAnd, MatchResult, result_map_both, entry_of}
-use Rattle.acl_text.proofs.Vocabulary.{digit_of, Entry, Tag, ItemFault, are_permissions, entry_reading, IsReadOf}
+use Rattle.acl_text.proofs.Vocabulary.{◌≡◌, ◌∙◌, false, Result, Ok, Err, ap, sym, rules, IsOkAnd, MatchResult, result_map_both, entry_of, digit_of, Entry, Tag, ItemFault, are_permissions, entry_reading, IsReadOf}
+use Rattle.std.proofs.lemmas.Option.{MatchOption-at_some}
 use Rattle.acl_text.proofs.Granting.{entry_by}
 use Rattle.acl_text.proofs.item.read_entry.Goals as goal
 

@@ -1,5 +1,5 @@
-use Rattle.acl_text.proofs.Vocabulary.{◌≤◌, List, [], ◌∷◌, take, sym, arith, All, All-more, All-same, All-tail, Entry, qualifier, NumbersFit, max_id}
-use Rattle.std.proofs.lemmas.List.{take_all}
+use Rattle.acl_text.proofs.Vocabulary.{◌≤◌, List, [], ◌∷◌, take, sym, arith, All, Entry, qualifier, NumbersFit, max_id, take_all}
+use Rattle.std.proofs.lemmas.List.Elements.{All-more, All-same, All-tail}
 use Rattle.acl_text.proofs.laws.numbers_fit.Goals as goal
 
 each_fits : (list : List Entry) → All (λ e. qualifier e.tag ≤ max_id) list → NumbersFit list

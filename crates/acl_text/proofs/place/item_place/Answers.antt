@@ -1,5 +1,5 @@
-use Rattle.acl_text.proofs.Vocabulary.{◌≡◌, ℕ, ◌+◌, ◌-◌, ◌∷◌, ◌++◌, List, [], length, Option, ap, sym, ◌∙◌, arith, slice_get, comma, line_feed, parts, begins}
-use Rattle.acl_text.proofs.Vocabulary.{begins_of_lines, found, parts_left}
+use Rattle.acl_text.proofs.Vocabulary.{◌≡◌, ℕ, ◌+◌, ◌-◌, ◌∷◌, ◌++◌, List, [], length, Option, ap, sym, ◌∙◌, arith, slice_get, comma, line_feed, parts, begins, begins_of_lines, parts_left}
+use Rattle.acl_text.specs.code.Finding.{found}
 use Rattle.acl_text.proofs.ItemCounts.{cut_length}
 use Rattle.acl_text.proofs.ItemPlaces.{lines_begun, lines_below}
 use Rattle.acl_text.proofs.place.item_place.Goals as goal

@@ -1,5 +1,5 @@
-use Rattle.acl_text.proofs.Vocabulary.{◌≡◌, ◌+◌, ◌-◌, ◌*◌, ◌<◌, ◌∙◌, true, get_or, length, sym, ap, rules, arith, is_ascii_digit, and_from, common_steps}
-use Rattle.acl_text.proofs.Vocabulary.{list_all_more, max_id}
+use Rattle.acl_text.proofs.Vocabulary.{◌≡◌, ◌+◌, ◌-◌, ◌*◌, ◌<◌, ◌∙◌, true, get_or, length, sym, ap, rules, arith, is_ascii_digit, and_from, list_all_more, max_id}
+use Rattle.std.proofs.lemmas.Grind.{common_steps}
 use Rattle.acl_text.proofs.Numbers.{number_more, too_big}
 use Rattle.acl_text.proofs.qualifier.digits_in.Goals as goal
 

@@ -1,4 +1,4 @@
-use Rattle.acl_text.proofs.Vocabulary.{readings}
+use Rattle.acl_text.specs.Texts.{readings}
 use Rattle.acl_text.proofs.ItemFaults.{told_is_named}
 use Rattle.acl_text.proofs.read.read_acl.Goals as goal
 

@@ -1,6 +1,5 @@
-use Rattle.acl_text.proofs.Vocabulary.{◌≡◌, ◌+◌, List, [], ◌∷◌, ◌++◌, length, map, None, Some, Ok, refl, ap, subst, sym, ◌∙◌, append-nil, append_assoc}
-use Rattle.acl_text.proofs.Vocabulary.{length-append, arith, filter_map, SidedEntry, reading, items_left, AreTallied, items_of, readings, first_item_fault}
-use Rattle.acl_text.proofs.Vocabulary.{entry_said, said_before, said_in}
+use Rattle.acl_text.proofs.Vocabulary.{◌≡◌, ◌+◌, List, [], ◌∷◌, ◌++◌, length, map, None, Some, Ok, refl, ap, subst, sym, ◌∙◌, append-nil, append_assoc, length-append, arith, filter_map, SidedEntry, reading, items_left, AreTallied, items_of}
+use Rattle.acl_text.proofs.Vocabulary.{readings, first_item_fault, entry_said, said_before, said_in}
 use Rattle.acl_text.proofs.ItemCounts.{few_items}
 use Rattle.acl_text.proofs.Spelling.{spelled_from_faultless}
 use Rattle.acl_text.proofs.EntryByEntry.{lists_spelled}

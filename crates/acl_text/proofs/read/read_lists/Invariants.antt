@@ -1,5 +1,4 @@
-use Rattle.acl_text.proofs.Vocabulary.{◌≡◌, ◌+◌, ◌≤◌, List, ◌++◌, length, map, filter_map, SidedEntry, reading, items_left, AreTallied, readings}
-use Rattle.acl_text.proofs.Vocabulary.{first_item_fault, entry_said, said_before, said_in}
+use Rattle.acl_text.proofs.Vocabulary.{◌≡◌, ◌+◌, ◌≤◌, List, ◌++◌, length, map, filter_map, SidedEntry, reading, items_left, AreTallied, readings, first_item_fault, entry_said, said_before, said_in}
 use Rattle.acl_text.proofs.read.read_lists.Given as goal
 
 -- The entries that were taken and those of the items left are all entries, and the first fault of the items left, by

@@ -1,4 +1,4 @@
-use Rattle.acl_text.proofs.Vocabulary.{◌++◌, codes, ◌∷◌, ap, ◌∙◌, append_assoc}
+use Rattle.std.proofs.Common.{◌++◌, codes, ◌∷◌, ap, ◌∙◌, append_assoc}
 use Rattle.acl_text.proofs.write.append_effective.Goals as goal
 
 pub returns-clause-appended : goal.returns-clause-appended

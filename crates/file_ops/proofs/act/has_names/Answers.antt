@@ -1,7 +1,4 @@
-use Rattle.std.proofs.Common.{sym, ap, ◌∙◌}
-use Rattle.std.specs.Option.{option_map}
-use Rattle.file_ops.specs.Operations.{has_names}
-use Rattle.file_ops.specs.code.Stored.{plain_row}
+use Rattle.file_ops.proofs.Vocabulary.{sym, ap, ◌∙◌, option_map, has_names, plain_row}
 use Rattle.file_ops.proofs.Plain.{row_of-plain}
 use Rattle.file_ops.proofs.act.has_names.Goals as goal
 

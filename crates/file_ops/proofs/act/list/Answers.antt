@@ -1,9 +1,6 @@
-use Rattle.std.proofs.Common.{◌≡◌, Ok, arith, refl, ap, sym, ◌∙◌}
-use Rattle.suite_content.specs.Folders as folders
+use Rattle.file_ops.proofs.Vocabulary.{◌≡◌, Ok, arith, refl, ap, sym, ◌∙◌, ok_map, plain, names_in, reach}
 use Rattle.file_ops.specs.code.Found.{plain_place}
-use Rattle.file_ops.specs.Steps.{ok_map}
-use Rattle.file_ops.specs.code.Stored.{plain}
-use Rattle.file_ops.specs.Walks.{names_in, reach}
+use Rattle.suite_content.specs.Folders as folders
 use Rattle.file_ops.proofs.Listing.{listed, listed_is, reached}
 use Rattle.file_ops.proofs.act.list.Goals as goal
 

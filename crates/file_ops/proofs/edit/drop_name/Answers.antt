@@ -1,9 +1,4 @@
-use Rattle.std.proofs.Common.{◌≡◌, Some, None, sym, ap, ◌∙◌}
-use Rattle.std.specs.Option.{option_map, option_map_or}
-use Rattle.suite_content.specs.Folders.{with_name, without_name}
-use Rattle.file_ops.specs.code.Edits.{edited, in_names, number_in, put_name, drop_name}
-use Rattle.file_ops.specs.Rows.{row_of, with_content}
-use Rattle.file_ops.specs.code.Stored.{plain, plain_content, plain_row}
+use Rattle.file_ops.proofs.Vocabulary.{◌≡◌, Some, None, sym, ap, ◌∙◌, option_map, option_map_or, with_name, without_name, edited, in_names, number_in, put_name, drop_name, row_of, with_content, plain, plain_content, plain_row}
 use Rattle.file_ops.proofs.Plain.{row_of-plain, ordered-plain, edited-absent, other_content, no_number}
 use Rattle.file_ops.proofs.EditLaws.{edited-back-at}
 use Rattle.file_ops.proofs.CapacityLaws.{keeps_capacity}

@@ -1,8 +1,4 @@
-use Rattle.std.proofs.Common.{◌≡◌, Some, sym, ap, ◌∙◌}
-use Rattle.std.proofs.lemmas.Option.{none-some}
-use Rattle.std.specs.Option.{option_map}
-use Rattle.file_ops.specs.Rows.{Row, row_of}
-use Rattle.file_ops.specs.code.Stored.{listed_in, plain, plain_row}
+use Rattle.file_ops.proofs.Vocabulary.{◌≡◌, Some, sym, ap, ◌∙◌, none-some, option_map, Row, row_of, listed_in, plain, plain_row}
 use Rattle.file_ops.proofs.Listing.{if_ok}
 use Rattle.file_ops.proofs.Plain.{kept_row, row_of-plain, same_row}
 use Rattle.file_ops.proofs.edit.list_names.Goals as goal

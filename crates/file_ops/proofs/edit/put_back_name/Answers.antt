@@ -1,6 +1,4 @@
-use Rattle.std.proofs.Common.{sym}
-use Rattle.suite_content.specs.Folders.{with_name}
-use Rattle.file_ops.specs.code.Edits.{put_name}
+use Rattle.file_ops.proofs.Vocabulary.{sym, with_name, put_name}
 use Rattle.file_ops.proofs.Plain.{edited-absent, other_content}
 use Rattle.file_ops.proofs.CapacityLaws.{keeps_capacity}
 use Rattle.file_ops.proofs.edit.put_back_name.Goals as goal

@@ -1,9 +1,4 @@
-use Rattle.std.proofs.Common.{sym, ap, ◌∙◌, arith}
-use Rattle.std.specs.Option.{option_map}
-use Rattle.file_ops.specs.code.Stored.{plain, plain_row}
-use Rattle.file_ops.specs.Rows.{row_of, with_row}
-use Rattle.file_ops.specs.code.Edits.{edited, drop_name}
-use Rattle.file_ops.specs.code.Capacity.{capacity_at}
+use Rattle.file_ops.proofs.Vocabulary.{sym, ap, ◌∙◌, arith, option_map, plain, plain_row, row_of, with_row, edited, drop_name, capacity_at}
 use Rattle.file_ops.proofs.Plain.{row_of-plain, plain-insert, ordered-plain}
 use Rattle.file_ops.proofs.EditLaws.{drop-put_name}
 use Rattle.file_ops.proofs.CapacityLaws.{made_capacity}

@@ -1,12 +1,7 @@
-use Rattle.std.proofs.Common.{◌≡◌, ℕ, ◌≤◌, Bor, true, List, [], ◌∷◌, ◌++◌, length, map, Some, sym, ap, ◌∙◌, arith, rules, tests}
-use Rattle.std.specs.List.{list_all, slice_split}
+use Rattle.file_ops.proofs.Vocabulary.{◌≡◌, ℕ, ◌≤◌, Bor, true, List, [], ◌∷◌, ◌++◌, length, map, Some, sym, ap, ◌∙◌, arith, rules, tests, list_all, slice_split, list_all_at, false≢true, max_path_names, is_slash, is_name}
 use Rattle.std.proofs.lemmas.Iterator.Splits.{YieldsList-from_slice_split}
 use Rattle.std.proofs.lemmas.Iterator.Consumers.{YieldsList-turn, YieldsList-end}
-use Rattle.std.proofs.lemmas.List.Folds.{list_all_at}
 use Rattle.std.proofs.lemmas.List.{length-map, map-append}
-use Rattle.std.proofs.lemmas.Bool.{false≢true}
-use Rattle.file_ops.specs.Limits.{max_path_names}
-use Rattle.file_ops.specs.Paths.{is_slash, is_name}
 use Rattle.file_ops.proofs.PathFacts.{too_many, all_names, not_all, no_name, test_name, one_more, some_part}
 use Rattle.file_ops.proofs.path.collect.Goals as goal
 

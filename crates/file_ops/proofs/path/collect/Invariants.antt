@@ -1,8 +1,5 @@
-use Rattle.std.proofs.Common.{◌≡◌, ◌≤◌, true, map}
-use Rattle.std.specs.List.{list_all}
+use Rattle.file_ops.proofs.Vocabulary.{◌≡◌, ◌≤◌, true, map, list_all, max_path_names, is_name}
 use Rattle.std.specs.Vec.{vec_len}
-use Rattle.file_ops.specs.Limits.{max_path_names}
-use Rattle.file_ops.specs.Paths.{is_name}
 use Rattle.file_ops.proofs.path.collect.Given as goal
 
 -- the parts so far are kept, and all of them are names

@@ -1,5 +1,4 @@
-use Rattle.std.proofs.Common.{sym, ◌∙◌}
-use Rattle.std.proofs.lemmas.Bool.{eqb-false}
+use Rattle.file_ops.proofs.Vocabulary.{sym, ◌∙◌, eqb-false}
 use Rattle.file_ops.proofs.PathFacts.{longer_path}
 use Rattle.file_ops.proofs.path.read.Goals as goal
 

@@ -1,8 +1,4 @@
-use Rattle.std.proofs.Common.{rules, ◌≡◌, ◌∷◌, Err}
-use Rattle.std.specs.Prelude.{IsOk}
-use Rattle.file_ops.specs.declared.refusal.ApplyError.TheVariants.{Memory}
-use Rattle.file_ops.specs.code.Stored.{plain}
-use Rattle.file_ops.specs.Operations.{operation}
+use Rattle.file_ops.proofs.Vocabulary.{rules, ◌≡◌, ◌∷◌, Err, IsOk, Memory, plain, operation}
 use Rattle.file_ops.proofs.LaterRefusals.{first_done}
 use Rattle.file_ops.proofs.play.+play.Goals as goal
 use Rattle.file_ops.proofs.play.+play.Goals.{then-is_err, else-is_err}

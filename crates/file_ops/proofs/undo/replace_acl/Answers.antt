@@ -1,6 +1,4 @@
-use Rattle.std.proofs.Common.{refl, ap, ◌∙◌}
-use Rattle.file_ops.specs.code.Edits.{put_acl}
-use Rattle.file_ops.specs.code.Stored.{plain, with_stored_acl}
+use Rattle.file_ops.proofs.Vocabulary.{refl, ap, ◌∙◌, put_acl, plain, with_stored_acl}
 use Rattle.file_ops.proofs.TakingBack.{plain-exchanged, listed_taken}
 use Rattle.file_ops.proofs.undo.replace_acl.Goals as goal
 

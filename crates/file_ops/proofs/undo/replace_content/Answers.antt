@@ -1,6 +1,4 @@
-use Rattle.std.proofs.Common.{refl, ap, ◌∙◌}
-use Rattle.file_ops.specs.code.Edits.{put_content}
-use Rattle.file_ops.specs.code.Stored.{plain, plain_content, with_stored_content}
+use Rattle.file_ops.proofs.Vocabulary.{refl, ap, ◌∙◌, put_content, plain, plain_content, with_stored_content}
 use Rattle.file_ops.proofs.TakingBack.{plain-exchanged, held_taken}
 use Rattle.file_ops.proofs.undo.replace_content.Goals as goal
 

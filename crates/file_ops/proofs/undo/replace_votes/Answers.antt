@@ -1,6 +1,4 @@
-use Rattle.std.proofs.Common.{refl, ap, ◌∙◌}
-use Rattle.file_ops.specs.code.Edits.{put_votes}
-use Rattle.file_ops.specs.code.Stored.{plain, with_stored_votes}
+use Rattle.file_ops.proofs.Vocabulary.{refl, ap, ◌∙◌, put_votes, plain, with_stored_votes}
 use Rattle.file_ops.proofs.TakingBack.{plain-exchanged, voted_taken}
 use Rattle.file_ops.proofs.undo.replace_votes.Goals as goal
 

@@ -1,6 +1,4 @@
-use Rattle.std.proofs.Common.{ap, ◌∙◌}
-use Rattle.file_ops.specs.Steps.{ok_map}
-use Rattle.file_ops.specs.Operations.{plain_named}
+use Rattle.file_ops.proofs.Vocabulary.{ap, ◌∙◌, ok_map, plain_named}
 use Rattle.file_ops.proofs.LastName.{last_name-split}
 use Rattle.file_ops.proofs.walk.last_name.Goals as goal
 

@@ -1,7 +1,4 @@
-use Rattle.std.proofs.Common.{◌≡◌, drop}
-use Rattle.file_ops.specs.code.Stored.{plain}
-use Rattle.file_ops.specs.Rows.{root}
-use Rattle.file_ops.specs.Walks.{walk}
+use Rattle.file_ops.proofs.Vocabulary.{◌≡◌, drop, plain, root, walk}
 use Rattle.file_ops.proofs.walk.walk.Given as goal
 
 -- the rest of the names leads on from the suite that was reached

@@ -1,4 +1,4 @@
-use Rattle.rep_core.proofs.Vocabulary.{◌≡◌, ◌+◌, ◌≤◌, length, take}
+use Rattle.std.proofs.Common.{◌≡◌, ◌+◌, ◌≤◌, length, take}
 use Rattle.rep_core.proofs.copying.copied.Given as goal
 
 abbrev pub invariant-loop-key : goal.invariant-loop-key

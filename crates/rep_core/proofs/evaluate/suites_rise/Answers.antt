@@ -1,4 +1,4 @@
-use Rattle.rep_core.proofs.Vocabulary.{sym, ◌∙◌, arith}
+use Rattle.std.proofs.Common.{sym, ◌∙◌, arith}
 use Rattle.rep_core.proofs.RisingParts.{one_rises, none_twice}
 use Rattle.rep_core.proofs.evaluate.suites_rise.Goals as goal
 

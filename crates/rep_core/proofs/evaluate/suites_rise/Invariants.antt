@@ -1,4 +1,4 @@
-use Rattle.rep_core.proofs.Vocabulary.{◌≡◌, length}
+use Rattle.std.proofs.Common.{◌≡◌, length}
 use Rattle.rep_core.proofs.RisingParts.{suites_rise}
 use Rattle.rep_core.proofs.evaluate.suites_rise.Given as goal
 

@@ -1,4 +1,4 @@
-use Rattle.rep_core.proofs.Vocabulary.{◌<◌, ◌≤◌, length, sym, ◌∙◌, arith}
+use Rattle.std.proofs.Common.{◌<◌, ◌≤◌, length, sym, ◌∙◌, arith}
 use Rattle.rep_core.proofs.Searching.{has_lock-at, has_lock-end}
 use Rattle.rep_core.proofs.few_locks.is_own_at.Goals as goal
 

@@ -1,4 +1,4 @@
-use Rattle.rep_core.proofs.Vocabulary.{◌≡◌, drop}
+use Rattle.std.proofs.Common.{◌≡◌, drop}
 use Rattle.rep_core.specs.Locks as locking
 use Rattle.rep_core.proofs.few_locks.lock_at.Given as goal
 

@@ -1,4 +1,5 @@
-use Rattle.rep_core.proofs.Vocabulary.{rules, IsPartitionPoint-from_clause}
+use Rattle.std.proofs.lemmas.List.Sorted.{IsPartitionPoint-from_clause}
+use Rattle.std.proofs.Common.{rules}
 use Rattle.rep_core.proofs.Searching.{stands_before, before_down, partitioned, count_point}
 use Rattle.rep_core.proofs.few_locks.place_of.Goals as goal
 

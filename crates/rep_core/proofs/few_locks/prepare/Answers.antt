@@ -1,4 +1,5 @@
-use Rattle.rep_core.proofs.Vocabulary.{◌<◌, length, arith, map_over_more, get_or_default, prepared_lock}
+use Rattle.rep_core.proofs.Vocabulary.{◌<◌, length, arith, get_or_default, prepared_lock}
+use Rattle.std.proofs.lemmas.List.Edits.{map_over_more}
 use Rattle.rep_core.proofs.few_locks.prepare.Goals as goal
 
 pub loop-i-preserved : goal.loop-i-preserved

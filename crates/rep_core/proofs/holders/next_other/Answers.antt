@@ -1,4 +1,4 @@
-use Rattle.rep_core.proofs.Vocabulary.{sym, arith}
+use Rattle.std.proofs.Common.{sym, arith}
 use Rattle.rep_core.proofs.SuiteHolders.{none_last}
 use Rattle.rep_core.proofs.holders.next_other.Goals as goal
 

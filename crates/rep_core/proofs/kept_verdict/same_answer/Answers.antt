@@ -1,4 +1,5 @@
-use Rattle.rep_core.proofs.Vocabulary.{sym, ap, ◌∙◌, same_answer_decides, answer_of}
+use Rattle.rep_core.proofs.Vocabulary.{sym, ap, ◌∙◌, answer_of}
+use Rattle.file_ops.specs.code.AnswerEquality.{same_answer_decides}
 use Rattle.rep_core.proofs.kept_verdict.same_answer.Goals as goal
 
 pub returns-in-Whole-Whole : goal.returns-in-Whole-Whole

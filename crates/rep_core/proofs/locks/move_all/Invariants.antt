@@ -1,4 +1,4 @@
-use Rattle.rep_core.proofs.Vocabulary.{◌≡◌, ◌+◌, ◌≤◌, ◌++◌, length}
+use Rattle.std.proofs.Common.{◌≡◌, ◌+◌, ◌≤◌, ◌++◌, length}
 use Rattle.rep_core.proofs.locks.move_all.Given as goal
 
 abbrev pub invariant-loop-lock : goal.invariant-loop-lock

@@ -1,5 +1,5 @@
-use Rattle.rep_core.proofs.Vocabulary.{rules, ◌≡◌, ℕ, ◌<◌, ◌≤◌, true, false, drop, get_or, length, [], not, Some, refl, ap, sym, subst, ◌∙◌, arith, list_all, IfSome, nat_cmp, get, insert, remove, Configuration, Intention, Planned}
-use Rattle.rep_core.proofs.Vocabulary.{copy_in, left_by, with_taken, with_form, with_forms, Leaves, copies_in, forms_in, intention_in, intentions_in, take_in}
+use Rattle.rep_core.proofs.Vocabulary.{rules, ◌≡◌, ℕ, ◌<◌, ◌≤◌, true, false, drop, get_or, length, [], not, Some, refl, ap, sym, subst, ◌∙◌, arith, list_all, IfSome, nat_cmp, get, insert, remove, Configuration, Intention, Planned, copy_in}
+use Rattle.rep_core.proofs.Vocabulary.{left_by, with_taken, with_form, with_forms, Leaves, copies_in, forms_in, intention_in, intentions_in, take_in}
 use Rattle.rep_core.proofs.Intentions.{is_of}
 use Rattle.rep_core.proofs.Installing.{has_at, length-taken, passed-taken, others-taken, with_copies-taken, with_copies-other, with_forms-taken, with_forms-other, passed-other, all_passed}
 use Rattle.rep_core.proofs.Planned.{at_in, becomes, leaves_taken, length_in, remove_in, rising_in}

@@ -1,4 +1,4 @@
-use Rattle.rep_core.proofs.Vocabulary.{◌+◌, ◌≤◌, length, subst, sym}
+use Rattle.std.proofs.Common.{◌+◌, ◌≤◌, length, subst, sym}
 use Rattle.rep_core.proofs.Intentions.{length-inserted}
 use Rattle.rep_core.proofs.maps.keep.Goals as goal
 

@@ -1,4 +1,5 @@
-use Rattle.rep_core.proofs.Vocabulary.{◌≡◌, ◌+◌, ◌≤◌, length, into_iter_items, with_all}
+use Rattle.rep_core.proofs.Vocabulary.{◌≡◌, ◌+◌, ◌≤◌, length, with_all}
+use Rattle.std.specs.Vec.Iter.{into_iter_items}
 use Rattle.rep_core.proofs.maps.keep_all.Given as goal
 
 abbrev pub invariant-loop-suite : goal.invariant-loop-suite

@@ -1,4 +1,4 @@
-use Rattle.rep_core.proofs.Vocabulary.{rules}
+use Rattle.std.proofs.Common.{rules}
 use Rattle.rep_core.proofs.PackedNames.{in_order}
 use Rattle.rep_core.proofs.packed_names.are_in_order.Goals as goal
 

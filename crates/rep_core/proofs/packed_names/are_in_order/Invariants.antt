@@ -1,4 +1,4 @@
-use Rattle.rep_core.proofs.Vocabulary.{[]}
+use Rattle.std.proofs.Common.{[]}
 use Rattle.rep_core.proofs.PackedNames.{Rises}
 use Rattle.rep_core.proofs.packed_names.are_in_order.Given as goal
 

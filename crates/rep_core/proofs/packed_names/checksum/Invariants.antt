@@ -1,4 +1,4 @@
-use Rattle.rep_core.proofs.Vocabulary.{length}
+use Rattle.std.proofs.Common.{length}
 use Rattle.rep_core.proofs.packed_names.checksum.Given as goal
 
 abbrev pub decreases-loop-left : goal.decreases-loop-left

@@ -1,4 +1,6 @@
-use Rattle.rep_core.proofs.Vocabulary.{ℕ, [], ◌∷◌, ◌++◌, length, ap, ◌∙◌, eqb, rules, tests, slice_split, YieldsList-from_slice_split, YieldsList-turn, YieldsList-end, unnumbered}
+use Rattle.rep_core.proofs.Vocabulary.{ℕ, [], ◌∷◌, ◌++◌, length, ap, ◌∙◌, eqb, rules, tests, slice_split, unnumbered}
+use Rattle.std.proofs.lemmas.Iterator.Splits.{YieldsList-from_slice_split}
+use Rattle.std.proofs.lemmas.Iterator.Consumers.{YieldsList-turn, YieldsList-end}
 use Rattle.rep_core.proofs.PackedNames.{name_at, unnumbered-push}
 use Rattle.rep_core.proofs.packed_names.entries_in.Goals as goal
 

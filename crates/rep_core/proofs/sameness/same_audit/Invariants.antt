@@ -1,4 +1,4 @@
-use Rattle.rep_core.proofs.Vocabulary.{◌≡◌, take}
+use Rattle.std.proofs.Common.{◌≡◌, take}
 use Rattle.rep_core.proofs.sameness.same_audit.Given as goal
 
 abbrev pub invariant-loop-i : goal.invariant-loop-i

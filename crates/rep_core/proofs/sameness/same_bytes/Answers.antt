@@ -1,4 +1,8 @@
-use Rattle.rep_core.proofs.Vocabulary.{◌≡◌, sym, ◌∙◌, ap, unsigned_Decides, pointwise_decides, bytes_in, kept_in, kept_again}
+use Rattle.rep_core.proofs.Vocabulary.{◌≡◌, sym, ◌∙◌, ap, unsigned_Decides}
+use Rattle.std.specs.Cmp.Lexicographic.{pointwise_decides}
+use Rattle.suite_prefix.specs.Bytes.{bytes_in}
+use Rattle.suite_prefix.specs.code.Records.{kept_in}
+use Rattle.suite_prefix.proofs.Records.{kept_again}
 use Rattle.rep_core.proofs.sameness.same_bytes.Goals as goal
 
 pub returns : goal.returns

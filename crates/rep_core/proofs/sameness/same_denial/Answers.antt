@@ -1,4 +1,5 @@
-use Rattle.rep_core.proofs.Vocabulary.{sym, ◌∙◌, same_item_decides}
+use Rattle.file_ops.specs.code.RefusalEquality.{same_item_decides}
+use Rattle.std.proofs.Common.{sym, ◌∙◌}
 use Rattle.rep_core.proofs.sameness.same_denial.Goals as goal
 
 pub returns : goal.returns

@@ -1,4 +1,5 @@
-use Rattle.rep_core.proofs.Vocabulary.{◌≡◌, Some, sym, ◌∙◌, ap, arith, option_copied}
+use Rattle.std.specs.Option.{option_copied}
+use Rattle.std.proofs.Common.{◌≡◌, Some, sym, ◌∙◌, ap, arith}
 use Rattle.rep_core.proofs.sameness.same_verdict.Goals as goal
 
 pub returns-then-own-theirs : goal.returns-then-own-theirs

@@ -1,4 +1,5 @@
-use Rattle.rep_core.proofs.Vocabulary.{sym, ◌∙◌, same_votes_decides}
+use Rattle.vote_core.specs.code.SameVotes.{same_votes_decides}
+use Rattle.std.proofs.Common.{sym, ◌∙◌}
 use Rattle.rep_core.proofs.sameness.same_votes.Goals as goal
 
 pub returns : goal.returns

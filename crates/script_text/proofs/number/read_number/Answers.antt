@@ -1,5 +1,4 @@
-use Rattle.std.proofs.Common.{◌∙◌, ap, sym, ◌<◌, ◌+◌, ◌*◌, ◌-◌, drop, get_or, length, rules, arith}
-use Rattle.std.proofs.lemmas.List.{drop_more}
+use Rattle.script_text.proofs.Vocabulary.{◌∙◌, ap, sym, ◌<◌, ◌+◌, ◌*◌, ◌-◌, drop, get_or, length, rules, arith, drop_more}
 use Rattle.script_text.proofs.Values.{number_from, number_of_some, no_room}
 use Rattle.script_text.proofs.number.read_number.Goals as goal
 

@@ -1,5 +1,4 @@
-use Rattle.std.proofs.Common.{◌≡◌, drop}
-use Rattle.script_text.specs.Numbers.{number_up_to}
+use Rattle.script_text.proofs.Vocabulary.{◌≡◌, drop, number_up_to}
 use Rattle.script_text.proofs.Values.{number_from}
 use Rattle.script_text.proofs.number.read_number.Given as goal
 

@@ -1,6 +1,4 @@
-use Rattle.std.proofs.Common.{rules, ◌≡◌, ◌<◌, ◌+◌, ◌∙◌, ℕ, true, false, drop, get_or, length, eqb, sym, ap, arith}
-use Rattle.std.specs.List.{slice_split}
-use Rattle.std.specs.Char.{is_ascii_digit}
+use Rattle.script_text.proofs.Vocabulary.{rules, ◌≡◌, ◌<◌, ◌+◌, ◌∙◌, ℕ, true, false, drop, get_or, length, eqb, sym, ap, arith, slice_split, is_ascii_digit}
 use Rattle.script_text.proofs.Fronts.{numbers_from, digit_read}
 use Rattle.script_text.proofs.numbers.first_number.Goals as goal
 

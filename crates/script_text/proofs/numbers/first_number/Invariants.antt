@@ -1,6 +1,4 @@
-use Rattle.std.proofs.Common.{◌≡◌, ◌≤◌, ◌-◌, ℕ, drop, map, eqb, length}
-use Rattle.std.specs.List.{slice_split}
-use Rattle.script_text.specs.Numbers.{number_up_to}
+use Rattle.script_text.proofs.Vocabulary.{◌≡◌, ◌≤◌, ◌-◌, ℕ, drop, map, eqb, length, slice_split, number_up_to}
 use Rattle.script_text.proofs.Fronts.{numbers_from}
 use Rattle.script_text.proofs.numbers.first_number.Given as goal
 

@@ -1,5 +1,4 @@
-use Rattle.std.proofs.Common.{◌∙◌}
-use Rattle.script_text.specs.Words.{is_blank}
+use Rattle.script_text.proofs.Vocabulary.{◌∙◌, is_blank}
 use Rattle.script_text.proofs.Cuts.{position-near, position-far, position-nowhere}
 use Rattle.script_text.proofs.words.first_blank.Goals as goal
 

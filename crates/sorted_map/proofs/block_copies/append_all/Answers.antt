@@ -1,5 +1,4 @@
-use Rattle.std.proofs.Common.{◌≡◌, ◌+◌, ◌++◌, suc, take, get_or, sym, ◌∙◌, ap, arith}
-use Rattle.sorted_map.specs.Blocks.{joined}
+use Rattle.sorted_map.proofs.Vocabulary.{◌≡◌, ◌+◌, ◌++◌, suc, take, get_or, sym, ◌∙◌, ap, arith, joined}
 use Rattle.sorted_map.proofs.InBlocks.{joined_more, joined_parts}
 use Rattle.sorted_map.proofs.block_copies.append_all.Goals as goal
 

@@ -1,5 +1,4 @@
-use Rattle.std.proofs.Common.{◌≡◌, ◌++◌, take}
-use Rattle.sorted_map.specs.Blocks.{joined}
+use Rattle.sorted_map.proofs.Vocabulary.{◌≡◌, ◌++◌, take, joined}
 use Rattle.sorted_map.proofs.block_copies.append_all.Given as goal
 
 abbrev pub invariant-loop-block : goal.invariant-loop-block

@@ -1,5 +1,4 @@
-use Rattle.std.proofs.Common.{◌≡◌, ◌+◌, ◌<◌, ◌++◌, suc, take, get_or, length, subst, sym, ◌∙◌, ap, arith}
-use Rattle.sorted_map.specs.Blocks.{joined, AreBlocks}
+use Rattle.sorted_map.proofs.Vocabulary.{◌≡◌, ◌+◌, ◌<◌, ◌++◌, suc, take, get_or, length, subst, sym, ◌∙◌, ap, arith, joined, AreBlocks}
 use Rattle.sorted_map.proofs.InBlocks.{joined_more, joined_pushed, blocks_pushed, block_of}
 use Rattle.sorted_map.proofs.block_copies.copied_blocks.Goals as goal
 

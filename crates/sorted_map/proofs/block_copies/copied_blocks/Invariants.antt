@@ -1,5 +1,4 @@
-use Rattle.std.proofs.Common.{◌≡◌, take}
-use Rattle.sorted_map.specs.Blocks.{joined, AreBlocks}
+use Rattle.sorted_map.proofs.Vocabulary.{◌≡◌, take, joined, AreBlocks}
 use Rattle.sorted_map.proofs.block_copies.copied_blocks.Given as goal
 
 abbrev pub invariant-loop-block : goal.invariant-loop-block

@@ -1,5 +1,4 @@
-use Rattle.std.proofs.Common.{◌-◌, ◌≤◌, length}
-use Rattle.sorted_map.specs.Blocks.{AreSpare}
+use Rattle.sorted_map.proofs.Vocabulary.{◌-◌, ◌≤◌, length, AreSpare}
 use Rattle.sorted_map.proofs.blocks.add_spare.Given as goal
 
 abbrev pub invariant-loop-spare : goal.invariant-loop-spare

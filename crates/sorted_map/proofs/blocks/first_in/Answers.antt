@@ -1,5 +1,4 @@
-use Rattle.std.proofs.Common.{◌∷◌, length, sym, ◌∙◌, ap}
-use Rattle.sorted_map.specs.Blocks.{first_from}
+use Rattle.sorted_map.proofs.Vocabulary.{◌∷◌, length, sym, ◌∙◌, ap, first_from}
 use Rattle.sorted_map.proofs.InBlocks.{first_at, first_next, first_end, either}
 use Rattle.sorted_map.proofs.blocks.first_in.Goals as goal
 

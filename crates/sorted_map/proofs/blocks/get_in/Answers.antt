@@ -1,6 +1,4 @@
-use Rattle.std.proofs.Common.{◌∷◌, ◌-◌, subst, sym, ◌∙◌, ap, arith}
-use Rattle.sorted_map.specs.SortedMap.{get}
-use Rattle.sorted_map.specs.Blocks.{joined, IsIn}
+use Rattle.sorted_map.proofs.Vocabulary.{◌∷◌, ◌-◌, subst, sym, ◌∙◌, ap, arith, get, joined, IsIn}
 use Rattle.sorted_map.proofs.InBlocks.{get_back, get_front, get_at, in_rest}
 use Rattle.sorted_map.proofs.blocks.get_in.Goals as goal
 

@@ -1,5 +1,4 @@
-use Rattle.std.proofs.Common.{rules}
-use Rattle.std.proofs.lemmas.List.Sorted.{IsPartitionPoint-from_clause}
+use Rattle.sorted_map.proofs.Vocabulary.{rules, IsPartitionPoint-from_clause}
 use Rattle.sorted_map.proofs.InBlocks.{partitioned, starts_at, in_place}
 use Rattle.sorted_map.proofs.blocks.place.Goals as goal
 

@@ -1,6 +1,4 @@
-use Rattle.std.proofs.Common.{subst, sym, ◌∷◌}
-use Rattle.sorted_map.specs.SortedMap.{IsOrdered}
-use Rattle.sorted_map.specs.Blocks.{joined, IsIn}
+use Rattle.sorted_map.proofs.Vocabulary.{subst, sym, ◌∷◌, IsOrdered, joined, IsIn}
 use Rattle.sorted_map.proofs.InBlocks.{ordered_behind}
 use Rattle.sorted_map.proofs.blocks.place_in.Goals as goal
 

@@ -1,5 +1,4 @@
-use Rattle.std.proofs.Common.{◌∷◌, ◌++◌, sym, ◌∙◌, ap, is_some}
-use Rattle.sorted_map.specs.Blocks.{joined}
+use Rattle.sorted_map.proofs.Vocabulary.{◌∷◌, ◌++◌, sym, ◌∙◌, ap, is_some, joined}
 use Rattle.sorted_map.proofs.InBlocks.{get_back, insert_at, halves_at, room_parted}
 use Rattle.sorted_map.proofs.blocks.put_first.Goals as goal
 

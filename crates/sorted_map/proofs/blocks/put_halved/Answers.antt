@@ -1,5 +1,4 @@
-use Rattle.std.proofs.Common.{◌<◌, ◌++◌, length, subst, sym, ◌∙◌, ap, arith}
-use Rattle.std.proofs.lemmas.List.{take-append-drop, length-drop, length-take}
+use Rattle.sorted_map.proofs.Vocabulary.{◌<◌, ◌++◌, length, subst, sym, ◌∙◌, ap, arith, take-append-drop, length-drop, length-take}
 use Rattle.sorted_map.proofs.InBlocks.{halved_upper, halved_lower, insert_some, put_capacity}
 use Rattle.sorted_map.proofs.blocks.put_halved.Goals as goal
 

@@ -1,7 +1,5 @@
-use Rattle.std.proofs.Common.{◌≡◌, ◌+◌, ◌≤◌, suc, set, sym, subst, ◌∙◌, ap, arith}
+use Rattle.sorted_map.proofs.Vocabulary.{◌≡◌, ◌+◌, ◌≤◌, suc, set, sym, subst, ◌∙◌, ap, arith, get, insert, joined, capacity_in}
 use Rattle.std.specs.List as list
-use Rattle.sorted_map.specs.SortedMap.{get, insert}
-use Rattle.sorted_map.specs.Blocks.{joined, capacity_in}
 use Rattle.sorted_map.proofs.InBlocks.{get_at, insert_at, halves_at, block_of, in_range}
 use Rattle.sorted_map.proofs.blocks.put_in.Goals as goal
 

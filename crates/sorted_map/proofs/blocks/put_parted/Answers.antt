@@ -1,5 +1,4 @@
-use Rattle.std.proofs.Common.{◌++◌, ◌∙◌, ap}
-use Rattle.sorted_map.specs.SortedMap.{insert}
+use Rattle.sorted_map.proofs.Vocabulary.{◌++◌, ◌∙◌, ap, insert}
 use Rattle.sorted_map.proofs.InBlocks.{above_end}
 use Rattle.sorted_map.proofs.blocks.put_parted.Goals as goal
 

@@ -1,6 +1,4 @@
-use Rattle.std.proofs.Common.{sym, ◌∙◌, ap, arith}
-use Rattle.sorted_map.specs.SortedMap.{get, remove}
-use Rattle.sorted_map.specs.Blocks.{joined, capacity_in}
+use Rattle.sorted_map.proofs.Vocabulary.{sym, ◌∙◌, ap, arith, get, remove, joined, capacity_in}
 use Rattle.sorted_map.proofs.InBlocks.{get_at, remove_at, removed_capacity, joined_dropped, blocks_set, block_of, in_range, none_in}
 use Rattle.sorted_map.proofs.blocks.remove_in.Goals as goal
 

@@ -1,5 +1,4 @@
-use Rattle.std.proofs.Common.{◌≡◌, ◌+◌, ◌++◌, take}
-use Rattle.std.specs.Prelude.{vec_capacity, vec_len}
+use Rattle.sorted_map.proofs.Vocabulary.{◌≡◌, ◌+◌, ◌++◌, take, vec_capacity, vec_len}
 use Rattle.sorted_map.proofs.roomy.copy_pairs.Given as goal
 
 abbrev pub invariant-loop-key : goal.invariant-loop-key

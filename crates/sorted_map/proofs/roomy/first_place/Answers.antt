@@ -1,5 +1,4 @@
-use Rattle.std.proofs.Common.{rules}
-use Rattle.std.proofs.lemmas.List.Sorted.{IsPartitionPoint-from_clause}
+use Rattle.sorted_map.proofs.Vocabulary.{rules, IsPartitionPoint-from_clause}
 use Rattle.sorted_map.proofs.InBlocks.{below, pairs_parted, first_point}
 use Rattle.sorted_map.proofs.roomy.first_place.Goals as goal
 

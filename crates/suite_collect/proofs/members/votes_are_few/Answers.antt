@@ -1,4 +1,4 @@
-use Rattle.suite_collect.proofs.Vocabulary.{arith}
+use Rattle.std.proofs.Common.{arith}
 use Rattle.suite_collect.proofs.Counts.{votes_few}
 use Rattle.suite_collect.proofs.members.votes_are_few.Goals as goal
 

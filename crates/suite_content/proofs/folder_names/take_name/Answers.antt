@@ -1,8 +1,6 @@
-use Rattle.std.specs.Prelude.{ℕ, List, is_some}
+use Rattle.suite_content.proofs.Vocabulary.{ℕ, List, is_some, sym, ◌∙◌, ap, number_of}
 use Rattle.sorted_map.specs.Roomy.{Roomy}
 use Rattle.std.specs.Arc.{arc_value}
-use Rattle.std.proofs.Common.{sym, ◌∙◌, ap}
-use Rattle.suite_content.specs.Folders.{number_of}
 use Rattle.suite_content.specs.FolderLaws.{without_absent}
 use Rattle.suite_content.proofs.Lists.{none_if}
 use Rattle.suite_content.proofs.folder_names.take_name.Goals as goal

@@ -1,5 +1,4 @@
-use Rattle.std.proofs.Common.{◌≡◌, ◌≤◌, ◌++◌, codes, take}
-use Rattle.std.specs.List.{flat_map}
+use Rattle.suite_content.proofs.Vocabulary.{◌≡◌, ◌≤◌, ◌++◌, codes, take, flat_map}
 use Rattle.suite_content.proofs.gathering.append_behind_commas.Given as goal
 
 abbrev pub invariant-loop-name : goal.invariant-loop-name

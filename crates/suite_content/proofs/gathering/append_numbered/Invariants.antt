@@ -1,6 +1,4 @@
-use Rattle.std.proofs.Common.{◌≡◌, ◌≤◌, ◌++◌, take}
-use Rattle.std.specs.List.{flat_map}
-use Rattle.suite_content.specs.Written.{numbered_bytes}
+use Rattle.suite_content.proofs.Vocabulary.{◌≡◌, ◌≤◌, ◌++◌, take, flat_map, numbered_bytes}
 use Rattle.suite_content.proofs.gathering.append_numbered.Given as goal
 
 abbrev pub invariant-loop-name : goal.invariant-loop-name

@@ -1,5 +1,5 @@
-use Rattle.std.proofs.Common.{rules, ◌≡◌, ◌∷◌, ◌++◌, length, take, ap, ◌∙◌, arith}
 use Rattle.std.specs.Int.{w64, to_be_bytes}
+use Rattle.std.proofs.Common.{rules, ◌≡◌, ◌∷◌, ◌++◌, length, take, ap, ◌∙◌, arith}
 use Rattle.suite_content.proofs.Numbered.{number_behind}
 use Rattle.suite_content.proofs.gathering.put_numbered.Goals as goal
 

@@ -1,8 +1,5 @@
-use Rattle.std.proofs.Common.{◌≡◌, ap, sym, ◌∙◌}
-use Rattle.std.specs.List.{list_all}
-use Rattle.std.proofs.lemmas.List.{take_all}
+use Rattle.suite_content.proofs.Vocabulary.{◌≡◌, ap, sym, ◌∙◌, list_all, take_all, is_name_byte}
 use Rattle.std.proofs.lemmas.List.Sums.{AllPass-from_list_all, list_all-from_AllPass}
-use Rattle.suite_content.specs.Names.{is_name_byte}
 use Rattle.suite_content.proofs.name.are_portable.Goals as goal
 
 pub returns : goal.returns

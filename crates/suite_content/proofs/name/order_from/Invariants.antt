@@ -1,7 +1,4 @@
-use Rattle.std.proofs.Common.{◌≡◌, ◌≤◌, length, drop}
-use Rattle.std.specs.Prelude.{min}
-use Rattle.std.specs.Ordering.{nat_cmp}
-use Rattle.std.specs.Cmp.Lexicographic.{slice_cmp}
+use Rattle.suite_content.proofs.Vocabulary.{◌≡◌, ◌≤◌, length, drop, min, nat_cmp, slice_cmp}
 use Rattle.suite_content.proofs.name.order_from.Given as goal
 
 -- what the bytes from a place on answer, all of them answer

@@ -1,5 +1,4 @@
-use Rattle.std.proofs.Common.{ℕ, subst}
-use Rattle.std.specs.Prelude.{IfOk, ◌≡◌}
+use Rattle.suite_prefix.proofs.Vocabulary.{ℕ, subst, IfOk, ◌≡◌}
 use Rattle.acl_core.specs.Modes.{minimal_list}
 use Rattle.suite_prefix.proofs.absent.closed_list.Goals as goal
 

@@ -1,5 +1,4 @@
-use Rattle.std.proofs.Common.{ap, ◌∙◌}
-use Rattle.suite_prefix.specs.Faults.{content_rises}
+use Rattle.suite_prefix.proofs.Vocabulary.{ap, ◌∙◌, content_rises}
 use Rattle.suite_prefix.proofs.Judged.{content_is_canonical}
 use Rattle.suite_prefix.proofs.decoding.copy_from.Goals as goal
 

@@ -1,5 +1,4 @@
-use Rattle.std.proofs.Common.{◌≡◌, rules}
-use Rattle.std.proofs.lemmas.Bool.{eqb-true, eq-eqb}
+use Rattle.suite_prefix.proofs.Vocabulary.{◌≡◌, rules, eqb-true, eq-eqb}
 use Rattle.suite_prefix.proofs.Judged.{grants_nothing_if, tag_if_nothing, none_if_nothing}
 use Rattle.suite_prefix.proofs.decoding.grants_nothing.Goals as goal
 

@@ -1,8 +1,7 @@
-use Rattle.std.proofs.Common.{sym, ◌∙◌, map}
+use Rattle.suite_prefix.proofs.Vocabulary.{sym, ◌∙◌, map, entry_from}
 use Rattle.std.proofs.lemmas.List.Sorted.{IsPermutation-refl}
 use Rattle.acl_core.proofs.Faults.{each_apart}
 use Rattle.acl_core.proofs.OneOrder.{in_order-sorted}
-use Rattle.suite_prefix.specs.Reading.{entry_from}
 use Rattle.suite_prefix.proofs.Orders.{canonical_if_rise}
 use Rattle.suite_prefix.proofs.decoding.list_from.Goals as goal
 

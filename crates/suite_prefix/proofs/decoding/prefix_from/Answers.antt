@@ -1,10 +1,5 @@
-use Rattle.std.proofs.Common.{◌≡◌, [], length, rules, refl, subst, ap, ◌∙◌}
-use Rattle.std.specs.Prelude.{IsTrue}
-use Rattle.std.proofs.lemmas.List.{nil_from_length}
-use Rattle.suite_prefix.specs.Faults.{entries_rise, is_canonical}
-use Rattle.suite_prefix.specs.Reading.{Shape}
+use Rattle.suite_prefix.proofs.Vocabulary.{◌≡◌, [], length, rules, refl, subst, ap, ◌∙◌, IsTrue, nil_from_length, entries_rise, is_canonical, Shape, MakeLists}
 use Rattle.suite_prefix.proofs.Judged.{canonical_parts, spells}
-use Rattle.suite_prefix.specs.code.Judging.{MakeLists}
 use Rattle.suite_prefix.proofs.decoding.prefix_from.Goals as goal
 
 pub lists_from-requires-clause-rise : goal.lists_from-requires-clause-rise

@@ -1,5 +1,4 @@
-use Rattle.std.proofs.Common.{◌≡◌, take, map}
-use Rattle.suite_prefix.specs.Reading.{entry_from}
+use Rattle.suite_prefix.proofs.Vocabulary.{◌≡◌, take, map, entry_from}
 use Rattle.suite_prefix.proofs.decoding.put_entries.Given as goal
 
 abbrev pub invariant-loop-i : goal.invariant-loop-i

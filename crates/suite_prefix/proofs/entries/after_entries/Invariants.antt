@@ -1,5 +1,4 @@
-use Rattle.std.proofs.Common.{◌≡◌, ◌-◌}
-use Rattle.suite_prefix.specs.Reading.{many_at, entry_at}
+use Rattle.suite_prefix.proofs.Vocabulary.{◌≡◌, ◌-◌, many_at, entry_at}
 use Rattle.suite_prefix.proofs.Loop.{rest_in}
 use Rattle.suite_prefix.proofs.entries.after_entries.Given as goal
 

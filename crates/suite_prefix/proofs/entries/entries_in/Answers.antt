@@ -1,8 +1,4 @@
-use Rattle.std.proofs.Common.{rules, ◌≡◌, ◌-◌, ◌+◌, ◌<◌, List, [], ◌∷◌, ◌++◌, map, Ok, sym, ap, subst, ◌∙◌, append_assoc, append-nil, arith}
-use Rattle.std.specs.Prelude.{All, IsOk}
-use Rattle.std.proofs.lemmas.List.Elements.{All-head, All-tail}
-use Rattle.suite_prefix.specs.declared.shapes.EntryShape.{EntryShape}
-use Rattle.suite_prefix.specs.Reading.{entries_in, entry_at, entry_from, many_at}
+use Rattle.suite_prefix.proofs.Vocabulary.{rules, ◌≡◌, ◌-◌, ◌+◌, ◌<◌, List, [], ◌∷◌, ◌++◌, map, Ok, sym, ap, subst, ◌∙◌, append_assoc, append-nil, arith, All, IsOk, All-head, All-tail, EntryShape, entries_in, entry_at, entry_from, many_at}
 use Rattle.suite_prefix.proofs.Loop.{reads_ok, reads_some, splits_below, none_listed}
 use Rattle.suite_prefix.proofs.entries.entries_in.Goals as goal
 

@@ -1,7 +1,4 @@
-use Rattle.std.proofs.Common.{◌≡◌, ◌-◌, ◌<◌, ◌++◌, map}
-use Rattle.std.specs.Prelude.{All, IsOk}
-use Rattle.suite_prefix.specs.Reading.{entries_in, entry_at, entry_from, many_at}
-use Rattle.suite_prefix.specs.declared.shapes.EntryShape.{EntryShape}
+use Rattle.suite_prefix.proofs.Vocabulary.{◌≡◌, ◌-◌, ◌<◌, ◌++◌, map, All, IsOk, entries_in, entry_at, entry_from, many_at, EntryShape}
 use Rattle.suite_prefix.proofs.entries.entries_in.Given as goal
 
 abbrev pub invariant-loop-place : goal.invariant-loop-place

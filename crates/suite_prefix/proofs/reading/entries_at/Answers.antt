@@ -1,7 +1,4 @@
-use Rattle.std.proofs.Common.{◌≡◌, ◌∙◌, ◌<◌, List, length, take, Ok, ap, arith}
-use Rattle.std.proofs.lemmas.List.{take_more_set, take_all}
-use Rattle.std.proofs.lemmas.Result.{err_from_is_err_and}
-use Rattle.suite_prefix.specs.Reading.{entry_at, many_at}
+use Rattle.suite_prefix.proofs.Vocabulary.{◌≡◌, ◌∙◌, ◌<◌, List, length, take, Ok, ap, arith, take_more_set, take_all, err_from_is_err_and, entry_at, many_at}
 use Rattle.suite_prefix.proofs.Loop.{goes_on, ends, is_done}
 use Rattle.suite_prefix.proofs.reading.entries_at.Goals as goal
 

@@ -1,5 +1,4 @@
-use Rattle.std.proofs.Common.{◌≡◌, ◌-◌, length, take}
-use Rattle.suite_prefix.specs.Reading.{entry_at, many_at}
+use Rattle.suite_prefix.proofs.Vocabulary.{◌≡◌, ◌-◌, length, take, entry_at, many_at}
 use Rattle.suite_prefix.proofs.Loop.{with_front}
 use Rattle.suite_prefix.proofs.reading.entries_at.Given as goal
 

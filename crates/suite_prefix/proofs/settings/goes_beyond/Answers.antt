@@ -1,5 +1,4 @@
-use Rattle.std.proofs.Common.{not, ap, sym, ◌∙◌}
-use Rattle.std.proofs.lemmas.Bool.{not-false}
+use Rattle.suite_prefix.proofs.Vocabulary.{not, ap, sym, ◌∙◌, not-false}
 use Rattle.vote_core.proofs.Within.{are_below_decides}
 use Rattle.suite_prefix.proofs.settings.goes_beyond.Goals as goal
 

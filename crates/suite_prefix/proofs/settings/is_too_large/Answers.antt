@@ -1,5 +1,4 @@
-use Rattle.std.proofs.Common.{not, ap, sym, ◌∙◌, inl, inr, arith}
-use Rattle.std.proofs.lemmas.Bool.{cases_Bool, not-false, false≢true}
+use Rattle.suite_prefix.proofs.Vocabulary.{not, ap, sym, ◌∙◌, inl, inr, arith, cases_Bool, not-false, false≢true}
 use Rattle.suite_prefix.proofs.settings.is_too_large.Goals as goal
 
 pub returns-then-goes_beyond-clause-held : goal.returns-then-goes_beyond-clause-held

@@ -1,6 +1,4 @@
-use Rattle.std.proofs.Common.{◌∙◌, sym}
-use Rattle.std.proofs.lemmas.Result.{err_from_is_err_and}
-use Rattle.suite_prefix.specs.Reading.{many_at, name_at}
+use Rattle.suite_prefix.proofs.Vocabulary.{◌∙◌, sym, err_from_is_err_and, many_at, name_at}
 use Rattle.suite_prefix.proofs.Loop.{rest_goes_on, rest_ends, rest_done, read_to, read_fails}
 use Rattle.suite_prefix.proofs.shapes.after_names.Goals as goal
 

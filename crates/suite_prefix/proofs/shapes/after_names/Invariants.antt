@@ -1,5 +1,4 @@
-use Rattle.std.proofs.Common.{◌≡◌, ◌-◌}
-use Rattle.suite_prefix.specs.Reading.{many_at, name_at}
+use Rattle.suite_prefix.proofs.Vocabulary.{◌≡◌, ◌-◌, many_at, name_at}
 use Rattle.suite_prefix.proofs.Loop.{rest_in}
 use Rattle.suite_prefix.proofs.shapes.after_names.Given as goal
 

@@ -1,7 +1,4 @@
-use Rattle.std.proofs.Common.{◌<◌, ◌^◌, take, sym, get_or}
-use Rattle.std.proofs.lemmas.List.{take_all}
-use Rattle.std.proofs.lemmas.List.Elements.{All-more, All-same}
-use Rattle.suite_content.specs.Names.{IsName}
+use Rattle.suite_prefix.proofs.Vocabulary.{◌<◌, ◌^◌, take, sym, get_or, take_all, All-more, All-same, IsName}
 use Rattle.suite_prefix.proofs.validity.names_fit.Goals as goal
 
 pub loop-name-preserved : goal.loop-name-preserved

@@ -1,6 +1,4 @@
-use Rattle.std.proofs.Common.{◌<◌, ◌^◌, take}
-use Rattle.std.specs.Prelude.{All}
-use Rattle.suite_content.specs.Names.{IsName}
+use Rattle.suite_prefix.proofs.Vocabulary.{◌<◌, ◌^◌, take, All, IsName}
 use Rattle.suite_prefix.proofs.validity.names_fit.Given as goal
 
 abbrev pub invariant-loop-name : goal.invariant-loop-name

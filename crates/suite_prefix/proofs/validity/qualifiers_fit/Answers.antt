@@ -1,7 +1,4 @@
-use Rattle.std.proofs.Common.{◌<◌, ◌^◌, take, sym}
-use Rattle.std.proofs.lemmas.List.{take_all}
-use Rattle.std.proofs.lemmas.List.Elements.{All-more, All-same}
-use Rattle.acl_core.specs.Tags.{qualifier}
+use Rattle.suite_prefix.proofs.Vocabulary.{◌<◌, ◌^◌, take, sym, take_all, All-more, All-same, qualifier}
 use Rattle.suite_prefix.proofs.validity.qualifiers_fit.Goals as goal
 
 pub loop-entry-preserved : goal.loop-entry-preserved

@@ -1,6 +1,4 @@
-use Rattle.std.proofs.Common.{◌≡◌, [], ◌∷◌, ◌++◌, length, take}
-use Rattle.std.specs.List.{flat_map}
-use Rattle.suite_prefix.specs.Bytes.{entry_bytes}
+use Rattle.suite_prefix.proofs.Vocabulary.{◌≡◌, [], ◌∷◌, ◌++◌, length, take, flat_map, entry_bytes}
 use Rattle.suite_prefix.proofs.writing.put_list.Given as goal
 
 abbrev pub invariant-loop-entry : goal.invariant-loop-entry

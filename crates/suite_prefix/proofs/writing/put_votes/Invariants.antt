@@ -1,6 +1,4 @@
-use Rattle.std.proofs.Common.{◌≡◌, [], ◌∷◌, ◌++◌, length, take}
-use Rattle.std.specs.List.{flat_map}
-use Rattle.suite_prefix.specs.Bytes.{representative_bytes}
+use Rattle.suite_prefix.proofs.Vocabulary.{◌≡◌, [], ◌∷◌, ◌++◌, length, take, flat_map, representative_bytes}
 use Rattle.suite_prefix.proofs.writing.put_votes.Given as goal
 
 abbrev pub invariant-loop-server : goal.invariant-loop-server

@@ -1,4 +1,4 @@
-use Rattle.txn_core.proofs.Vocabulary.{sym}
+use Rattle.std.proofs.Common.{sym}
 use Rattle.txn_core.proofs.Carried.{opens_none, opens_some}
 use Rattle.txn_core.proofs.carrying.open.Goals as goal
 

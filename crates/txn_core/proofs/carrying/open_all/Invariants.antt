@@ -1,4 +1,5 @@
-use Rattle.txn_core.proofs.Vocabulary.{◌≡◌, into_iter_items, opened_all}
+use Rattle.txn_core.proofs.Vocabulary.{◌≡◌, opened_all}
+use Rattle.std.specs.Vec.Iter.{into_iter_items}
 use Rattle.txn_core.proofs.carrying.open_all.Given as goal
 
 abbrev pub invariant-loop-number : goal.invariant-loop-number

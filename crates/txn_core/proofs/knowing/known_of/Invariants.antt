@@ -1,4 +1,4 @@
-use Rattle.txn_core.proofs.Vocabulary.{drop}
+use Rattle.std.proofs.Common.{drop}
 use Rattle.txn_core.proofs.Seeing.{told_all}
 use Rattle.txn_core.proofs.Tellings.{IsTelling}
 use Rattle.txn_core.proofs.knowing.known_of.Given as goal

@@ -1,4 +1,4 @@
-use Rattle.txn_core.proofs.Vocabulary.{with_content}
+use Rattle.txn_core.specs.code.Seeing.{with_content}
 use Rattle.txn_core.proofs.Carried.{changed_there}
 use Rattle.txn_core.proofs.learned.open.Goals as goal
 

@@ -1,4 +1,4 @@
-use Rattle.txn_core.proofs.Vocabulary.{settled_with}
+use Rattle.txn_core.specs.code.Seeing.{settled_with}
 use Rattle.txn_core.proofs.Carried.{changed_there}
 use Rattle.txn_core.proofs.learned.settle.Goals as goal
 

@@ -1,4 +1,5 @@
-use Rattle.txn_core.proofs.Vocabulary.{sym, ◌∙◌, same_ending_decides}
+use Rattle.txn_core.specs.code.Equality.{same_ending_decides}
+use Rattle.std.proofs.Common.{sym, ◌∙◌}
 use Rattle.txn_core.proofs.sameness.same_ending.Goals as goal
 
 pub returns : goal.returns

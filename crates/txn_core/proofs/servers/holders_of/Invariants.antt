@@ -1,4 +1,4 @@
-use Rattle.txn_core.proofs.Vocabulary.{drop}
+use Rattle.std.proofs.Common.{drop}
 use Rattle.txn_core.proofs.Lockers.{HasLocked}
 use Rattle.txn_core.proofs.servers.holders_of.Given as goal
 

@@ -1,4 +1,5 @@
-use Rattle.txn_core.proofs.Vocabulary.{◌≡◌, ◌+◌, ℕ, [], ◌∷◌, ◌++◌, ap, sym, ◌∙◌, arith, length, ArrayVec, has_locks}
+use Rattle.txn_core.proofs.Vocabulary.{◌≡◌, ◌+◌, ℕ, [], ◌∷◌, ◌++◌, ap, sym, ◌∙◌, arith, length, has_locks}
+use Rattle.arrayvec.specs.ArrayVec.{ArrayVec}
 use Rattle.txn_core.proofs.Numbers.{one_passes, one_fails}
 use Rattle.txn_core.proofs.servers.locked_at.Goals as goal
 use Rattle.txn_core.proofs.servers.locked_at.Goals.{then-contains, else-contains}

@@ -1,5 +1,4 @@
-use Rattle.txn_core.proofs.Vocabulary.{◌≡◌}
-use Rattle.std.proofs.Common.{take}
+use Rattle.std.proofs.Common.{take, ◌≡◌}
 use Rattle.txn_core.proofs.suites.copied.Given as goal
 
 abbrev pub invariant-loop-number : goal.invariant-loop-number

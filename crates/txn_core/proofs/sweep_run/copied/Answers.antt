@@ -1,4 +1,4 @@
-use Rattle.txn_core.proofs.Vocabulary.{each_same}
+use Rattle.std.specs.List.{each_same}
 use Rattle.txn_core.proofs.sweep_run.copied.Goals as goal
 
 pub returns : goal.returns

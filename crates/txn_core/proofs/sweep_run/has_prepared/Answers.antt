@@ -1,4 +1,7 @@
-use Rattle.txn_core.proofs.Vocabulary.{◌≡◌, ◌-◌, ap, ◌∙◌, arith, rules, tests, deque_iter_rest, YieldsList-from_deque, any_from_yields_List, Lock}
+use Rattle.txn_core.proofs.Vocabulary.{◌≡◌, ◌-◌, ap, ◌∙◌, arith, rules, tests, Lock}
+use Rattle.std.specs.VecDeque.Iter.{deque_iter_rest}
+use Rattle.std.proofs.lemmas.Iterator.Consumers.{YieldsList-from_deque}
+use Rattle.std.proofs.lemmas.Iterator.Search.{any_from_yields_List}
 use Rattle.std.proofs.Common.{take}
 use Rattle.txn_core.proofs.sweep_run.has_prepared.Goals as goal
 

@@ -1,5 +1,4 @@
-use Rattle.txn_core.proofs.Vocabulary.{◌≡◌}
-use Rattle.std.proofs.Common.{take}
+use Rattle.std.proofs.Common.{take, ◌≡◌}
 use Rattle.txn_core.proofs.sweep_run.same_locks.Given as goal
 
 abbrev pub invariant-loop-i : goal.invariant-loop-i

@@ -1,5 +1,4 @@
-use Rattle.txn_core.proofs.Vocabulary.{◌≡◌, ◌++◌, [], drop, option_copied}
-use Rattle.std.proofs.Common.{unwrap_or}
+use Rattle.txn_core.proofs.Vocabulary.{◌≡◌, ◌++◌, [], drop, option_copied, unwrap_or}
 use Rattle.txn_core.specs.Writing as spec
 use Rattle.txn_core.proofs.writing.parts_at.Given as goal
 

@@ -1,6 +1,4 @@
-use Rattle.std.proofs.Common.{◌≡◌, ◌+◌, ◌∙◌, sym, ap, ◌||◌, ◌∷◌, drop, get_or, drop-cons, add-one}
-use Rattle.std.specs.FinSet.{contains}
-use Rattle.vote_core.specs.Validity.{lists_twice}
+use Rattle.vote_core.proofs.Vocabulary.{◌≡◌, ◌+◌, ◌∙◌, sym, ap, ◌||◌, ◌∷◌, drop, get_or, drop-cons, add-one, contains, lists_twice}
 use Rattle.vote_core.proofs.Doubles.{lists_one, lists_one-none, seen_more}
 use Rattle.vote_core.proofs.validity.lists_server_twice.Goals as goal
 

@@ -1,6 +1,4 @@
-use Rattle.std.proofs.Common.{◌≡◌, ◌||◌, drop}
-use Rattle.std.specs.FinSet.{contains}
-use Rattle.vote_core.specs.Validity.{lists_twice}
+use Rattle.vote_core.proofs.Vocabulary.{◌≡◌, ◌||◌, drop, contains, lists_twice}
 use Rattle.vote_core.proofs.Doubles.{lists_one}
 use Rattle.vote_core.proofs.validity.lists_server_twice.Given as goal
 

@@ -1,6 +1,5 @@
-use Rattle.std.proofs.Common.{◌<◌, take, get_or, sym, arith}
+use Rattle.vote_core.proofs.Vocabulary.{◌<◌, take, get_or, sym, arith, take_all}
 use Rattle.std.proofs.lemmas.Grind.{common_steps}
-use Rattle.std.proofs.lemmas.List.{take_all}
 use Rattle.std.proofs.lemmas.List.Elements.{All-more, All-same}
 use Rattle.vote_core.proofs.validity.total_of.Goals as goal
 

@@ -1,5 +1,4 @@
-use Rattle.std.proofs.Common.{◌≡◌, ◌+◌, ◌*◌, ◌<◌, ◌≤◌, take, drop, All}
-use Rattle.vote_core.specs.Quorums.{total_votes}
+use Rattle.vote_core.proofs.Vocabulary.{◌≡◌, ◌+◌, ◌*◌, ◌<◌, ◌≤◌, take, drop, All, total_votes}
 use Rattle.vote_core.proofs.validity.total_of.Given as goal
 
 abbrev pub invariant-loop-votes : goal.invariant-loop-votes

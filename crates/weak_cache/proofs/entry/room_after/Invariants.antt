@@ -1,5 +1,4 @@
-use Rattle.std.proofs.Common.{◌≡◌, ◌+◌, ◌≤◌, length, drop}
-use Rattle.std.specs.List.{flat_map}
+use Rattle.weak_cache.proofs.Vocabulary.{◌≡◌, ◌+◌, ◌≤◌, length, drop, flat_map}
 use Rattle.suite_prefix.specs.Bytes.{name_bytes}
 use Rattle.weak_cache.proofs.entry.room_after.Given as goal
 

@@ -1,5 +1,5 @@
-use Rattle.std.proofs.Common.{sym, ◌∙◌}
 use Rattle.suite_content.specs.code.ContentEquality.{same_content_decides}
+use Rattle.std.proofs.Common.{sym, ◌∙◌}
 use Rattle.weak_cache.proofs.entry.same_content.Goals as goal
 
 pub returns : goal.returns

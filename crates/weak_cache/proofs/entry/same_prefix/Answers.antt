@@ -1,5 +1,5 @@
-use Rattle.std.proofs.Common.{sym, ◌∙◌}
 use Rattle.suite_prefix.specs.code.Equality.{same_prefix_decides}
+use Rattle.std.proofs.Common.{sym, ◌∙◌}
 use Rattle.weak_cache.proofs.entry.same_prefix.Goals as goal
 
 pub returns : goal.returns

@@ -1,10 +1,7 @@
-use Rattle.std.proofs.Common.{◌≡◌, List, None, Result, Ok, Err, refl, sym, ap, ◌∙◌}
+use Rattle.acl_core.proofs.Vocabulary.{◌≡◌, List, None, Result, Ok, Err, refl, sym, ap, ◌∙◌, Entry, first_fault, fault_in, IsSortedCopy}
 use Rattle.std.specs.Result.{IsErrAnd}
-use Rattle.acl_core.specs.declared.entry.Entry.{Entry}
 use Rattle.acl_core.specs.declared.fault.AclError.{AclError}
 use Rattle.acl_core.specs.declared.fault.AclError.TheVariants.{Memory}
-use Rattle.acl_core.specs.AccessLists.{first_fault, fault_in}
-use Rattle.acl_core.specs.code.Sorted.{IsSortedCopy}
 use Rattle.acl_core.proofs.Faults.{accepted_iff, accepted_without_fault, each_apart}
 use Rattle.acl_core.proofs.OneOrder.{in_order-sorted}
 use Rattle.acl_core.proofs.Sorting.{sorted_acl}

@@ -1,11 +1,5 @@
-use Rattle.std.proofs.Common.{◌≡◌, ◌∙◌, ap, map, subst, sym, true}
-use Rattle.std.specs.List.{list_any}
+use Rattle.acl_core.proofs.Vocabulary.{◌≡◌, ◌∙◌, ap, map, subst, sym, true, list_any, Entry, IsAcl, cut_to, has_mask, inherited, limit_of, Mask, same_tag}
 use Rattle.std.specs.Arc.{arc_slice_items}
-use Rattle.acl_core.specs.declared.entry.Entry.{Entry}
-use Rattle.acl_core.specs.AccessLists.{IsAcl}
-use Rattle.acl_core.specs.Creation.{cut_to, has_mask, inherited, limit_of}
-use Rattle.acl_core.specs.declared.entry.Tag.TheVariants.{Mask}
-use Rattle.acl_core.specs.Tags.{same_tag}
 use Rattle.acl_core.proofs.OneEntry.{any_kept, some_of}
 use Rattle.acl_core.proofs.Inheriting.{inherited_acl}
 use Rattle.acl_core.proofs.acl.Acl.inherit.Goals as goal

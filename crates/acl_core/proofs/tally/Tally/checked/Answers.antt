@@ -1,9 +1,5 @@
-use Rattle.std.proofs.Common.{◌≡◌, ◌≤◌, true, false, None, Some, length, ap, sym, ◌∙◌, arith}
-use Rattle.std.specs.List.{find}
-use Rattle.std.proofs.lemmas.Bool.{ne_eqb, lt-ltb, le-ltb}
-use Rattle.acl_core.specs.declared.fault.AclFault.TheVariants.{NoUserObj, NoGroupObj, NoOther, TwiceSingle, UserTwice, GroupTwice, MaskMissing, TooMany}
-use Rattle.acl_core.specs.AccessLists.{faults, max_entries}
-use Rattle.acl_core.specs.Tallies.{is_doubled}
+use Rattle.acl_core.proofs.Vocabulary.{◌≡◌, ◌≤◌, true, false, None, Some, length, ap, sym, ◌∙◌, arith, find, ne_eqb, lt-ltb, le-ltb, NoUserObj, NoGroupObj, NoOther, TwiceSingle, UserTwice, GroupTwice, MaskMissing, TooMany, faults}
+use Rattle.acl_core.proofs.Vocabulary.{max_entries, is_doubled}
 use Rattle.acl_core.specs.code.TallyFields.{tallied}
 use Rattle.acl_core.proofs.Tallying.{first_of_eight, first_told, kept_accepted, told_fault}
 use Rattle.acl_core.proofs.tally.Tally.checked.Goals as goal

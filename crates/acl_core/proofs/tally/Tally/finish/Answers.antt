@@ -1,5 +1,4 @@
-use Rattle.std.proofs.Common.{◌∙◌, IsPermutation, ap, subst}
-use Rattle.acl_core.specs.InOrder.{in_order}
+use Rattle.acl_core.proofs.Vocabulary.{◌∙◌, IsPermutation, ap, subst, in_order}
 use Rattle.acl_core.proofs.Tallying.{kept_all}
 use Rattle.acl_core.proofs.tally.Tally.finish.Goals as goal
 

@@ -1,10 +1,5 @@
-use Rattle.std.proofs.Common.{◌≡◌, ◌+◌, ◌≤◌, true, false, cond, ltb, List, [], ◌∷◌, ◌++◌, length, vec_len, sym, ap, subst, ◌∙◌, arith}
+use Rattle.acl_core.proofs.Vocabulary.{◌≡◌, ◌+◌, ◌≤◌, true, false, cond, ltb, List, [], ◌∷◌, ◌++◌, length, vec_len, sym, ap, subst, ◌∙◌, arith, lt-ltb, le-ltb, nat_tests, Entry, max_entries, IsTallyOf, IsWhole, Tallied}
 use Rattle.std.specs.Vec.{vec_capacity}
-use Rattle.std.proofs.lemmas.Bool.{lt-ltb, le-ltb}
-use Rattle.std.proofs.lemmas.Bool.Decides.{nat_tests}
-use Rattle.acl_core.specs.declared.entry.Entry.{Entry}
-use Rattle.acl_core.specs.AccessLists.{max_entries}
-use Rattle.acl_core.specs.Tallies.{IsTallyOf, IsWhole, Tallied}
 use Rattle.acl_core.specs.code.TallyFields.{tallied}
 use Rattle.acl_core.proofs.Tallying.{counted_as, counted_kept, kept_with, tallied_with, tally_more, whole_more}
 use Rattle.acl_core.proofs.tally.Tally.take.Goals as goal

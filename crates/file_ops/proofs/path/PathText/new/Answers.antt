@@ -1,6 +1,4 @@
-use Rattle.std.proofs.Common.{sym, ap, option_map, ◌∙◌}
-use Rattle.file_ops.specs.Paths.{names_of}
-use Rattle.file_ops.specs.code.PathTexts.{text_of}
+use Rattle.file_ops.proofs.Vocabulary.{sym, ap, option_map, ◌∙◌, names_of, text_of}
 use Rattle.file_ops.proofs.PathTexts.{read_back, written_back}
 use Rattle.file_ops.proofs.path.PathText.new.Goals as goal
 use Rattle.file_ops.proofs.path.PathText.new.Goals.{in-Some, in-None+in_ok-from_slice-in-None}

@@ -1,7 +1,5 @@
-use Rattle.std.proofs.Common.{ap, ◌∙◌}
+use Rattle.file_ops.proofs.Vocabulary.{ap, ◌∙◌, with_name, with-without_name}
 use Rattle.suite_content.specs.declared.content.Content.TheVariants as content
-use Rattle.suite_content.specs.Folders.{with_name}
-use Rattle.suite_content.specs.FolderLaws.{with-without_name}
 use Rattle.file_ops.proofs.CapacityLaws.{remove_keeps}
 use Rattle.file_ops.proofs.stored.StoredContent.drop_name.Goals as goal
 

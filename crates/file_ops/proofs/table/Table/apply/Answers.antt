@@ -1,7 +1,5 @@
-use Rattle.std.proofs.Common.{◌≡◌, false, [], Err, rules}
-use Rattle.file_ops.specs.declared.refusal.ApplyError.TheVariants.{Memory}
+use Rattle.file_ops.proofs.Vocabulary.{◌≡◌, false, [], Err, rules, Memory, AnswersFirst}
 use Rattle.file_ops.specs.Transactions.{is_miscounted, play}
-use Rattle.file_ops.specs.code.Performed.{AnswersFirst}
 use Rattle.file_ops.proofs.LaterRefusals.{refuses_first}
 use Rattle.file_ops.proofs.table.Table.apply.Goals as goal
 

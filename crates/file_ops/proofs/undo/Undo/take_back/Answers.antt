@@ -1,8 +1,4 @@
-use Rattle.std.proofs.Common.{subst, ap, ◌∙◌}
-use Rattle.file_ops.specs.code.Capacity.{KeepsCapacity}
-use Rattle.file_ops.specs.code.Edits.{edited, drop_name}
-use Rattle.file_ops.specs.code.Stored.{plain}
-use Rattle.file_ops.specs.code.Undo.{TakesBack}
+use Rattle.file_ops.proofs.Vocabulary.{subst, ap, ◌∙◌, KeepsCapacity, edited, drop_name, plain, TakesBack}
 use Rattle.file_ops.proofs.TakingBack.{held_back, listed_back, voted_back, made_back, room_to_put_back}
 use Rattle.file_ops.proofs.undo.Undo.take_back.Goals as goal
 

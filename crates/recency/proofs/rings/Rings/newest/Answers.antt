@@ -1,9 +1,5 @@
 -- The head leads on to the newest.
-use Rattle.std.proofs.Common.{ℕ, ◌+◌, true, nat_lt, option_map, ap, ◌∙◌, arith}
-use Rattle.std.specs.Vec.{vec_ptr}
-use Rattle.core.specs.Bool.{then_some}
-use Rattle.recency.specs.Rings.{older_in, newer_in}
-use Rattle.recency.specs.Order.{Mark, Listed, listed_in, first_of}
+use Rattle.recency.proofs.Vocabulary.{ℕ, ◌+◌, true, nat_lt, option_map, ap, ◌∙◌, arith, vec_ptr, then_some, older_in, newer_in, Mark, Listed, listed_in, first_of}
 use Rattle.recency.proofs.Order.{first_is}
 use Rattle.recency.proofs.Steps.{leads_older, older_slot}
 use Rattle.recency.proofs.rings.Rings.newest.Goals as goal

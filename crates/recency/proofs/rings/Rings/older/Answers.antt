@@ -1,10 +1,5 @@
 -- A node leads on to the next older one.
-use Rattle.std.proofs.Common.{ℕ, ◌+◌, true, nat_lt, option_map, ap, ◌∙◌, arith, sym, subst}
-use Rattle.std.specs.Vec.{vec_ptr}
-use Rattle.core.specs.Bool.{then_some}
-use Rattle.recency.specs.Rings.{older_in, newer_in}
-use Rattle.recency.specs.Paths.{In}
-use Rattle.recency.specs.Order.{Mark, Listed, keys, listed_in, older_than}
+use Rattle.recency.proofs.Vocabulary.{ℕ, ◌+◌, true, nat_lt, option_map, ap, ◌∙◌, arith, sym, subst, vec_ptr, then_some, older_in, newer_in, In, Mark, Listed, keys, listed_in, older_than}
 use Rattle.recency.proofs.Order.{next_is}
 use Rattle.recency.proofs.Steps.{leads_older, older_slot, used_below}
 use Rattle.recency.proofs.rings.Rings.older.Goals as goal

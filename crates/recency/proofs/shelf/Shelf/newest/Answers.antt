@@ -1,6 +1,4 @@
-use Rattle.std.proofs.Common.{List, option_map, sym, ap, ◌∙◌}
-use Rattle.recency.specs.Order.{Mark, first_of}
-use Rattle.recency.specs.Shelf.{shelf_in}
+use Rattle.recency.proofs.Vocabulary.{List, option_map, sym, ap, ◌∙◌, Mark, first_of, shelf_in}
 use Rattle.recency.proofs.Entries.{marks_of, newest_entry}
 use Rattle.recency.proofs.shelf.Shelf.newest.Goals as goal
 

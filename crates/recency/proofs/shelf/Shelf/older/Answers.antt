@@ -1,6 +1,4 @@
-use Rattle.std.proofs.Common.{List, option_map, sym, ap, ◌∙◌, true≢false}
-use Rattle.recency.specs.Order.{Mark, older_than}
-use Rattle.recency.specs.Shelf.{shelf_in}
+use Rattle.recency.proofs.Vocabulary.{List, option_map, sym, ap, ◌∙◌, true≢false, Mark, older_than, shelf_in}
 use Rattle.recency.specs.Shelf as shelf
 use Rattle.recency.proofs.Entries.{marks_of, older_entry}
 use Rattle.recency.proofs.Order.{none_older}

@@ -1,4 +1,4 @@
-use Rattle.rep_core.proofs.Vocabulary.{ap, ◌∙◌}
+use Rattle.std.proofs.Common.{ap, ◌∙◌}
 use Rattle.rep_core.proofs.LockEdits.{serves_by, served}
 use Rattle.rep_core.proofs.locks.LockTable.has_lock_for.Goals as goal
 

@@ -1,4 +1,4 @@
-use Rattle.rep_core.proofs.Vocabulary.{◌++◌, sym, ap, ◌∙◌, with_items_is, List, Lock, Locking, is_own}
+use Rattle.rep_core.proofs.Vocabulary.{◌++◌, sym, ap, ◌∙◌, with_items_is, List, Lock, Locking}
 use Rattle.rep_core.specs.Locks as locking
 use Rattle.rep_core.proofs.Rising.{rise_prepared}
 use Rattle.rep_core.proofs.SuiteHolders.{still_alone_prepared}

@@ -1,4 +1,4 @@
-use Rattle.rep_core.proofs.Vocabulary.{rules, ◌++◌, sym, ap, ◌∙◌, filter_same, List, not, ◌==◌, Lock, Locking, is_own}
+use Rattle.rep_core.proofs.Vocabulary.{rules, ◌++◌, sym, ap, ◌∙◌, filter_same, List, not, ◌==◌, Lock, Locking}
 use Rattle.rep_core.specs.Locks as locking
 use Rattle.rep_core.proofs.Rising.{rise_filter}
 use Rattle.rep_core.proofs.SuiteHolders.{still_alone}

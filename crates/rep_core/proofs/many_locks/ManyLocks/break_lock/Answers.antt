@@ -1,4 +1,4 @@
-use Rattle.rep_core.proofs.Vocabulary.{sym, ◌∙◌}
+use Rattle.std.proofs.Common.{sym, ◌∙◌}
 use Rattle.rep_core.proofs.LockEdits.{broken_loose, broken_tight}
 use Rattle.rep_core.proofs.many_locks.ManyLocks.break_lock.Goals as goal
 

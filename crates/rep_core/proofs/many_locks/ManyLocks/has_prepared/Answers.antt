@@ -1,4 +1,4 @@
-use Rattle.rep_core.proofs.Vocabulary.{sym, ◌∙◌, ◌+◌, arith}
+use Rattle.std.proofs.Common.{sym, ◌∙◌, ◌+◌, arith}
 use Rattle.rep_core.proofs.LockEdits.{ready_none, ready_here, ready_behind, ready_end, next_above, next_numbered}
 use Rattle.rep_core.proofs.many_locks.ManyLocks.has_prepared.Goals as goal
 

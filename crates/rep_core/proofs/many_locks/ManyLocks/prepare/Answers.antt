@@ -1,4 +1,6 @@
-use Rattle.rep_core.proofs.Vocabulary.{◌≡◌, ◌+◌, suc, ◌∷◌, [], drop, get_or, sym, ap, ◌∙◌, arith, drop-cons, drop_of_length-le, with_prepared}
+use Rattle.rep_core.proofs.Vocabulary.{◌≡◌, ◌+◌, suc, ◌∷◌, [], drop, get_or, sym, ap, ◌∙◌, arith, with_prepared}
+use Rattle.std.proofs.Math.Seq.{drop-cons}
+use Rattle.std.proofs.Math.ListN.{drop_of_length-le}
 use Rattle.rep_core.proofs.LockEdits.{prepared_first, prepared_none}
 use Rattle.rep_core.proofs.many_locks.ManyLocks.prepare.Goals as goal
 

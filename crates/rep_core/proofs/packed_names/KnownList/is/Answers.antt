@@ -1,4 +1,5 @@
-use Rattle.rep_core.proofs.Vocabulary.{sym, ◌∙◌, same_names_decides}
+use Rattle.suite_content.specs.code.Equality.{same_names_decides}
+use Rattle.std.proofs.Common.{sym, ◌∙◌}
 use Rattle.rep_core.proofs.packed_names.KnownList.is.Goals as goal
 
 pub returns : goal.returns

@@ -1,4 +1,5 @@
-use Rattle.rep_core.proofs.Vocabulary.{ap, ◌∙◌, names_in, parts, unnumbered}
+use Rattle.rep_core.proofs.Vocabulary.{ap, ◌∙◌, parts, unnumbered}
+use Rattle.suite_content.specs.Folders.{names_in}
 use Rattle.rep_core.proofs.PackedNames.{names-unnumbered}
 use Rattle.rep_core.proofs.packed_names.PackedNames.unpacked.Goals as goal
 

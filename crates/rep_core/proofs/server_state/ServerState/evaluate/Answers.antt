@@ -1,4 +1,4 @@
-use Rattle.rep_core.proofs.Vocabulary.{state_of}
+use Rattle.rep_core.specs.code.ServerFields.{state_of}
 use Rattle.rep_core.proofs.FittingReplies.{reply_fits}
 use Rattle.rep_core.proofs.server_state.ServerState.evaluate.Goals as goal
 

@@ -1,4 +1,4 @@
-use Rattle.rep_core.proofs.Vocabulary.{rules, ◌≡◌, sym, ◌∙◌}
+use Rattle.std.proofs.Common.{rules, ◌≡◌, sym, ◌∙◌}
 use Rattle.rep_core.proofs.server_state.ServerState.same_but_stamp.Goals as goal
 
 pub returns : goal.returns

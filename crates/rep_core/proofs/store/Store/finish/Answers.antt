@@ -1,5 +1,4 @@
-use Rattle.rep_core.proofs.Vocabulary.{◌≡◌, true, false, arith, Store, copies_in, forms_in, intentions_in, store_of}
-use Rattle.rep_core.specs.Store.{finished}
+use Rattle.rep_core.proofs.Vocabulary.{◌≡◌, true, false, arith, Store, copies_in, forms_in, intentions_in, store_of, finished}
 use Rattle.rep_core.proofs.Planned.{rising_in}
 use Rattle.rep_core.proofs.Soundness.{sound_once_answered, sound_once_dropped}
 use Rattle.rep_core.proofs.store.Store.finish.Goals as goal

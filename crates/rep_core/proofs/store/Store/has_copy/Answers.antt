@@ -1,4 +1,4 @@
-use Rattle.rep_core.proofs.Vocabulary.{rules}
+use Rattle.std.proofs.Common.{rules}
 use Rattle.rep_core.proofs.Kept.{copy_there}
 use Rattle.rep_core.proofs.store.Store.has_copy.Goals as goal
 

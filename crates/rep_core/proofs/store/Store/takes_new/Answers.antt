@@ -1,4 +1,4 @@
-use Rattle.rep_core.proofs.Vocabulary.{rules}
+use Rattle.std.proofs.Common.{rules}
 use Rattle.rep_core.proofs.Planned.{there_in}
 use Rattle.rep_core.proofs.store.Store.takes_new.Goals as goal
 

@@ -1,4 +1,4 @@
-use Rattle.rep_core.proofs.Vocabulary.{◌∙◌, ap}
+use Rattle.std.proofs.Common.{◌∙◌, ap}
 use Rattle.rep_core.proofs.ByAgent.{merged_same}
 use Rattle.rep_core.proofs.verdicts.Verdicts.make_room.Goals as goal
 

@@ -1,7 +1,4 @@
-use Rattle.std.proofs.Common.{◌≡◌, ◌-◌, ◌<◌, ◌∷◌, ◌++◌, None, subst, sym, ◌∙◌, ap, arith}
-use Rattle.sorted_map.specs.SortedMap.{IsOrdered, get, insert}
-use Rattle.sorted_map.specs.Laws.{IsOrdered-insert}
-use Rattle.sorted_map.specs.Blocks.{joined, IsIn}
+use Rattle.sorted_map.proofs.Vocabulary.{◌≡◌, ◌-◌, ◌<◌, ◌∷◌, ◌++◌, None, subst, sym, ◌∙◌, ap, arith, IsOrdered, get, insert, IsOrdered-insert, joined, IsIn}
 use Rattle.sorted_map.proofs.InBlocks.{get_front, insert_front, in_rest, in_range, can_take, room_behind, AreBelow}
 use Rattle.sorted_map.proofs.blocks.BlockMap.insert_in_room.Given.{Over}
 use Rattle.sorted_map.proofs.blocks.BlockMap.insert_in_room.Goals as goal

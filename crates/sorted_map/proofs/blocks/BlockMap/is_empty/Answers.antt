@@ -1,6 +1,4 @@
-use Rattle.std.proofs.Common.{◌≡◌, [], IsTrue, sym, ◌∙◌, ap}
-use Rattle.std.proofs.lemmas.Bool.{false≢true}
-use Rattle.sorted_map.specs.Blocks.{joined}
+use Rattle.sorted_map.proofs.Vocabulary.{◌≡◌, [], IsTrue, sym, ◌∙◌, ap, false≢true, joined}
 use Rattle.sorted_map.proofs.InBlocks.{none_in_front}
 use Rattle.sorted_map.proofs.blocks.BlockMap.is_empty.Goals as goal
 

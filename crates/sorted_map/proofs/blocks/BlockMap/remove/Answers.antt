@@ -1,7 +1,4 @@
-use Rattle.std.proofs.Common.{◌≡◌, ◌-◌, ◌∷◌, ◌++◌, subst, sym, ◌∙◌, ap, arith}
-use Rattle.sorted_map.specs.SortedMap.{IsOrdered, get, remove}
-use Rattle.sorted_map.specs.Laws.{IsOrdered-remove}
-use Rattle.sorted_map.specs.Blocks.{joined, IsIn}
+use Rattle.sorted_map.proofs.Vocabulary.{◌≡◌, ◌-◌, ◌∷◌, ◌++◌, subst, sym, ◌∙◌, ap, arith, IsOrdered, get, remove, IsOrdered-remove, joined, IsIn}
 use Rattle.sorted_map.proofs.InBlocks.{get_back, get_front, remove_back, remove_front, in_rest, removed_capacity, AreAbove, AreBelow}
 use Rattle.sorted_map.proofs.blocks.BlockMap.remove.Given.{Over}
 use Rattle.sorted_map.proofs.blocks.BlockMap.remove.Goals as goal

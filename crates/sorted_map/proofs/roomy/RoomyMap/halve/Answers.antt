@@ -1,5 +1,4 @@
-use Rattle.std.proofs.Common.{subst, sym, ap, arith, length}
-use Rattle.sorted_map.specs.SortedMap.{IsOrdered}
+use Rattle.sorted_map.proofs.Vocabulary.{subst, sym, ap, arith, length, IsOrdered}
 use Rattle.sorted_map.proofs.InBlocks.{ordered_take, ordered_drop}
 use Rattle.sorted_map.proofs.roomy.RoomyMap.halve.Goals as goal
 

@@ -1,6 +1,4 @@
-use Rattle.std.proofs.Common.{◌≡◌, ap, set}
-use Rattle.sorted_map.specs.SortedMap.{insert}
-use Rattle.sorted_map.specs.Laws.{IsOrdered-insert}
+use Rattle.sorted_map.proofs.Vocabulary.{◌≡◌, ap, set, insert, IsOrdered-insert}
 use Rattle.sorted_map.proofs.roomy.RoomyMap.insert.Given.{Over}
 use Rattle.sorted_map.proofs.roomy.RoomyMap.insert.Goals as goal
 

@@ -1,6 +1,4 @@
-use Rattle.std.proofs.Common.{sym, ap}
-use Rattle.sorted_map.specs.Laws.{IsOrdered-remove}
-use Rattle.sorted_map.specs.Edits.{remove_absent}
+use Rattle.sorted_map.proofs.Vocabulary.{sym, ap, IsOrdered-remove, remove_absent}
 use Rattle.sorted_map.proofs.roomy.RoomyMap.remove.Goals as goal
 
 pub invariant_of-self : goal.invariant_of-self

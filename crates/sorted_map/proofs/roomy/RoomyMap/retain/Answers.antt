@@ -1,5 +1,4 @@
-use Rattle.std.proofs.Common.{subst, sym}
-use Rattle.sorted_map.specs.SortedMap.{IsOrdered}
+use Rattle.sorted_map.proofs.Vocabulary.{subst, sym, IsOrdered}
 use Rattle.sorted_map.proofs.Kept.{ordered_kept}
 use Rattle.sorted_map.proofs.roomy.RoomyMap.retain.Goals as goal
 

@@ -1,5 +1,5 @@
-use Rattle.std.proofs.Common.{rules}
 use Rattle.std.proofs.lemmas.Fn.{always_returns_same}
+use Rattle.std.proofs.Common.{rules}
 use Rattle.sorted_map.proofs.Place.{searched}
 use Rattle.sorted_map.proofs.roomy.RoomyMap.search.Goals as goal
 

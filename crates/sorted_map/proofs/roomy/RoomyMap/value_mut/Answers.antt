@@ -1,5 +1,4 @@
-use Rattle.std.proofs.Common.{ap}
-use Rattle.sorted_map.specs.Laws.{IsOrdered-replace}
+use Rattle.sorted_map.proofs.Vocabulary.{ap, IsOrdered-replace}
 use Rattle.sorted_map.proofs.roomy.RoomyMap.value_mut.Goals as goal
 
 -- whatever is written, the keys stay

@@ -1,5 +1,5 @@
-use Rattle.suite_collect.proofs.Vocabulary.{◌≡◌, true, Some, refl, sym, ap, subst, ◌∙◌, rules, Standing, due_in, Hearing, Told, Completes, IsTold, Hears, has_quorum, told_of, first_busy, Collecting, all_told, asked_of, next, tell}
-use Rattle.suite_collect.proofs.Vocabulary.{told_by}
+use Rattle.suite_collect.proofs.Vocabulary.{◌≡◌, true, Some, refl, sym, ap, subst, ◌∙◌, rules, Standing, due_in, Told, Completes, IsTold, Hears, has_quorum, told_of, first_busy, Collecting, all_told, asked_of, next, tell, told_by}
+use Rattle.suite_collect.specs.declared.hearing.Hearing.{Hearing}
 use Rattle.suite_collect.proofs.Dues.{current_next, ask_next, short_next}
 use Rattle.suite_collect.proofs.Refusals.{quorum_shows}
 use Rattle.suite_collect.proofs.collect.Collect.hear.Goals.{in-Ask, in-Short}

@@ -1,4 +1,4 @@
-use Rattle.suite_collect.proofs.Vocabulary.{told_of}
+use Rattle.suite_collect.specs.code.Sayings.{told_of}
 use Rattle.suite_collect.proofs.heard.Heard.add_lock.Given as goal
 
 abbrev pub ghost-and : goal.ghost-and

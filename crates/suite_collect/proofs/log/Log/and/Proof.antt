@@ -1,39 +1,14 @@
 -- `and` makes the empty struct, with the items that its clause names. Assumes `Logic`.
-use Rattle.suite_collect.proofs.Vocabulary.{List, [], ◌∷◌, ◌++◌, refl}
-use seplogic.Ra.Ura.{Ura}
-use mir.Syntax.{Fn, Args, a_type}
-use mir.Val.{Val, vptr}
-use mir.MapTy.{inst_fn}
-use base.Logic.{SProp, ent}
-use prog.Memory.{Memory}
-use prog.Routine.{Routine}
-use prog.Wp.{Calls, Loops, WpFn, Tables}
-use contract.Monad.{Fun}
+use Rattle.suite_collect.proofs.Vocabulary.{List, [], ◌∷◌, ◌++◌, refl, Ura, Fn, Args, a_type, Val, vptr, inst_fn, SProp, ent, Memory, Routine, Calls, Loops, WpFn, Tables, Fun, WpFn-mono, Logic, agg, enter, returns, and_then, no_more}
+use Rattle.suite_collect.proofs.Vocabulary.{alloc_all, pass_all, free_all, look_at, get, sets, yes, RattleType, owns, RefOf, Is, param, layouts, plain, types_at, nothing, owned, makes, Clauses, Ended, closing, alive, Meets, triple_of}
+use Rattle.suite_collect.proofs.Vocabulary.{entered, says, Stays, stay_dropped, walk_of, ends_at, walk_Meets, Goes-dropped}
 use contract.Running.{tables, tables_of}
-use sound.WpLaws.{WpFn-mono}
-use types.Logic.{Logic}
 use types.Kit.{‵, raw, ◌⊛◌, prop, ◌$◌, ◌∵◌, !, qed, move, keep, drop, split, fsplit, fjoin, feq_l, regoal, suffices, done}
-use types.Part.{agg}
-use types.Run.{enter, returns, and_then, no_more}
-use types.ByLocal.{alloc_all, pass_all, free_all, look_at, get, sets}
-use denote.Exit.{yes}
-use denote.RattleType.{RattleType, owns}
-use denote.Builtin.{RefOf}
-use denote.Laws.{Is}
-use denote.Param.{param, layouts}
-use denote.Signature.{plain, types_at}
-use denote.Steps.{nothing, owned}
-use denote.Struct.Laws.{makes}
-use denote.Triple.Clauses.{Clauses, Ended, closing}
-use denote.Triple.Entry.{alive}
-use denote.Triple.Spec.{Meets, triple_of}
-use denote.Triple.Table.{entered}
-use denote.Triple.Walked.{says, Stays, stay_dropped, walk_of, ends_at, walk_Meets, Goes-dropped}
+use Rattle.suite_collect.specs.contracts.log.Log.and.Key.{name as #self}
 use Rattle.std.specs.contracts.marker.PhantomData as Mark
 use Rattle.suite_collect.proofs.Walks.{none, one, one_made}
 use Rattle.suite_collect.specs.contracts.log.Log as Log
 use Rattle.suite_collect.specs.contracts.log.Log.and as F
-use Rattle.suite_collect.specs.contracts.log.Log.and.Key.{name as #self}
 use Rattle.suite_collect.proofs.log.Log.and.Statement as stated
 use Rattle.suite_collect.proofs.log.Log.and.Code as code
 

@@ -1,37 +1,14 @@
 -- `new` makes the empty struct, with the items that its clause names. Assumes `Logic`.
-use Rattle.suite_collect.proofs.Vocabulary.{[], ◌∷◌, refl}
-use seplogic.Ra.Ura.{Ura}
-use mir.Syntax.{Fn, Args, a_type}
-use mir.Val.{Val}
-use mir.MapTy.{inst_fn}
-use base.Logic.{SProp, ent}
-use prog.Memory.{Memory}
-use prog.Routine.{Routine}
-use prog.Wp.{Calls, Loops, WpFn, Tables}
-use contract.Monad.{Fun}
+use Rattle.suite_collect.proofs.Vocabulary.{[], ◌∷◌, refl, Ura, Fn, Args, a_type, Val, inst_fn, SProp, ent, Memory, Routine, Calls, Loops, WpFn, Tables, Fun, WpFn-mono, Logic, agg, enter, returns, and_then, no_more, alloc_all, pass_all}
+use Rattle.suite_collect.proofs.Vocabulary.{free_all, look_at, get, sets, RattleType, owns, Is, param, layouts, types_at, nothing, owned, makes, Clauses, Ended, closing, alive, Meets, triple_of, entered, says, Stays, walk_of, ends_at}
+use Rattle.suite_collect.proofs.Vocabulary.{walk_Meets}
 use contract.Running.{tables, tables_of}
-use sound.WpLaws.{WpFn-mono}
-use types.Logic.{Logic}
 use types.Kit.{‵, raw, ◌⊛◌, ◌$◌, ◌∵◌, !, qed, move, keep, split, fjoin, suffices, done}
-use types.Part.{agg}
-use types.Run.{enter, returns, and_then, no_more}
-use types.ByLocal.{alloc_all, pass_all, free_all, look_at, get, sets}
-use denote.RattleType.{RattleType, owns}
-use denote.Laws.{Is}
-use denote.Param.{param, layouts}
-use denote.Signature.{types_at}
-use denote.Steps.{nothing, owned}
-use denote.Struct.Laws.{makes}
-use denote.Triple.Clauses.{Clauses, Ended, closing}
-use denote.Triple.Entry.{alive}
-use denote.Triple.Spec.{Meets, triple_of}
-use denote.Triple.Table.{entered}
-use denote.Triple.Walked.{says, Stays, walk_of, ends_at, walk_Meets}
+use Rattle.suite_collect.specs.contracts.log.Log.new.Key.{name as #self}
 use Rattle.std.specs.contracts.marker.PhantomData as Mark
 use Rattle.suite_collect.proofs.Walks.{none, one, one_made}
 use Rattle.suite_collect.specs.contracts.log.Log as Log
 use Rattle.suite_collect.specs.contracts.log.Log.new as F
-use Rattle.suite_collect.specs.contracts.log.Log.new.Key.{name as #self}
 use Rattle.suite_collect.proofs.log.Log.new.Statement as stated
 use Rattle.suite_collect.proofs.log.Log.new.Code as code
 

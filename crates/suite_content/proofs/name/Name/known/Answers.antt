@@ -1,7 +1,5 @@
-use Rattle.std.proofs.Common.{rules}
+use Rattle.suite_content.proofs.Vocabulary.{rules, IsName, padded_front}
 use Rattle.std.proofs.Math.Seq.{take-append_seam}
-use Rattle.suite_content.specs.Names.{IsName}
-use Rattle.suite_content.specs.code.Padding.{padded_front}
 use Rattle.suite_content.proofs.name.Name.known.Goals as goal
 
 pub invariant_of-result : goal.invariant_of-result

@@ -1,7 +1,4 @@
-use Rattle.std.proofs.Common.{◌≡◌, ◌≢◌, sym, ap, subst, ◌∙◌, arith}
-use Rattle.std.specs.Ordering.{nat_cmp}
-use Rattle.suite_content.specs.Names.{IsName}
-use Rattle.suite_content.specs.code.Fronts.{front}
+use Rattle.suite_content.proofs.Vocabulary.{◌≡◌, ◌≢◌, sym, ap, subst, ◌∙◌, arith, nat_cmp, IsName, front}
 use Rattle.suite_content.proofs.Fronts.{told_apart, same_front, bytes_of_name}
 use Rattle.suite_content.proofs.name.NameOrd.cmp.Goals as goal
 

@@ -1,5 +1,4 @@
-use Rattle.std.proofs.Common.{nat_eq, ◌&&◌, ap, ◌∙◌}
-use Rattle.std.specs.Cmp.Lexicographic.{pointwise}
+use Rattle.suite_content.proofs.Vocabulary.{nat_eq, ◌&&◌, ap, ◌∙◌, pointwise}
 use Rattle.suite_content.proofs.Places.{same_places}
 use Rattle.suite_content.proofs.name.NamePartialEq.eq.Goals as goal
 

@@ -1,7 +1,4 @@
-use Rattle.std.proofs.Common.{rules, ◌≡◌, ℕ, List, ◌-◌, ◌++◌, length, OnOk, codes, take, drop, get_or, ap, subst, ◌∙◌, append_assoc}
-use Rattle.std.specs.List.{flat_map}
-use Rattle.suite_content.specs.Written.{with_commas}
-use Rattle.suite_content.specs.Folders.{names_in}
+use Rattle.suite_content.proofs.Vocabulary.{rules, ◌≡◌, ℕ, List, ◌-◌, ◌++◌, length, OnOk, codes, take, drop, get_or, ap, subst, ◌∙◌, append_assoc, flat_map, with_commas, names_in}
 use Rattle.suite_content.proofs.Lists.{first_and_others}
 use Rattle.suite_content.proofs.name_list.NameList.append.Goals as goal
 

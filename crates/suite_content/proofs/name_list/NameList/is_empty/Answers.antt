@@ -1,5 +1,4 @@
-use Rattle.std.proofs.Common.{sym, ◌∙◌, ap}
-use Rattle.suite_content.specs.Folders.{names_in}
+use Rattle.suite_content.proofs.Vocabulary.{sym, ◌∙◌, ap, names_in}
 use Rattle.suite_content.proofs.Lists.{no_names}
 use Rattle.suite_content.proofs.name_list.NameList.is_empty.Goals as goal
 

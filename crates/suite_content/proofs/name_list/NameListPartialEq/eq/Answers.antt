@@ -1,5 +1,4 @@
-use Rattle.std.proofs.Common.{◌≡◌, ◌∙◌, ap}
-use Rattle.suite_content.specs.Folders.{names_in, same_names}
+use Rattle.suite_content.proofs.Vocabulary.{◌≡◌, ◌∙◌, ap, names_in, same_names}
 use Rattle.suite_content.proofs.Lists.{same_names-one_by_one}
 use Rattle.suite_content.proofs.name_list.NameListPartialEq.eq.Goals as goal
 

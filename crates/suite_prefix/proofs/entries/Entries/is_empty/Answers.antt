@@ -1,6 +1,4 @@
-use Rattle.std.proofs.Common.{length, sym, ap, ◌∙◌}
-use Rattle.std.proofs.lemmas.Bool.{eqb-true, eq-eqb}
-use Rattle.suite_prefix.specs.Reading.{entries_in, entry_at}
+use Rattle.suite_prefix.proofs.Vocabulary.{length, sym, ap, ◌∙◌, eqb-true, eq-eqb, entries_in, entry_at}
 use Rattle.suite_prefix.proofs.Loop.{length_listed, none_listed}
 use Rattle.suite_prefix.proofs.entries.Entries.is_empty.Goals as goal
 

@@ -1,8 +1,4 @@
-use Rattle.std.proofs.Common.{◌<◌, List, map, sym, ap, subst, ◌∙◌}
-use Rattle.std.specs.Prelude.{All}
-use Rattle.acl_core.specs.AccessLists.{IsAcl}
-use Rattle.suite_prefix.specs.declared.shapes.EntryShape.{EntryShape}
-use Rattle.suite_prefix.specs.Reading.{entry_from}
+use Rattle.suite_prefix.proofs.Vocabulary.{◌<◌, List, map, sym, ap, subst, ◌∙◌, All, IsAcl, EntryShape, entry_from}
 use Rattle.suite_prefix.proofs.entries.Entries.list.Goals as goal
 
 pub entries_in-requires-clause-known : goal.entries_in-requires-clause-known

@@ -1,7 +1,5 @@
-use Rattle.std.proofs.Common.{arith, ◌≡◌, ◌<◌, ◌^◌, true, false, cond, refl}
+use Rattle.suite_prefix.proofs.Vocabulary.{arith, ◌≡◌, ◌<◌, ◌^◌, true, false, cond, refl, Holds, One, Two}
 use Rattle.std.specs.FinSet.{contains}
-use Rattle.suite_prefix.specs.Forms.{Holds}
-use Rattle.suite_prefix.specs.declared.forms.Form.TheVariants.{One, Two}
 use Rattle.suite_prefix.proofs.settings.Settings.fits.Goals as goal
 
 pub returns-clause-held : goal.returns-clause-held

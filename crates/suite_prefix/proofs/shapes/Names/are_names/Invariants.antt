@@ -1,6 +1,4 @@
-use Rattle.std.proofs.Common.{length}
-use Rattle.std.specs.Prelude.{◌↔◌, All}
-use Rattle.suite_content.specs.Names.{IsName}
+use Rattle.suite_prefix.proofs.Vocabulary.{length, ◌↔◌, All, IsName}
 use Rattle.suite_prefix.proofs.shapes.Names.are_names.Given as goal
 
 abbrev pub invariant-loop-name : goal.invariant-loop-name

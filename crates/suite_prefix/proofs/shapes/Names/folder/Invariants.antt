@@ -1,5 +1,4 @@
-use Rattle.std.proofs.Common.{◌≡◌, ◌+◌, ◌≤◌, ◌++◌, length}
-use Rattle.std.specs.Prelude.{vec_len, vec_capacity}
+use Rattle.suite_prefix.proofs.Vocabulary.{◌≡◌, ◌+◌, ◌≤◌, ◌++◌, length, vec_len, vec_capacity}
 use Rattle.suite_prefix.proofs.shapes.Names.folder.Given as goal
 
 abbrev pub invariant-loop-name : goal.invariant-loop-name

@@ -1,5 +1,4 @@
-use Rattle.std.proofs.Common.{sym, ap, ◌∙◌, length}
-use Rattle.suite_prefix.specs.Reading.{name_at}
+use Rattle.suite_prefix.proofs.Vocabulary.{sym, ap, ◌∙◌, length, name_at}
 use Rattle.suite_prefix.proofs.Loop.{length_listed}
 use Rattle.suite_prefix.proofs.shapes.Names.len.Goals as goal
 

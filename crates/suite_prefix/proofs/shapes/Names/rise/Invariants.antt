@@ -1,5 +1,4 @@
-use Rattle.std.proofs.Common.{◌≡◌, length}
-use Rattle.suite_prefix.specs.Faults.{names_rise, rise_above}
+use Rattle.suite_prefix.proofs.Vocabulary.{◌≡◌, length, names_rise, rise_above}
 use Rattle.suite_prefix.proofs.shapes.Names.rise.Given as goal
 
 abbrev pub invariant-loop-name : goal.invariant-loop-name

@@ -1,5 +1,4 @@
-use Rattle.std.proofs.Common.{◌≡◌, ◌<◌, sym, ap, ◌∙◌, arith}
-use Rattle.suite_prefix.specs.Reading.{name_at, names_in}
+use Rattle.suite_prefix.proofs.Vocabulary.{◌≡◌, ◌<◌, sym, ap, ◌∙◌, arith, name_at, names_in}
 use Rattle.suite_prefix.proofs.Loop.{none_listed, reads_some, reads_ok, splits_below}
 use Rattle.suite_prefix.proofs.shapes.Names.split_first.Goals as goal
 

@@ -1,9 +1,4 @@
-use Rattle.std.proofs.Common.{rules, ◌≡◌, ◌++◌, ℕ, List, Ok, ap, ◌∙◌}
-use Rattle.std.specs.Int.{w64, to_be_bytes}
-use Rattle.suite_prefix.specs.declared.forms.Form.{Form}
-use Rattle.suite_prefix.specs.Bytes.{content_bytes, prefix_bytes}
-use Rattle.suite_prefix.specs.Reading.{form_at}
-use Rattle.suite_prefix.specs.Stored.{Kept}
+use Rattle.suite_prefix.proofs.Vocabulary.{rules, ◌≡◌, ◌++◌, ℕ, List, Ok, ap, ◌∙◌, w64, to_be_bytes, Form, content_bytes, prefix_bytes, form_at, Kept}
 use Rattle.suite_prefix.proofs.ReadAgain.{form_again}
 use Rattle.suite_prefix.proofs.Records.{reads_ok}
 use Rattle.suite_prefix.proofs.stored.StoredCopy.form.Goals as goal

@@ -1,7 +1,5 @@
-use Rattle.std.proofs.Common.{◌≡◌, sym, subst, ap, ◌∙◌}
+use Rattle.suite_prefix.proofs.Vocabulary.{◌≡◌, sym, subst, ap, ◌∙◌, Kept, IsReadOf, IsRecord, kept_in}
 use Rattle.std.specs.Arc.{arc_value}
-use Rattle.suite_prefix.specs.Stored.{Kept}
-use Rattle.suite_prefix.specs.code.Records.{IsReadOf, IsRecord, kept_in}
 use Rattle.suite_prefix.proofs.Records.{is_record, kept_of_bytes}
 use Rattle.suite_prefix.proofs.stored.StoredCopy.in_form.Goals as goal
 

@@ -1,6 +1,4 @@
-use Rattle.std.proofs.Common.{rules, ◌≡◌, ℕ, List, Ok, ap, ◌∙◌}
-use Rattle.suite_prefix.specs.Bytes.{content_bytes}
-use Rattle.suite_prefix.specs.code.Heads.{Head, head_at, head_of}
+use Rattle.suite_prefix.proofs.Vocabulary.{rules, ◌≡◌, ℕ, List, Ok, ap, ◌∙◌, content_bytes, Head, head_at, head_of}
 use Rattle.suite_prefix.proofs.Records.{head_again, reads_ok}
 use Rattle.suite_prefix.proofs.stored.StoredCopy.parts.Goals as goal
 

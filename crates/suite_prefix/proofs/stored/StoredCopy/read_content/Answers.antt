@@ -1,10 +1,4 @@
-use Rattle.std.proofs.Common.{rules, ◌≡◌, ℕ, List, [], Ok, sym, subst, ap, ◌∙◌}
-use Rattle.std.specs.Prelude.{IsTrue}
-use Rattle.suite_content.specs.declared.content.Content.{Content}
-use Rattle.suite_prefix.specs.Faults.{content_rises}
-use Rattle.suite_prefix.specs.code.Judging.{IsWithin, content_in}
-use Rattle.suite_prefix.specs.Reading.{content_at}
-use Rattle.suite_prefix.specs.code.Heads.{Head}
+use Rattle.suite_prefix.proofs.Vocabulary.{rules, ◌≡◌, ℕ, List, [], Ok, sym, subst, ap, ◌∙◌, IsTrue, Content, content_rises, IsWithin, content_in, content_at, Head}
 use Rattle.suite_prefix.proofs.Records.{content_read, content_rises_again, content_within_again, reads_ok}
 use Rattle.suite_prefix.proofs.stored.StoredCopy.read_content.Goals as goal
 

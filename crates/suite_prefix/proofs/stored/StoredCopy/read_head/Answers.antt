@@ -1,5 +1,4 @@
-use Rattle.std.proofs.Common.{rules, ◌≡◌, sym, subst, ap, ◌∙◌}
-use Rattle.suite_prefix.specs.code.Heads.{IsOfValid, prefix_of}
+use Rattle.suite_prefix.proofs.Vocabulary.{rules, ◌≡◌, sym, subst, ap, ◌∙◌, IsOfValid, prefix_of}
 use Rattle.suite_prefix.proofs.Records.{is_of_valid, prefix_again}
 use Rattle.suite_prefix.proofs.stored.StoredCopy.read_head.Goals as goal
 

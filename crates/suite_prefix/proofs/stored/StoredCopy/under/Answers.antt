@@ -1,15 +1,5 @@
-use Rattle.std.proofs.Common.{rules, ◌≡◌, ◌∷◌, ◌++◌, false, sym, subst, ap, ◌∙◌}
+use Rattle.suite_prefix.proofs.Vocabulary.{rules, ◌≡◌, ◌∷◌, ◌++◌, false, sym, subst, ap, ◌∙◌, if◌then◌else◌, w64, to_be_bytes, empty_content, Two, bytes_of, content_bytes, prefix_bytes, held_by, is_absent, under, Head, IsRecord, kept_in}
 use Rattle.std.specs.Arc.{arc_value}
-use Rattle.std.specs.Prelude.{if◌then◌else◌}
-use Rattle.std.specs.Int.{w64, to_be_bytes}
-use Rattle.suite_content.specs.Contents.{empty_content}
-use Rattle.suite_prefix.specs.declared.forms.Form.TheVariants.{Two}
-use Rattle.suite_prefix.specs.Bytes.{bytes_of, content_bytes, prefix_bytes}
-use Rattle.suite_prefix.specs.Copies.{held_by}
-use Rattle.suite_prefix.specs.Tests.{is_absent}
-use Rattle.suite_prefix.specs.Stored.{under}
-use Rattle.suite_prefix.specs.code.Heads.{Head}
-use Rattle.suite_prefix.specs.code.Records.{IsRecord, kept_in}
 use Rattle.suite_prefix.proofs.Records.{is_record, kept_of_bytes}
 use Rattle.suite_prefix.proofs.stored.StoredCopy.under.Goals as goal
 

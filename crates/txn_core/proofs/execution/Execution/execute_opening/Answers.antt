@@ -1,4 +1,5 @@
-use Rattle.txn_core.proofs.Vocabulary.{◌≡◌, ◌+◌, ℕ, [], ◌∷◌, ◌++◌, length, ap, sym, subst, ◌∙◌, arith, Option, option_map, Bor, Content, seen_in, fixed_in, seen_on, opened_all, IsReachedOn}
+use Rattle.txn_core.proofs.Vocabulary.{◌≡◌, ◌+◌, ℕ, [], ◌∷◌, ◌++◌, length, ap, sym, subst, ◌∙◌, arith, Option, option_map, Content, seen_in, fixed_in, seen_on, opened_all, IsReachedOn}
+use Rattle.std.specs.Borrow.{Bor}
 use Rattle.txn_core.proofs.Reaching.{reached_from, reached_as, reached_learned, reached_opened, unbegun_on}
 use Rattle.txn_core.proofs.Seeing.{learned_ordered}
 use Rattle.txn_core.proofs.Rounds.{longer, playing_starts, playing_more, playing_stops}

@@ -1,4 +1,5 @@
-use Rattle.txn_core.proofs.Vocabulary.{sym, ◌∙◌, unsigned_Decides, pointwise_decides}
+use Rattle.txn_core.proofs.Vocabulary.{sym, ◌∙◌, unsigned_Decides}
+use Rattle.std.specs.Cmp.Lexicographic.{pointwise_decides}
 use Rattle.txn_core.proofs.servers.Servers.same.Goals as goal
 
 pub returns : goal.returns

@@ -1,4 +1,4 @@
-use Rattle.txn_core.proofs.Vocabulary.{sym, ◌∙◌}
+use Rattle.std.proofs.Common.{sym, ◌∙◌}
 use Rattle.txn_core.proofs.Seeing.{learned_there}
 use Rattle.txn_core.proofs.suites_after.SuitesAfter.contains.Goals as goal
 

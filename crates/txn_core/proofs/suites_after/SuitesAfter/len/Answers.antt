@@ -1,4 +1,4 @@
-use Rattle.txn_core.proofs.Vocabulary.{length, ap, sym, ◌∙◌}
+use Rattle.std.proofs.Common.{length, ap, sym, ◌∙◌}
 use Rattle.txn_core.proofs.Seeing.{told_length, told_learned}
 use Rattle.txn_core.proofs.suites_after.SuitesAfter.len.Goals as goal
 

@@ -1,4 +1,5 @@
-use Rattle.txn_core.proofs.Vocabulary.{ap, subst, ◌∙◌, Some, None, Flow, Resources, Nothing, Gathering, Suites, Step, Begins, IsStep, begun, executed}
+use Rattle.txn_core.proofs.Vocabulary.{ap, subst, ◌∙◌, Some, None, Flow, Resources, Gathering, Suites, Step, Begins, IsStep, begun, executed}
+use Rattle.txn_core.specs.declared.learned.Learned.TheVariants.{Nothing}
 use Rattle.txn_core.proofs.Handling.{begins_on, begins_ended}
 use Rattle.txn_core.proofs.Reaching.{unbegun_in}
 use Rattle.txn_core.proofs.transaction_run.TransactionRun.begin.Goals as goal

@@ -1,5 +1,4 @@
-use Rattle.txn_core.proofs.Vocabulary.{◌≡◌, Ok, refl, sym, ap, subst, IsOrdered, replace, Coming, Comes, next, TransactionRun, Suites}
-use Rattle.std.proofs.Common.{nat_cmp}
+use Rattle.txn_core.proofs.Vocabulary.{◌≡◌, Ok, refl, sym, ap, subst, IsOrdered, replace, Coming, Comes, next, TransactionRun, Suites, nat_cmp}
 use Rattle.txn_core.proofs.Handling.{err_by}
 use Rattle.txn_core.proofs.InPlace.{asks_nobody, asks_there, hears_there, left_there}
 use Rattle.txn_core.proofs.transaction_run.TransactionRun.hear.Goals as goal

@@ -1,6 +1,6 @@
 use Rattle.txn_core.proofs.Vocabulary.{Some, subst, IfOk-weaker, Reply, PendingQuorum, IsStep, CompletesAt, SettlesAt, suite_of, Step, Option}
-use Rattle.txn_core.specs.declared.ending.Cause.TheVariants as cause
 use Rattle.txn_core.specs.code.Goings.{held_by}
+use Rattle.txn_core.specs.declared.ending.Cause.TheVariants as cause
 use Rattle.txn_core.proofs.Handling.{held_settles, held_unsettled, up_step}
 use Rattle.txn_core.proofs.InPlace.{settled_at}
 use Rattle.txn_core.proofs.transaction_run.TransactionRun.on_quorum.Goals as goal

@@ -1,5 +1,5 @@
-use Rattle.txn_core.proofs.Vocabulary.{rules, ◌≡◌, ℕ, List, ◌∷◌, true, false, Some, refl, ap, sym, subst, ◌∙◌, drop, IfOk, IfErr, OnErr, IsTrue, slice_get, IfOk-weaker, is_prepared, Lost, On, Replied, phase_of, proposing, GoesBy}
-use Rattle.txn_core.proofs.Vocabulary.{IsStep, IsUntouched, fixed_by, replied, Phase, Gathering, Fetching, Widening, Deciding, Finishing, TransactionRun, Step, give_up, request_of, tell_end, to_widen, FitsAsked, by_taking, IsReachedBy}
+use Rattle.txn_core.proofs.Vocabulary.{rules, ◌≡◌, ℕ, List, ◌∷◌, true, false, Some, refl, ap, sym, subst, ◌∙◌, drop, IfOk, IfErr, OnErr, IsTrue, slice_get, IfOk-weaker, is_prepared, Lost, On, Replied, phase_of, proposing, GoesBy, IsStep}
+use Rattle.txn_core.proofs.Vocabulary.{IsUntouched, fixed_by, replied, Phase, Gathering, Fetching, Widening, Deciding, Finishing, TransactionRun, Step, give_up, request_of, tell_end, to_widen, FitsAsked, by_taking, IsReachedBy}
 use Rattle.txn_core.proofs.Handling.{late_step, untouched_on}
 use Rattle.txn_core.proofs.Passing.{in_place, phase_at, proposing_first, proposing_none, prepares_on, prepares_not, tells}
 use Rattle.txn_core.proofs.Replies.{replied_where_asked, widened_where_asked, replied_decided, replied_told, gathering_shows, widening_shows}

@@ -1,5 +1,4 @@
-use Rattle.txn_core.proofs.Vocabulary.{ap, replace, TransactionRun}
-use Rattle.std.proofs.Common.{nat_cmp}
+use Rattle.txn_core.proofs.Vocabulary.{ap, replace, TransactionRun, nat_cmp}
 use Rattle.txn_core.proofs.Votes.{widens_here}
 use Rattle.txn_core.proofs.transaction_run.TransactionRun.widen.Goals as goal
 

@@ -1,6 +1,5 @@
 use Rattle.txn_core.proofs.Vocabulary.{◌≡◌, ◌+◌, ◌∷◌, drop, ap, sym, ◌∙◌, subst, ℕ, Some, None, Ok, slice_get, slice_get-get_or, slice_get_past, ltb-true, IsOrdered, Change, Changes, Granted, Widening, TransactionRun, ending_of, Steps}
-use Rattle.txn_core.proofs.Vocabulary.{Cause, to_widen, widen_all, give_up, prepare, locked_at}
-use Rattle.std.proofs.Common.{nat_cmp}
+use Rattle.txn_core.proofs.Vocabulary.{Cause, to_widen, widen_all, give_up, prepare, locked_at, nat_cmp}
 use Rattle.txn_core.proofs.Ended.{prepares}
 use Rattle.txn_core.proofs.Votes.{left_met, left_asks, left_short, left_none}
 use Rattle.txn_core.proofs.transaction_run.TransactionRun.widen_all.Goals as goal

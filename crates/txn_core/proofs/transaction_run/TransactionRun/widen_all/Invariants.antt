@@ -1,4 +1,4 @@
-use Rattle.txn_core.proofs.Vocabulary.{◌≡◌, ◌-◌, length}
+use Rattle.std.proofs.Common.{◌≡◌, ◌-◌, length}
 use Rattle.txn_core.proofs.Votes.{Left}
 use Rattle.txn_core.proofs.transaction_run.TransactionRun.widen_all.Given as goal
 

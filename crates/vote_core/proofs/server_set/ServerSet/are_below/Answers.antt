@@ -1,7 +1,4 @@
-use Rattle.std.proofs.Common.{◌∙◌, ap, arith}
-use Rattle.std.proofs.lemmas.Bool.{le-leb}
-use Rattle.vote_core.specs.Servers.{are_below}
-use Rattle.vote_core.specs.declared.TheConstants.{MAX_SERVERS}
+use Rattle.vote_core.proofs.Vocabulary.{◌∙◌, ap, arith, le-leb, are_below, MAX_SERVERS}
 use Rattle.vote_core.proofs.Within.{are_below-all, are_below-word}
 use Rattle.vote_core.proofs.server_set.ServerSet.are_below.Goals as goal
 

@@ -1,10 +1,4 @@
-use Rattle.std.proofs.Common.{◌∙◌, sym, ap, eqb, ◌&&◌, arith}
-use Rattle.std.proofs.lemmas.Bool.{le-ltb}
-use Rattle.std.proofs.lemmas.Nat.Bits.{shr_and_one}
-use Rattle.std.specs.Int.{bit_at}
-use Rattle.std.specs.FinSet.{contains}
-use Rattle.vote_core.specs.declared.TheConstants.{MAX_SERVERS}
-use Rattle.vote_core.specs.code.ServerBitLaws.{contains-set_within, contains-set_below}
+use Rattle.vote_core.proofs.Vocabulary.{◌∙◌, sym, ap, eqb, ◌&&◌, arith, le-ltb, shr_and_one, bit_at, contains, MAX_SERVERS, contains-set_within, contains-set_below}
 use Rattle.vote_core.proofs.server_set.ServerSet.contains.Goals as goal
 
 pub returns-then-from-lt-MAX_SERVERS : goal.returns-then-from-lt-MAX_SERVERS

@@ -1,7 +1,4 @@
-use Rattle.std.proofs.Common.{◌∙◌, ap}
-use Rattle.std.specs.Ordering.{nat_cmp}
-use Rattle.std.specs.FinSet.{contains, contains-empty}
-use Rattle.vote_core.specs.declared.TheConstants.{MAX_SERVERS}
+use Rattle.vote_core.proofs.Vocabulary.{◌∙◌, ap, nat_cmp, contains, contains-empty, MAX_SERVERS}
 use Rattle.vote_core.proofs.ServerSets.{set_below-zero}
 use Rattle.vote_core.proofs.server_set.ServerSet.empty.Goals as goal
 

@@ -1,9 +1,5 @@
-use Rattle.std.proofs.Common.{◌∙◌, ◌*◌, ◌%◌, ◌^◌, ◌<◌, ap, arith}
-use Rattle.std.specs.FinSet.{contains, insert}
-use Rattle.std.proofs.Math.Nat.{mod-le}
+use Rattle.vote_core.proofs.Vocabulary.{◌∙◌, ◌*◌, ◌%◌, ◌^◌, ◌<◌, ap, arith, contains, insert, mod-le, or_lt, MAX_SERVERS}
 use Rattle.std.proofs.Math.Pow.{pow-lt}
-use Rattle.std.proofs.lemmas.Nat.{or_lt}
-use Rattle.vote_core.specs.declared.TheConstants.{MAX_SERVERS}
 use Rattle.vote_core.proofs.ServerSets.{set_below-bit_or, contains_inserted}
 use Rattle.vote_core.proofs.server_set.ServerSet.insert.Goals as goal
 

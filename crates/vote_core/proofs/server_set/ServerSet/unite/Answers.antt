@@ -1,6 +1,4 @@
-use Rattle.std.proofs.Common.{◌∙◌, ◌||◌}
-use Rattle.std.specs.FinSet.{contains}
-use Rattle.vote_core.specs.declared.TheConstants.{MAX_SERVERS}
+use Rattle.vote_core.proofs.Vocabulary.{◌∙◌, ◌||◌, contains, MAX_SERVERS}
 use Rattle.vote_core.proofs.ServerSets.{contains_united}
 use Rattle.vote_core.proofs.server_set.ServerSet.unite.Goals as goal
 

@@ -1,6 +1,4 @@
-use Rattle.std.proofs.Common.{◌∙◌}
-use Rattle.vote_core.specs.declared.TheConstants.{MAX_SERVERS}
-use Rattle.vote_core.specs.code.SameServers.{same_servers}
+use Rattle.vote_core.proofs.Vocabulary.{◌∙◌, MAX_SERVERS, same_servers}
 use Rattle.vote_core.proofs.Within.{same_words}
 use Rattle.vote_core.proofs.server_set.ServerSetPartialEq.eq.Goals as goal
 

@@ -1,7 +1,4 @@
-use Rattle.std.proofs.Common.{sym, length, replicate}
-use Rattle.std.proofs.lemmas.List.{length-take-le}
-use Rattle.vote_core.specs.declared.TheConstants.{MAX_SERVERS}
-use Rattle.vote_core.specs.code.VotesFields.{no_votes}
+use Rattle.vote_core.proofs.Vocabulary.{sym, length, replicate, length-take-le, MAX_SERVERS, no_votes}
 use Rattle.vote_core.proofs.Faults.{few_if_valid}
 use Rattle.vote_core.proofs.Kept.{kept_votes}
 use Rattle.vote_core.proofs.votes.Votes.known.Goals as goal

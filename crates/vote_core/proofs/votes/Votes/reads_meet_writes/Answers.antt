@@ -1,6 +1,4 @@
-use Rattle.std.proofs.Common.{subst}
-use Rattle.vote_core.specs.Quorums.{ReadsMeetWrites}
-use Rattle.vote_core.specs.code.VotesFields.{configuration_of}
+use Rattle.vote_core.proofs.Vocabulary.{subst, ReadsMeetWrites, configuration_of}
 use Rattle.vote_core.proofs.Meet.{reads_meet_writes}
 use Rattle.vote_core.proofs.votes.Votes.reads_meet_writes.Goals as goal
 

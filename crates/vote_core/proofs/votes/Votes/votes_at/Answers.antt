@@ -1,5 +1,4 @@
-use Rattle.std.proofs.Common.{◌∙◌, ap, eqb, option_map, unwrap_or}
-use Rattle.std.specs.List.{find}
+use Rattle.vote_core.proofs.Vocabulary.{◌∙◌, ap, eqb, option_map, unwrap_or, find}
 use Rattle.vote_core.proofs.Members.{votes_found}
 use Rattle.vote_core.proofs.votes.Votes.votes_at.Goals as goal
 

@@ -1,6 +1,4 @@
-use Rattle.std.proofs.Common.{◌≡◌, ◌+◌, ◌*◌, ◌≤◌, drop}
-use Rattle.std.specs.FinSet.{contains}
-use Rattle.vote_core.specs.Quorums.{votes_in}
+use Rattle.vote_core.proofs.Vocabulary.{◌≡◌, ◌+◌, ◌*◌, ◌≤◌, drop, contains, votes_in}
 use Rattle.vote_core.proofs.votes.Votes.votes_of.Given as goal
 
 abbrev pub invariant-loop-server : goal.invariant-loop-server

@@ -1,6 +1,4 @@
-use Rattle.std.proofs.Common.{subst}
-use Rattle.vote_core.specs.Quorums.{WritesMeet}
-use Rattle.vote_core.specs.code.VotesFields.{configuration_of}
+use Rattle.vote_core.proofs.Vocabulary.{subst, WritesMeet, configuration_of}
 use Rattle.vote_core.proofs.Meet.{writes_meet}
 use Rattle.vote_core.proofs.votes.Votes.writes_meet.Goals as goal
 

@@ -1,7 +1,4 @@
-use Rattle.std.proofs.Common.{sym, ap, ◌∙◌}
-use Rattle.std.specs.Option.{option_copied}
-use Rattle.weak_cache.specs.Cache.{at_version}
-use Rattle.weak_cache.specs.NewEntry.{new_entry}
+use Rattle.weak_cache.proofs.Vocabulary.{sym, ap, ◌∙◌, option_copied, at_version, new_entry}
 use Rattle.weak_cache.proofs.Beside.{none_own}
 use Rattle.weak_cache.proofs.cache.WeakCache.content_beside.Goals as goal
 

@@ -1,8 +1,4 @@
-use Rattle.std.proofs.Common.{sym, ap, ◌∙◌}
-use Rattle.std.specs.Prelude.{option_map}
-use Rattle.std.specs.Option.{option_copied}
-use Rattle.weak_cache.specs.Entries.{Entry}
-use Rattle.weak_cache.specs.NewEntry.{new_entry}
+use Rattle.weak_cache.proofs.Vocabulary.{sym, ap, ◌∙◌, option_map, option_copied, Entry, new_entry}
 use Rattle.weak_cache.proofs.Beside.{none_own}
 use Rattle.weak_cache.proofs.cache.WeakCache.hint_beside.Goals as goal
 

@@ -1,8 +1,6 @@
-use Rattle.std.proofs.Common.{◌≡◌, ℕ, ◌==◌, [], ◌∷◌, ◌||◌, refl, ap, ◌∙◌, rules, tests}
-use Rattle.std.specs.List.{list_any}
+use Rattle.weak_cache.proofs.Vocabulary.{◌≡◌, ℕ, ◌==◌, [], ◌∷◌, ◌||◌, refl, ap, ◌∙◌, rules, tests, list_any, Cache, keeps, keys_of}
 use Rattle.std.proofs.lemmas.Iterator.Consumers.{YieldsList-from_first}
 use Rattle.std.proofs.lemmas.Iterator.Search.{any_from_yields_List}
-use Rattle.weak_cache.specs.Entries.{Cache, keeps, keys_of}
 use Rattle.weak_cache.proofs.cache.WeakCache.keeps.Goals as goal
 
 has_site : (site : ℕ) (cache : Cache) → list_any (λ (key : ℕ × ℕ). key.0 == site) (keys_of cache) ≡ keeps site cache

@@ -1,7 +1,4 @@
-use Rattle.std.proofs.Common.{◌∙◌, ap}
-use Rattle.weak_cache.specs.Entries.{entry_of}
-use Rattle.weak_cache.specs.Cache.{Limited}
-use Rattle.weak_cache.specs.NewEntry.{new_entry}
+use Rattle.weak_cache.proofs.Vocabulary.{◌∙◌, ap, entry_of, Limited, new_entry}
 use Rattle.weak_cache.proofs.Beside.{kept_other}
 use Rattle.weak_cache.proofs.cache.WeakCache.other_beside.Goals as goal
 

@@ -1,6 +1,4 @@
-use Rattle.std.proofs.Common.{◌≡◌, ◌∷◌, true, ◌∙◌, ap}
-use Rattle.weak_cache.specs.Entries.{Entry}
-use Rattle.weak_cache.specs.Cache.{Limits, Limited, has_room}
+use Rattle.weak_cache.proofs.Vocabulary.{◌≡◌, ◌∷◌, true, ◌∙◌, ap, Entry, Limits, Limited, has_room}
 use Rattle.weak_cache.proofs.Fewer.{fewer_filter, within_fewer}
 use Rattle.weak_cache.proofs.Puts.{beside, put_steps, within_put}
 use Rattle.weak_cache.proofs.Answered.{either}

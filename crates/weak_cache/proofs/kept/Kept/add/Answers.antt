@@ -1,9 +1,5 @@
 -- An entry is put on the shelf and into the index; where the index has no room it is taken off again.
-use Rattle.std.proofs.Common.{◌∷◌, Some, cond, ◌∙◌, sym, ap, refl}
-use Rattle.indexmap.specs.IndexMap.{get_by}
-use Rattle.recency.specs.Shelf.{Shelf}
-use Rattle.weak_cache.specs.Entries.{Entry}
-use Rattle.weak_cache.specs.code.Shelved.{same_key, values}
+use Rattle.weak_cache.proofs.Vocabulary.{◌∷◌, Some, cond, ◌∙◌, sym, ap, refl, get_by, Shelf, Entry, same_key, values}
 use Rattle.weak_cache.proofs.Shelving.{untaken, kept_more, kept_same}
 use Rattle.weak_cache.proofs.kept.Kept.add.Goals as goal
 

@@ -1,8 +1,5 @@
 -- The entries are gone through from the newest on, and each is copied.
-use Rattle.std.proofs.Common.{◌≡◌, [], ◌∷◌, ◌++◌, length, refl, sym, ap, ◌∙◌, arith}
-use Rattle.std.specs.Option.{option_copied}
-use Rattle.weak_cache.specs.Entries.{Entry, Cache}
-use Rattle.weak_cache.specs.code.Shelved.{Slotted, from_on, values}
+use Rattle.weak_cache.proofs.Vocabulary.{◌≡◌, [], ◌∷◌, ◌++◌, length, refl, sym, ap, ◌∙◌, arith, option_copied, Entry, Cache, Slotted, from_on, values}
 use Rattle.weak_cache.proofs.Shelving.{from_step, from_newest}
 use Rattle.weak_cache.proofs.kept.Kept.copies.Goals as goal
 use Rattle.weak_cache.proofs.kept.Kept.copies.Goals.{In_ok-push}

@@ -1,5 +1,4 @@
-use Rattle.std.proofs.Common.{◌≡◌, ◌++◌, length}
-use Rattle.weak_cache.specs.code.Shelved.{from_on, values}
+use Rattle.weak_cache.proofs.Vocabulary.{◌≡◌, ◌++◌, length, from_on, values}
 use Rattle.weak_cache.proofs.kept.Kept.copies.Given as goal
 
 -- what was copied, and then what is still to come

@@ -1,11 +1,6 @@
 -- The copies of the entries are put, the oldest first.
-use Rattle.std.proofs.Common.{◌≡◌, ℕ, ◌≤◌, ◌<◌, ◌+◌, inl, inr, true, List, [], ◌∷◌, ◌++◌, length, map, None, refl, sym, ap, ◌∙◌, arith, length-append}
-use Rattle.std.specs.Prelude.{filter}
-use Rattle.std.proofs.lemmas.List.{nil_from_length}
-use Rattle.std.proofs.lemmas.List.Elements.{filter-append}
-use Rattle.recency.specs.Paths.{In}
-use Rattle.weak_cache.specs.Entries.{Entry, Cache, is_of, entry_of, size_of, sum_of}
-use Rattle.weak_cache.specs.code.Shelved.{Slotted, Sited, values}
+use Rattle.weak_cache.proofs.Vocabulary.{◌≡◌, ℕ, ◌≤◌, ◌<◌, ◌+◌, inl, inr, true, List, [], ◌∷◌, ◌++◌, length, map, None, refl, sym, ap, ◌∙◌, arith, length-append, filter, nil_from_length, filter-append, In, Entry, Cache, is_of, entry_of}
+use Rattle.weak_cache.proofs.Vocabulary.{size_of, sum_of, Slotted, Sited, values}
 use Rattle.weak_cache.proofs.Found.{key_own}
 use Rattle.weak_cache.proofs.Keeping.{sum_of-append}
 use Rattle.weak_cache.proofs.Shelving.{none_found, count_between, length_values}

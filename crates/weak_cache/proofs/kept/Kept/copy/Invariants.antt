@@ -1,5 +1,4 @@
-use Rattle.std.proofs.Common.{◌≡◌, ◌++◌, length}
-use Rattle.weak_cache.specs.code.Shelved.{IsKept, values}
+use Rattle.weak_cache.proofs.Vocabulary.{◌≡◌, ◌++◌, length, IsKept, values}
 use Rattle.weak_cache.proofs.kept.Kept.copy.Given as goal
 
 -- what is still to be put, and then what was

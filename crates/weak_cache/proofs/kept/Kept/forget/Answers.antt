@@ -1,6 +1,4 @@
-use Rattle.std.proofs.Common.{length, sym, ap, ◌∙◌, subst, refl, arith}
-use Rattle.std.specs.Option.{IsSome}
-use Rattle.weak_cache.specs.code.Shelved.{values}
+use Rattle.weak_cache.proofs.Vocabulary.{length, sym, ap, ◌∙◌, subst, refl, arith, IsSome, values}
 use Rattle.weak_cache.proofs.Keeping.{forgotten_none, forgotten_step}
 use Rattle.weak_cache.proofs.Oldest.{oldest_at, none_at, none_beyond}
 use Rattle.weak_cache.proofs.kept.Kept.forget.Goals as goal

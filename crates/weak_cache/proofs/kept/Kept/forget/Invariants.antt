@@ -1,6 +1,4 @@
-use Rattle.std.proofs.Common.{◌≡◌, length}
-use Rattle.weak_cache.specs.Entries.{forgotten}
-use Rattle.weak_cache.specs.code.Shelved.{IsKept, values}
+use Rattle.weak_cache.proofs.Vocabulary.{◌≡◌, length, forgotten, IsKept, values}
 use Rattle.weak_cache.proofs.kept.Kept.forget.Given as goal
 
 abbrev pub invariant-loop-oldest : goal.invariant-loop-oldest

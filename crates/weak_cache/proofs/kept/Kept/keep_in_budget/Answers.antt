@@ -1,7 +1,4 @@
-use Rattle.std.proofs.Common.{◌≡◌, ◌<◌, ◌⊎◌, inl, inr, [], ◌∷◌, length, sym, ap, ◌∙◌, subst, refl, arith}
-use Rattle.std.specs.Option.{IsSome}
-use Rattle.weak_cache.specs.Entries.{sum_of}
-use Rattle.weak_cache.specs.code.Shelved.{values}
+use Rattle.weak_cache.proofs.Vocabulary.{◌≡◌, ◌<◌, ◌⊎◌, inl, inr, [], ◌∷◌, length, sym, ap, ◌∙◌, subst, refl, arith, IsSome, sum_of, values}
 use Rattle.weak_cache.proofs.Keeping.{budget_fits, budget_step}
 use Rattle.weak_cache.proofs.Oldest.{oldest_of_all}
 use Rattle.weak_cache.proofs.Shelving.{none_oldest, values_append}

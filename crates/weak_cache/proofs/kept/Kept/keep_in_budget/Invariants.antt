@@ -1,6 +1,4 @@
-use Rattle.std.proofs.Common.{◌≡◌, length}
-use Rattle.weak_cache.specs.Cache.{within_budget}
-use Rattle.weak_cache.specs.code.Shelved.{IsKept, values}
+use Rattle.weak_cache.proofs.Vocabulary.{◌≡◌, length, within_budget, IsKept, values}
 use Rattle.weak_cache.proofs.kept.Kept.keep_in_budget.Given as goal
 
 abbrev pub invariant-loop-self : goal.invariant-loop-self

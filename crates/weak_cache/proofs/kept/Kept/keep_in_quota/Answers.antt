@@ -1,7 +1,4 @@
-use Rattle.std.proofs.Common.{◌<◌, length, sym, ap, ◌∙◌, subst, refl, arith}
-use Rattle.std.specs.Option.{IsSome}
-use Rattle.weak_cache.specs.Entries.{list_of, sum_of}
-use Rattle.weak_cache.specs.code.Shelved.{values}
+use Rattle.weak_cache.proofs.Vocabulary.{◌<◌, length, sym, ap, ◌∙◌, subst, refl, arith, IsSome, list_of, sum_of, values}
 use Rattle.weak_cache.proofs.Keeping.{quota_fits, quota_none, quota_step}
 use Rattle.weak_cache.proofs.Oldest.{oldest_at, none_at}
 use Rattle.weak_cache.proofs.kept.Kept.keep_in_quota.Goals as goal

@@ -1,6 +1,4 @@
-use Rattle.std.proofs.Common.{◌≡◌, length}
-use Rattle.weak_cache.specs.Cache.{within_quota}
-use Rattle.weak_cache.specs.code.Shelved.{IsKept, values}
+use Rattle.weak_cache.proofs.Vocabulary.{◌≡◌, length, within_quota, IsKept, values}
 use Rattle.weak_cache.proofs.kept.Kept.keep_in_quota.Given as goal
 
 abbrev pub invariant-loop-self : goal.invariant-loop-self

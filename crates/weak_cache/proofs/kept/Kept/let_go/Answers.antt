@@ -1,10 +1,5 @@
 -- An entry goes from the shelf, from the index and from the counts.
-use Rattle.std.proofs.Common.{◌∙◌, sym, ap, subst, refl, arith}
-use Rattle.weak_cache.specs.Entries.{Entry, size_of}
-use Rattle.weak_cache.specs.code.Counts.{IsTally}
-use Rattle.weak_cache.specs.code.Shelved.{same_key, values}
-use Rattle.indexmap.specs.IndexMap.{get_by}
-use Rattle.std.specs.Prelude.{None, cond}
+use Rattle.weak_cache.proofs.Vocabulary.{◌∙◌, sym, ap, subst, refl, arith, Entry, size_of, IsTally, same_key, values, get_by, None, cond}
 use Rattle.weak_cache.proofs.Oldest.{site_below}
 use Rattle.weak_cache.proofs.Shelving.{cut_of, values_cut, kept_less}
 use Rattle.weak_cache.proofs.kept.Kept.let_go.Goals as goal

@@ -1,6 +1,4 @@
-use Rattle.std.proofs.Common.{◌≡◌, ◌∷◌, None, sym, ap, ◌∙◌}
-use Rattle.weak_cache.specs.Entries.{Cache, entry_of}
-use Rattle.weak_cache.specs.code.Shelved.{slot_in, values}
+use Rattle.weak_cache.proofs.Vocabulary.{◌≡◌, ◌∷◌, None, sym, ap, ◌∙◌, Cache, entry_of, slot_in, values}
 use Rattle.weak_cache.proofs.Answered.{on_ok}
 use Rattle.weak_cache.proofs.Beside.{none_is_none, without_none}
 use Rattle.weak_cache.proofs.Shelving.{key_none}

@@ -1,7 +1,4 @@
-use Rattle.std.proofs.Common.{◌∙◌, sym, ap, subst, refl}
-use Rattle.std.specs.Option.{IsSome}
-use Rattle.weak_cache.specs.Entries.{without}
-use Rattle.weak_cache.specs.code.Shelved.{values}
+use Rattle.weak_cache.proofs.Vocabulary.{◌∙◌, sym, ap, subst, refl, IsSome, without, values}
 use Rattle.weak_cache.proofs.Beside.{without_none}
 use Rattle.weak_cache.proofs.Shelving.{key_found, key_none, key_gone, OnceEach}
 use Rattle.weak_cache.proofs.kept.Kept.remove.Goals as goal

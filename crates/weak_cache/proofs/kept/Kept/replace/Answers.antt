@@ -1,10 +1,6 @@
 -- An entry leaves its slot, and one of the same key takes its place in the index.
-use Rattle.std.proofs.Common.{◌≡◌, ◌∷◌, ◌++◌, length, Some, cond, ◌∙◌, sym, ap, subst, refl, arith}
-use Rattle.indexmap.specs.IndexMap.{get_by}
-use Rattle.recency.specs.Shelf.{Shelf, without}
-use Rattle.weak_cache.specs.Entries.{Entry, Cache, size_of}
-use Rattle.weak_cache.specs.code.Counts.{IsTally}
-use Rattle.weak_cache.specs.code.Shelved.{same_key, values}
+use Rattle.weak_cache.proofs.Vocabulary.{◌≡◌, ◌∷◌, ◌++◌, length, Some, cond, ◌∙◌, sym, ap, subst, refl, arith, get_by, Shelf, Entry, Cache, size_of, IsTally, same_key, values}
+use Rattle.recency.specs.Shelf.{without}
 use Rattle.weak_cache.proofs.Oldest.{site_below}
 use Rattle.weak_cache.proofs.Shelving.{replaced, key_found, values_cut, sum_left, length_left, kept_swapped}
 use Rattle.weak_cache.proofs.kept.Kept.replace.Goals as goal

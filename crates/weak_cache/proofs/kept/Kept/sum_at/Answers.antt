@@ -1,6 +1,4 @@
-use Rattle.std.proofs.Common.{sym, ap, arith}
-use Rattle.weak_cache.specs.Entries.{sum_of}
-use Rattle.weak_cache.specs.code.Shelved.{values}
+use Rattle.weak_cache.proofs.Vocabulary.{sym, ap, arith, sum_of, values}
 use Rattle.weak_cache.proofs.Oldest.{none_beyond}
 use Rattle.weak_cache.proofs.kept.Kept.sum_at.Goals as goal
 

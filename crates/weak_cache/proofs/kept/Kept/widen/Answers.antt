@@ -1,8 +1,5 @@
 -- All entries move to a wider shelf, the oldest first.
-use Rattle.std.proofs.Common.{◌≡◌, [], ◌∷◌, ◌++◌, Some, None, length, sym, ap, ◌∙◌, subst, arith}
-use Rattle.recency.specs.Shelf.{Shelf}
-use Rattle.weak_cache.specs.Entries.{Entry, entry_of, size_of}
-use Rattle.weak_cache.specs.code.Shelved.{Sited, values}
+use Rattle.weak_cache.proofs.Vocabulary.{◌≡◌, [], ◌∷◌, ◌++◌, Some, None, length, sym, ap, ◌∙◌, subst, arith, Shelf, Entry, entry_of, size_of, Sited, values}
 use Rattle.weak_cache.proofs.Found.{key_own}
 use Rattle.weak_cache.proofs.Oldest.{OldestOfAll, oldest_of_all, moved_one, not_moved, sum_moved, site_below}
 use Rattle.weak_cache.proofs.Shelving.{none_oldest, sited_between}

@@ -1,6 +1,4 @@
-use Rattle.std.proofs.Common.{◌≡◌, ◌≤◌, ◌<◌, ◌++◌, length}
-use Rattle.indexmap.specs.IndexMap.{spare}
-use Rattle.weak_cache.specs.code.Shelved.{IsKept, Sited, values}
+use Rattle.weak_cache.proofs.Vocabulary.{◌≡◌, ◌≤◌, ◌<◌, ◌++◌, length, spare, IsKept, Sited, values}
 use Rattle.weak_cache.proofs.kept.Kept.widen.Given as goal
 
 abbrev pub invariant-loop-oldest : goal.invariant-loop-oldest

@@ -1,7 +1,4 @@
-use Rattle.std.proofs.Common.{◌≡◌, ℕ, ◌∷◌, List, length, sym, ap, ◌∙◌, arith}
-use Rattle.std.specs.Option.{option_copied}
-use Rattle.weak_cache.specs.Entries.{Entry, keys_of}
-use Rattle.weak_cache.specs.code.Shelved.{Slotted, from_on, values}
+use Rattle.weak_cache.proofs.Vocabulary.{◌≡◌, ℕ, ◌∷◌, List, length, sym, ap, ◌∙◌, arith, option_copied, Entry, keys_of, Slotted, from_on, values}
 use Rattle.weak_cache.proofs.Shelving.{from_step, from_none}
 use Rattle.weak_cache.proofs.stock.EntriesIterator.next.Goals as goal
 use Rattle.weak_cache.proofs.stock.EntriesIterator.next.Goals.{After-key}

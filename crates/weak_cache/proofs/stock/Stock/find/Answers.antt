@@ -1,6 +1,4 @@
-use Rattle.std.proofs.Common.{sym, ap, ◌∙◌}
-use Rattle.std.specs.Option.{option_copied}
-use Rattle.weak_cache.specs.Entries.{Cache, entry_of}
+use Rattle.weak_cache.proofs.Vocabulary.{sym, ap, ◌∙◌, option_copied, Cache, entry_of}
 use Rattle.weak_cache.proofs.Shelving.{key_found, key_none}
 use Rattle.weak_cache.proofs.stock.Stock.find.Goals as goal
 

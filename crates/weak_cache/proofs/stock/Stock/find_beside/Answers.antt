@@ -1,8 +1,4 @@
-use Rattle.std.proofs.Common.{◌≡◌, ◌≤◌, ◌<◌, not, length, sym, ap, ◌∙◌, subst, arith}
-use Rattle.std.specs.Prelude.{filter, is_some}
-use Rattle.std.specs.Option.{option_copied}
-use Rattle.weak_cache.specs.Entries.{Cache, is_of, entry_of}
-use Rattle.weak_cache.specs.code.Beside.{stays}
+use Rattle.weak_cache.proofs.Vocabulary.{◌≡◌, ◌≤◌, ◌<◌, not, length, sym, ap, ◌∙◌, subst, arith, filter, is_some, option_copied, Cache, is_of, entry_of, stays}
 use Rattle.weak_cache.proofs.Beside.{all_stay, one_for_one, last_goes, others_kept, none_copied, some_copied}
 use Rattle.weak_cache.proofs.Found.{none_stays}
 use Rattle.weak_cache.proofs.Shelving.{no_last}

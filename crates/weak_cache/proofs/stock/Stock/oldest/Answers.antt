@@ -1,8 +1,4 @@
-use Rattle.std.proofs.Common.{◌∷◌, [], sym, ap, ◌∙◌}
-use Rattle.std.specs.Option.{option_copied}
-use Rattle.recency.specs.Order.{last_of}
-use Rattle.weak_cache.specs.Entries.{Cache}
-use Rattle.weak_cache.specs.code.Shelved.{values}
+use Rattle.weak_cache.proofs.Vocabulary.{◌∷◌, [], sym, ap, ◌∙◌, option_copied, last_of, Cache, values}
 use Rattle.weak_cache.proofs.Beside.{last_behind}
 use Rattle.weak_cache.proofs.Oldest.{oldest_of_all}
 use Rattle.weak_cache.proofs.Shelving.{none_oldest, values_append}

@@ -1,11 +1,6 @@
 -- The entries of both are gone through from the newest on, as long as they are the same.
-use Rattle.std.proofs.Common.{◌≡◌, ℕ, List, ◌∷◌, length, Option, Some, sym, ap, ◌∙◌, arith}
-use Rattle.recency.specs.Paths.{Once}
-use Rattle.recency.specs.Shelf.{value_of, older_than}
-use Rattle.weak_cache.specs.Entries.{Entry, Cache}
-use Rattle.weak_cache.specs.code.Shelved.{Slotted, from_on, values}
+use Rattle.weak_cache.proofs.Vocabulary.{◌≡◌, ℕ, List, ◌∷◌, length, Option, Some, sym, ap, ◌∙◌, arith, Once, value_of, older_than, Entry, Cache, Slotted, from_on, values, option_map}
 use Rattle.weak_cache.proofs.Shelving.{from_step, slots_of}
-use Rattle.std.specs.Prelude.{option_map}
 use Rattle.weak_cache.proofs.stock.Stock.same.Goals as goal
 
 -- what is still to come is an entry and what comes after it

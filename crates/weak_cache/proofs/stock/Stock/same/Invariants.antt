@@ -1,5 +1,4 @@
-use Rattle.std.proofs.Common.{◌≡◌, length}
-use Rattle.weak_cache.specs.code.Shelved.{from_on, values}
+use Rattle.weak_cache.proofs.Vocabulary.{◌≡◌, length, from_on, values}
 use Rattle.weak_cache.proofs.stock.Stock.same.Given as goal
 
 -- if what is still to come is the same, all is

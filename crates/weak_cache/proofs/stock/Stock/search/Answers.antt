@@ -1,9 +1,5 @@
-use Rattle.std.proofs.Common.{◌∷◌, is_some, sym, ap, ◌∙◌, refl}
-use Rattle.std.specs.Option.{option_copied}
-use Rattle.recency.specs.Shelf.{Shelf, in_front}
-use Rattle.weak_cache.specs.Entries.{Entry, Cache, without}
-use Rattle.weak_cache.specs.Cache.{at_version}
-use Rattle.weak_cache.specs.code.Shelved.{values}
+use Rattle.weak_cache.proofs.Vocabulary.{◌∷◌, is_some, sym, ap, ◌∙◌, refl, option_copied, Shelf, Entry, Cache, without, at_version, values}
+use Rattle.recency.specs.Shelf.{in_front}
 use Rattle.weak_cache.proofs.Beside.{search_none, search_some}
 use Rattle.weak_cache.proofs.Shelving.{replaced, key_found, key_none, kept_moved}
 use Rattle.weak_cache.proofs.stock.Stock.search.Goals as goal

@@ -1,10 +1,6 @@
 -- The entries are gone through from the newest on: what is still to come is judged by the room that is left.
-use Rattle.std.proofs.Common.{◌≡◌, ℕ, ◌-◌, ◌<◌, ◌≤◌, ◌⊎◌, inl, inr, false, not, cond, [], ◌∷◌, length, Option, Some, None, sym, ap, ◌∙◌, arith}
-use Rattle.std.specs.Option.{option_copied}
-use Rattle.weak_cache.specs.Entries.{Entry, Cache, size_of, is_of, entry_of, without}
-use Rattle.weak_cache.specs.Cache.{within_budget}
-use Rattle.weak_cache.specs.code.Beside.{stays, room_after}
-use Rattle.weak_cache.specs.code.Shelved.{Slotted, from_on, values}
+use Rattle.weak_cache.proofs.Vocabulary.{◌≡◌, ℕ, ◌-◌, ◌<◌, ◌≤◌, ◌⊎◌, inl, inr, false, not, cond, [], ◌∷◌, length, Option, Some, None, sym, ap, ◌∙◌, arith, option_copied, Entry, Cache, size_of, is_of, entry_of, without, within_budget, stays}
+use Rattle.weak_cache.proofs.Vocabulary.{room_after, Slotted, from_on, values}
 use Rattle.weak_cache.proofs.Beside.{within_room, walk_own, walk_past, walk_gone, walk_kept, walk_other, walk_ends, walk_on, no_room, some_room, nothing_left}
 use Rattle.weak_cache.proofs.Shelving.{from_step, from_none}
 use Rattle.weak_cache.proofs.stock.Stock.search_beside.Goals as goal

@@ -1,7 +1,4 @@
-use Rattle.std.proofs.Common.{◌≡◌, length}
-use Rattle.weak_cache.specs.Entries.{entry_of, without}
-use Rattle.weak_cache.specs.Cache.{within_quota, within_budget}
-use Rattle.weak_cache.specs.code.Shelved.{from_on, values}
+use Rattle.weak_cache.proofs.Vocabulary.{◌≡◌, length, entry_of, without, within_quota, within_budget, from_on, values}
 use Rattle.weak_cache.proofs.Beside.{within_room}
 use Rattle.weak_cache.proofs.stock.Stock.search_beside.Given as goal
 

@@ -1,5 +1,4 @@
-use Rattle.std.proofs.Common.{ap, arith}
-use Rattle.std.specs.Prelude.{slice_index}
+use Rattle.weak_cache.proofs.Vocabulary.{ap, arith, slice_index}
 use Rattle.weak_cache.proofs.Counting.{sites_within}
 use Rattle.weak_cache.proofs.tally.Sums.add.Goals as goal
 

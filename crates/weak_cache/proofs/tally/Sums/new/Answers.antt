@@ -1,5 +1,4 @@
-use Rattle.std.proofs.Common.{ℕ, refl}
-use Rattle.std.proofs.lemmas.List.{get_or-replicate, length-replicate}
+use Rattle.weak_cache.proofs.Vocabulary.{ℕ, refl, get_or-replicate, length-replicate}
 use Rattle.weak_cache.proofs.tally.Sums.new.Goals as goal
 
 pub returns : goal.returns

@@ -1,5 +1,4 @@
-use Rattle.std.proofs.Common.{◌<◌, ap, arith}
-use Rattle.std.specs.Prelude.{slice_index}
+use Rattle.weak_cache.proofs.Vocabulary.{◌<◌, ap, arith, slice_index}
 use Rattle.weak_cache.proofs.Counting.{counted_between, tally_less}
 use Rattle.weak_cache.proofs.tally.Sums.sub.Goals as goal
 

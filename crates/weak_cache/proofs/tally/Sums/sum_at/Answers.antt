@@ -1,5 +1,4 @@
-use Rattle.std.proofs.Common.{◌∙◌, ap}
-use Rattle.std.specs.Prelude.{slice_index}
+use Rattle.weak_cache.proofs.Vocabulary.{◌∙◌, ap, slice_index}
 use Rattle.weak_cache.proofs.tally.Sums.sum_at.Goals as goal
 
 pub returns : goal.returns
