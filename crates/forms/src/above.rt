@@ -5,6 +5,7 @@ ghost use Rattle.std.specs.Str.Lines.{lines};
 ghost use Rattle.forms.specs.Mends.{numbered};
 
 use crate::list::Kind;
+use crate::number::MAX_ID;
 use script_text::{Lines, Words, read_number};
 
 /// The lines of a script above one of this number.
@@ -54,10 +55,7 @@ impl<'a> Above<'a> {
 
     /// The number of a user or a group, told by digits or by a name.
     pub(crate) fn number_of(self, kind: Kind, whom: &[u8]) -> Option<u64> {
-        match read_number(whom, u64::from(u32::MAX)) {
-            Some(number) => Some(number),
-            None => self.named(kind, whom).map(|named| named.1),
-        }
+        read_number(whom, MAX_ID).or_else(|| Some(self.named(kind, whom)?.1))
     }
 }
 
@@ -65,7 +63,7 @@ impl<'a> Above<'a> {
 fn named_in(line: &[u8], kind: Kind, name: &[u8]) -> Option<u64> {
     let mut words = Words::new(line);
     if words.next()? == kind.word() && words.next()? == name {
-        read_number(words.next()?, u64::from(u32::MAX))
+        read_number(words.next()?, MAX_ID)
     } else {
         None
     }

@@ -68,10 +68,7 @@ pub(crate) fn fits(trial: Trial<'_>) -> Result<bool, AllocError>
     ensures { IfOk result (λ does. IsTrue does → FitsIn trial.entry) }
 {
     let found = found_of(trial)?;
-    if is_skipped(trial.line) || found.fault.is_some() {
-        return Ok(false);
-    }
-    Ok(true)
+    Ok(!is_skipped(trial.line) && found.fault.is_none())
 }
 
 /// What is found of a line.

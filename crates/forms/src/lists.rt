@@ -28,18 +28,16 @@ pub(crate) fn found_in_list(
     if number == 0 {
         let fault = fault_of(alloc, list, &names)?;
         let place = fault.and_then(|fault| item_of_text(list, fault));
-        let code = coded(alloc, fault, told_of(list, fault))?;
-        return printed(alloc, list, place, code);
+        return printed(alloc, list, place, fault, told_of(list, fault));
     }
     let Some(place) = item_place(list, number as usize) else {
         let few = Reasoned::of(Reason::Few, b"").with(Items::new(list).count() as u64);
-        return printed(alloc, list, None, coded(alloc, None, few)?);
+        return printed(alloc, list, None, None, few);
     };
     let item = item_in(list, number as usize);
     let fault = fault_of(alloc, item, &names)?;
     let numbered = fault.and_then(|fault| with_number(fault, number as usize));
-    let code = coded(alloc, numbered, told_of(item, fault))?;
-    printed(alloc, list, Some(place), code)
+    printed(alloc, list, Some(place), numbered, told_of(item, fault))
 }
 
 /// Where no lines stand above.
@@ -93,35 +91,27 @@ pub(crate) fn is_noted(named: Result<(), NameError>) -> Result<(), AllocError> {
     }
 }
 
-/// `ITEM ENDS`, and the fields behind them.
+/// `ITEM ENDS CODE REASON DATA PART`.
 #[tactic(auto, using(crate::proofs::Answering::begins_more))]
 fn printed(
     alloc: Global,
     list: &[u8],
     place: Option<usize>,
-    rest: Vec<u8>,
+    fault: Option<TextFault>,
+    told: Reasoned<'_>,
 ) -> Result<Vec<u8>, AllocError>
     ensures { IfOk result (λ text. BeginsWith (place_text place ++ tab) text.items) }
 {
+    let mut rest = Vec::new(alloc);
+    match fault {
+        Some(fault) => push_text_code(&mut rest, fault)?,
+        None => rest.push(b'-')?,
+    }
+    rest.push(b'\t')?;
+    told.push(alloc, &mut rest, NOTHING)?;
+    rest.push(b'\n')?;
     let mut text = Vec::new(alloc);
     push_item(&mut text, list, place)?;
     text.extend_from_slice(&rest)?;
-    Ok(text)
-}
-
-/// `CODE REASON DATA PART`.
-fn coded(
-    alloc: Global,
-    fault: Option<TextFault>,
-    told: Reasoned<'_>,
-) -> Result<Vec<u8>, AllocError> {
-    let mut text = Vec::new(alloc);
-    match fault {
-        Some(fault) => push_text_code(&mut text, fault)?,
-        None => text.push(b'-')?,
-    }
-    text.push(b'\t')?;
-    told.push(alloc, &mut text, NOTHING)?;
-    text.push(b'\n')?;
     Ok(text)
 }

@@ -17,38 +17,26 @@ use script_text::{Words, push_number};
 use std::alloc::{AllocError, Global};
 use suite_script::{Expected, FormEnding, LineForm, VERBS};
 
-/// A change of a line at a word of it.
+/// A change of a line at a word of it: that is left out, or another stands in its place or, where so told, before it.
 #[derive(Clone, Copy)]
 enum Change<'a> {
     Without,
-    Instead(&'a [u8]),
-    Before(&'a [u8]),
+    Placed(bool, &'a [u8]),
 }
 
 impl<'a> Change<'a> {
-    /// Another word, in the place of one or before it.
-    fn placed(is_before: bool, other: &'a [u8]) -> Change<'a>
-        ensures { change_of result ≡ placed is_before other.now }
-    {
-        if is_before {
-            Change::Before(other)
-        } else {
-            Change::Instead(other)
-        }
-    }
-
     /// Adds what a word becomes of which this is the number, counted from the word that is changed.
     fn push_at(self, text: &mut Vec<u8>, at: u64, word: &[u8]) -> Result<(), AllocError>
         ensures { OnOk result (text.new.items ≡ text.old.items ++ flat_map spaced (put_at (change_of self.entry) at word.now)) }
     {
         match self {
-            Change::Without if at == 1 => Ok(()),
-            Change::Instead(other) if at == 1 => push_word(text, other),
-            Change::Before(other) if at == 1 => {
+            _ if at != 1 => push_word(text, word),
+            Change::Without => Ok(()),
+            Change::Placed(false, other) => push_word(text, other),
+            Change::Placed(true, other) => {
                 push_word(text, other)?;
                 push_word(text, word)
             }
-            _ => push_word(text, word),
         }
     }
 }
@@ -135,7 +123,7 @@ impl<'a> Trial<'a> {
     ) -> Result<(), AllocError>
         ensures { OnOk result (AddsMends self.entry at is_before text.old.items text.new.items) }
     {
-        if !is_word(word) || !self.fits(at, Change::placed(is_before, word))? {
+        if !is_word(word) || !self.fits(at, Change::Placed(is_before, word))? {
             return Ok(());
         }
         push_word(text, word)
@@ -166,8 +154,7 @@ impl<'a> Trial<'a> {
         Ok(forms)
     }
 
-    /// The words that mend the line, in the place of the one that does not fit or before it, each with a space behind
-    /// it.
+    /// The words that mend the line, in the place of the one that does not fit or before it, with a space behind each.
     #[tactic(auto, using(crate::proofs::Mending::adds_none, crate::proofs::Mending::adds_more, crate::proofs::Mending::told_all))]
     fn words(self, found: Found<'_>, is_before: bool) -> Result<Vec<u8>, AllocError>
         ensures { IfOk result (λ text. AreTold (λ word. MendsIn self.entry found.entry.number (placed is_before word)) text.items) }
@@ -201,23 +188,21 @@ impl<'a> Trial<'a> {
     fn is_missing(self, form: LineForm, found: Found<'_>) -> Result<bool, AllocError>
         ensures { IfOk result (λ does. IsTrue does → IsMissingIn self.entry) }
     {
+        let last = match form.ending {
+            FormEnding::Perhaps(place) => Some(place),
+            _ => None,
+        };
         let mut at = found.begin;
-        for place in form.places {
+        for place in form.places.iter().copied().chain(last) {
             at = at.saturating_add(1);
             if at > found.number {
                 return Ok(false);
             }
-            if self.fits(at, Change::Before(about(*place)[1]))? {
+            if self.fits(at, Change::Placed(true, about(place)[1]))? {
                 return Ok(true);
             }
         }
-        at = at.saturating_add(1);
-        match form.ending {
-            FormEnding::Perhaps(place) if at <= found.number => {
-                self.fits(at, Change::Before(about(place)[1]))
-            }
-            _ => Ok(false),
-        }
+        Ok(false)
     }
 
     /// Whether an operation has a word too many, behind one that begins none: its path may have a space.

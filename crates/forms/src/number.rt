@@ -50,10 +50,8 @@ pub(crate) fn number_told(word: &[u8], least: u64, most: u64) -> Reasoned<'_>
     ensures told { TellsNumber (number_reason least most word.now) result }
     ensures part { result.part.now ≡ word.now }
 {
-    Reasoned::numbered(
-        number_reason(word, least, most).unwrap_or((Reason::Due, None)),
-        word,
-    )
+    let reason = number_reason(word, least, most);
+    Reasoned::numbered(reason.unwrap_or((Reason::Due, None)), word)
 }
 
 /// How many parts a word has, with a separator between them.

@@ -107,32 +107,20 @@ impl Reading {
         ensures { StandsIn self.now.forms word.now result }
     {
         if let Some(due) = self.due() {
-            return if word == due.word {
-                Standing::Here(due)
-            } else {
-                self.misplaced(word)
-            };
-        }
-        if let Some(form) = form_of(self.forms.own, word) {
-            return Standing::Here(form);
-        }
-        if self.begun == 0 {
-            if let Some(form) = form_of(self.forms.names, word) {
+            if word == due.word {
+                return Standing::Here(due);
+            }
+        } else {
+            if let Some(form) = form_of(self.forms.own, word) {
+                return Standing::Here(form);
+            }
+            if let (Some(form), 0) = (form_of(self.forms.names, word), self.begun) {
+                return Standing::Here(form);
+            }
+            if let (Some(form), true) = (form_of(self.forms.optional, word), self.is_open) {
                 return Standing::Here(form);
             }
         }
-        if self.is_open {
-            if let Some(form) = form_of(self.forms.optional, word) {
-                return Standing::Here(form);
-            }
-        }
-        self.misplaced(word)
-    }
-
-    /// Where a line stands that is not in its place.
-    fn misplaced(&self, word: &[u8]) -> Standing
-        ensures { StandsIn self.now.forms word.now result }
-    {
         match known(self.forms, word) {
             Some(_form) => Standing::Misplaced,
             None => Standing::Unknown,

@@ -82,7 +82,6 @@ fn told_in<'a>(trial: Trial<'_>, place: Place, word: &'a [u8], fault: LineFault)
         Place::UserName => name_told(above, Kind::User, word, fault),
         Place::GroupName => name_told(above, Kind::Group, word, fault),
         Place::Init | Place::Lists => word_told(above, place == Place::Init, word, fault),
-        Place::Path => Reasoned::of(Reason::Due, word),
         Place::Uid => id_told(above, Kind::User, word),
         Place::Gid => id_told(above, Kind::Group, word),
         _ => match limits(scope, place) {

@@ -33,28 +33,23 @@ pub(crate) fn table(alloc: Global) -> Result<Vec<u8>, AllocError> {
         text.push(b'\n')?;
     }
     for (command, forms) in COMMANDS {
-        push_part(&mut text, command, b"header", forms.header)?;
-        push_part(&mut text, command, b"option", forms.optional)?;
-        push_part(&mut text, command, b"name", forms.names)?;
-        push_part(&mut text, command, b"own", forms.own)?;
+        let header: (&[u8], &[LineForm]) = (b"header", forms.header);
+        let optional: (&[u8], &[LineForm]) = (b"option", forms.optional);
+        for (part, forms) in [
+            header,
+            optional,
+            (b"name", forms.names),
+            (b"own", forms.own),
+        ] {
+            for form in forms {
+                push_form(&mut text, &[b"line", command, part], *form)?;
+            }
+        }
     }
     for verb in VERBS.iter() {
         push_form(&mut text, &[b"operation"], verb.form())?;
     }
     Ok(text)
-}
-
-/// Some lines of a command's scripts.
-fn push_part(
-    text: &mut Vec<u8>,
-    command: &[u8],
-    part: &[u8],
-    forms: &[LineForm],
-) -> Result<(), AllocError> {
-    for form in forms {
-        push_form(text, &[b"line", command, part], *form)?;
-    }
-    Ok(())
 }
 
 /// A form with what it does, behind some fields.

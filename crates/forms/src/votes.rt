@@ -32,12 +32,8 @@ pub(crate) fn begins_as_votes(word: &[u8]) -> bool {
 /// Why a word is no votes, whichever they are.
 pub(crate) fn form_told(word: &[u8]) -> Reasoned<'_> {
     let Some((shares, read, write)) = parts_of(word) else {
-        let is_begun = begins_as_votes(word);
-        let reason = if is_begun {
-            Reason::NoVotes
-        } else {
-            Reason::Due
-        };
+        let begun = begins_as_votes(word);
+        let reason = if begun { Reason::NoVotes } else { Reason::Due };
         return Reasoned::of(reason, word);
     };
     for share in WordParts::new(shares, b',').take(MAX_SERVERS) {

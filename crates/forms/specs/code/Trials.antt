@@ -5,7 +5,7 @@ use Rattle.suite_script.specs.Words.{Word}
 use Rattle.suite_script.specs.declared.fault.LineFault.{LineFault}
 use Rattle.suite_script.specs.declared.form.Forms.{Forms}
 use Rattle.forms.specs.Answers.{IsFaultOf, IsFound}
-use Rattle.forms.specs.Mends.{AreMends, AreTold, Edit, FitsOne, Without, Instead, Before, IsCut, IsMissing, IsShift, IsTooMany, Mends, all_of, form_in, placed}
+use Rattle.forms.specs.Mends.{AreMends, AreTold, Edit, FitsOne, Without, IsCut, IsMissing, IsShift, IsTooMany, Mends, all_of, form_in, placed}
 use Rattle.forms.specs.declared.mend.Change.{Change}
 use Rattle.forms.specs.declared.mend.Change.TheVariants as code
 use Rattle.forms.specs.declared.mend.Trial.{Trial}
@@ -15,8 +15,7 @@ use Rattle.forms.specs.declared.reading.Standing.TheVariants.{Here, Misplaced, U
 -- a change by the words that it names
 abbrev pub change_of : Change → Edit
 change_of code.Without = Without
-change_of (code.Instead other) = Instead other.now
-change_of (code.Before other) = Before other.now
+change_of (code.Placed is_before other) = placed is_before other.now
 
 -- a line that stands in its place, or out of it, begins with the word of one of the forms; another one does not
 abbrev pub StandsIn : Forms → Word → Standing → Type 0
