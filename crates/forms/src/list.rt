@@ -54,38 +54,30 @@ impl Kind {
 /// What the items of a text say, one after another, empty ones too.
 #[derive(Drop)]
 pub(crate) struct Items<'a> {
-    rest: &'a [u8],
-    is_done: bool,
+    rest: Option<&'a [u8]>,
 }
 
 impl<'a> Items<'a> {
     /// The items of a text.
     pub(crate) fn new(text: &'a [u8]) -> Items<'a> {
-        Items {
-            rest: text,
-            is_done: false,
-        }
+        Items { rest: Some(text) }
     }
 }
 
 impl<'a> Iterator for Items<'a> {
-    ghost use Rattle.std.specs.Prelude.{◌+◌, if◌then◌else◌, length};
+    ghost use Rattle.std.specs.Prelude.{◌+◌, length};
     ghost use Rattle.std.specs.Iterator.{at_most};
+    ghost use Rattle.std.specs.Option.{option_map_or};
 
     type Item = Item<'a>;
 
-    ghost remaining = { λ left. at_most (if left.is_done then 0 else length left.rest.now + 1) };
+    ghost remaining = { λ left. at_most (option_map_or (λ rest. length rest.now + 1) left.rest 0) };
 
     fn next(&mut self) -> Option<Item<'a>> {
-        if self.is_done {
-            return None;
-        }
-        let item = item_at(self.rest, 0);
-        let after = self.rest.get(item.len()..).unwrap_or(b"");
-        match uncommented(after) {
-            [_, more @ ..] => self.rest = more,
-            [] => self.is_done = true,
-        }
+        let rest = self.rest?;
+        let item = item_at(rest, 0);
+        let after = rest.get(item.len()..).unwrap_or(b"");
+        self.rest = uncommented(after).get(1..);
         Some(Item::of(item))
     }
 }
@@ -272,10 +264,8 @@ impl<'a> Item<'a> {
         let (Some(kind), Some(whom)) = (self.kind, self.second) else {
             return self.told(Reason::Due);
         };
-        let other = match kind {
-            Kind::User => Kind::Group,
-            _ => Kind::User,
-        };
+        let is_user = kind == Kind::User;
+        let other = if is_user { Kind::Group } else { Kind::User };
         let reason = match above.named(other, whom) {
             Some(_) => Reason::OfOtherKind,
             None => Reason::Nobody,
