@@ -301,9 +301,8 @@ def unexplained() -> typing.Iterator[str]:
 
 def untold_reasons() -> typing.Iterator[str]:
     """The reasons that the command `forms` prints and for which the tools have no sentence."""
-    files = glob.glob(os.path.join(TOP, "crates", "forms", "src", "*.rt"))
-    named = re.compile(r'Reason::\w+(?:\([_, ]+\))? => b"([a-z-]+)"')
-    printed = {name for path in files for name in named.findall(source(path))}
+    variants = re.search(r"enum Reason \{(.*?)\}", source("forms", "src", "reason.rt"), re.DOTALL)[1]
+    printed = {re.sub(r"(?<!^)(?=[A-Z])", "-", name).lower() for name in re.findall(r"\w+", variants)}
     known = {*reasons.SENTENCES, *reasons.LAID_OUT}
     yield from (f"no sentence has the reason {name}" for name in printed - known)
     yield from (f"nobody tells the reason {name}" for name in known - printed)

@@ -1,5 +1,5 @@
 -- What is told of the line that was asked.
-use Rattle.std.proofs.Common.{◌≡◌, ◌⊎◌, ℕ, true, false, is_some, List, [], ◌∷◌, ◌++◌, Option, Some, None, Result, Ok, Err, Vec, IfOk, Contains, refl, ◌∙◌, ap, sym, subst, inl, inr, append_assoc, bytes_eq, codes, decimal}
+use Rattle.std.proofs.Common.{◌≡◌, ℕ, true, false, is_some, List, ◌∷◌, ◌++◌, Option, Some, None, Result, Ok, Err, Vec, IfOk, Contains, refl, ◌∙◌, ap, sym, subst, inl, inr, append_assoc, true≢false, bytes_eq, codes, decimal}
 use Rattle.std.specs.Str.Lines.{lines}
 use Rattle.std.specs.declared.alloc.Global.{Global}
 use Rattle.acl_text.specs.Places.{item_place}
@@ -13,120 +13,89 @@ use Rattle.suite_script.specs.declared.fault.LineFault.{LineFault}
 use Rattle.suite_script.specs.declared.fault.LineFault.TheVariants as code
 use Rattle.suite_script.specs.declared.form.LineForm.{LineForm}
 use Rattle.suite_script.specs.declared.form.Forms.{Forms}
+use Rattle.suite_script.specs.declared.misfit.Misfit.{Misfit}
 use Rattle.suite_script.specs.declared.scope.Scope.{Scope}
-use Rattle.forms.specs.Answers.{Again, IsAnswer, IsOfCommand, IsOfEach, IsOfItem, IsOfLine, Misplaced, TellsLine, TellsMisfit, TellsNothing, TellsWhole, TellsWords, TooLarge, Unknown}
-use Rattle.forms.specs.Finding.{BeginsWith, head_at, head_of, place_text, tab}
-use Rattle.forms.specs.Mends.{all_of, form_in, numbered}
+use Rattle.forms.specs.Answers.{Again, Blank, IsAnswer, IsAt, IsFaultOf, IsFound, IsOfCommand, IsOfEach, IsOfItem, IsOfLine, Misplaced, Stands, TooLarge, Unknown}
+use Rattle.forms.specs.Finding.{BeginsWith, head_at, place_text, tab}
+use Rattle.forms.specs.Mends.{FitsOne, all_of, form_in, numbered}
 use Rattle.forms.specs.Runs.{Ends}
 use Rattle.forms.specs.declared.Question.{Question}
-use Rattle.forms.specs.declared.reading.Reading.{Reading}
+use Rattle.forms.specs.declared.finding.Found.{Found}
 
 -- ---- how a text begins
-
-pub begins_so : (head text new : List ℕ) → text ≡ head → BeginsWith text new → BeginsWith head new
-begins_so head text new same begins = record { rest = begins.rest; is = begins.is ∙ ap (λ one. one ++ begins.rest) same }
 
 pub begins_more : (head old new more : List ℕ) → BeginsWith head old → new ≡ old ++ more → BeginsWith head new
 begins_more head old new more begins is =
     record { rest = begins.rest ++ more; is = is ∙ ap (λ one. one ++ more) begins.is ∙ append_assoc head begins.rest more }
 
-pub begins_one : (old new more : List ℕ) → new ≡ old ++ more → BeginsWith old new
-begins_one old new more is = record { rest = more; is = is }
+-- ---- what is found of a line
 
-pub begins_four : (old new one two three four : List ℕ) → new ≡ (((old ++ one) ++ two) ++ three) ++ four → BeginsWith old new
-begins_four old new one two three four is =
-    begins_more old (((old ++ one) ++ two) ++ three) new four
-    (begins_more old ((old ++ one) ++ two) (((old ++ one) ++ two) ++ three) three
-    (begins_more old (old ++ one) ((old ++ one) ++ two) two (begins_one old (old ++ one) one refl) refl) refl) is
+pub found_misplaced : (scope : Scope) (forms : Forms) (line : List ℕ) (first : Word) (rest : List Word) (number : ℕ) (fault : Option LineFault) → is_skipped line ≡ false
+    → words line ≡ first ∷ rest → is_some (form_in forms first) ≡ true → number ≡ 1 → fault ≡ Some code.Order → IsFound scope forms line number fault
+found_misplaced scope forms line first rest number fault says is known one order = inr (says, Misplaced first rest is known one order)
 
--- the same of a text that there may be
-abbrev pub Begins : {E : Type 0} → ℕ → Option LineFault → Result (Vec ℕ Global) E → Type 0
-Begins number fault result = IfOk result (λ text. BeginsWith (head_at number fault) text.items)
+pub found_unknown : (scope : Scope) (forms : Forms) (line : List ℕ) (first : Word) (rest : List Word) (number : ℕ) (fault : Option LineFault) → is_skipped line ≡ false
+    → words line ≡ first ∷ rest → form_in forms first ≡ None → number ≡ 1 → fault ≡ Some code.Form → IsFound scope forms line number fault
+found_unknown scope forms line first rest number fault says is unknown one form = inr (says, Unknown first rest is unknown one form)
 
--- ---- a line whose first word is known
+pub found_standing : {E : Type 0} (scope : Scope) (forms : Forms) (line : List ℕ) (word first : Word) (rest : List Word) (result : Result Found E) → is_skipped line ≡ false
+    → words line ≡ first ∷ rest → word ≡ first → IfOk result (λ found. IsFaultOf scope forms (word ∷ rest) found.number found.fault)
+    → IfOk result (λ found. IsFound scope forms line found.number found.fault)
+found_standing scope forms line word first rest (Ok found) says is same tells =
+    inr (says, subst (λ (one : List Word). IsFaultOf scope forms one found.number found.fault) (ap (λ (one : Word). one ∷ rest) same ∙ sym is) tells)
+found_standing scope forms line word first rest (Err error) says is same tells = tt
 
-abbrev pub Tells : {E : Type 0} → Scope → Forms → Word → List Word → Result (Vec ℕ Global) E → Type 0
-Tells scope forms first rest result = IfOk result (λ text. TellsMisfit scope forms first rest text.items ⊎ TellsWhole forms first text.items)
+-- the same of a line whose first word stands in its place
+pub found_again : (scope : Scope) (forms : Forms) (word : Word) (rest : List Word) (number : ℕ) (fault : Option LineFault) → bytes_eq word (codes "together") ≡ true
+    → number ≡ 1 → fault ≡ Some code.Form → IsFaultOf scope forms (word ∷ rest) number fault
+found_again scope forms word rest number fault again one form = Again word rest refl again one form
 
-same_begins : {E : Type 0} (number one : ℕ) (fault told : Option LineFault) (result : Result (Vec ℕ Global) E) → number ≡ one → fault ≡ told
-    → Begins number fault result → Begins one told result
-same_begins number one fault told result is_number is_fault begins =
-    subst (λ (it : Option LineFault). Begins one it result) is_fault (subst (λ (it : ℕ). Begins it fault result) is_number begins)
+pub found_large : (scope : Scope) (forms : Forms) (word : Word) (rest : List Word) (number : ℕ) (fault : Option LineFault) → bytes_eq word (codes "old") ≡ true
+    → number ≡ 2 → fault ≡ Some (code.Settings OldTooLarge) → IsFaultOf scope forms (word ∷ rest) number fault
+found_large scope forms word rest number fault old two large = TooLarge word rest refl old two large
 
-told_whole : {E : Type 0} (scope : Scope) (forms : Forms) (first : Word) (rest : List Word) (number : ℕ) (fault : LineFault) (result : Result (Vec ℕ Global) E)
-    → ((text : List ℕ) → BeginsWith (head_at number (Some fault)) text → TellsWhole forms first text) → Begins number (Some fault) result → Tells scope forms first rest result
-told_whole scope forms first rest number fault (Ok text) tells begins = inr (tells text.items begins)
-told_whole scope forms first rest number fault (Err error) tells begins = tt
+pub found_form : (scope : Scope) (forms : Forms) (form : LineForm) (rest : List Word) (number : ℕ) (fault : Option LineFault) → Contains (all_of forms) form
+    → IsAt (line_misfit scope form.places.now form.ending rest) number fault → IsFaultOf scope forms (form.word.now ∷ rest) number fault
+found_form scope forms form rest number fault there at = Stands form rest refl there at
 
-pub misplaced_told : {E : Type 0} (scope : Scope) (forms : Forms) (first : Word) (rest : List Word) (number : ℕ) (fault : Option LineFault) (result : Result (Vec ℕ Global) E)
-    → is_some (form_in forms first) ≡ true → number ≡ 1 → fault ≡ Some code.Order → Begins number fault result → Tells scope forms first rest result
-misplaced_told scope forms first rest number fault result known is_number is_fault begins =
-    told_whole scope forms first rest 1 code.Order result (λ text is. Misplaced known is) (same_begins number 1 fault (Some code.Order) result is_number is_fault begins)
+-- ---- a line that has no fault
 
-pub unknown_told : {E : Type 0} (scope : Scope) (forms : Forms) (first : Word) (rest : List Word) (number : ℕ) (fault : Option LineFault) (result : Result (Vec ℕ Global) E)
-    → form_in forms first ≡ None → number ≡ 1 → fault ≡ Some code.Form → Begins number fault result → Tells scope forms first rest result
-unknown_told scope forms first rest number fault result unknown is_number is_fault begins =
-    told_whole scope forms first rest 1 code.Form result (λ text is. Unknown unknown is) (same_begins number 1 fault (Some code.Form) result is_number is_fault begins)
+not_some : {P : Type 0} (told : LineFault) (fault : Option LineFault) → fault ≡ Some told → is_some fault ≡ false → P
+not_some told fault is none = absurd (true≢false (ap is_some (sym is) ∙ none))
 
-pub again_told : {E : Type 0} (scope : Scope) (forms : Forms) (first : Word) (rest : List Word) (number : ℕ) (fault : Option LineFault) (result : Result (Vec ℕ Global) E)
-    → bytes_eq first (codes "together") ≡ true → number ≡ 1 → fault ≡ Some code.Form → Begins number fault result → Tells scope forms first rest result
-again_told scope forms first rest number fault result again is_number is_fault begins =
-    told_whole scope forms first rest 1 code.Form result (λ text is. Again again is) (same_begins number 1 fault (Some code.Form) result is_number is_fault begins)
+no_misfit : (misfit : Option Misfit) (number : ℕ) (fault : Option LineFault) → IsAt misfit number fault → is_some fault ≡ false → misfit ≡ None
+no_misfit None number fault at none = refl
+no_misfit (Some misfit) number fault at none = not_some misfit.fault fault at.1 none
 
-pub large_told : {E : Type 0} (scope : Scope) (forms : Forms) (first : Word) (rest : List Word) (number : ℕ) (fault : Option LineFault) (result : Result (Vec ℕ Global) E)
-    → bytes_eq first (codes "old") ≡ true → number ≡ 2 → fault ≡ Some (code.Settings OldTooLarge) → Begins number fault result → Tells scope forms first rest result
-large_told scope forms first rest number fault result old is_number is_fault begins =
-    told_whole scope forms first rest 2 (code.Settings OldTooLarge) result (λ text is. TooLarge old is)
-    (same_begins number 2 fault (Some (code.Settings OldTooLarge)) result is_number is_fault begins)
+words_fit : (scope : Scope) (forms : Forms) (words : List Word) (number : ℕ) (fault : Option LineFault) → IsFaultOf scope forms words number fault → is_some fault ≡ false
+    → FitsOne scope (all_of forms) words
+words_fit scope forms words number fault (Stands form rest is there at) none =
+    subst (FitsOne scope (all_of forms)) (sym is)
+    (record { form = form; is_one = there; begins = refl; fits = no_misfit (line_misfit scope form.places.now form.ending rest) number fault at none })
+words_fit scope forms words number fault (Blank is one some) none = not_some code.Form fault some none
+words_fit scope forms words number fault (Misplaced first rest is known one some) none = not_some code.Order fault some none
+words_fit scope forms words number fault (Unknown first rest is unknown one some) none = not_some code.Form fault some none
+words_fit scope forms words number fault (Again first rest is again one some) none = not_some code.Form fault some none
+words_fit scope forms words number fault (TooLarge first rest is old two some) none = not_some (code.Settings OldTooLarge) fault some none
 
-pub misfit_told : (scope : Scope) (forms : Forms) (form : LineForm) (rest : List Word) (text : List ℕ) → Contains (all_of forms) form
-    → BeginsWith (head_of (line_misfit scope form.places.now form.ending rest)) text → TellsMisfit scope forms form.word.now rest text ⊎ TellsWhole forms form.word.now text
-misfit_told scope forms form rest text there tells = inl (record { form = form; is_one = there; begins = refl; tells = tells })
-
-pub standing_told : {E : Type 0} (scope : Scope) (forms : Forms) (word first : Word) (rest : List Word) (result : Result (Vec ℕ Global) E) → word ≡ first
-    → Tells scope forms word rest result → Tells scope forms first rest result
-standing_told scope forms word first rest result same tells = subst (λ (one : Word). Tells scope forms one rest result) same tells
-
--- ---- a line of any words
-
-pub line_told : {E : Type 0} (scope : Scope) (forms : Forms) (line : List ℕ) (first : Word) (rest : List Word) (result : Result (Vec ℕ Global) E) → words line ≡ first ∷ rest
-    → Tells scope forms first rest result → IfOk result (λ text. TellsWords scope forms (words line) text.items)
-line_told scope forms line first rest result is tells = subst (λ (one : List Word). IfOk result (λ text. TellsWords scope forms one text.items)) (sym is) tells
-
-pub blank_told : {E : Type 0} (scope : Scope) (forms : Forms) (line : List ℕ) (number : ℕ) (fault : Option LineFault) (result : Result (Vec ℕ Global) E) → words line ≡ []
-    → number ≡ 1 → fault ≡ Some code.Form → Begins number fault result → IfOk result (λ text. TellsWords scope forms (words line) text.items)
-blank_told scope forms line number fault result is is_number is_fault begins =
-    subst (λ (one : List Word). IfOk result (λ text. TellsWords scope forms one text.items)) (sym is)
-    (same_begins number 1 fault (Some code.Form) result is_number is_fault begins)
-
--- ---- a line that says nothing
-
-pub due_told : {E : Type 0} (number : ℕ) (fault : Option LineFault) (result : Result (Vec ℕ Global) E) → number ≡ 1 → fault ≡ Some code.Order → Begins number fault result
-    → IfOk result (λ text. TellsNothing text.items)
-due_told {E} number fault (Ok text) is_number is_fault begins = inr (same_begins {E = E} number 1 fault (Some code.Order) (Ok text) is_number is_fault begins)
-due_told number fault (Err error) is_number is_fault begins = tt
-
-pub none_told : {E : Type 0} (number : ℕ) (fault : Option LineFault) (result : Result (Vec ℕ Global) E) → fault ≡ None → Begins number fault result
-    → IfOk result (λ text. TellsNothing text.items)
-none_told {E} number fault (Ok text) is_fault begins = inl (same_begins {E = E} number number fault None (Ok text) refl is_fault begins)
-none_told number fault (Err error) is_fault begins = tt
+pub fits_one : (scope : Scope) (forms : Forms) (line : List ℕ) (number : ℕ) (fault : Option LineFault) → IsFound scope forms line number fault → is_skipped line ≡ false
+    → is_some fault ≡ false → FitsOne scope (all_of forms) (words line)
+fits_one scope forms line number fault (inl due) says none = absurd (true≢false (sym due.0 ∙ says))
+fits_one scope forms line number fault (inr found) says none = words_fit scope forms (words line) number fault found.1 none
 
 -- ---- the line that was asked
 
-pub of_line : {E : Type 0} (scope : Scope) (forms given : Forms) (script line : List ℕ) (number : ℕ) (result : Result (Vec ℕ Global) E) → forms ≡ given
-    → line ≡ numbered number (lines script) → is_skipped line ≡ false → IfOk result (λ text. TellsWords scope forms (words line) text.items)
-    → IfOk result (λ text. IsOfLine given script number text.items)
-of_line scope forms given script line number (Ok text) same is says tells =
-    subst (λ (one : Forms). IsOfLine one script number text.items) same
-    (record { scope = scope; tells = subst (λ (one : List ℕ). TellsLine scope forms one text.items) is (inr (says, tells)) })
-of_line scope forms given script line number (Err error) same is says tells = tt
-
-pub of_none : {E : Type 0} (reading : Reading) (forms : Forms) (script line : List ℕ) (number : ℕ) (result : Result (Vec ℕ Global) E) → reading.forms ≡ forms
-    → line ≡ numbered number (lines script) → is_skipped line ≡ true → IfOk result (λ text. TellsNothing text.items)
-    → IfOk result (λ text. IsOfLine forms script number text.items)
-of_none reading forms script line number (Ok text) same is says tells =
-    record { scope = reading.scope; tells = subst (λ (one : List ℕ). TellsLine reading.scope forms one text.items) is (inl (says, tells)) }
-of_none reading forms script line number (Err error) same is says tells = tt
+pub of_line : (scope : Scope) (forms given : Forms) (script line : List ℕ) (number at : ℕ) (fault : Option LineFault) (head rest text : List ℕ) → forms ≡ given
+    → line ≡ numbered number (lines script) → IsFound scope forms line at fault → head ≡ head_at at fault → text ≡ head ++ rest → IsOfLine given script number text
+of_line scope forms given script line number at fault head rest text same is found begins all =
+    record {
+      scope = scope;
+      at = at;
+      fault = fault;
+      is_found = subst (λ (one : Forms). IsFound scope one (numbered number (lines script)) at fault) same
+          (subst (λ (one : List ℕ). IsFound scope forms one at fault) is found);
+      begins = record { rest = rest; is = all ∙ ap (λ (one : List ℕ). one ++ rest) begins };
+    }
 
 -- ---- the same of each command
 
@@ -157,9 +126,3 @@ item_told list number place (Err error) same begins = tt
 pub answered : (question : Question) (given text : List ℕ) (before after : Option (List ℕ)) (failures failures_after status : ℕ) → IsAnswer question given text
     → Finishes text done status before after failures failures_after → Ends question given before after failures failures_after status
 answered question given text before after failures failures_after status is written = inl (record { text = text; is = is; written = written })
-
--- ---- the same head
-
-pub same_head : {E : Type 0} (head other : List ℕ) (result : Result (Vec ℕ Global) E) → head ≡ other → IfOk result (λ text. BeginsWith head text.items)
-    → IfOk result (λ text. BeginsWith other text.items)
-same_head head other result same begins = subst (λ (one : List ℕ). IfOk result (λ text. BeginsWith one text.items)) same begins

@@ -1,6 +1,6 @@
 -- Words that are told to mend a line, one after another.
 use Rattle.std.proofs.Common.{◌≡◌, ◌<◌, ◌≤◌, ◌+◌, ◌-◌, ◌%◌, ◌^◌, ℕ, Bool, arith, bytes_eq, cond, length, true, false, IsTrue, List, [], ◌∷◌, ◌++◌, refl, ◌∙◌, ap, sym, append_assoc, append-nil, subst}
-use Rattle.std.specs.Prelude.{Contains, is_some, None, Some, Option, decimal, codes, nat_lt}
+use Rattle.std.specs.Prelude.{Contains, Some, decimal, codes, nat_lt}
 use Rattle.std.specs.List.{AllByRecursion, filter, flat_map}
 use Rattle.std.proofs.lemmas.Bool.{lt-ltb, ne_eqb}
 use Rattle.std.proofs.lemmas.Fmt.{decimal_by_steps}
@@ -18,9 +18,9 @@ use Rattle.suite_script.specs.declared.misfit.Expected.TheVariants.{End}
 use Rattle.suite_script.specs.declared.misfit.Misfit.{Misfit}
 use Rattle.suite_script.specs.declared.scope.Scope.{Scope}
 use Rattle.suite_script.specs.declared.form.Forms.{Forms}
-use Rattle.forms.specs.Mends.{AreTold, Before, FitsOne, Instead, IsCut, IsMissing, IsShift, IsWord, Path, Missing, Many, IsTooMany, Mends, Without, all_of, field, is_verb, numbered, spaced}
+use Rattle.forms.specs.Mends.{AreTold, Before, Instead, IsCut, IsMissing, IsShift, IsWord, Path, Missing, Many, IsTooMany, Mends, Without, all_of, field, is_verb, numbered, spaced}
 use Rattle.forms.specs.declared.mend.Trial.{Trial}
-use Rattle.forms.specs.code.Trials.{Adds, AddsAllFields, AddsFields, IsShiftIn, MendsIn}
+use Rattle.forms.specs.code.Trials.{Adds, AddsFields, IsShiftIn, MendsIn}
 
 -- what holds of each of two lists holds of each of both
 both_all : {X : Type 0} (P : X → Type 0) (xs ys : List X) → AllByRecursion P xs → AllByRecursion P ys → AllByRecursion P (xs ++ ys)
@@ -50,17 +50,6 @@ adds_more P old middle new first later =
       };
       is = later.is ∙ ap (λ text. text ++ later.added) first.is ∙ append_assoc old first.added later.added;
     }
-
--- nothing is there, where nothing is told to be
-pub is_none : {A : Type 0} (given : Option A) → is_some given ≡ false → given ≡ None
-is_none None h = refl
-is_none (Some a) h = let no : true ≡ false = h in cc
-
--- a line whose first word is that of a form, where no other word misfits
-pub fits_one : (scope : Scope) (forms : List LineForm) (form : LineForm) (first : Word) (rest left : List Word) → left ≡ first ∷ rest → Contains forms form → form.word.now ≡ first
-    → is_some (line_misfit scope form.places.now form.ending rest) ≡ false → FitsOne scope forms left
-fits_one scope forms form first rest left is there begins fits =
-    subst (FitsOne scope forms) (sym is) (record { form = form; is_one = there; begins = begins; fits = is_none (line_misfit scope form.places.now form.ending rest) fits })
 
 -- all that was added to nothing
 pub told_all : (P : Word → Type 0) (text : List ℕ) → Adds P [] text → AreTold P text
@@ -98,10 +87,16 @@ pub decimal_word : (n : ℕ) → n < 2 ^ 64 → IsWord (decimal n)
 decimal_word n small = unblank_word (decimal n) (decimal_by_steps (λ n text. HasDigits text) one_digit digit_more n small)
 
 -- the number of a word is added, and a space
-pub adds_number : (scope : Scope) (forms : Forms) (line : List ℕ) (at : ℕ) (old new : List ℕ) → at < 2 ^ 64 → Mends scope forms line at Without
+adds_number : (scope : Scope) (forms : Forms) (line : List ℕ) (at : ℕ) (old new : List ℕ) → at < 2 ^ 64 → Mends scope forms line at Without
     → new ≡ (old ++ decimal at) ++ codes " " → Adds (IsTooMany scope forms line) old new
 adds_number scope forms line at old new small mends is =
     adds_one (IsTooMany scope forms line) (decimal at) old new (decimal_word at small) (record { at = at; is = refl; mends = mends }) (is ∙ append_assoc old (decimal at) (codes " "))
+
+-- the same behind others
+pub adds_next : (scope : Scope) (forms : Forms) (line : List ℕ) (at : ℕ) (old new : List ℕ) → Adds (IsTooMany scope forms line) [] old → at < 2 ^ 64
+    → Mends scope forms line at Without → new ≡ (old ++ decimal at) ++ codes " " → Adds (IsTooMany scope forms line) [] new
+adds_next scope forms line at old new adds small mends is =
+    adds_more (IsTooMany scope forms line) [] old new adds (adds_number scope forms line at old new small mends is)
 
 -- what is told of a word too many or too few
 pub path_told : (scope : Scope) (forms : Forms) (line text : List ℕ) → IsCut scope forms line → text ≡ codes "path" → IsShift scope forms line text
@@ -146,7 +141,3 @@ fields_added trial at old one two new instead before shift each_instead each_bef
       is = new_is ∙ ap (λ text. text ++ field shift) (two_is ∙ ap (λ text. text ++ field before) one_is ∙ append_assoc old (field instead) (field before))
           ∙ append_assoc old (field instead ++ field before) (field shift);
     }
-
--- and the last field
-pub all_added : (trial : Trial) (at : ℕ) (old tried new hidden : List ℕ) → AddsFields trial at old tried → new ≡ tried ++ field hidden → AddsAllFields trial at old new
-all_added trial at old tried new hidden fields is = record { tried = tried; hidden = hidden; fields = fields; is = is }

@@ -1,5 +1,5 @@
 -- What is told of the line, or of the item of a list, that was asked.
-use Rattle.std.specs.Prelude.{◌≡◌, ℕ, ◌⊎◌, true, false, is_some, List, [], ◌∷◌, ◌++◌, codes, decimal, Contains, None}
+use Rattle.std.specs.Prelude.{◌≡◌, ℕ, ◌⊎◌, true, false, is_some, List, [], ◌∷◌, ◌++◌, codes, decimal, Contains, Option, Some, None}
 use Rattle.std.specs.Str.{bytes_eq}
 use Rattle.std.specs.Str.Lines.{lines}
 use Rattle.acl_text.specs.Places.{item_place}
@@ -8,46 +8,52 @@ use Rattle.suite_prefix.specs.declared.settings.SettingsFault.TheVariants.{OldTo
 use Rattle.suite_script.specs.Misfits.{line_misfit}
 use Rattle.suite_script.specs.Scripts.{is_skipped}
 use Rattle.suite_script.specs.Words.{Word}
+use Rattle.suite_script.specs.declared.fault.LineFault.{LineFault}
 use Rattle.suite_script.specs.declared.fault.LineFault.TheVariants as line
 use Rattle.suite_script.specs.declared.form.LineForm.{LineForm}
 use Rattle.suite_script.specs.declared.form.Forms.{Forms}
+use Rattle.suite_script.specs.declared.misfit.Misfit.{Misfit}
 use Rattle.suite_script.specs.declared.scope.Scope.{Scope}
-use Rattle.forms.specs.Finding.{BeginsWith, head_of, place_text, tab, told_at}
+use Rattle.forms.specs.Finding.{BeginsWith, head_at, place_text, tab}
 use Rattle.forms.specs.Mends.{all_of, form_in, numbered}
 use Rattle.forms.specs.declared.Question.{Question}
 use Rattle.forms.specs.declared.Question.TheVariants as asked
 
--- the first word stands in its place: the first that its form does not allow is told, with its fault
-pub record TellsMisfit (scope : Scope) (forms : Forms) (first : Word) (rest : List Word) (text : List ℕ) : Type 0 where
-  pub form : LineForm
-  pub is_one : Contains (all_of forms) form
-  pub begins : form.word.now ≡ first
-  pub tells : BeginsWith (head_of (line_misfit scope form.places.now form.ending rest)) text
+-- what is found of words by the first that does not fit, if there is one: its number and a fault
+abbrev pub IsAt : Option Misfit → ℕ → Option LineFault → Type 0
+IsAt None number fault = fault ≡ None
+IsAt (Some misfit) number fault = (number ≡ misfit.number) × (fault ≡ Some misfit.fault)
 
--- a fault of the line as a whole is told: it is out of its place; no line begins so; it may stand but once; or its servers cannot open so
-pub data TellsWhole (forms : Forms) (first : Word) (text : List ℕ) : Type 0 where
-  Misplaced : is_some (form_in forms first) ≡ true → BeginsWith (told_at 1 line.Order) text → TellsWhole forms first text
-  Unknown : form_in forms first ≡ None → BeginsWith (told_at 1 line.Form) text → TellsWhole forms first text
-  Again : bytes_eq first (codes "together") ≡ true → BeginsWith (told_at 1 line.Form) text → TellsWhole forms first text
-  TooLarge : bytes_eq first (codes "old") ≡ true → BeginsWith (told_at 2 (line.Settings OldTooLarge)) text → TellsWhole forms first text
-
--- what is told of a line of these words
-abbrev pub TellsWords : Scope → Forms → List Word → List ℕ → Type 0
-TellsWords scope forms [] text = BeginsWith (told_at 1 line.Form) text
-TellsWords scope forms (first ∷ rest) text = TellsMisfit scope forms first rest text ⊎ TellsWhole forms first text
+-- what is found of the words of a line: the first that its form does not allow; or a fault of the line as a whole, which is
+-- blank, out of its place, or begins as none; which may stand but once; or whose servers cannot open so
+pub data IsFaultOf (scope : Scope) (forms : Forms) (words : List Word) (number : ℕ) (fault : Option LineFault) : Type 0 where
+  Stands : (form : LineForm) (rest : List Word) → words ≡ form.word.now ∷ rest → Contains (all_of forms) form
+      → IsAt (line_misfit scope form.places.now form.ending rest) number fault → IsFaultOf scope forms words number fault
+  Blank : words ≡ [] → number ≡ 1 → fault ≡ Some line.Form → IsFaultOf scope forms words number fault
+  Misplaced : (first : Word) (rest : List Word) → words ≡ first ∷ rest → is_some (form_in forms first) ≡ true
+      → number ≡ 1 → fault ≡ Some line.Order → IsFaultOf scope forms words number fault
+  Unknown : (first : Word) (rest : List Word) → words ≡ first ∷ rest → form_in forms first ≡ None
+      → number ≡ 1 → fault ≡ Some line.Form → IsFaultOf scope forms words number fault
+  Again : (first : Word) (rest : List Word) → words ≡ first ∷ rest → bytes_eq first (codes "together") ≡ true
+      → number ≡ 1 → fault ≡ Some line.Form → IsFaultOf scope forms words number fault
+  TooLarge : (first : Word) (rest : List Word) → words ≡ first ∷ rest → bytes_eq first (codes "old") ≡ true
+      → number ≡ 2 → fault ≡ Some (line.Settings OldTooLarge) → IsFaultOf scope forms words number fault
 
 -- of one that says nothing, or is not there: nothing, or that a line of the header is due
-abbrev pub TellsNothing : List ℕ → Type 0
-TellsNothing text = BeginsWith (head_of None) text ⊎ BeginsWith (told_at 1 line.Order) text
+abbrev pub IsDue : ℕ → Option LineFault → Type 0
+IsDue number fault = (fault ≡ None) ⊎ ((number ≡ 1) × (fault ≡ Some line.Order))
 
-abbrev pub TellsLine : Scope → Forms → List ℕ → List ℕ → Type 0
-TellsLine scope forms line text =
-    ((is_skipped line ≡ true) × TellsNothing text) ⊎ ((is_skipped line ≡ false) × TellsWords scope forms (words line) text)
+abbrev pub IsFound : Scope → Forms → List ℕ → ℕ → Option LineFault → Type 0
+IsFound scope forms line number fault =
+    ((is_skipped line ≡ true) × IsDue number fault) ⊎ ((is_skipped line ≡ false) × IsFaultOf scope forms (words line) number fault)
 
 -- a text tells of the line of this number, where a script has some number of servers and agents, and some names
 pub record IsOfLine (forms : Forms) (script : List ℕ) (number : ℕ) (text : List ℕ) : Type 0 where
   pub scope : Scope
-  pub tells : TellsLine scope forms (numbered number (lines script)) text
+  pub at : ℕ
+  pub fault : Option LineFault
+  pub is_found : IsFound scope forms (numbered number (lines script)) at fault
+  pub begins : BeginsWith (head_at at fault) text
 
 -- the same of a command, behind its name, a likeness and the number of a line
 pub record IsOfCommand (command : List ℕ) (script : List ℕ) (number : ℕ) (text : List ℕ) : Type 0 where

@@ -1,4 +1,4 @@
--- What is printed of a line whose first word stands in its place.
+-- What is printed first of a line, and of the item of a list.
 use Rattle.std.specs.Prelude.{◌≡◌, ℕ, List, [], ◌∷◌, ◌++◌, codes, decimal, Option, Some, None}
 use Rattle.acl_text.specs.Places.{item_place}
 use Rattle.acl_text.specs.declared.read.TextFault.{TextFault}
@@ -6,25 +6,15 @@ use Rattle.acl_text.specs.declared.read.TextFault.TheVariants as text
 use Rattle.suite_script.specs.Faults.{code_of}
 use Rattle.suite_script.specs.declared.fault.LineFault.{LineFault}
 use Rattle.suite_script.specs.declared.fault.LineFault.TheVariants as line
-use Rattle.suite_script.specs.declared.misfit.Misfit.{Misfit}
 
 -- a tab
 abbrev pub tab : List ℕ
 tab = 9 ∷ []
 
--- the number of a word and the code of its fault, each with a tab behind it
-abbrev pub told_at : ℕ → LineFault → List ℕ
-told_at number fault = decimal number ++ tab ++ code_of fault ++ tab
-
--- the same of a word that may have one; hyphens, where it has none
+-- the number of a word and the code of its fault, each with a tab behind it; hyphens, where it has none
 abbrev pub head_at : ℕ → Option LineFault → List ℕ
 head_at number None = codes "-" ++ tab ++ codes "-" ++ tab
-head_at number (Some fault) = told_at number fault
-
--- the same of a word that does not fit, if there is one
-abbrev pub head_of : Option Misfit → List ℕ
-head_of None = head_at 0 None
-head_of (Some misfit) = head_at misfit.number (Some misfit.fault)
+head_at number (Some fault) = decimal number ++ tab ++ code_of fault ++ tab
 
 -- a text that begins so
 pub record BeginsWith (head text : List ℕ) : Type 0 where

@@ -1,45 +1,28 @@
 //! Why a line does not begin as one that is due.
 
 use crate::above::Above;
-use crate::reading::{form_of, known};
+use crate::mend::{is_verb, push_word};
+use crate::reading::{Reading, form_of, known};
 use crate::reason::{Reason, Reasoned};
 use crate::table::COMMANDS;
 use std::alloc::AllocError;
-use suite_script::{Forms, LineForm, VERBS};
 
-/// Adds the commands whose lines begin with a word, with a space between them.
+/// Adds the commands whose lines begin with a word, each with a space behind it.
 pub(crate) fn push_commands(text: &mut Vec<u8>, word: &[u8]) -> Result<(), AllocError> {
-    let mut gap: &[u8] = b"";
     for (command, forms) in COMMANDS {
         if known(forms, word).is_some() {
-            text.extend_from_slice(gap)?;
-            text.extend_from_slice(command)?;
-            gap = b" ";
+            push_word(text, command)?;
         }
     }
     Ok(())
 }
 
-/// Whether lines of some command begin with a word.
-fn begins_elsewhere(word: &[u8]) -> bool {
-    for (_, forms) in COMMANDS {
-        if known(forms, word).is_some() {
-            return true;
-        }
-    }
-    false
-}
-
 /// What is told of a first word that begins no line of the command.
 pub(crate) fn unknown_told(number: u64, word: &[u8]) -> Reasoned<'_> {
-    if number == 1 {
-        if let Some(part) = mark_of(word) {
-            return Reasoned::of(Reason::Mark, word).at(part);
-        }
-    }
-    let reason = match word {
-        [b'#', ..] => Reason::Comment,
-        _ if begins_elsewhere(word) => Reason::Elsewhere,
+    let reason = match (mark_of(word), word) {
+        (Some(part), _) if number == 1 => return Reasoned::of(Reason::Mark, word).at(part),
+        (_, [b'#', ..]) => Reason::Comment,
+        _ if COMMANDS.iter().any(|row| known(row.1, word).is_some()) => Reason::Elsewhere,
         _ if is_of_the_second(word) => Reason::WordMissing,
         _ => Reason::Unknown,
     };
@@ -57,27 +40,24 @@ pub(crate) fn mark_of(word: &[u8]) -> Option<&[u8]> {
 
 /// Whether a word is one that stands behind the first of a line: a number, votes, a path or the word of an operation.
 fn is_of_the_second(word: &[u8]) -> bool {
+    let mut bytes = word.iter();
     matches!(word, [b'/', ..])
-        || word.iter().all(|byte| byte.is_ascii_digit()
-            || matches!(*byte, b'.' | b'/' | b',' | b'-'))
-        || VERBS.iter().any(|verb| word == verb.form().word)
+        || bytes.all(|byte| matches!(*byte, b'0'..=b'9' | b'.' | b'/' | b',' | b'-'))
+        || is_verb(word)
 }
 
-/// What is told of a line that is not in its place; perhaps another is due, or the first of the command's own stands in
-/// the line of this number.
+/// What is told of a line that is not in its place; perhaps another is due.
 pub(crate) fn misplaced_told<'a>(
     above: Above<'_>,
-    forms: Forms,
-    begun: u64,
-    due: Option<LineForm>,
+    reading: &Reading,
     word: &'a [u8],
 ) -> Reasoned<'a> {
-    let of_header = [forms.header, forms.optional];
-    let is_of_header = of_header.iter().any(|part| form_of(part, word).is_some());
+    let header = form_of(reading.forms.header, word);
+    let is_of_header = header.or(form_of(reading.forms.optional, word)).is_some();
     match above.line_of(word) {
         Some((line, _)) if is_of_header => Reasoned::of(Reason::StandsAbove, word).with(line),
-        _ if due.is_some() => Reasoned::of(Reason::Due, word),
+        _ if reading.due().is_some() => Reasoned::of(Reason::Due, word),
         _ if is_of_header => Reasoned::of(Reason::BehindHeader, word),
-        _ => Reasoned::of(Reason::NamesBelow, word).with(begun),
+        _ => Reasoned::of(Reason::NamesBelow, word).with(reading.begun),
     }
 }

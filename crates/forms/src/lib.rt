@@ -41,9 +41,9 @@
 //! **Definitions** (`specs/`): `Answers`, `Finding`, `Mends`, `Reasons`, `Runs`.
 //!
 //! **Files**: `places` (their names and limits), `table`, `reading` and `above` (the lines of a script), `finding`
-//! (what is printed of one), `whose` (of which command a script is), `lists` (of a list), `spot` (where a word stands,
-//! and why it does not fit), `mend` (what would mend the line), `reason`; for the reasons `first`, `number`, `votes`,
-//! `word` (bytes and names), `fields`, `item` and `list`, `old` (form 1).
+//! (what is found and printed of one), `whose` (of which command a script is), `lists` (of a list), `spot` (where a word
+//! stands, and why it does not fit), `mend` (what would mend the line), `reason`; for the reasons `first`, `number`
+//! (with bytes and names), `votes`, `list` (with items), `old` (form 1).
 #![tactic(auto)]
 
 ghost use Rattle.std.specs.Prelude.{IfOk, map};
@@ -52,10 +52,8 @@ ghost use Rattle.forms.specs.Answers.{IsAnswer};
 ghost use Rattle.forms.specs.Runs.{Asks, Does, DoesOf, Ends, Runs};
 
 mod above;
-mod fields;
 mod finding;
 mod first;
-mod item;
 mod list;
 mod lists;
 mod mend;
@@ -68,7 +66,6 @@ mod spot;
 mod table;
 mod votes;
 mod whose;
-mod word;
 
 use byte_streams::{
     ByteIn, ByteOut, COMMAND_LINE, DONE, MAX_INPUT, finish, finish_line, lack_memory, read_all,

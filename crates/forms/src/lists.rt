@@ -5,12 +5,10 @@ ghost use Rattle.forms.specs.Answers.{IsOfItem};
 ghost use Rattle.forms.specs.Finding.{BeginsWith, place_text, tab};
 
 use crate::above::Above;
-use crate::fields::{entry_in, uncommented};
-use crate::finding::{ItemEnds, ends_of, item_of_text, push_item};
-use crate::list::{count_of_items, item_in, text_told};
-use crate::reason::{Reason, Reasoned, push_told};
+use crate::finding::{item_of_text, push_item};
+use crate::list::{Items, item_in, text_told};
+use crate::reason::{Reason, Reasoned};
 use acl_text::{NameError, Names, TextFault, item_place, push_text_code, read_acl};
-use script_text::WordParts;
 use std::alloc::{AllocError, Global};
 
 /// What is printed of a list, or of its item of this number. Each name is taken for one that has a number; or none is.
@@ -30,22 +28,27 @@ pub(crate) fn found_in_list(
     if number == 0 {
         let fault = fault_of(alloc, list, &names)?;
         let place = fault.and_then(|fault| item_of_text(list, fault));
-        return printed(alloc, ends_of(list, place), fault, told_of(list, fault));
+        return printed(alloc, list, place, fault, told_of(list, fault));
     }
     let Some(place) = item_place(list, number as usize) else {
-        let few = Reasoned::of(Reason::Few, b"").with(count_of_items(list));
-        return printed(alloc, ends_of(list, None), None, few);
+        let few = Reasoned::of(Reason::Few, b"").with(Items::new(list).count() as u64);
+        return printed(alloc, list, None, None, few);
     };
     let item = item_in(list, number as usize);
     let fault = fault_of(alloc, item, &names)?;
-    let told = told_of(item, fault);
     let numbered = fault.and_then(|fault| with_number(fault, number as usize));
-    printed(alloc, ends_of(list, Some(place)), numbered, told)
+    printed(alloc, list, Some(place), numbered, told_of(item, fault))
 }
+
+/// Where no lines stand above.
+const NOTHING: Above<'static> = Above {
+    script: b"",
+    number: 0,
+};
 
 fn told_of(text: &[u8], fault: Option<TextFault>) -> Reasoned<'_> {
     match fault {
-        Some(fault) => text_told(Above::nothing(), text, fault),
+        Some(fault) => text_told(NOTHING, text, fault),
         None => Reasoned::of(Reason::Due, b""),
     }
 }
@@ -72,14 +75,10 @@ fn with_number(fault: TextFault, number: usize) -> Option<TextFault> {
 /// Gives each name of a list a number of its own, as a user's and as a group's.
 fn name_all(names: &mut Names, list: &[u8]) -> Result<(), AllocError> {
     let mut number = u32::MAX;
-    for line in WordParts::new(list, b'\n') {
-        for item in WordParts::new(uncommented(line), b',') {
-            if let Some(said) = entry_in(item) {
-                is_noted(names.add_user(said.whom, number))?;
-                is_noted(names.add_group(said.whom, number))?;
-                number = number.saturating_sub(1);
-            }
-        }
+    for item in Items::new(list).filter(|item| item.kind.is_some()) {
+        is_noted(names.add_user(item.whom(), number))?;
+        is_noted(names.add_group(item.whom(), number))?;
+        number = number.saturating_sub(1);
     }
     Ok(())
 }
@@ -96,31 +95,23 @@ pub(crate) fn is_noted(named: Result<(), NameError>) -> Result<(), AllocError> {
 #[tactic(auto, using(crate::proofs::Answering::begins_more))]
 fn printed(
     alloc: Global,
-    item: ItemEnds,
+    list: &[u8],
+    place: Option<usize>,
     fault: Option<TextFault>,
     told: Reasoned<'_>,
 ) -> Result<Vec<u8>, AllocError>
-    ensures { IfOk result (λ text. BeginsWith (place_text item.place ++ tab) text.items) }
+    ensures { IfOk result (λ text. BeginsWith (place_text place ++ tab) text.items) }
 {
-    let mut text = Vec::new(alloc);
-    push_item(&mut text, item)?;
-    text.extend_from_slice(&coded(alloc, fault, told)?)?;
-    Ok(text)
-}
-
-/// `CODE REASON DATA PART`.
-fn coded(
-    alloc: Global,
-    fault: Option<TextFault>,
-    told: Reasoned<'_>,
-) -> Result<Vec<u8>, AllocError> {
-    let mut text = Vec::new(alloc);
+    let mut rest = Vec::new(alloc);
     match fault {
-        Some(fault) => push_text_code(&mut text, fault)?,
-        None => text.push(b'-')?,
+        Some(fault) => push_text_code(&mut rest, fault)?,
+        None => rest.push(b'-')?,
     }
-    text.push(b'\t')?;
-    push_told(&mut text, Above::nothing(), told)?;
-    text.push(b'\n')?;
+    rest.push(b'\t')?;
+    told.push(alloc, &mut rest, NOTHING)?;
+    rest.push(b'\n')?;
+    let mut text = Vec::new(alloc);
+    push_item(&mut text, list, place)?;
+    text.extend_from_slice(&rest)?;
     Ok(text)
 }

@@ -1,126 +1,39 @@
 //! What would mend a line: other words in the place of one, words before it, a word less. Each is tried.
 
-ghost use Rattle.std.specs.Prelude.{◌≡◌, ◌++◌, IfOk, OnOk, is_some};
+ghost use Rattle.std.specs.Prelude.{◌≡◌, ◌++◌, IfOk, OnOk};
 ghost use Rattle.std.specs.Bool.{IsTrue};
 ghost use Rattle.std.specs.List.{flat_map};
 ghost use Rattle.script_text.specs.Words.{words};
-ghost use Rattle.suite_script.specs.Misfits.{line_misfit};
-ghost use Rattle.forms.specs.Mends.{AreTold, FitsOne, IsWord, all_of, changed, field, is_verb, numbered, or_hyphen, placed, put, put_at, spaced};
-ghost use Rattle.forms.specs.code.Trials.{AddsAllFields, AddsFields, AddsMany, AddsMends, IsCutIn, IsMissingIn, IsShiftIn, MendsIn, change_of};
+ghost use Rattle.forms.specs.Mends.{AreTold, IsWord, changed, field, is_verb, numbered, or_hyphen, placed, put_at, spaced};
+ghost use Rattle.forms.specs.code.Trials.{AddsFields, AddsMends, IsCutIn, IsMissingIn, IsShiftIn, MendsIn, change_of};
 
 use crate::above::Above;
-use crate::finding::ItemEnds;
-use crate::first::mark_of;
+use crate::finding::{Found, fits};
 use crate::number::is_digits;
-use crate::old::unheld;
-use crate::places::sample;
+use crate::places::about;
 use crate::reading::{Reading, Standing};
-use crate::reason::{Reason, Reasoned};
+use crate::reason::Reason;
 use script_text::{Words, push_number};
 use std::alloc::{AllocError, Global};
-use suite_script::{Expected, FormEnding, LineFault, LineForm, VERBS};
+use suite_script::{Expected, FormEnding, LineForm, VERBS};
 
-/// A word that does not fit: its number, its fault, what was expected there (of a line as a whole nothing), the form
-/// that has this place or is due, the number of the form's first word, and where the faulty item of a list stands.
-#[derive(Clone, Copy)]
-pub(crate) struct Found<'a> {
-    pub(crate) number: u64,
-    pub(crate) fault: Option<LineFault>,
-    pub(crate) expected: Option<Expected>,
-    pub(crate) form: Option<LineForm>,
-    pub(crate) begin: u64,
-    pub(crate) item: ItemEnds,
-    pub(crate) is_shifted: bool,
-    pub(crate) told: Reasoned<'a>,
-}
-
-/// A change of a line at a word of it.
+/// A change of a line at a word of it: that is left out, or another stands in its place or, where so told, before it.
 #[derive(Clone, Copy)]
 enum Change<'a> {
     Without,
-    Instead(&'a [u8]),
-    Before(&'a [u8]),
-}
-
-/// A line that is to be mended, below those that were read.
-#[derive(Clone, Copy)]
-pub(crate) struct Trial<'a> {
-    pub(crate) alloc: Global,
-    pub(crate) reading: &'a Reading,
-    pub(crate) above: Above<'a>,
-    pub(crate) line: &'a [u8],
-}
-
-/// Whether a word of a line of this form does not fit.
-fn is_misfit(
-    alloc: Global,
-    reading: &Reading,
-    form: LineForm,
-    words: Words<'_>,
-) -> Result<bool, AllocError>
-    ensures { IfOk result (λ does. does ≡ is_some (line_misfit reading.now.scope form.places.now form.ending words.entry)) }
-{
-    Ok(reading.scope.misfit(alloc, form, words)?.is_some())
-}
-
-/// Whether a line has no fault where it stands next.
-#[tactic(auto, using(crate::proofs::Mending::fits_one))]
-pub(crate) fn fits(
-    alloc: Global,
-    reading: &Reading,
-    above: Above<'_>,
-    line: &[u8],
-) -> Result<bool, AllocError>
-    ensures { IfOk result (λ does. IsTrue does → FitsOne reading.now.scope (all_of reading.now.forms) (words line.now)) }
-{
-    let mut words = Words::new(line);
-    let Some(first) = words.next() else {
-        return Ok(false);
-    };
-    let Standing::Here(form) = reading.standing(first) else {
-        return Ok(false);
-    };
-    if first == b"together".as_slice() && above.line_of(first).is_some() {
-        return Ok(false);
-    }
-    let rest = words.rest();
-    if is_misfit(alloc, reading, form, words)? {
-        return Ok(false);
-    }
-    Ok(first != b"old".as_slice() || unheld(above, rest).is_none())
+    Placed(bool, &'a [u8]),
 }
 
 impl<'a> Change<'a> {
-    /// Another word, in the place of one or before it.
-    fn placed(is_before: bool, other: &'a [u8]) -> Change<'a>
-        ensures { change_of result ≡ placed is_before other.now }
-    {
-        if is_before {
-            Change::Before(other)
-        } else {
-            Change::Instead(other)
-        }
-    }
-
     /// Adds what a word becomes of which this is the number, counted from the word that is changed.
     fn push_at(self, text: &mut Vec<u8>, at: u64, word: &[u8]) -> Result<(), AllocError>
         ensures { OnOk result (text.new.items ≡ text.old.items ++ flat_map spaced (put_at (change_of self.entry) at word.now)) }
     {
-        if at == 1 {
-            self.push(text, word)
-        } else {
-            push_word(text, word)
-        }
-    }
-
-    /// Adds what a word becomes.
-    fn push(self, text: &mut Vec<u8>, word: &[u8]) -> Result<(), AllocError>
-        ensures { OnOk result (text.new.items ≡ text.old.items ++ flat_map spaced (put (change_of self.entry) word.now)) }
-    {
         match self {
+            _ if at != 1 => push_word(text, word),
             Change::Without => Ok(()),
-            Change::Instead(other) => push_word(text, other),
-            Change::Before(other) => {
+            Change::Placed(false, other) => push_word(text, other),
+            Change::Placed(true, other) => {
                 push_word(text, other)?;
                 push_word(text, word)
             }
@@ -129,12 +42,27 @@ impl<'a> Change<'a> {
 }
 
 /// Adds a word with a space behind it.
-fn push_word(text: &mut Vec<u8>, word: &[u8]) -> Result<(), AllocError>
+pub(crate) fn push_word(text: &mut Vec<u8>, word: &[u8]) -> Result<(), AllocError>
     ensures { OnOk result (text.new.items ≡ text.old.items ++ spaced word.now) }
 {
     text.extend_from_slice(word)?;
     text.push(b' ')?;
     Ok(())
+}
+
+/// Adds a field with a tab behind it; a hyphen, where there is nothing.
+pub(crate) fn push_field(text: &mut Vec<u8>, given: &[u8]) -> Result<(), AllocError>
+    ensures { OnOk result (text.new.items ≡ text.old.items ++ field given.now) }
+{
+    text.extend_from_slice(or_hyphen(given))?;
+    text.push(b'\t')?;
+    Ok(())
+}
+
+fn or_hyphen(given: &[u8]) -> &[u8]
+    ensures { result.now ≡ or_hyphen given.now }
+{
+    if given.is_empty() { b"-" } else { given }
 }
 
 /// A line that is changed at the word of this number.
@@ -150,16 +78,28 @@ fn changed(alloc: Global, line: &[u8], at: u64, change: Change<'_>) -> Result<Ve
     Ok(text)
 }
 
+/// A line below those that were read.
+#[derive(Clone, Copy)]
+pub(crate) struct Trial<'a> {
+    pub(crate) alloc: Global,
+    pub(crate) reading: &'a Reading,
+    pub(crate) above: Above<'a>,
+    pub(crate) line: &'a [u8],
+}
+
 impl<'a> Trial<'a> {
     fn fits(self, at: u64, change: Change<'_>) -> Result<bool, AllocError>
         ensures { IfOk result (λ does. IsTrue does → MendsIn self.entry at (change_of change.entry)) }
     {
         let line = changed(self.alloc, self.line, at, change)?;
-        fits(self.alloc, self.reading, self.above, &line)
+        fits(Trial {
+            line: &line,
+            ..self
+        })
     }
 
     /// The word of this number; no bytes where the line ends before it.
-    fn word(self, at: u64) -> &'a [u8]
+    pub(crate) fn word(self, at: u64) -> &'a [u8]
         ensures { result.now ≡ numbered at (words self.entry.line.now) }
     {
         let mut left = at;
@@ -183,37 +123,20 @@ impl<'a> Trial<'a> {
     ) -> Result<(), AllocError>
         ensures { OnOk result (AddsMends self.entry at is_before text.old.items text.new.items) }
     {
-        if !is_word(word) || !self.fits(at, Change::placed(is_before, word))? {
+        if !is_word(word) || !self.fits(at, Change::Placed(is_before, word))? {
             return Ok(());
         }
         push_word(text, word)
     }
 
-    /// Adds those of the forms whose first word mends the line.
-    #[tactic(auto, using(crate::proofs::Mending::adds_none, crate::proofs::Mending::adds_more))]
-    fn push_firsts(
-        self,
-        text: &mut Vec<u8>,
-        at: u64,
-        forms: &[LineForm],
-        is_before: bool,
-    ) -> Result<(), AllocError>
-        ensures { OnOk result (AddsMends self.entry at is_before text.old.items text.new.items) }
-    {
-        for form in forms {
-            self.push_if(text, at, form.word, is_before)?;
-        }
-        Ok(())
-    }
-
     /// The forms whose first words may mend the line: of a line that begins as none does those of all lines, or before it of
     /// the one that is due; where an operation is due those of operations.
     fn candidates(self, found: Found<'_>, is_before: bool) -> Result<Vec<LineForm>, AllocError> {
+        let lines = self.reading.forms;
         let mut forms = Vec::new(self.alloc);
         match (found.expected, found.told.reason, found.form) {
             (None, Reason::Unknown, Some(due)) if is_before => forms.push(due)?,
             (None, Reason::Unknown, _) => {
-                let lines = self.reading.forms;
                 if !is_before {
                     forms.extend_from_slice(lines.header)?;
                     forms.extend_from_slice(lines.optional)?;
@@ -231,39 +154,31 @@ impl<'a> Trial<'a> {
         Ok(forms)
     }
 
-    /// The words that mend the line, in the place of the one that does not fit or before it, each with a space behind
-    /// it.
-    #[tactic(auto, using(crate::proofs::Mending::told_all))]
+    /// The words that mend the line, in the place of the one that does not fit or before it, with a space behind each.
+    #[tactic(auto, using(crate::proofs::Mending::adds_none, crate::proofs::Mending::adds_more, crate::proofs::Mending::told_all))]
     fn words(self, found: Found<'_>, is_before: bool) -> Result<Vec<u8>, AllocError>
         ensures { IfOk result (λ text. AreTold (λ word. MendsIn self.entry found.entry.number (placed is_before word)) text.items) }
     {
         let mut text = Vec::new(self.alloc);
         let forms = self.candidates(found, is_before)?;
-        self.push_firsts(&mut text, found.number, &forms, is_before)?;
+        for form in forms.as_slice() {
+            self.push_if(&mut text, found.number, form.word, is_before)?;
+        }
         Ok(text)
     }
 
-    /// Adds the number of a word, if the line has its form without it.
-    #[tactic(auto, using(crate::proofs::Mending::adds_none, crate::proofs::Mending::adds_number))]
-    fn push_without(self, text: &mut Vec<u8>, at: u64) -> Result<(), AllocError>
-        ensures { OnOk result (AddsMany self.entry text.old.items text.new.items) }
-    {
-        if !self.fits(at, Change::Without)? {
-            return Ok(());
-        }
-        push_number(text, at)?;
-        text.push(b' ')?;
-        Ok(())
-    }
-
     /// The numbers of words without which the line has its form.
-    #[tactic(auto, using(crate::proofs::Mending::adds_none, crate::proofs::Mending::adds_more, crate::proofs::Mending::many_told))]
+    #[tactic(auto, using(crate::proofs::Mending::adds_none, crate::proofs::Mending::adds_next, crate::proofs::Mending::many_told))]
     fn without(self, from: u64, below: u64) -> Result<Vec<u8>, AllocError>
         ensures { IfOk result (λ text. IsShiftIn self.entry text.items) }
     {
         let mut text = Vec::new(self.alloc);
         for at in from..below {
-            self.push_without(&mut text, at)?;
+            if !self.fits(at, Change::Without)? {
+                continue;
+            }
+            push_number(&mut text, at)?;
+            text.push(b' ')?;
         }
         Ok(text)
     }
@@ -273,23 +188,21 @@ impl<'a> Trial<'a> {
     fn is_missing(self, form: LineForm, found: Found<'_>) -> Result<bool, AllocError>
         ensures { IfOk result (λ does. IsTrue does → IsMissingIn self.entry) }
     {
+        let last = match form.ending {
+            FormEnding::Perhaps(place) => Some(place),
+            _ => None,
+        };
         let mut at = found.begin;
-        for place in form.places {
+        for place in form.places.iter().copied().chain(last) {
             at = at.saturating_add(1);
             if at > found.number {
                 return Ok(false);
             }
-            if self.fits(at, Change::Before(sample(*place)))? {
+            if self.fits(at, Change::Placed(true, about(place)[1]))? {
                 return Ok(true);
             }
         }
-        at = at.saturating_add(1);
-        match form.ending {
-            FormEnding::Perhaps(place) if at <= found.number => {
-                self.fits(at, Change::Before(sample(place)))
-            }
-            _ => Ok(false),
-        }
+        Ok(false)
     }
 
     /// Whether an operation has a word too many, behind one that begins none: its path may have a space.
@@ -322,30 +235,29 @@ impl<'a> Trial<'a> {
     fn shift(self, found: Found<'_>) -> Result<Vec<u8>, AllocError>
         ensures { IfOk result (λ text. IsShiftIn self.entry text.items) }
     {
+        let (Some(form), true) = (found.form, found.is_shifted) else {
+            return Ok(Vec::new(self.alloc));
+        };
         let from = found.begin.max(2);
-        let after = found.number.saturating_add(1);
-        match found.form {
-            Some(form) if found.is_shifted => {
-                if found.expected == Some(Expected::End) {
-                    if self.is_cut()? {
-                        return Vec::from_slice(self.alloc, b"path");
-                    }
-                    return self.without(from, found.number);
-                }
-                if self.is_missing(form, found)? {
-                    return Vec::from_slice(self.alloc, b"missing");
-                }
-                if is_digits(self.word(found.number)) && self.word(after).is_empty() {
-                    return Ok(Vec::new(self.alloc));
-                }
-                self.without(from, after)
+        if found.expected == Some(Expected::End) {
+            if self.is_cut()? {
+                return Vec::from_slice(self.alloc, b"path");
             }
-            _ => Ok(Vec::new(self.alloc)),
+            return self.without(from, found.number);
         }
+        if self.is_missing(form, found)? {
+            return Vec::from_slice(self.alloc, b"missing");
+        }
+        let after = found.number.saturating_add(1);
+        if is_digits(self.word(found.number)) && self.word(after).is_empty() {
+            return Ok(Vec::new(self.alloc));
+        }
+        self.without(from, after)
     }
 }
 
-fn is_verb(word: &[u8]) -> bool
+/// Whether a word begins an operation.
+pub(crate) fn is_verb(word: &[u8]) -> bool
     ensures { result ≡ is_verb word.now }
 {
     VERBS.iter().any(|verb| word == verb.form().word)
@@ -366,26 +278,13 @@ fn is_word(text: &[u8]) -> bool
     word == text
 }
 
-/// Adds the fields `INSTEAD BEFORE SHIFT HIDDEN`, each with a tab behind it.
-#[tactic(auto, using(crate::proofs::Mending::all_added))]
+/// Adds the fields `INSTEAD BEFORE SHIFT`: of each change that they tell it was tried that it mends the line.
+#[tactic(auto, using(crate::proofs::Mending::fields_added))]
 pub(crate) fn push_mends(
     text: &mut Vec<u8>,
     trial: Trial<'_>,
     found: Found<'_>,
 ) -> Result<(), AllocError>
-    ensures { OnOk result (AddsAllFields trial.entry found.entry.number text.old.items text.new.items) }
-{
-    push_tried(text, trial, found)?;
-    let unseen = match found.fault {
-        Some(LineFault::Form) => hidden(trial.word(found.number), trial.line),
-        _ => b"-",
-    };
-    push_field(text, unseen)
-}
-
-/// Adds the first three of these fields: of each change that they tell it was tried that it mends the line.
-#[tactic(auto, using(crate::proofs::Mending::fields_added))]
-fn push_tried(text: &mut Vec<u8>, trial: Trial<'_>, found: Found<'_>) -> Result<(), AllocError>
     ensures { OnOk result (AddsFields trial.entry found.entry.number text.old.items text.new.items) }
 {
     let instead = trial.words(found, false)?;
@@ -395,47 +294,4 @@ fn push_tried(text: &mut Vec<u8>, trial: Trial<'_>, found: Found<'_>) -> Result<
     push_field(text, &before)?;
     push_field(text, &shift)?;
     Ok(())
-}
-
-/// Adds a field with a tab behind it.
-fn push_field(text: &mut Vec<u8>, given: &[u8]) -> Result<(), AllocError>
-    ensures { OnOk result (text.new.items ≡ text.old.items ++ field given.now) }
-{
-    text.extend_from_slice(or_hyphen(given))?;
-    text.push(b'\t')?;
-    Ok(())
-}
-
-/// A hyphen, where there is nothing.
-fn or_hyphen(given: &[u8]) -> &[u8]
-    ensures { result.now ≡ or_hyphen given.now }
-{
-    if given.is_empty() { b"-" } else { given }
-}
-
-/// What cannot be seen of a word or its line.
-fn hidden(word: &[u8], line: &[u8]) -> &'static [u8] {
-    if mark_of(word).is_some() {
-        b"-"
-    } else if has_no_break(word) {
-        b"no-break"
-    } else if word.iter().any(|byte| *byte > b'~') {
-        b"bytes"
-    } else if line.contains(&b'\r') {
-        b"return"
-    } else {
-        b"-"
-    }
-}
-
-/// Whether a no-break space of UTF-8 stands in a word.
-fn has_no_break(word: &[u8]) -> bool {
-    let mut last = 0u8;
-    for byte in word {
-        if last == 0xc2 && *byte == 0xa0 {
-            return true;
-        }
-        last = *byte;
-    }
-    false
 }

@@ -1,13 +1,17 @@
-//! Why words do not fit where numbers are due.
+//! Why words do not fit where numbers, bytes and names are due.
 
 ghost use Rattle.std.specs.Prelude.{◌≡◌};
-ghost use Rattle.std.specs.Char.{is_ascii_digit};
+ghost use Rattle.std.specs.Char.{is_ascii_digit, is_ascii_hexdigit};
 ghost use Rattle.std.specs.List.{list_all};
-ghost use Rattle.forms.specs.Reasons.{TellsNumber, number_reason};
+ghost use Rattle.forms.specs.Reasons.{Tells, TellsNumber, bytes_reason, number_reason};
 ghost use Rattle.script_text.specs.Numbers.{is_number};
 
+use crate::above::Above;
+use crate::list::{Kind, no_name_byte};
 use crate::reason::{Reason, Reasoned};
+use acl_text::MAX_NAME;
 use script_text::{WordParts, read_number};
+use suite_script::LineFault;
 
 /// The most numbers of groups, a user's own and the others, as `acl_text` has it.
 const MAX_NUMBERS: u64 = 33;
@@ -46,70 +50,90 @@ pub(crate) fn number_told(word: &[u8], least: u64, most: u64) -> Reasoned<'_>
     ensures told { TellsNumber (number_reason least most word.now) result }
     ensures part { result.part.now ≡ word.now }
 {
-    match number_reason(word, least, most) {
-        Some((reason, Some(limit))) => Reasoned::of(reason, word).with(limit),
-        Some((reason, None)) => Reasoned::of(reason, word),
-        None => Reasoned::of(Reason::Due, word),
-    }
-}
-
-/// Whether a word has digits and commas alone.
-fn is_list(word: &[u8]) -> bool {
-    word.iter()
-        .all(|byte| byte.is_ascii_digit() || *byte == b',')
-}
-
-/// Whether a part of a word between commas is empty.
-fn has_gap(word: &[u8]) -> bool {
-    for part in WordParts::new(word, b',') {
-        if part.is_empty() {
-            return true;
-        }
-    }
-    false
-}
-
-/// What is told of the first of so many numbers, with commas between them, that is above the most.
-fn first_above(word: &[u8], most: u64, many: u64) -> Option<Reasoned<'_>> {
-    let mut count = 0u64;
-    for part in WordParts::new(word, b',') {
-        count = count.saturating_add(1);
-        if count <= many && number_reason(part, 0, most).is_some() {
-            return Some(Reasoned::of(Reason::Above, word).with(most).at(part));
-        }
-    }
-    None
+    let reason = number_reason(word, least, most);
+    Reasoned::numbered(reason.unwrap_or((Reason::Due, None)), word)
 }
 
 /// How many parts a word has, with a separator between them.
 pub(crate) fn count_of(word: &[u8], separator: u8) -> u64 {
-    let mut count = 0u64;
-    for _ in WordParts::new(word, separator) {
-        count = count.saturating_add(1);
+    WordParts::new(word, separator).fold(0u64, |count, _| count.saturating_add(1))
+}
+
+/// What is told of numbers with commas between them that are at most a limit, of those that come first.
+fn numbers_told(word: &[u8], most: u64, many: usize) -> Option<Reasoned<'_>> {
+    let mut bytes = word.iter();
+    if !bytes.all(|byte| byte.is_ascii_digit() || *byte == b',') {
+        return Some(Reasoned::of(Reason::NoNumber, word));
     }
-    count
+    if WordParts::new(word, b',').any(|part| part.is_empty()) {
+        return Some(Reasoned::of(Reason::Gap, word));
+    }
+    let mut parts = WordParts::new(word, b',').take(many);
+    let part = parts.find(|part| number_reason(part, 0, most).is_some())?;
+    Some(Reasoned::of(Reason::Above, word).with(most).at(part))
 }
 
 /// What is told of numbers of groups.
 pub(crate) fn groups_told(word: &[u8]) -> Reasoned<'_> {
-    if !is_list(word) {
-        return Reasoned::of(Reason::NoNumber, word);
-    }
-    if has_gap(word) {
-        return Reasoned::of(Reason::Gap, word);
-    }
-    match first_above(word, MAX_ID, MAX_NUMBERS) {
-        Some(told) => told,
-        None => Reasoned::of(Reason::Many, word)
-            .with(count_of(word, b','))
-            .and(MAX_NUMBERS),
-    }
+    let many = Reasoned::of(Reason::Many, word).with(count_of(word, b','));
+    numbers_told(word, MAX_ID, MAX_NUMBERS as usize).unwrap_or(many.and(MAX_NUMBERS))
 }
 
 /// What is told of numbers of servers.
 pub(crate) fn servers_told(word: &[u8], last: u64) -> Reasoned<'_> {
-    if !is_list(word) || has_gap(word) {
-        return Reasoned::of(Reason::NoNumber, word);
+    match numbers_told(word, last, usize::MAX) {
+        Some(told) if told.reason == Reason::Gap => Reasoned::of(Reason::NoNumber, word),
+        Some(told) => told,
+        None => Reasoned::of(Reason::Due, word),
     }
-    first_above(word, last, u64::MAX).unwrap_or(Reasoned::of(Reason::Due, word))
+}
+
+/// Whether a word has hexadecimal digits alone.
+fn is_hexadecimal(word: &[u8]) -> bool
+    ensures { result ≡ list_all is_ascii_hexdigit word.now }
+{
+    word.iter().all(|byte| byte.is_ascii_hexdigit())
+}
+
+/// Why a word is no bytes, and how many digits it then has.
+fn bytes_reason(word: &[u8]) -> (Reason, Option<u64>)
+    ensures { result ≡ bytes_reason word.now }
+{
+    if is_hexadecimal(word) {
+        (Reason::OddDigits, Some(word.len() as u64))
+    } else {
+        (Reason::NoDigits, None)
+    }
+}
+
+/// What is told of bytes in hexadecimal digits.
+pub(crate) fn bytes_told(word: &[u8]) -> Reasoned<'_>
+    ensures told { Tells (bytes_reason word.now) result }
+    ensures part { result.part.now ≡ word.now }
+{
+    Reasoned::numbered(bytes_reason(word), word)
+}
+
+/// What is told of a name.
+pub(crate) fn name_told<'a>(
+    above: Above<'_>,
+    kind: Kind,
+    word: &'a [u8],
+    fault: LineFault,
+) -> Reasoned<'a> {
+    if fault == LineFault::NameTwice {
+        return match above.named(kind, word) {
+            Some((line, _)) => Reasoned::of(Reason::Taken, word).with(line),
+            None => Reasoned::of(Reason::Due, word),
+        };
+    }
+    if word.is_empty() || word.len() > MAX_NAME {
+        let length = Reasoned::of(Reason::Length, word).with(word.len() as u64);
+        return length.and(MAX_NAME as u64);
+    }
+    match no_name_byte(word) {
+        Some(part) => Reasoned::of(Reason::NoNameByte, word).at(part),
+        None if is_digits(word) => Reasoned::of(Reason::AllDigits, word),
+        None => Reasoned::of(Reason::Due, word),
+    }
 }

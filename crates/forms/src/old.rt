@@ -1,7 +1,7 @@
 //! Why the root folder of a script has no form 1.
 
 use crate::above::Above;
-use crate::fields::{fields_of, trimmed, uncommented};
+use crate::list::Items;
 use crate::reason::{Reason, Reasoned};
 use crate::votes::last_listed;
 use script_text::WordParts;
@@ -21,29 +21,19 @@ fn list_unheld<'a>(above: Above<'a>, word: &'a [u8]) -> Option<Reasoned<'a>> {
     let (Some(_), Some(_), Some(list)) = (words.next(), words.next(), words.next()) else {
         return None;
     };
-    let mut count = 0u64;
-    for item in WordParts::new(uncommented(list), b',') {
-        if !trimmed(item).is_empty() {
-            count = count.saturating_add(1);
-        }
-        if fields_of(item).marker.is_some() {
-            return Some(Reasoned::of(Reason::OldDefault, word));
-        }
+    if Items::new(list).any(|item| item.marker.is_some()) {
+        return Some(Reasoned::of(Reason::OldDefault, word));
     }
-    if count <= OLD_ENTRIES {
-        return None;
-    }
-    let entries = Reasoned::of(Reason::OldEntries, word);
-    Some(entries.with(count).and(OLD_ENTRIES))
+    let items = Items::new(list).filter(|item| !item.is_empty());
+    let count = items.count() as u64;
+    let entries = Reasoned::of(Reason::OldEntries, word).with(count);
+    (count > OLD_ENTRIES).then_some(entries.and(OLD_ENTRIES))
 }
 
 fn votes_unheld<'a>(above: Above<'a>, word: &'a [u8]) -> Option<Reasoned<'a>> {
     let (_, mut words) = above.line_of(b"votes")?;
     let mut parts = WordParts::new(words.next()?, b'/');
     let last = last_listed(parts.next()?);
-    if last < OLD_SERVERS {
-        return None;
-    }
-    let server = Reasoned::of(Reason::OldServer, word);
-    Some(server.with(last).and(OLD_SERVERS))
+    let server = Reasoned::of(Reason::OldServer, word).with(last);
+    (last >= OLD_SERVERS).then_some(server.and(OLD_SERVERS))
 }

@@ -32,7 +32,7 @@ pub(crate) const PLACES: [Place; 19] = [
 ];
 
 /// The name of a place, a word that fits there in a script with one server and one agent too, and what stands there.
-fn about(place: Place) -> [&'static [u8]; 3] {
+pub(crate) fn about(place: Place) -> [&'static [u8]; 3] {
     match place {
         Place::Servers => [b"SERVERS", b"32", b"how many servers there are"],
         Place::Agents => [b"AGENTS", b"64", b"how many agents there are"],
@@ -69,16 +69,6 @@ pub(crate) fn name(place: Place) -> &'static [u8] {
     about(place)[0]
 }
 
-/// A word that fits in a place.
-pub(crate) fn sample(place: Place) -> &'static [u8] {
-    about(place)[1]
-}
-
-/// What stands in a place.
-pub(crate) fn meaning(place: Place) -> &'static [u8] {
-    about(place)[2]
-}
-
 /// The least and the most of a number in its place.
 pub(crate) fn limits(scope: &Scope, place: Place) -> Option<(u64, u64)>
     ensures { AreLimitsOf scope.now place result }
@@ -103,30 +93,19 @@ pub(crate) fn push_limits(
     scope: &Scope,
     place: Place,
 ) -> Result<(), AllocError> {
-    match place {
-        Place::Agent => return text.extend_from_slice(b"0\tagents\tS1"),
-        Place::Server => return text.extend_from_slice(b"0\tservers\tS1"),
-        _ => {}
-    }
-    match limits(scope, place) {
-        Some((least, most)) => push_range(text, least, most, code_beyond(place)),
-        None => text.extend_from_slice(b"-\t-\t-"),
-    }
-}
-
-/// The code of a number beyond the limits of its place.
-fn code_beyond(place: Place) -> &'static [u8] {
-    match place {
-        Place::Servers | Place::Agents => b"G1",
-        Place::Budget | Place::Quota | Place::Slots => b"G3",
-        _ => b"S1",
-    }
-}
-
-fn push_range(text: &mut Vec<u8>, least: u64, most: u64, code: &[u8]) -> Result<(), AllocError> {
+    let Some((least, most)) = limits(scope, place) else {
+        return text.extend_from_slice(b"-\t-\t-");
+    };
     push_number(text, least)?;
     text.push(b'\t')?;
-    push_number(text, most)?;
-    text.push(b'\t')?;
-    text.extend_from_slice(code)
+    match place {
+        Place::Agent => text.extend_from_slice(b"agents")?,
+        Place::Server => text.extend_from_slice(b"servers")?,
+        _ => push_number(text, most)?,
+    }
+    text.extend_from_slice(match place {
+        Place::Servers | Place::Agents => b"\tG1",
+        Place::Budget | Place::Quota | Place::Slots => b"\tG3",
+        _ => b"\tS1",
+    })
 }

@@ -34,10 +34,10 @@ pub(crate) struct Reading {
 pub(crate) enum Standing {
     /// In its place.
     Here(LineForm),
-    /// Out of its place; a line of the header is due, where it is known which.
-    Misplaced(Option<LineForm>),
+    /// Out of its place.
+    Misplaced,
     /// Nowhere.
-    Unknown(Option<LineForm>),
+    Unknown,
 }
 
 /// As many servers and agents as there may be, and no names.
@@ -80,7 +80,7 @@ impl Reading {
         }
     }
 
-    /// The lines above one are read.
+    /// The lines above one, which have no fault.
     pub(crate) fn of_above(
         alloc: Global,
         forms: Forms,
@@ -89,26 +89,10 @@ impl Reading {
         ensures { IfOk result (λ reading. reading.forms ≡ forms) }
     {
         let mut reading = Reading::new(alloc, forms);
-        let mut number = 0u64;
-        for line in Lines::new(above.script) {
-            number = number.saturating_add(1);
-            if number >= above.number {
-                return Ok(reading);
-            }
-            reading.take_line(number, line)?;
+        for (number, line) in (1..above.number).zip(Lines::new(above.script)) {
+            reading.take(number, line)?;
         }
         Ok(reading)
-    }
-
-    /// Takes the line of this number, which has no fault.
-    pub(crate) fn take_line(&mut self, number: u64, line: &[u8]) -> Result<(), AllocError>
-        ensures { self.new.forms ≡ self.old.forms }
-    {
-        let mut words = Words::new(line);
-        match words.next() {
-            Some(first) if !is_skipped(line) => self.take(number, first, words),
-            _ => Ok(()),
-        }
     }
 
     /// The line of the header that is due, if one is.
@@ -123,42 +107,34 @@ impl Reading {
         ensures { StandsIn self.now.forms word.now result }
     {
         if let Some(due) = self.due() {
-            return if word == due.word {
-                Standing::Here(due)
-            } else {
-                self.misplaced(word, Some(due))
-            };
-        }
-        if let Some(form) = form_of(self.forms.own, word) {
-            return Standing::Here(form);
-        }
-        if self.begun == 0 {
-            if let Some(form) = form_of(self.forms.names, word) {
+            if word == due.word {
+                return Standing::Here(due);
+            }
+        } else {
+            if let Some(form) = form_of(self.forms.own, word) {
+                return Standing::Here(form);
+            }
+            if let (Some(form), 0) = (form_of(self.forms.names, word), self.begun) {
+                return Standing::Here(form);
+            }
+            if let (Some(form), true) = (form_of(self.forms.optional, word), self.is_open) {
                 return Standing::Here(form);
             }
         }
-        if self.is_open {
-            if let Some(form) = form_of(self.forms.optional, word) {
-                return Standing::Here(form);
-            }
-        }
-        self.misplaced(word, None)
-    }
-
-    /// Where a line stands that is not in its place.
-    fn misplaced(&self, word: &[u8], due: Option<LineForm>) -> Standing
-        ensures { StandsIn self.now.forms word.now result }
-    {
         match known(self.forms, word) {
-            Some(_form) => Standing::Misplaced(due),
-            None => Standing::Unknown(due),
+            Some(_form) => Standing::Misplaced,
+            None => Standing::Unknown,
         }
     }
 
-    /// Takes a line by its number, its first word and those after it.
-    fn take(&mut self, number: u64, first: &[u8], words: Words<'_>) -> Result<(), AllocError>
+    /// Takes the line of this number, which has no fault.
+    pub(crate) fn take(&mut self, number: u64, line: &[u8]) -> Result<(), AllocError>
         ensures { self.new.forms ≡ self.old.forms }
     {
+        let mut words = Words::new(line);
+        let Some(first) = words.next() else {
+            return Ok(());
+        };
         let Standing::Here(form) = self.standing(first) else {
             return Ok(());
         };

@@ -1,15 +1,16 @@
 //! Why a word does not fit, as data: a reason, the numbers that matter, and the part of the word of which it speaks.
 
 ghost use Rattle.std.specs.Prelude.{◌≡◌, None, Some};
+ghost use Rattle.forms.specs.Reasons.{Tells};
 
 use crate::above::Above;
-use crate::fields::{Kind, Said, Side};
 use crate::first::push_commands;
-use crate::list::push_same;
+use crate::list::{Kind, push_same};
+use crate::mend::{push_field, push_word};
 use script_text::push_number;
-use std::alloc::AllocError;
+use std::alloc::{AllocError, Global};
 
-/// Why a word does not fit. `tools/explain/reasons.py` has the sentence of each, with its data.
+/// Why a word does not fit. `tools/explain/reasons.py` has the sentence of each, with its data, by the words of its name.
 #[derive(Clone, Copy, PartialEq, Eq, Debug)]
 pub(crate) enum Reason {
     Due,
@@ -73,79 +74,11 @@ pub(crate) enum Reason {
     OldServer,
 }
 
-impl Reason {
-    /// How it is printed.
-    fn name(self) -> &'static [u8] {
-        match self {
-            Reason::Due => b"due",
-            Reason::LineEnds => b"line-ends",
-            Reason::OperationEnds => b"operation-ends",
-            Reason::Comment => b"comment",
-            Reason::Semicolon => b"semicolon",
-            Reason::NoNumber => b"no-number",
-            Reason::Named => b"named",
-            Reason::Below => b"below",
-            Reason::Above => b"above",
-            Reason::Gap => b"gap",
-            Reason::Many => b"many",
-            Reason::NoVotes => b"no-votes",
-            Reason::NoShare => b"no-share",
-            Reason::NoCollected => b"no-collected",
-            Reason::NoServer => b"no-server",
-            Reason::BeyondLast => b"beyond-last",
-            Reason::AllZero => b"all-zero",
-            Reason::ReadCollects => b"read-collects",
-            Reason::WriteCollects => b"write-collects",
-            Reason::ReadMissesWrite => b"read-misses-write",
-            Reason::WritesDisjoint => b"writes-disjoint",
-            Reason::OddDigits => b"odd-digits",
-            Reason::NoDigits => b"no-digits",
-            Reason::Length => b"length",
-            Reason::NoNameByte => b"no-name-byte",
-            Reason::AllDigits => b"all-digits",
-            Reason::Taken => b"taken",
-            Reason::NoKeyword => b"no-keyword",
-            Reason::UnknownKeyword => b"unknown-keyword",
-            Reason::NoColon => b"no-colon",
-            Reason::OneColon => b"one-colon",
-            Reason::Colons => b"colons",
-            Reason::NamesSomebody => b"names-somebody",
-            Reason::Digit => b"digit",
-            Reason::NoPermission => b"no-permission",
-            Reason::Twice => b"twice",
-            Reason::Hyphens => b"hyphens",
-            Reason::MarkedNothing => b"marked-nothing",
-            Reason::Nobody => b"nobody",
-            Reason::OfOtherKind => b"of-other-kind",
-            Reason::CarriageReturn => b"carriage-return",
-            Reason::NoList => b"no-list",
-            Reason::NoMode => b"no-mode",
-            Reason::Lacks => b"lacks",
-            Reason::Doubled => b"doubled",
-            Reason::Unmasked => b"unmasked",
-            Reason::Few => b"few",
-            Reason::Blank => b"blank",
-            Reason::Mark => b"mark",
-            Reason::Elsewhere => b"elsewhere",
-            Reason::WordMissing => b"word-missing",
-            Reason::Unknown => b"unknown",
-            Reason::StandsAbove => b"stands-above",
-            Reason::NamesBelow => b"names-below",
-            Reason::BehindHeader => b"behind-header",
-            Reason::Again => b"again",
-            Reason::OldDefault => b"old-default",
-            Reason::OldEntries => b"old-entries",
-            Reason::OldServer => b"old-server",
-        }
-    }
-}
-
-/// A reason with its data: a kind of entry and its list, and numbers; and the word and the part of it of which it speaks.
+/// A reason with its data: a kind of entry and numbers; and the word and the part of it of which it speaks.
 #[derive(Clone, Copy)]
 pub(crate) struct Reasoned<'a> {
     pub(crate) reason: Reason,
     kind: Option<Kind>,
-    side: Side,
     one: Option<u64>,
     other: Option<u64>,
     pub(crate) word: &'a [u8],
@@ -162,11 +95,21 @@ impl<'a> Reasoned<'a> {
         Reasoned {
             reason,
             kind: None,
-            side: Side::Access,
             one: None,
             other: None,
             word,
             part: word,
+        }
+    }
+
+    /// A reason with the number that is told of it, if one is.
+    pub(crate) fn numbered(reason: (Reason, Option<u64>), word: &'a [u8]) -> Reasoned<'a>
+        ensures told { Tells reason result }
+        ensures part { result.part.now ≡ word.now }
+    {
+        Reasoned {
+            one: reason.1,
+            ..Reasoned::of(reason.0, word)
         }
     }
 
@@ -201,51 +144,43 @@ impl<'a> Reasoned<'a> {
         self
     }
 
-    /// The same of entries of one of the two lists.
-    pub(crate) fn of_side(mut self, side: Side) -> Reasoned<'a> {
-        self.side = side;
-        self
-    }
-}
-
-/// Adds a reason: its name, its data and the part of the word, with tabs between them.
-pub(crate) fn push_told(
-    text: &mut Vec<u8>,
-    above: Above<'_>,
-    told: Reasoned<'_>,
-) -> Result<(), AllocError> {
-    text.extend_from_slice(told.reason.name())?;
-    text.push(b'\t')?;
-    push_data(text, above, told)?;
-    text.push(b'\t')?;
-    text.extend_from_slice(told.part)
-}
-
-/// Adds the data of a reason with spaces between them: a kind of entry, numbers, commands; a hyphen where there are none.
-fn push_data(text: &mut Vec<u8>, above: Above<'_>, told: Reasoned<'_>) -> Result<(), AllocError> {
-    let mut gap: &[u8] = b"";
-    if let Some(kind) = told.kind {
-        text.extend_from_slice(kind.word())?;
-        gap = b" ";
-    }
-    for number in [told.one, told.other] {
-        if let Some(number) = number {
-            text.extend_from_slice(gap)?;
-            push_number(text, number)?;
-            gap = b" ";
+    /// Adds `REASON DATA PART`: the words of its name with hyphens between them, its data with spaces between them, and
+    /// the part of the word.
+    pub(crate) fn push(
+        self,
+        alloc: Global,
+        text: &mut Vec<u8>,
+        above: Above<'_>,
+    ) -> Result<(), AllocError> {
+        let reason = self.reason;
+        let name = format!(in alloc; "{reason:?}")?;
+        for (place, byte) in name.as_bytes().iter().enumerate() {
+            if place > 0 && byte.is_ascii_uppercase() {
+                text.push(b'-')?;
+            }
+            text.push(byte.to_ascii_lowercase())?;
         }
+        text.push(b'\t')?;
+        let data = self.data(alloc, above)?;
+        push_field(text, data.strip_suffix(b" ").unwrap_or(b""))?;
+        text.extend_from_slice(self.part)
     }
-    match (told.reason, told.kind) {
-        (Reason::Doubled, Some(kind)) => {
-            let said = Said {
-                side: told.side,
-                kind,
-                whom: told.part,
-            };
-            push_same(text, above, told.word, said)
+
+    /// Its data, each with a space behind it: a kind of entry, numbers, commands.
+    fn data(self, alloc: Global, above: Above<'_>) -> Result<Vec<u8>, AllocError> {
+        let mut data = Vec::new(alloc);
+        if let Some(kind) = self.kind {
+            push_word(&mut data, kind.word())?;
         }
-        (Reason::Elsewhere, _) => push_commands(text, told.word),
-        _ if gap.is_empty() => text.extend_from_slice(b"-"),
-        _ => Ok(()),
+        for number in [self.one, self.other].into_iter().flatten() {
+            push_number(&mut data, number)?;
+            data.push(b' ')?;
+        }
+        match (self.reason, self.one) {
+            (Reason::Doubled, Some(first)) => push_same(&mut data, above, self.word, first)?,
+            (Reason::Elsewhere, _) => push_commands(&mut data, self.word)?,
+            _ => {}
+        }
+        Ok(data)
     }
 }

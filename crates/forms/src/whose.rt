@@ -4,8 +4,8 @@ ghost use Rattle.std.specs.Prelude.{IfOk};
 ghost use Rattle.forms.specs.Answers.{IsOfCommand, IsOfEach};
 
 use crate::above::Above;
-use crate::finding::found_in;
-use crate::mend::fits;
+use crate::finding::{fits, found_in};
+use crate::mend::Trial;
 use crate::number::is_digits;
 use crate::reading::{Reading, is_skipped, known};
 use script_text::{Lines, Words, push_number};
@@ -13,7 +13,7 @@ use std::alloc::{AllocError, Global};
 use suite_script::{Forms, PLAY_LINES, Place, SERVE_LINES, TABLE_LINES};
 
 /// So many lines show of which command a script is.
-const MANY: u64 = 1000;
+const MANY: usize = 1000;
 
 /// What is printed of the line of this number, of each command in a line of its own: `COMMAND LIKENESS ABOVE`, and what
 /// is printed of it where the command is known.
@@ -42,10 +42,7 @@ fn of_command(
     text.push(b'\t')?;
     push_number(&mut text, likeness(forms, above.script))?;
     text.push(b'\t')?;
-    push_number(
-        &mut text,
-        fault_above(alloc, forms, above.script, above.number)?,
-    )?;
+    push_number(&mut text, fault_above(alloc, forms, above)?)?;
     text.push(b'\t')?;
     let found = found_in(alloc, forms, above.script, above.number)?;
     text.extend_from_slice(&found)?;
@@ -55,73 +52,52 @@ fn of_command(
 /// How like a script is to one of these forms: twice the number of lines that begin as its lines do, and one more where
 /// the first is that of the header.
 fn likeness(forms: Forms, script: &[u8]) -> u64 {
-    let mut place = 0u64;
     let mut like = 0u64;
     let mut is_begun = false;
-    for line in Lines::new(script) {
-        place = place.saturating_add(1);
-        if place > MANY {
-            return like;
-        }
+    for line in Lines::new(script).take(MANY) {
         let mut words = Words::new(line);
-        if matches!(line, [b'#', ..]) {
+        let (Some(first), false) = (words.next(), is_skipped(line)) else {
             continue;
+        };
+        let header = forms.header.first();
+        if !is_begun && header.is_some_and(|form| first == form.word) {
+            like = like.saturating_add(1);
         }
-        if let Some(first) = words.next() {
-            if !is_begun && is_header(forms, first) {
-                like = like.saturating_add(1);
-            }
-            is_begun = true;
-            if is_of(forms, first, words) {
-                like = like.saturating_add(2);
-            }
+        is_begun = true;
+        if is_of(forms, first, words) {
+            like = like.saturating_add(2);
         }
     }
     like
 }
 
-fn is_header(forms: Forms, word: &[u8]) -> bool {
-    match forms.header.first() {
-        Some(form) => word == form.word,
-        None => false,
-    }
-}
-
 /// Whether a line begins as one of these forms, and has a number where that has a site: a job and a transaction differ
 /// in it alone.
-fn is_of(forms: Forms, first: &[u8], mut words: Words<'_>) -> bool {
+fn is_of(forms: Forms, first: &[u8], words: Words<'_>) -> bool {
     let Some(form) = known(forms, first) else {
         return false;
     };
-    for place in form.places {
-        let word = words.next().unwrap_or(b"");
-        if matches!(*place, Place::Site) {
-            return is_digits(word);
-        }
-    }
-    true
+    let Some(site) = form.places.iter().position(|place| *place == Place::Site) else {
+        return true;
+    };
+    let mut behind = words.skip(site);
+    is_digits(behind.next().unwrap_or(b""))
 }
 
-/// The number of the first line above that of this number which has a fault; 0 where none has.
-fn fault_above(alloc: Global, forms: Forms, script: &[u8], number: u64) -> Result<u64, AllocError> {
+/// The number of the first line above that has a fault; 0 where none has.
+fn fault_above(alloc: Global, forms: Forms, above: Above<'_>) -> Result<u64, AllocError> {
     let mut reading = Reading::new(alloc, forms);
-    let mut place = 0u64;
-    for line in Lines::new(script) {
-        place = place.saturating_add(1);
-        if place >= number {
-            return Ok(0);
-        }
-        if is_skipped(line) {
-            continue;
-        }
-        let above = Above {
-            script,
-            number: place,
+    for (number, line) in (1..above.number).zip(Lines::new(above.script)) {
+        let trial = Trial {
+            alloc,
+            reading: &reading,
+            above: Above { number, ..above },
+            line,
         };
-        if !fits(alloc, &reading, above, line)? {
-            return Ok(place);
+        if !is_skipped(line) && !fits(trial)? {
+            return Ok(number);
         }
-        reading.take_line(place, line)?;
+        reading.take(number, line)?;
     }
     Ok(0)
 }

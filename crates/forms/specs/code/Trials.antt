@@ -1,8 +1,11 @@
 -- What a trial of a line comes to, by the fields of the code.
-use Rattle.std.specs.Prelude.{◌≡◌, ℕ, Bool, true, is_some, List, ◌++◌, Contains, None}
+use Rattle.std.specs.Prelude.{◌≡◌, ℕ, Bool, true, is_some, List, ◌++◌, Contains, Option, None}
+use Rattle.script_text.specs.Words.{words}
 use Rattle.suite_script.specs.Words.{Word}
+use Rattle.suite_script.specs.declared.fault.LineFault.{LineFault}
 use Rattle.suite_script.specs.declared.form.Forms.{Forms}
-use Rattle.forms.specs.Mends.{AreMends, AreTold, Edit, Without, Instead, Before, IsCut, IsMissing, IsShift, IsTooMany, Mends, all_of, field, form_in, placed}
+use Rattle.forms.specs.Answers.{IsFaultOf, IsFound}
+use Rattle.forms.specs.Mends.{AreMends, AreTold, Edit, FitsOne, Without, IsCut, IsMissing, IsShift, IsTooMany, Mends, all_of, form_in, placed}
 use Rattle.forms.specs.declared.mend.Change.{Change}
 use Rattle.forms.specs.declared.mend.Change.TheVariants as code
 use Rattle.forms.specs.declared.mend.Trial.{Trial}
@@ -12,14 +15,23 @@ use Rattle.forms.specs.declared.reading.Standing.TheVariants.{Here, Misplaced, U
 -- a change by the words that it names
 abbrev pub change_of : Change → Edit
 change_of code.Without = Without
-change_of (code.Instead other) = Instead other.now
-change_of (code.Before other) = Before other.now
+change_of (code.Placed is_before other) = placed is_before other.now
 
 -- a line that stands in its place, or out of it, begins with the word of one of the forms; another one does not
 abbrev pub StandsIn : Forms → Word → Standing → Type 0
 StandsIn forms word (Here form) = Contains (all_of forms) form × (form.word.now ≡ word)
-StandsIn forms word (Misplaced due) = is_some (form_in forms word) ≡ true
-StandsIn forms word (Unknown due) = form_in forms word ≡ None
+StandsIn forms word Misplaced = is_some (form_in forms word) ≡ true
+StandsIn forms word Unknown = form_in forms word ≡ None
+
+-- what is found of the line, and of words
+abbrev pub IsFoundIn : Trial → ℕ → Option LineFault → Type 0
+IsFoundIn trial number fault = IsFound trial.reading.now.scope trial.reading.now.forms trial.line.now number fault
+
+abbrev pub IsFaultIn : Trial → List Word → ℕ → Option LineFault → Type 0
+IsFaultIn trial words number fault = IsFaultOf trial.reading.now.scope trial.reading.now.forms words number fault
+
+abbrev pub FitsIn : Trial → Type 0
+FitsIn trial = FitsOne trial.reading.now.scope (all_of trial.reading.now.forms) (words trial.line.now)
 
 abbrev pub MendsIn : Trial → ℕ → Edit → Type 0
 MendsIn trial at change = Mends trial.reading.now.scope trial.reading.now.forms trial.line.now at change
@@ -52,10 +64,3 @@ pub record AddsFields (trial : Trial) (at : ℕ) (old new : List ℕ) : Type 0 w
   pub added : List ℕ
   pub mends : AreMends trial.reading.now.scope trial.reading.now.forms trial.line.now at added
   pub is : new ≡ old ++ added
-
--- these three, and the field of what cannot be seen
-pub record AddsAllFields (trial : Trial) (at : ℕ) (old new : List ℕ) : Type 0 where
-  pub tried : List ℕ
-  pub hidden : List ℕ
-  pub fields : AddsFields trial at old tried
-  pub is : new ≡ tried ++ field hidden

@@ -1,8 +1,8 @@
-use Rattle.std.proofs.Common.{◌∙◌, sym}
-use Rattle.forms.proofs.Answering.{of_none}
+use Rattle.forms.proofs.Answering.{of_line}
 use Rattle.forms.proofs.finding.found_in.Goals as goal
 
-pub returns-then-is_skipped : goal.returns-then-is_skipped
-returns-then-is_skipped c =
-    of_none c.in_ok-reading.reading c.args.forms c.args.script.now c.line-line.result.now c.args.number c.of_nothing.result c.in_ok-reading.ensures c.line-line.ensures
-    (sym c.is_skipped.ensures ∙ c.if-is_skipped.true) c.of_nothing.ensures
+pub returns : goal.returns
+returns c =
+    of_line c.in_ok-reading.reading.scope c.in_ok-reading.reading.forms c.args.forms c.args.script.now c.line-line.result.now c.args.number c.in_ok-found.found.number
+    c.in_ok-found.found.fault c.in_ok-text.text.items c.deref.result.now c.extend_from_slice.new.self.items c.in_ok-reading.ensures c.line-line.ensures
+    c.in_ok-found.ensures c.in_ok-text.ensures c.in_ok-extend_from_slice.ensures.items

@@ -1,0 +1,19 @@
+use Rattle.std.proofs.Common.{◌≡◌, ℕ, List, true, bytes_eq, subst, sym}
+use Rattle.forms.proofs.Answering.{found_again, found_form, found_large}
+use Rattle.forms.proofs.finding.of_standing.Goals as goal
+
+pub returns-in-Some : goal.returns-in-Some
+returns-in-Some c =
+    found_again c.args.trial.reading.now.scope c.args.trial.reading.now.forms c.args.form.word.now c.args.words c.of_whole.result.number c.of_whole.result.fault
+    (subst (λ (text : List ℕ). bytes_eq c.args.form.word.now text ≡ true) c.as_slice.ensures (sym c.if-eq.ensures)) c.of_whole.ensures.number c.of_whole.ensures.fault
+
+pub returns-in-Some-unheld : goal.returns-in-Some-unheld
+returns-in-Some-unheld c =
+    let whole = c.of_whole-in-Some-unheld in
+    found_large c.args.trial.reading.now.scope c.args.trial.reading.now.forms c.args.form.word.now c.args.words whole.result.number whole.result.fault
+    (subst (λ (text : List ℕ). bytes_eq c.args.form.word.now text ≡ true) c.as_slice-then-is_none.ensures (sym c.if-eq-2.ensures)) whole.ensures.number whole.ensures.fault
+
+pub returns : goal.returns
+returns c =
+    found_form c.args.trial.reading.now.scope c.args.trial.reading.now.forms c.args.form c.args.words c.in_ok-found.found.number c.in_ok-found.found.fault
+    c.requires c.in_ok-found.ensures
