@@ -1,4 +1,4 @@
--- What a sound part leaves is a valid copy; and what is planned of parts, one after the other.
+-- What a sound part leaves is a valid copy.
 use Rattle.rep_core.proofs.Vocabulary.{◌≡◌, true, false, ◌||◌, and_parts, IsCopy, CopyFits, is_exclusive, Part, Store, IsSound, copy_of, left_by, is_keep, goes_with, holds_last, is_sound_part, TakeFits}
 use Rattle.rep_core.proofs.Soundness.{left_sound}
 use Rattle.rep_core.proofs.Validity.{left_fits, sound_valid}

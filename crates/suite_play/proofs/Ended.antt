@@ -1,12 +1,7 @@
 -- Steps of an agent that are played until its job has ended.
-use Rattle.suite_play.proofs.Vocabulary.{◌≡◌, ℕ, zero, suc, ◌-◌, ◌<◌, Bool, true, false, List, [], ◌∷◌, ◌++◌, Option, Some, None, refl, ◌∙◌, ap, sym, OnSome}
-use Rattle.suite_play.proofs.Vocabulary.{is_some, not, slice_get, slice_set, option_or, append-nil, Opening, Request, State, Ending, Response, Replied, Lacked}
-use Rattle.suite_play.proofs.Vocabulary.{After, Doing, Ends, Fixed, GoesOn, RunningSweep, Running, Agent, end_of, fixed_of, is_idle, left, next_of, take_in}
-use Rattle.suite_play.proofs.Vocabulary.{EndedJob, Served, Step, Opened, Actor, World, actor_at, after_serving, asks, asks_at, has_no_job, moved, outcome_of}
-use Rattle.suite_play.proofs.Vocabulary.{serve, server_at, step, steps_once, took, or_nothing, Printed, outcome_text}
-use Rattle.txn_core.specs.Agents.{take}
-use Rattle.run_core.specs.Worlds.{answered}
-use Rattle.suite_play.specs.Playing.{steps}
+use Rattle.suite_play.proofs.Vocabulary.{◌≡◌, ℕ, zero, suc, ◌-◌, ◌<◌, Bool, true, false, List, [], ◌∷◌, ◌++◌, Option, Some, None, refl, ◌∙◌, ap, sym, OnSome, is_some, not, slice_get, slice_set, option_or, append-nil, Opening, Request}
+use Rattle.suite_play.proofs.Vocabulary.{State, Ending, Response, Replied, Lacked, After, Doing, Ends, Fixed, GoesOn, RunningSweep, Running, Agent, end_of, fixed_of, is_idle, left, next_of, take_in, EndedJob, Served, Step, Opened, Actor}
+use Rattle.suite_play.proofs.Vocabulary.{World, actor_at, after_serving, asks, asks_at, has_no_job, moved, outcome_of, serve, server_at, step, steps_once, took, or_nothing, Printed, outcome_text, take, answered, steps}
 use Rattle.rep_core.specs.declared.stamped.Lack.TheVariants as lack
 use Rattle.txn_core.specs.Sweeps as sweep
 use Rattle.txn_core.specs.Transactions as txn_run

@@ -1,7 +1,6 @@
 -- Steps of an agent that has no job change nothing.
-use Rattle.suite_play.proofs.Vocabulary.{◌≡◌, ℕ, zero, suc, ◌-◌, ◌<◌, true, [], Option, Some, None, refl, ◌∙◌, ap, arith, Doing, Fixed, is_idle, next_in}
-use Rattle.suite_play.proofs.Vocabulary.{Actor, World, actor_at, asks, has_no_job, quiet, step, steps_once, Step, before, of_event}
-use Rattle.suite_play.specs.Playing.{steps}
+use Rattle.suite_play.proofs.Vocabulary.{◌≡◌, ℕ, zero, suc, ◌-◌, ◌<◌, true, [], Option, Some, None, refl, ◌∙◌, ap, arith, Doing, Fixed, is_idle, next_in, Actor, World, actor_at, asks, has_no_job, quiet, step, steps_once, Step}
+use Rattle.suite_play.specs.Playing.{steps, before, of_event}
 
 asks_nothing : (fixed : Fixed) (doing : Option Doing) → is_idle doing ≡ true → next_in fixed doing ≡ None
 asks_nothing fixed None idle = refl

@@ -1,7 +1,9 @@
 -- A header that was read leaves no more lines than there were.
-use Rattle.suite_play.proofs.Vocabulary.{ℕ, ◌≤◌, Bool, true, false, List, [], ◌∷◌, if◌then◌else◌, length, Result, Ok, Err, arith, empty, IfOk, codes}
-use Rattle.suite_play.proofs.Vocabulary.{IfOk-weaker, ◌>>=◌, Headed, Pending, header_line_in, headed, headed_if, next_begins, said_at, Word, LineFault}
-use Rattle.suite_play.proofs.Vocabulary.{ScriptFault, Line, header, old_in, opening_lines}
+use Rattle.suite_play.proofs.Vocabulary.{ℕ, ◌≤◌, Bool, true, false, List, [], ◌∷◌, if◌then◌else◌, length, Result, Ok, Err, arith, empty, IfOk, codes, IfOk-weaker, Headed, Pending, header_line_in, headed, headed_if, next_begins, said_at}
+use Rattle.suite_play.proofs.Vocabulary.{Word, ScriptFault, header, old_in, opening_lines}
+use Rattle.file_ops.specs.Steps.{◌>>=◌}
+use Rattle.suite_script.specs.declared.fault.LineFault.{LineFault}
+use Rattle.suite_script.specs.declared.line.Line.{Line}
 
 -- it leaves no more than so many lines
 abbrev Leaves : {A : Type 0} → ℕ → Result (Headed A) ScriptFault → Type 0

@@ -1,6 +1,8 @@
 -- What the lines of a script print, played one after the other on a world.
-use Rattle.suite_play.proofs.Vocabulary.{◌≡◌, ◌∙◌, ℕ, ◌+◌, List, [], ◌∷◌, ◌++◌, Ok, refl, ap, sym, Opening, fixed_of, Opened, opening, opened_output, comes_to}
-use Rattle.suite_play.proofs.Vocabulary.{prints_from, Pending, owns, whole, header, lines_of, play_output, all_lines, after_line, line_of, Command}
+use Rattle.suite_play.proofs.Vocabulary.{◌≡◌, ◌∙◌, ℕ, ◌+◌, List, [], ◌∷◌, ◌++◌, Ok, refl, ap, sym, Opening, fixed_of, Opened, opening, comes_to, Pending, owns, whole, header, lines_of, play_output, all_lines, Command}
+use Rattle.suite_script.proofs.Playing.{opened_output}
+use Rattle.suite_script.specs.Playing.{prints_from}
+use Rattle.suite_play.specs.code.Playing.{after_line, line_of}
 use Rattle.suite_play.proofs.KeptLines.{kept_output}
 use Rattle.suite_play.proofs.Lines.{kept_language}
 

@@ -1,13 +1,14 @@
 -- The run of a script, line by line.
-use Rattle.suite_play.proofs.Vocabulary.{◌≡◌, ℕ, zero, suc, false, List, [], ◌∷◌, ◌++◌, append_assoc, Option, Some, None, Result, Ok, Err, refl, ◌∙◌, ap, sym}
-use Rattle.suite_play.proofs.Vocabulary.{subst, Bool, IfOk, true, not, flat_map, list_all, and_parts, false≢true, append-nil, IsAccepted, Opening, IsValid}
-use Rattle.suite_play.proofs.Vocabulary.{Fixed, Step, Done, EndedJob, World, step, after, dones, outcomes, dones-append, outcomes-append, CanBe, VotesAreValid}
-use Rattle.suite_play.proofs.Vocabulary.{IsPromised, front, promised, ScriptFault, Pending, Script, owns, script_of, scripted, whole, Command, header}
-use Rattle.suite_play.proofs.Vocabulary.{language, all_lines, endless, played, events_in, events_of, is_audit, LinesAreEvents, PlayIsPromised, outcome_line}
-use Rattle.suite_play.proofs.Vocabulary.{outcome_text}
+use Rattle.suite_play.proofs.Vocabulary.{◌≡◌, ℕ, zero, suc, false, List, [], ◌∷◌, ◌++◌, append_assoc, Option, Some, None, Result, Ok, Err, refl, ◌∙◌, ap, sym, subst, Bool, IfOk, true, not, flat_map, list_all, and_parts, false≢true}
+use Rattle.suite_play.proofs.Vocabulary.{append-nil, IsAccepted, Opening, Fixed, Step, EndedJob, World, step, CanBe, VotesAreValid, front, promised, ScriptFault, Pending, Script, owns, script_of, scripted, whole, Command, header, language}
+use Rattle.suite_play.proofs.Vocabulary.{all_lines, endless, played, outcome_line, outcome_text, Event}
+use Rattle.vote_core.specs.Validity.{IsValid}
+use Rattle.run_core.specs.declared.done.Done.{Done}
+use Rattle.run_core.specs.Runs.{after, dones, outcomes}
+use Rattle.run_core.proofs.Appending.{dones-append, outcomes-append}
+use Rattle.law_headline.specs.Promises.{IsPromised}
+use Rattle.suite_play.specs.Promised.{events_in, events_of, is_audit, LinesAreEvents, PlayIsPromised, steps_of}
 use Rattle.suite_play.specs.Playing.{steps}
-use Rattle.suite_play.specs.Promised.{steps_of}
-use Rattle.run_core.specs.declared.event.Event.{Event}
 use Rattle.suite_play.specs.declared.command.Command.TheVariants as line
 use Rattle.suite_play.proofs.ValidLines.{valid_lines}
 
@@ -19,10 +20,9 @@ steps_world fixed world agent zero = refl
 steps_world fixed world agent (suc more) = steps_world fixed (step fixed world (Step agent)).world agent more
 
 pub line_world : (fixed : Fixed) (world : World) (command : Command) → (played fixed world command).world ≡ after fixed world (events_in command)
-line_world fixed world (line.Event event) = refl
 line_world fixed world (line.Steps agent count) = steps_world fixed world agent count
 line_world fixed world (line.Run agent) = steps_world fixed world agent endless
-line_world fixed world (line.Audit server) = refl
+line_world fixed world _ = refl
 
 -- ---- and what it prints
 

@@ -1,6 +1,5 @@
 -- Steps of an agent that are played one by one, as long as it has a job.
-use Rattle.suite_play.proofs.Vocabulary.{◌≡◌, ℕ, ◌-◌, ◌<◌, true, ◌∙◌, ap, sym, fixed_of, Step, Opened, actor_at, has_no_job, step, Printed}
-use Rattle.suite_play.specs.Playing.{steps}
+use Rattle.suite_play.proofs.Vocabulary.{◌≡◌, ℕ, ◌-◌, ◌<◌, true, ◌∙◌, ap, sym, fixed_of, Step, Opened, actor_at, has_no_job, step, Printed, steps}
 use Rattle.suite_play.proofs.Idle.{more_steps, steps_idle}
 use Rattle.suite_play.proofs.Ended.{NothingLeft}
 

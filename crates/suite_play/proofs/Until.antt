@@ -1,6 +1,6 @@
 -- `run` is steps until the agent has no job.
-use Rattle.suite_play.proofs.Vocabulary.{◌≡◌, ℕ, zero, suc, ◌+◌, ◌-◌, [], ◌++◌, ◌∙◌, ap, sym, append_assoc, zero-add, arith, append-nil, Fixed, World, step}
-use Rattle.suite_play.proofs.Vocabulary.{Step, RunIsUntilIdle, Printed, endless, of_event}
+use Rattle.suite_play.proofs.Vocabulary.{◌≡◌, ℕ, zero, suc, ◌+◌, ◌-◌, [], ◌++◌, ◌∙◌, ap, sym, append_assoc, zero-add, arith, append-nil, Fixed, World, step, Step, Printed, endless, of_event}
+use Rattle.suite_play.specs.Laws.{RunIsUntilIdle}
 use Rattle.suite_play.specs.Playing.{steps}
 use Rattle.suite_play.proofs.Idle.{steps_idle}
 

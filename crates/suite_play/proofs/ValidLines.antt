@@ -1,13 +1,17 @@
 -- The votes of all that a line says are valid.
-use Rattle.suite_play.proofs.Vocabulary.{ℕ, zero, suc, List, [], ◌∷◌, Option, Some, None, Result, Ok, Err, IfOk, AllByRecursion, slice_split, Tables, Action}
-use Rattle.suite_play.proofs.Vocabulary.{Op, both, AllGiveValidVotes, GivesValidVotes, VotesAreValid, is_semicolon, Opening, each_of, AllHaveValidVotes}
-use Rattle.suite_play.proofs.Vocabulary.{HasValidVotes, after_any, after_end, then_holds, valid_operations, operations, Pending, owns, Word, at_end, caller}
-use Rattle.suite_play.proofs.Vocabulary.{number, ScriptFault, Job, Transaction, Sweep, last_site, begin_in, said_after, said_by, server_in, steps_in}
-use Rattle.suite_play.proofs.Vocabulary.{transaction_in, verb_in, language, places_of, endless, events_in, events_of, Command, Places}
-use Rattle.suite_play.specs.Promised.{steps_of}
+use Rattle.suite_play.proofs.Vocabulary.{ℕ, zero, suc, List, [], ◌∷◌, Option, Some, None, Result, Ok, Err, IfOk, AllByRecursion, slice_split, Op, both, AllGiveValidVotes, GivesValidVotes, VotesAreValid, Opening, each_of, Pending, owns}
+use Rattle.suite_play.proofs.Vocabulary.{Word, at_end, caller, number, ScriptFault, Job, Transaction, Sweep, begin_in, said_after, said_by, server_in, steps_in, transaction_in, verb_in, language, places_of, endless, Command}
+use Rattle.acl_text.specs.Tables.{Tables}
+use Rattle.file_ops.specs.declared.operation.Action.{Action}
+use Rattle.script_text.specs.Phrases.{is_semicolon}
+use Rattle.suite_script.proofs.ValidOperations.{AllHaveValidVotes, HasValidVotes, after_any, after_end, then_holds, valid_operations}
+use Rattle.suite_script.specs.Operations.{operations}
+use Rattle.suite_script.specs.Forms.{last_site}
+use Rattle.suite_play.specs.Promised.{events_in, events_of, steps_of}
+use Rattle.suite_play.specs.declared.places.Places.{Places}
+use Rattle.suite_play.specs.declared.command.Command.TheVariants.{Event}
 use Rattle.file_ops.specs.declared.operation.Action.TheVariants as action
 use Rattle.run_core.specs.declared.event.Event.TheVariants as event
-use Rattle.suite_play.specs.declared.command.Command.TheVariants.{Event}
 use Rattle.suite_play.specs.declared.verb.EventVerb as lines
 use Rattle.suite_play.specs.declared.verb.EventVerb.TheVariants as line
 
@@ -60,11 +64,10 @@ valid_said places names line.Sweep words =
 valid_said places names line.Step words =
     after_any _ (number places.last_agent words) _ (λ agent. after_any _ (steps_in agent.rest) _ (λ steps. after_end _ (at_end steps.rest) _ (steps_valid agent.value steps.value)))
 valid_said places names line.Run words = after_any _ (number places.last_agent words) _ (λ agent. after_end _ (at_end agent.rest) _ (steps_valid agent.value endless))
-valid_said places names line.Crash words = after_any _ (server_in places words) _ (λ server. (tt, tt))
-valid_said places names line.Return words = after_any _ (server_in places words) _ (λ server. (tt, tt))
 valid_said places names line.Forget words =
     after_any _ (number places.last_agent words) _ (λ agent. after_any _ (number last_site agent.rest) _ (λ site. after_end _ (at_end site.rest) _ (tt, tt)))
 valid_said places names line.Audit words = after_any _ (server_in places words) _ (λ server. tt)
+valid_said places names _ words = after_any _ (server_in places words) _ (λ server. (tt, tt))
 
 valid_after : (places : Places) (names : Tables) (verb : Option lines.EventVerb) (words : List Word) → IfOk (said_after places names verb words) LineIsValid
 valid_after places names (Some verb) words = valid_said places names verb words

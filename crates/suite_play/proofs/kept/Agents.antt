@@ -1,9 +1,7 @@
 -- What an agent does is not changed by operations that are not kept of its transactions.
-use Rattle.suite_play.proofs.Vocabulary.{◌≡◌, ℕ, ◌+◌, ◌*◌, Bool, true, false, cond, [], Option, Some, None, refl, ap, ◌∙◌, option_map, nat_lt, ◌&&◌, Request}
-use Rattle.suite_play.proofs.Vocabulary.{Cache, Response, Job, Transaction, Sweep, Fixed, Task, TransactionRun, SweepRun, Doing, Running, RunningSweep, After}
-use Rattle.suite_play.proofs.Vocabulary.{GoesOn, Ends, execute, Agent, Taken, next_in, next_of, left, end_of, with_step, take_in, begin, begins, has_sense}
-use Rattle.suite_play.proofs.Vocabulary.{is_idle, max_jobs, started, kept_job}
-use Rattle.txn_core.specs.Agents.{take}
+use Rattle.suite_play.proofs.Vocabulary.{◌≡◌, ℕ, ◌+◌, ◌*◌, Bool, true, false, cond, [], Option, Some, None, refl, ap, ◌∙◌, option_map, nat_lt, ◌&&◌, Request, Cache, Response, Job, Transaction, Sweep, Fixed, Task, TransactionRun, SweepRun}
+use Rattle.suite_play.proofs.Vocabulary.{Doing, Running, RunningSweep, After, GoesOn, Ends, Agent, Taken, next_in, next_of, left, end_of, with_step, take_in, begin, begins, has_sense, is_idle, max_jobs, started, kept_job, take}
+use Rattle.txn_core.specs.Transactions.{execute}
 use Rattle.txn_core.specs.Transactions as txn_run
 use Rattle.txn_core.specs.Sweeps as sweep
 use Rattle.suite_play.proofs.kept.Courses.{cut_course, cut_after, asks_the_same, executes, hears_response}

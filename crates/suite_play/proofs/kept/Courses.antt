@@ -1,52 +1,24 @@
 -- How a transaction goes does not hang on the operations that are not kept of it.
-use Rattle.suite_play.proofs.Vocabulary.{◌≡◌, ℕ, zero, suc, Bool, true, false, cond, List, [], ◌∷◌, Option, Some, None, Ok, Err, refl, ap, ◌∙◌, length}
-use Rattle.suite_play.proofs.Vocabulary.{Content, is_prepared, Request, Reply, Verdict, Hold, Know, Said, tell, mode_of, Next, Ask, Current, Short, next}
-use Rattle.suite_play.proofs.Vocabulary.{Cache, ReadPoint, GatheredSuite, Suites, suite_of, with_suite, known_of, settled, Response, Replied, Lacked, Cause}
-use Rattle.suite_play.proofs.Vocabulary.{Lost, Ending, Undecided, Changes, Granted, Fixed, Task, Proposal, Phase, Gathering, Fetching, Widening, Preparing}
-use Rattle.suite_play.proofs.Vocabulary.{Deciding, Finishing, TransactionRun, After, GoesOn, Ends}
-use Rattle.rep_core.specs.declared.reply.Verdict.TheVariants as verdict
+use Rattle.suite_play.proofs.Vocabulary.{◌≡◌, ℕ, zero, suc, Bool, true, false, cond, List, [], ◌∷◌, Option, Some, None, Ok, Err, refl, ap, ◌∙◌, length, Request, Cache, Response, Replied, Lacked, Ending, Changes, Granted, Fixed, Task}
+use Rattle.suite_play.proofs.Vocabulary.{Proposal, Phase, Gathering, Fetching, Widening, Preparing, Deciding, Finishing, TransactionRun, After, GoesOn, Ends}
+use Rattle.suite_content.specs.declared.content.Content.{Content}
+use Rattle.rep_core.specs.Fits.{is_prepared}
+use Rattle.rep_core.specs.declared.reply.Reply.{Reply}
+use Rattle.rep_core.specs.declared.reply.Verdict.{Verdict}
+use Rattle.file_exec.specs.declared.need.Need.TheVariants.{Hold, Know}
+use Rattle.suite_collect.specs.declared.told.Said.{Said}
+use Rattle.suite_collect.specs.Collecting.{tell, mode_of, Next, Ask, Current, Short, next}
+use Rattle.txn_core.specs.Suites.{ReadPoint, GatheredSuite, Suites, suite_of, with_suite, known_of, settled}
+use Rattle.txn_core.specs.declared.ending.Cause.{Cause}
+use Rattle.txn_core.specs.declared.ending.Cause.TheVariants.{Lost}
+use Rattle.txn_core.specs.declared.ending.Ending.TheVariants.{Undecided}
 use Rattle.rep_core.specs.declared.stamped.Lack.{Lack}
 use Rattle.file_exec.specs.Changes.{answered}
 use Rattle.file_exec.specs.declared.executor.Outcome.{Outcome as Executed}
+use Rattle.txn_core.specs.Transactions.{Step, Gathered, tell_end, give_up, prepare, locked_at, short_cause, gather_by, raised_or_new, widen_by, widen_one, widened, widen_all, to_widen, heard_on, or_all, open_needed, opened, proceed}
+use Rattle.txn_core.specs.Transactions.{execute, request_of, collected, hear, keep_content, fetched, given_in, heard_of, said_to, after_reply, lack_cause, after_lack, after_response, decided, verdict_in, ending_by, cause_of_abort}
+use Rattle.rep_core.specs.declared.reply.Verdict.TheVariants as verdict
 use Rattle.file_exec.specs.declared.executor.Outcome.TheVariants as exec
-use Rattle.txn_core.specs.Transactions.{
-  Step,
-  Gathered,
-  tell_end,
-  give_up,
-  prepare,
-  locked_at,
-  short_cause,
-  gather_by,
-  raised_or_new,
-  widen_by,
-  widen_one,
-  widened,
-  widen_all,
-  to_widen,
-  heard_on,
-  or_all,
-  open_needed,
-  opened,
-  proceed,
-  execute,
-  request_of,
-  collected,
-  hear,
-  keep_content,
-  fetched,
-  given_in,
-  heard_of,
-  said_to,
-  after_reply,
-  lack_cause,
-  after_lack,
-  after_response,
-  decided,
-  verdict_in,
-  ending_by,
-  cause_of_abort,
-}
 use Rattle.suite_play.proofs.kept.Executed.{few, same_executed}
 
 -- a transaction with the operations that are kept of it
@@ -85,8 +57,7 @@ module _ (task : Task) where
 
   gathers : (cache : Cache) (suites : Suites) (number : ℕ) (next : Next) → gather_by (cut task) cache suites number next ≡ cut_step (gather_by task cache suites number next)
   gathers cache suites number (Short got needed busy) = gives_up cache suites (short_cause number got needed busy)
-  gathers cache suites number (Ask server asked) = refl
-  gathers cache suites number (Current prefix dver members) = refl
+  gathers cache suites number _ = refl
 
   widens_by : (cache : Cache) (suites : Suites) (phase : Phase) (number : ℕ) (next : Next) (go_on go_on' : Suites → Step) → ((suites : Suites) → go_on' suites ≡ cut_step (go_on suites))
       → widen_by (cut task) cache suites phase number next go_on' ≡ cut_step (widen_by task cache suites phase number next go_on)
@@ -193,11 +164,7 @@ module _ (task : Task) where
   lacks : (cache : Cache) (suites : Suites) (phase : Phase) (server : ℕ) (lacked : Lack) → after_lack (cut task) cache suites phase server lacked ≡ cut_step (after_lack task cache suites phase server lacked)
   lacks cache suites (Finishing [] verdict ending) server lacked = refl
   lacks cache suites (Finishing (now ∷ left) verdict ending) server lacked = tells cache suites verdict ending left
-  lacks cache suites (Gathering number) server lacked = gives_up cache suites (lack_cause server lacked)
-  lacks cache suites (Fetching number) server lacked = gives_up cache suites (lack_cause server lacked)
-  lacks cache suites (Widening left granted) server lacked = gives_up cache suites (lack_cause server lacked)
-  lacks cache suites (Preparing left outcome) server lacked = gives_up cache suites (lack_cause server lacked)
-  lacks cache suites (Deciding outcome) server lacked = gives_up cache suites (lack_cause server lacked)
+  lacks cache suites _ server lacked = gives_up cache suites (lack_cause server lacked)
 
   pub hears_response : (fixed : Fixed) (cache : Cache) (suites : Suites) (phase : Phase) (server : ℕ) (asked : Request) (response : Response)
       → after_response fixed (record { task = cut task; suites = suites; phase = phase }) cache server asked response ≡ cut_step (after_response fixed (record { task = task; suites = suites; phase = phase }) cache server asked response)

@@ -1,7 +1,14 @@
 -- One operation more than a transaction may have is as good as any more: both are refused for their count.
-use Rattle.suite_play.proofs.Vocabulary.{◌≡◌, ℕ, ◌+◌, ◌<◌, ◌≤◌, nat_le, true, List, length, refl, ◌∙◌, ap, sym, inl, inr, arith, cases_Bool, nat_tests}
-use Rattle.suite_play.proofs.Vocabulary.{length-take-le, take_all, Identity, max_operations, is_miscounted, Op, OpCount, Service, Refuse, Known, exec_of}
-use Rattle.suite_play.proofs.Vocabulary.{followed, known_rows, transaction}
+use Rattle.suite_play.proofs.Vocabulary.{◌≡◌, ℕ, ◌+◌, ◌<◌, ◌≤◌, nat_le, true, List, length, refl, ◌∙◌, ap, sym, inl, inr, arith, cases_Bool, length-take-le, take_all, Op}
+use Rattle.std.proofs.lemmas.Bool.Decides.{nat_tests}
+use Rattle.acl_core.specs.Identity.{Identity}
+use Rattle.file_ops.specs.Limits.{max_operations}
+use Rattle.file_ops.specs.Transactions.{is_miscounted}
+use Rattle.file_ops.specs.declared.refusal.Why.TheVariants.{OpCount}
+use Rattle.file_ops.specs.declared.service.Service.{Service}
+use Rattle.file_exec.specs.Courses.{Refuse}
+use Rattle.file_exec.specs.Known.{Known, exec_of, followed, known_rows}
+use Rattle.file_exec.specs.Operations.{transaction}
 use Rattle.std.proofs.Common.{take}
 
 -- the first of some operations, one more than a transaction may have

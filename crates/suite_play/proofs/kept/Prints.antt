@@ -1,7 +1,6 @@
 -- The lines of a script print the same of transactions that have all their operations and of those that have what is kept of them.
-use Rattle.suite_play.proofs.Vocabulary.{◌≡◌, ℕ, zero, suc, List, [], ◌∷◌, ◌++◌, map, refl, ap, sym, ◌∙◌, Opening, Fixed, fixed_of, World, opening, step, Step}
-use Rattle.suite_play.proofs.Vocabulary.{kept_command, Command, Steps, Run, Audit, Printed, all_lines, before, endless, of_event, played}
-use Rattle.suite_play.specs.declared.command.Command.TheVariants.{Event}
+use Rattle.suite_play.proofs.Vocabulary.{◌≡◌, ℕ, zero, suc, List, [], ◌∷◌, ◌++◌, map, refl, ap, sym, ◌∙◌, Opening, Fixed, fixed_of, World, opening, step, Step, kept_command, Command, Printed, all_lines, before, endless, of_event, played}
+use Rattle.suite_play.specs.declared.command.Command.TheVariants.{Steps, Run, Audit, Event}
 use Rattle.suite_play.specs.Playing.{steps}
 use Rattle.suite_play.proofs.kept.Worlds.{cut_stepped, cut_world, opening_same, step_same}
 

@@ -1,39 +1,12 @@
 -- What comes of an event is not changed by operations that are not kept of the agents' transactions.
-use Rattle.suite_play.proofs.Vocabulary.{◌≡◌, ℕ, zero, suc, ◌+◌, List, ◌∷◌, map, Option, Some, None, refl, ap, sym, ◌∙◌, option_map, map-set, slice_get-map}
-use Rattle.suite_play.proofs.Vocabulary.{Opening, Request, State, Response, Replied, Lacked, Fixed, Agent, Taken, begin, forget, next_of, Begin, Step, Crash}
-use Rattle.suite_play.proofs.Vocabulary.{Return, Forget, Served, kept_event, kept_job}
-use Rattle.txn_core.specs.Agents.{take}
+use Rattle.suite_play.proofs.Vocabulary.{◌≡◌, ℕ, zero, suc, ◌+◌, List, ◌∷◌, map, Option, Some, None, refl, ap, sym, ◌∙◌, option_map, map-set, Opening, Request, State, Response, Replied, Lacked, Fixed, Agent, Taken, begin, forget, next_of}
+use Rattle.suite_play.proofs.Vocabulary.{Begin, Step, Crash, Return, Forget, Served, kept_event, kept_job, take, Event, Actor, World, Stepped, actor_at, actors_from, after_serving, answered, asks, asks_at, becomes, lacks, lacks_for, moved}
+use Rattle.suite_play.proofs.Vocabulary.{opening, operated, operates, outcome_of, quiet, serve, server_at, step, steps_once, took, with_actor}
+use Rattle.std.proofs.lemmas.Option.{slice_get-map}
 use Rattle.run_core.specs.declared.event.Event.TheVariants.{Lack}
 use Rattle.rep_core.specs.declared.request.Request.TheVariants as request
 use Rattle.rep_core.specs.declared.stamped.Lack.TheVariants as lack
 use Rattle.txn_core.specs.Agents as agent
-use Rattle.run_core.specs.declared.event.Event.{Event}
-use Rattle.run_core.specs.Worlds.{
-  Actor,
-  World,
-  Stepped,
-  actor_at,
-  actors_from,
-  after_serving,
-  answered,
-  asks,
-  asks_at,
-  becomes,
-  lacks,
-  lacks_for,
-  moved,
-  opening,
-  operated,
-  operates,
-  outcome_of,
-  quiet,
-  serve,
-  server_at,
-  step,
-  steps_once,
-  took,
-  with_actor,
-}
 use Rattle.suite_play.proofs.kept.Agents.{begin_same, cut_agent, cut_taken, next_same, take_same}
 
 abbrev pub cut_actor : Actor → Actor

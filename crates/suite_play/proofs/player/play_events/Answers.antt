@@ -1,9 +1,10 @@
-use Rattle.suite_play.proofs.Vocabulary.{◌≤◌, ◌∙◌, Result, Ok, Err, ap, arith, length, subst, sym, OnOk, header, language, lines_of, play_output, failed}
-use Rattle.suite_play.proofs.Vocabulary.{stops, headed_badly, Plays, Output, play_error_of, whole}
+use Rattle.suite_play.proofs.Vocabulary.{◌≤◌, ◌∙◌, Result, Ok, Err, ap, arith, length, subst, sym, OnOk, header, language, lines_of, play_output, failed, stops, Plays, Output, whole}
+use Rattle.suite_script.proofs.Played.{headed_badly}
+use Rattle.suite_script.specs.Readings.{play_error_of}
+use Rattle.suite_script.specs.declared.fault.ScriptError.TheVariants.{Memory}
 use Rattle.suite_play.proofs.Left.{header_left}
 use Rattle.suite_play.proofs.Playing.{played_output}
 use Rattle.suite_play.proofs.Promised.{play_promised}
-use Rattle.suite_script.specs.declared.fault.ScriptError.TheVariants.{Memory}
 use Rattle.suite_play.proofs.player.play_events.Goals as goal
 
 pub play_lines-requires : goal.play_lines-requires

@@ -1,5 +1,5 @@
-use Rattle.suite_play.proofs.Vocabulary.{◌≡◌, ◌∙◌, ◌++◌, ℕ, Bool, List, Option, None, Result, OnOk, ap, on_ok_weaker, fixed_of, or_nothing, EndedJob, Served}
-use Rattle.suite_play.proofs.Vocabulary.{ComesTo, Stepped, World, step, of_event, outcome_text}
+use Rattle.suite_play.proofs.Vocabulary.{◌≡◌, ◌∙◌, ◌++◌, ℕ, Bool, List, Option, None, Result, OnOk, ap, on_ok_weaker, fixed_of, or_nothing, EndedJob, Served, Stepped, World, step, of_event, outcome_text}
+use Rattle.run_core.specs.Telling.{ComesTo}
 use Rattle.suite_play.proofs.player.push_event.Goals as goal
 
 -- what was put into an empty place is printed

@@ -1,4 +1,4 @@
-use Rattle.suite_play.proofs.Vocabulary.{◌≡◌}
+use Rattle.std.proofs.Common.{◌≡◌}
 use Rattle.run_core.specs.declared.event.Event.TheVariants as event
 use Rattle.suite_play.proofs.Ended.{SoFar}
 use Rattle.suite_play.proofs.player.push_steps.Given as goal

@@ -1,6 +1,4 @@
-use Rattle.suite_play.proofs.Vocabulary.{◌≡◌, ◌∙◌, ◌+◌, ◌++◌, [], ap, drop, get_or, flat_map, drop_more, UserObj, AuditItem, failed, prints_nothing}
-use Rattle.suite_play.proofs.Vocabulary.{wrote_line, wrote_moved, audit_lines, item_line}
-use Rattle.suite_script.specs.declared.play_error.PlayError.TheVariants.{Memory}
+use Rattle.suite_play.proofs.Vocabulary.{◌≡◌, ◌∙◌, ◌+◌, ◌++◌, [], ap, drop, get_or, flat_map, drop_more, UserObj, AuditItem, failed, prints_nothing, wrote_line, wrote_moved, audit_lines, item_line, Memory}
 use Rattle.suite_play.proofs.player.write_audit.Goals as goal
 
 -- what is read where there is none

@@ -1,5 +1,4 @@
-use Rattle.suite_play.proofs.Vocabulary.{[], failed, prints_nothing}
-use Rattle.suite_script.specs.declared.play_error.PlayError.TheVariants.{Memory}
+use Rattle.suite_play.proofs.Vocabulary.{[], failed, prints_nothing, Memory}
 use Rattle.suite_play.proofs.player.WorldLineStagePlaces.write_line.Goals as goal
 
 -- memory ran out

@@ -1,5 +1,6 @@
 -- a long word is read byte by byte, and is then the verb's spelling
-use Rattle.suite_play.proofs.Vocabulary.{arith, rules, refl, text_from_reads, spelling}
+use Rattle.suite_play.proofs.Vocabulary.{arith, rules, refl, spelling}
+use Rattle.std.proofs.lemmas.Slice.Eq.{text_from_reads}
 use Rattle.suite_play.specs.declared.verb.EventVerb.TheVariants as verb
 use Rattle.suite_play.proofs.verb.EventVerb.of.Goals as goal
 
