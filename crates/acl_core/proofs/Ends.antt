@@ -1,6 +1,6 @@
 -- Which entries stand at the ends of a valid list: the owner's first, the others' last, and the mask right before it.
-use Rattle.acl_core.proofs.Vocabulary.{◌≡◌, ℕ, zero, suc, ◌+◌, ◌<◌, ◌≤◌, Bool, true, false, cond, eqb, List, [], ◌∷◌, length, get_or, refl, ◌∙◌, ap, sym, inl, inr, filter, arith, list_any, cases_Bool, nat_tests, get_or_default, Tag}
-use Rattle.acl_core.proofs.Vocabulary.{UserObj, User, Mask, Other, Entry, same_tag, precedes, is_user, IsAcl, IsCanonical, count_of, Perms, has_all, Identity, answer, check_of, mask_grants, one_grants}
+use Rattle.acl_core.proofs.Vocabulary.{◌≡◌, ℕ, zero, suc, ◌+◌, ◌<◌, ◌≤◌, Bool, true, false, cond, eqb, List, [], ◌∷◌, length, get_or, refl, ◌∙◌, ap, sym, inl, inr, filter, arith, list_any, cases_Bool, nat_tests, get_or_default, Tag, UserObj, User}
+use Rattle.acl_core.proofs.Vocabulary.{Mask, Other, Entry, same_tag, precedes, is_user, IsAcl, IsCanonical, count_of, Perms, has_all, Identity, answer, check_of, mask_grants, one_grants}
 use Rattle.acl_core.proofs.TagFacts.{same_tag_is}
 use Rattle.acl_core.proofs.Answering.{answer_named, one_any}
 use Rattle.acl_core.proofs.OneEntry.{any_kept, none_at_end, one_at}
@@ -14,10 +14,6 @@ none_behind : (t : Tag) → precedes Other t ≡ false
 none_behind UserObj = refl
 none_behind _ = refl
 
-none_between : (t : Tag) → precedes Mask t ≡ true → precedes t Other ≡ false
-none_between Other h = refl
-none_between _ h = cc
-
 -- what has another behind it stands before the others' tag
 before_others : (a b : Tag) → precedes a b ≡ true → precedes a Other ≡ true
 before_others Other b h = let bad : true ≡ false = sym h ∙ none_behind b in cc
@@ -25,14 +21,10 @@ before_others _ b h = refl
 
 -- and what has two behind it, before the mask's
 before_mask : (a b c : Tag) → precedes a b ≡ true → precedes b c ≡ true → precedes a Mask ≡ true
-before_mask Mask b c h k = let bad : true ≡ false = sym (before_others b c k) ∙ none_between b h in cc
-before_mask Other b c h k = let bad : true ≡ false = sym h ∙ none_behind b in cc
-before_mask _ b c h k = refl
+before_mask a b c h3 h4 = search arith
 
 before_or_mask : (a : Tag) → precedes a Other ≡ true → same_tag a Mask ≡ false → precedes a Mask ≡ true
-before_or_mask Mask h other = cc
-before_or_mask Other h other = cc
-before_or_mask _ h other = refl
+before_or_mask a h1 h2 = search arith
 
 behind_mask : (a : Tag) → precedes a Other ≡ false → (precedes a Mask ≡ false) × (same_tag a Mask ≡ false)
 behind_mask Other h = (refl, refl)
@@ -40,9 +32,7 @@ behind_mask _ h = cc
 
 -- what stands behind another and names no user stands behind all users
 behind_users : (a b : Tag) (user : ℕ) → precedes a b ≡ true → is_user b ≡ false → (precedes b (User user) ≡ false) × (same_tag b (User user) ≡ false)
-behind_users a UserObj user h other = let bad : true ≡ false = sym h ∙ none_before a in cc
-behind_users a (User id) user h other = cc
-behind_users a _ user h other = (refl, refl)
+behind_users a b user h3 h4 = search arith
 
 -- an entry that is counted is left when those of its tag are
 not_empty : (tag : Tag) (entries : List Entry) → count_of tag entries ≡ 1 → filter (λ e. same_tag e.tag tag) entries ≡ [] → true ≡ false
@@ -53,11 +43,7 @@ not_empty tag entries one none =
 up_to : (p : Entry → Bool) (entries : List Entry) (place : ℕ) (e : Entry) → place < length entries
     → ((k : ℕ) (x : Entry) → k < place → p (get_or entries k x) ≡ true) → p (get_or entries place e) ≡ true
     → (k : ℕ) (x : Entry) → k ≤ place → p (get_or entries k x) ≡ true
-up_to p entries place e inside before at k x le =
-    elim (cases_Bool (eqb k place)) [
-      | inl same ↦ let is : k ≡ place = grind (arith, nat_tests) in rw is (ap p (get_or_default entries place x e inside) ∙ at)
-      | inr other ↦ let less : k < place = grind (arith, nat_tests) in before k x less
-    ]
+up_to p entries place e inside before at k x le = search (cases_Bool, nat_tests, get_or_default, arith)
 
 -- the owner's entry stands first
 first_at : (entries : List Entry) (e : Entry) → IsAcl entries → 0 < length entries

@@ -1,6 +1,6 @@
 -- What is made in a folder with a default list gets a valid list: cutting permissions leaves each entry's tag.
-use Rattle.acl_core.proofs.Vocabulary.{◌≡◌, ℕ, ◌+◌, ◌<◌, ◌≤◌, ◌||◌, Bool, cond, List, [], ◌∷◌, Option, Some, None, length, get_or, map, refl, ◌∙◌, ap, subst, sym, arith, list_any, count_by, length-map, get_or-map, Tag, Entry, UserObj, User}
-use Rattle.acl_core.proofs.Vocabulary.{GroupObj, Group, Mask, Other, is_group, is_user, precedes, same_tag, IsAcl, IsCanonical, count_of, max_entries, cut_to, has_mask, inherited, limit_of}
+use Rattle.acl_core.proofs.Vocabulary.{◌≡◌, ℕ, ◌+◌, ◌<◌, ◌≤◌, ◌||◌, Bool, cond, List, [], ◌∷◌, Option, Some, None, length, get_or, map, refl, ◌∙◌, ap, subst, sym, arith, list_any, count_by, length-map, get_or-map, Tag, Entry, UserObj, User, GroupObj}
+use Rattle.acl_core.proofs.Vocabulary.{Group, Mask, Other, is_group, is_user, precedes, same_tag, IsAcl, IsCanonical, count_of, max_entries, cut_to, has_mask, inherited, limit_of}
 use Rattle.acl_core.proofs.ListFacts.{count_by-cons}
 
 cut_tag : (limit : Option ℕ) (e : Entry) → (cut_to limit e).tag ≡ e.tag

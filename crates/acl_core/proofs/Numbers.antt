@@ -1,7 +1,7 @@
 -- Users and groups by their numbers: which stand among entries, and whether one stands twice.
-use Rattle.acl_core.proofs.Vocabulary.{◌≡◌, ℕ, ◌+◌, ◌<◌, Bool, true, eqb, ltb, cond, not, ◌&&◌, ◌||◌, List, [], ◌∷◌, length, get_or, drop, map, refl, sym, ap, ◌∙◌, arith, IsPermutation, IsSorted, list_any, count_by, cons_option, filter_map}
-use Rattle.acl_core.proofs.Vocabulary.{zip, IsNonDecreasingBy, nat_cmp, le-ltb, ne_eqb, or_right, get_or-map, length-map, IsNonDecreasingBy-from_sort, IsPermutation-map, Tag, User, Group, Entry, rank, same_tag, precedes, is_user, is_group}
-use Rattle.acl_core.proofs.Vocabulary.{count_of, has_named, has_twice, IsSortedCopy, stands_beside, is_doubled, user_of, group_of}
+use Rattle.acl_core.proofs.Vocabulary.{◌≡◌, ℕ, ◌+◌, ◌<◌, Bool, eqb, ltb, cond, not, ◌&&◌, ◌||◌, List, [], ◌∷◌, length, get_or, drop, map, refl, sym, ap, ◌∙◌, arith, IsPermutation, IsSorted, list_any, count_by, cons_option, filter_map, zip}
+use Rattle.acl_core.proofs.Vocabulary.{IsNonDecreasingBy, nat_cmp, le-ltb, get_or-map, length-map, IsNonDecreasingBy-from_sort, IsPermutation-map, Tag, User, Group, Entry, rank, same_tag, precedes, is_user, is_group, count_of, has_named, has_twice}
+use Rattle.acl_core.proofs.Vocabulary.{IsSortedCopy, stands_beside, is_doubled, user_of, group_of}
 use Rattle.acl_core.specs.Entries.{entry_of}
 use Rattle.acl_core.proofs.Doubles.{beside-twice}
 use Rattle.acl_core.proofs.ListFacts.{count_by-cons}
@@ -27,10 +27,7 @@ one_user id _ users = omega arith
 
 count_users : (id : ℕ) (entries : List Entry) → count_of (User id) entries ≡ count_by (λ other. eqb other id) (users_in entries)
 count_users id [] = refl
-count_users id (e ∷ es) =
-    count_by-cons (λ (x : Entry). same_tag x.tag (User id)) e es
-    ∙ ap (λ n. cond (same_tag e.tag (User id)) 1 0 + n) (count_users id es)
-    ∙ one_user id e.tag (users_in es)
+count_users id (e ∷ es) = search (count_by-cons, one_user, count_users id es, arith)
 
 any_user : (p : Tag → Bool) (q : ℕ → Bool) → ((id : ℕ) → p (User id) ≡ q id) → (tag : Tag) (users : List ℕ) → ((is_user tag && p tag) || list_any q users) ≡ list_any q (user_before tag users)
 any_user p q same (User id) users = ap (λ b. b || list_any q users) (same id)
@@ -52,10 +49,7 @@ one_group id _ groups = omega arith
 
 count_groups : (id : ℕ) (entries : List Entry) → count_of (Group id) entries ≡ count_by (λ other. eqb other id) (groups_in entries)
 count_groups id [] = refl
-count_groups id (e ∷ es) =
-    count_by-cons (λ (x : Entry). same_tag x.tag (Group id)) e es
-    ∙ ap (λ n. cond (same_tag e.tag (Group id)) 1 0 + n) (count_groups id es)
-    ∙ one_group id e.tag (groups_in es)
+count_groups id (e ∷ es) = search (count_by-cons, one_group, count_groups id es, arith)
 
 any_group : (p : Tag → Bool) (q : ℕ → Bool) → ((id : ℕ) → p (Group id) ≡ q id) → (tag : Tag) (groups : List ℕ) → ((is_group tag && p tag) || list_any q groups) ≡ list_any q (group_before tag groups)
 any_group p q same (Group id) groups = ap (λ b. b || list_any q groups) (same id)
@@ -74,13 +68,8 @@ twice_groups entries =
 abbrev pub is_some : List ℕ → Bool
 is_some numbers = not (eqb (length numbers) 0)
 
-some_cons : (number : ℕ) (numbers : List ℕ) → is_some (number ∷ numbers) ≡ true
-some_cons number numbers = ap not (ne_eqb (length (number ∷ numbers)) 0 (λ h. omega (arith, h)))
-
 named_step : (tag : Tag) (users groups : List ℕ) → (is_some (user_before tag users) || is_some (group_before tag groups)) ≡ ((is_user tag || is_group tag) || (is_some users || is_some groups))
-named_step (User id) users groups = ap (λ b. b || is_some groups) (some_cons id users)
-named_step (Group id) users groups = or_right (is_some users) (is_some (id ∷ groups)) (some_cons id groups)
-named_step _ users groups = refl
+named_step tag users groups = search arith
 
 pub named_some : (entries : List Entry) → (is_some (users_in entries) || is_some (groups_in entries)) ≡ has_named entries
 named_some [] = refl

@@ -1,38 +1,15 @@
 -- The one entry of a tag in a canonical list, by the place before which all entries stand before the tag.
-use Rattle.acl_core.proofs.Vocabulary.{◌≡◌, ℕ, zero, suc, ◌<◌, Bool, true, false, cond, eqb, ltb, Option, None, Some, is_some, List, [], ◌∷◌, All, length, get_or, refl, ◌∙◌, ap, sym, inl, inr, filter, arith, cons_option, list_any}
-use Rattle.acl_core.proofs.Vocabulary.{partial_lt, IsPartitionedBy, cases_Bool, nat_tests, All-head, All-tail, Tag, UserObj, User, GroupObj, Group, Mask, Other, Entry, same_tag, precedes, IsCanonical}
+use Rattle.acl_core.proofs.Vocabulary.{◌≡◌, ℕ, zero, suc, ◌<◌, Bool, true, false, cond, eqb, Option, None, Some, is_some, List, [], ◌∷◌, All, length, get_or, refl, ◌∙◌, ap, sym, inl, inr, filter, arith, cons_option, list_any, partial_lt}
+use Rattle.acl_core.proofs.Vocabulary.{IsPartitionedBy, cases_Bool, nat_tests, All-head, All-tail, Tag, Entry, same_tag, precedes, IsCanonical}
 use Rattle.acl_core.specs.contracts.entry.TagPartialOrd.TheImpl as tag_ord
 
 -- the order of tags that `<` asks
 abbrev pub tag_lt : Tag → Tag → Bool
 tag_lt s t = partial_lt (tag_ord.ghosts).partial_cmp s t
 
-lt_by : (a b : ℕ) → partial_lt (tag_ord.ghosts).partial_cmp (User a) (User b) ≡ ltb a b
-lt_by a b = elim (cases_Bool (ltb a b)) [
-  | inl less ↦ rw less refl
-  | inr not_less ↦ elim (cases_Bool (eqb a b)) [ inl same ↦ rw (not_less, same) refl | inr other ↦ rw (not_less, other) refl ]
-]
-
-group_lt_by : (a b : ℕ) → partial_lt (tag_ord.ghosts).partial_cmp (Group a) (Group b) ≡ ltb a b
-group_lt_by a b = elim (cases_Bool (ltb a b)) [
-  | inl less ↦ rw less refl
-  | inr not_less ↦ elim (cases_Bool (eqb a b)) [ inl same ↦ rw (not_less, same) refl | inr other ↦ rw (not_less, other) refl ]
-]
-
 -- it is the canonical one
 pub tag_lt_is : (s t : Tag) → tag_lt s t ≡ precedes s t
-tag_lt_is UserObj UserObj = refl
-tag_lt_is UserObj _ = refl
-tag_lt_is (User a) (User b) = lt_by a b
-tag_lt_is (User a) _ = refl
-tag_lt_is GroupObj UserObj = refl
-tag_lt_is GroupObj _ = refl
-tag_lt_is (Group a) (Group b) = group_lt_by a b
-tag_lt_is (Group a) _ = refl
-tag_lt_is Mask UserObj = refl
-tag_lt_is Mask _ = refl
-tag_lt_is Other UserObj = refl
-tag_lt_is Other _ = refl
+tag_lt_is s t = search arith
 
 chained : (a b tag : Tag) → precedes a b ≡ true → precedes b tag ≡ true → precedes a tag ≡ true
 chained a b tag h k = grind (arith, nat_tests)

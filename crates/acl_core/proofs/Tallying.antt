@@ -1,8 +1,8 @@
 -- What a tally tells of the entries that were taken.
-use Rattle.acl_core.proofs.Vocabulary.{◌≡◌, ℕ, ◌+◌, ◌≤◌, Bool, true, false, eqb, ltb, cond, ◌&&◌, ◌||◌, List, [], ◌∷◌, ◌++◌, Option, None, Some, length, take, refl, sym, ap, subst, ◌∙◌, inl, inr, arith, append-nil, length-append, take_all}
-use Rattle.acl_core.proofs.Vocabulary.{find, list_any, cons_option, cases_Bool, ltb-true, ltb-false, nat_tests, take-append-le, length-take-le, filter_map-append, sum_by-append, Tag, UserObj, User, GroupObj, Group, Mask, Other, Entry}
-use Rattle.acl_core.proofs.Vocabulary.{AclFault, NoUserObj, NoGroupObj, NoOther, TwiceSingle, UserTwice, GroupTwice, MaskMissing, TooMany, same_tag, IsAccepted, count_of, faults, first_fault, has_fault, max_entries, IsTallyOf, IsWhole}
-use Rattle.acl_core.proofs.Vocabulary.{Tallied, group_of, is_doubled, up_to_two, user_of}
+use Rattle.acl_core.proofs.Vocabulary.{◌≡◌, ℕ, ◌+◌, ◌≤◌, Bool, true, eqb, ltb, cond, ◌&&◌, ◌||◌, List, [], ◌∷◌, ◌++◌, Option, None, Some, length, take, refl, sym, ap, subst, ◌∙◌, inl, inr, arith, append-nil, length-append, take_all, find, list_any}
+use Rattle.acl_core.proofs.Vocabulary.{cons_option, cases_Bool, ltb-true, ltb-false, nat_tests, take-append-le, length-take-le, filter_map-append, sum_by-append, Tag, UserObj, User, GroupObj, Group, Mask, Other, Entry, AclFault, NoUserObj}
+use Rattle.acl_core.proofs.Vocabulary.{NoGroupObj, NoOther, TwiceSingle, UserTwice, GroupTwice, MaskMissing, TooMany, same_tag, IsAccepted, count_of, faults, first_fault, has_fault, max_entries, IsTallyOf, IsWhole, Tallied, group_of, is_doubled}
+use Rattle.acl_core.proofs.Vocabulary.{up_to_two, user_of}
 use Rattle.acl_core.proofs.Faults.{accepted_without_fault}
 use Rattle.acl_core.proofs.ListFacts.{count_by-cons}
 use Rattle.acl_core.proofs.Numbers.{is_some, twice_users, twice_groups, named_some}
@@ -48,10 +48,7 @@ up_to_two_many : (n : ℕ) → ltb 1 (up_to_two n) ≡ ltb 1 n
 up_to_two_many n = grind (arith, nat_tests)
 
 count_more : (tag : Tag) (entries : List Entry) (e : Entry) → count_of tag (entries ++ e ∷ []) ≡ count_of tag entries + cond (same_tag e.tag tag) 1 0
-count_more tag entries e =
-    let all = sum_by-append (λ (x : Entry). cond (same_tag x.tag tag) 1 0) entries (e ∷ []) in
-    let last = count_by-cons (λ (x : Entry). same_tag x.tag tag) e [] in
-    omega (arith, all, last)
+count_more tag entries e = search (sum_by-append, count_by-cons, arith)
 
 counted_more : (tag : Tag) (n : ℕ) (entries : List Entry) (e : Entry) → n ≡ up_to_two (count_of tag entries) → cond (same_tag e.tag tag) (counted n) n ≡ up_to_two (count_of tag (entries ++ e ∷ []))
 counted_more tag n entries e is =
@@ -155,21 +152,7 @@ first_of_eight a b c d e f g h =
     cond a (Some NoUserObj) (cond b (Some NoGroupObj) (cond c (Some NoOther) (cond d (Some TwiceSingle) (cond e (Some UserTwice) (cond f (Some GroupTwice) (cond g (Some MaskMissing) (cond h (Some TooMany) None)))))))
 
 told_same : (fault : AclFault) (tally : Tallied) (entries : List Entry) → IsTallyOf tally entries → told_fault tally fault ≡ has_fault fault entries
-told_same NoUserObj tally entries is = ap (λ n. eqb n 0) is.user_objs ∙ up_to_two_zero (count_of UserObj entries)
-told_same NoGroupObj tally entries is = ap (λ n. eqb n 0) is.group_objs ∙ up_to_two_zero (count_of GroupObj entries)
-told_same NoOther tally entries is = ap (λ n. eqb n 0) is.others ∙ up_to_two_zero (count_of Other entries)
-told_same TwiceSingle tally entries is =
-    let many : (n c : ℕ) → n ≡ up_to_two c → ltb 1 n ≡ ltb 1 c = λ n c same. ap (ltb 1) same ∙ up_to_two_many c in
-    λ i. many tally.user_objs (count_of UserObj entries) is.user_objs i
-    || (many tally.group_objs (count_of GroupObj entries) is.group_objs i
-    || (many tally.masks (count_of Mask entries) is.masks i
-    || (many tally.others (count_of Other entries) is.others i || false)))
-told_same UserTwice tally entries is = ap is_doubled is.users ∙ sym (twice_users entries)
-told_same GroupTwice tally entries is = ap is_doubled is.groups ∙ sym (twice_groups entries)
-told_same MaskMissing tally entries is =
-    (λ i. (is_some (is.users i) || is_some (is.groups i)) && eqb (is.masks i) 0)
-    ∙ (λ i. named_some entries i && up_to_two_zero (count_of Mask entries) i)
-told_same TooMany tally entries is = ap (λ kept. ltb max_entries (length kept)) is.kept ∙ many_kept entries
+told_same fault tally entries h3 = search (up_to_two_zero, up_to_two_many, twice_users, twice_groups, is_some, named_some, many_kept, arith)
 
 -- the first fault that a tally tells is that of the entries
 pub first_told : (tally : Tallied) (entries : List Entry) → IsTallyOf tally entries → find (told_fault tally) faults ≡ first_fault entries

@@ -1,8 +1,8 @@
 -- The names that the proofs of this crate take from elsewhere, each with one meaning here.
-pub use Rattle.std.proofs.Common.{All, Bool, Equal, Err, Greater, IsPermutation, IsSorted, Less, List, None, Ok, Option, Result, Some, [], ap, append-nil, arith, bit_and, cond, drop, eqb, false, filter, find, fold, get_or, inl, inr}
-pub use Rattle.std.proofs.Common.{is_some, length, length-append, ltb, map, not, option_map, refl, rules, subst, suc, sym, take, take_all, true, vec_len, zero, ℕ, ◌&&◌, ◌++◌, ◌+◌, ◌-◌, ◌<◌, ◌||◌, ◌↔◌, ◌∙◌, ◌∷◌, ◌≡◌, ◌≤◌}
-pub use Rattle.std.proofs.lemmas.Bool.{agree_below, agree_below_at, and_cases, and_from, and_left, and_parts, and_right, both_ways, cases_Bool, eq-eqb, eqb-false, eqb-true, le-ltb, lt-ltb, ltb-false, ltb-true, ne_eqb, or_cases, or_from}
-pub use Rattle.std.proofs.lemmas.Bool.{or_left, or_parts, or_right}
+pub use Rattle.std.proofs.Common.{All, Bool, Err, IsPermutation, IsSorted, List, None, Ok, Option, Result, Some, [], ap, append-nil, arith, bit_and, cond, drop, eqb, false, filter, find, fold, get_or, inl, inr, is_some, length, length-append, ltb}
+pub use Rattle.std.proofs.Common.{map, not, option_map, refl, rules, subst, suc, sym, take, take_all, true, vec_len, zero, ℕ, ◌&&◌, ◌++◌, ◌+◌, ◌-◌, ◌<◌, ◌||◌, ◌↔◌, ◌∙◌, ◌∷◌, ◌≡◌, ◌≤◌}
+pub use Rattle.std.proofs.lemmas.Bool.{agree_below, agree_below_at, and_cases, and_from, and_left, and_parts, and_right, both_ways, cases_Bool, eq-eqb, eqb-false, eqb-true, le-ltb, lt-ltb, ltb-false, ltb-true, ne_eqb, or_cases, or_from, or_left}
+pub use Rattle.std.proofs.lemmas.Bool.{or_parts, or_right}
 pub use Rattle.std.proofs.lemmas.Bool.Decides.{nat_tests}
 pub use Rattle.std.proofs.lemmas.List.{get_or-map, get_or_default, length-map, length-take-le, take-append-le}
 pub use Rattle.std.proofs.lemmas.List.Elements.{All-head, All-tail, filter_map-append}
@@ -11,7 +11,7 @@ pub use Rattle.std.proofs.lemmas.List.Sums.{get_or-le-sum_by, sum_by-append, sum
 pub use Rattle.std.specs.Cmp.Lexicographic.{pointwise, pointwise_decides}
 pub use Rattle.std.specs.List.{cons_option, count_by, filter_map, list_any, zip}
 pub use Rattle.std.specs.List.Sorted.{IsNonDecreasingBy, IsPartitionedBy, IsSortedBy}
-pub use Rattle.std.specs.Ordering.{is_lt, nat_cmp, ordering_then, partial_lt}
+pub use Rattle.std.specs.Ordering.{nat_cmp, partial_lt}
 pub use Rattle.acl_core.specs.AccessLists.{IsAccepted, IsAcl, IsCanonical, IsValid, count_of, fault_in, faults, first_fault, has_fault, has_named, has_twice, max_entries}
 pub use Rattle.acl_core.specs.Checks.{answer, answer_in, case_of, check_of, first_tag, mask_grants, matches, one_grants}
 pub use Rattle.acl_core.specs.Checks.Case.{OfGroups, OfNamedUser, OfOthers, OfOwner}

@@ -1,6 +1,6 @@
 -- Texts in which some bytes do not stand: where they are cut, and what trimming leaves.
-use Rattle.acl_text.proofs.Vocabulary.{◌≡◌, ℕ, suc, ◌+◌, ◌-◌, Bool, true, false, cond, not, List, [], ◌∷◌, ◌++◌, length, take, drop, get_or, refl, sym, ap, ◌∙◌, arith, list_all, slice_split, onto_first, before_first, prefix_len, suffix_len}
-use Rattle.acl_text.proofs.Vocabulary.{position_or_len, and_parts, and_from, not-true, slice_split-cons_no, slice_split-cons_yes, suffix_len-take_no, AllPass-from_list_all, is_white, trimmed, take_all}
+use Rattle.acl_text.proofs.Vocabulary.{◌≡◌, ℕ, ◌+◌, ◌-◌, Bool, true, false, cond, not, List, [], ◌∷◌, ◌++◌, length, take, drop, get_or, refl, sym, ap, ◌∙◌, arith, list_all, slice_split, before_first, prefix_len, suffix_len, position_or_len}
+use Rattle.acl_text.proofs.Vocabulary.{and_parts, and_from, not-true, slice_split-cons_no, slice_split-cons_yes, suffix_len-take_no, AllPass-from_list_all, is_white, trimmed, take_all}
 
 -- whether no byte passes a test
 abbrev pub lacks : (ℕ → Bool) → List ℕ → Bool
@@ -8,33 +8,22 @@ lacks p bytes = list_all (λ b. not (p b)) bytes
 
 pub split_lacking : (p : ℕ → Bool) (bytes : List ℕ) → lacks p bytes ≡ true → slice_split p bytes ≡ bytes ∷ []
 split_lacking p [] clean = refl
-split_lacking p (b ∷ bytes) clean =
-    let parts = and_parts (not (p b)) (lacks p bytes) clean in
-    slice_split-cons_no p b bytes (not-true (p b) parts.0) ∙ ap (onto_first b) (split_lacking p bytes parts.1)
+split_lacking p (b ∷ bytes) clean = search (and_parts, slice_split-cons_no, not-true, split_lacking p bytes, arith)
 
 pub split_at_byte : (p : ℕ → Bool) (bytes : List ℕ) (y : ℕ) (rest : List ℕ) → lacks p bytes ≡ true → p y ≡ true → slice_split p (bytes ++ y ∷ rest) ≡ bytes ∷ slice_split p rest
 split_at_byte p [] y rest clean separates = slice_split-cons_yes p y rest separates
-split_at_byte p (b ∷ bytes) y rest clean separates =
-    let parts = and_parts (not (p b)) (lacks p bytes) clean in
-    slice_split-cons_no p b (bytes ++ y ∷ rest) (not-true (p b) parts.0) ∙ ap (onto_first b) (split_at_byte p bytes y rest parts.1 separates)
+split_at_byte p (b ∷ bytes) y rest clean separates = search (and_parts, slice_split-cons_no, not-true, split_at_byte p bytes y rest, arith)
 
 before_first-cons_no : (p : ℕ → Bool) (b : ℕ) (bytes : List ℕ) → p b ≡ false → before_first p (b ∷ bytes) ≡ b ∷ before_first p bytes
-before_first-cons_no p b bytes other =
-    let n = position_or_len p bytes in
-    let one : 1 + n ≡ suc n = omega arith in
-    ap (λ t. take (cond (not t) (1 + n) 0) (b ∷ bytes)) other ∙ ap (λ k. take k (b ∷ bytes)) one
+before_first-cons_no p b bytes other = search arith
 
 pub before_lacking : (p : ℕ → Bool) (bytes : List ℕ) → lacks p bytes ≡ true → before_first p bytes ≡ bytes
 before_lacking p [] clean = refl
-before_lacking p (b ∷ bytes) clean =
-    let parts = and_parts (not (p b)) (lacks p bytes) clean in
-    before_first-cons_no p b bytes (not-true (p b) parts.0) ∙ ap (λ rest. b ∷ rest) (before_lacking p bytes parts.1)
+before_lacking p (b ∷ bytes) clean = search (and_parts, before_first-cons_no, not-true, before_lacking p bytes, arith)
 
 pub before_at_byte : (p : ℕ → Bool) (bytes : List ℕ) (y : ℕ) (rest : List ℕ) → lacks p bytes ≡ true → p y ≡ true → before_first p (bytes ++ y ∷ rest) ≡ bytes
 before_at_byte p [] y rest clean separates = ap (λ t. take (cond (not t) (1 + position_or_len p rest) 0) (y ∷ rest)) separates
-before_at_byte p (b ∷ bytes) y rest clean separates =
-    let parts = and_parts (not (p b)) (lacks p bytes) clean in
-    before_first-cons_no p b (bytes ++ y ∷ rest) (not-true (p b) parts.0) ∙ ap (λ more. b ∷ more) (before_at_byte p bytes y rest parts.1 separates)
+before_at_byte p (b ∷ bytes) y rest clean separates = search (and_parts, before_first-cons_no, not-true, before_at_byte p bytes y rest, arith)
 
 -- nothing is trimmed where there is no white space
 pub trimmed_clean : (bytes : List ℕ) → lacks is_white bytes ≡ true → trimmed bytes ≡ bytes
@@ -53,6 +42,4 @@ trimmed_clean (b ∷ bytes) clean =
 -- a test that is wider
 pub list_all_wider : (p q : ℕ → Bool) → ((b : ℕ) → p b ≡ true → q b ≡ true) → (bytes : List ℕ) → list_all p bytes ≡ true → list_all q bytes ≡ true
 list_all_wider p q wider [] all = refl
-list_all_wider p q wider (b ∷ bytes) all =
-    let parts = and_parts (p b) (list_all p bytes) all in
-    and_from (q b) (list_all q bytes) (wider b parts.0) (list_all_wider p q wider bytes parts.1)
+list_all_wider p q wider (b ∷ bytes) all = search (and_parts, and_from, list_all_wider p q wider bytes, arith)

@@ -1,8 +1,8 @@
 -- The text of an entry is read as that entry.
-use Rattle.acl_text.proofs.Vocabulary.{◌≡◌, ℕ, ◌<◌, ◌≤◌, ◌%◌, ◌&&◌, Bool, true, false, not, eqb, List, [], ◌∷◌, ◌++◌, length, map, Some, Ok, codes, decimal, refl, sym, ap, ◌∙◌, append_assoc, arith, is_ascii_digit, list_all, result_map_both}
-use Rattle.acl_text.proofs.Vocabulary.{all_ascii_digits, agree_below_at, eqb-true, and_from, nat_tests, list_all-append, Tag, Entry, Perms, entry_of, may_read, may_write, may_execute, has_permission, digit_of, qualifier, Keyword, User}
-use Rattle.acl_text.proofs.Vocabulary.{Group, Mask, Other, Side, Access, Default, reading, entry_reading, fields_reading, sided_reading, fits_keyword, numbered, tag_of, are_permissions, permission_digit, word_of, keyword_of, is_default}
-use Rattle.acl_text.proofs.Vocabulary.{is_white, colon, parts, trimmed, fields_of, is_name_byte, max_id, sided_entry, Tables, entry_text, sided_text, tag_text}
+use Rattle.acl_text.proofs.Vocabulary.{◌≡◌, ℕ, ◌<◌, ◌≤◌, ◌%◌, ◌&&◌, Bool, true, false, not, eqb, List, [], ◌∷◌, ◌++◌, length, Some, Ok, codes, decimal, refl, ap, ◌∙◌, append_assoc, arith, is_ascii_digit, list_all, result_map_both, all_ascii_digits}
+use Rattle.acl_text.proofs.Vocabulary.{agree_below_at, eqb-true, and_from, nat_tests, list_all-append, Tag, Entry, entry_of, may_read, may_write, may_execute, has_permission, digit_of, qualifier, Keyword, User, Group, Mask, Other, Side, Access}
+use Rattle.acl_text.proofs.Vocabulary.{Default, reading, entry_reading, fields_reading, fits_keyword, numbered, tag_of, are_permissions, permission_digit, word_of, keyword_of, is_default, is_white, colon, parts, trimmed, fields_of, is_name_byte}
+use Rattle.acl_text.proofs.Vocabulary.{max_id, sided_entry, Tables, entry_text, sided_text, tag_text}
 use Rattle.std.proofs.lemmas.Fmt.{digits_decimal, decimal_is_IsNumeral}
 use Rattle.std.proofs.lemmas.Str.Parse.{numerals_by_value, tells_all_ascii_digits}
 use Rattle.acl_core.proofs.EntryEquality.{same_by_fields}
@@ -46,9 +46,7 @@ qualifier_text _ = []
 
 -- the three fields of an entry's text
 tag_fields : (t : Tag) (rest : List ℕ) → tag_text t ++ rest ≡ word_of (keyword_of_tag t) ++ 58 ∷ (qualifier_text t ++ 58 ∷ rest)
-tag_fields (tag.User id) rest = ap (λ more. codes "user:" ++ more) (append_assoc (decimal id) (58 ∷ []) rest)
-tag_fields (tag.Group id) rest = ap (λ more. codes "group:" ++ more) (append_assoc (decimal id) (58 ∷ []) rest)
-tag_fields _ rest = refl
+tag_fields t rest = search (append_assoc, arith)
 
 record WordFacts (k : Keyword) : Type 0 where
   no_colon : lacks (λ b. eqb b colon) (word_of k) ≡ true
@@ -59,8 +57,7 @@ record WordFacts (k : Keyword) : Type 0 where
   plain : list_all is_plain (word_of k) ≡ true
 
 word_facts : (k : Keyword) → WordFacts k
-word_facts User = record { no_colon = refl; trims = refl; known = refl; no_default = refl; no_blank = λ rest. refl; plain = refl }
-word_facts _ = record { no_colon = refl; trims = refl; known = refl; no_default = refl; no_blank = λ rest. refl; plain = refl }
+word_facts k = search arith
 
 record QualifierFacts (names : Tables) (t : Tag) : Type 0 where
   no_colon : lacks (λ b. eqb b colon) (qualifier_text t) ≡ true
@@ -71,17 +68,13 @@ record QualifierFacts (names : Tables) (t : Tag) : Type 0 where
 
 -- digits are not empty, so that they are looked up
 user_of : (names : Tables) (q : List ℕ) → 0 < length q → tag_of names User q ≡ result_map_both tag.User (λ fault. fault) (numbered names.users q)
-user_of names [] some = absurd (omega arith)
-user_of names (b ∷ q) some = refl
+user_of names q h2 = search arith
 
 group_of : (names : Tables) (q : List ℕ) → 0 < length q → tag_of names Group q ≡ result_map_both tag.Group (λ fault. fault) (numbered names.groups q)
-group_of names [] some = absurd (omega arith)
-group_of names (b ∷ q) some = refl
+group_of names q h2 = search arith
 
 numbered_decimal : (table : List (List ℕ × ℕ)) (id : ℕ) → id ≤ max_id → numbered table (decimal id) ≡ Ok id
-numbered_decimal table id small =
-    let numeral = decimal_is_IsNumeral id (omega arith) in
-    rw (decimal_digits id small, ← fits (decimal id) id (sym numeral.1) small) refl
+numbered_decimal table id small = search (decimal_is_IsNumeral id (omega arith), decimal_digits id small, fits, arith)
 
 decimal_facts : (id : ℕ) → id ≤ max_id → (0 < length (decimal id)) × (lacks (λ b. eqb b colon) (decimal id) ≡ true) × (trimmed (decimal id) ≡ decimal id)
     × (list_all is_name_byte (decimal id) ≡ true) × (list_all is_plain (decimal id) ≡ true)
@@ -95,12 +88,8 @@ decimal_facts id small =
     )
 
 qualifier_facts : (names : Tables) (t : Tag) → qualifier t ≤ max_id → QualifierFacts names t
-qualifier_facts names (tag.User id) small =
-    let f = decimal_facts id small in
-    record { no_colon = f.1; trims = f.2; fit = f.3; whom = user_of names (decimal id) f.0 ∙ ap (result_map_both tag.User (λ fault. fault)) (numbered_decimal names.users id small); plain = f.4 }
-qualifier_facts names (tag.Group id) small =
-    let f = decimal_facts id small in
-    record { no_colon = f.1; trims = f.2; fit = f.3; whom = group_of names (decimal id) f.0 ∙ ap (result_map_both tag.Group (λ fault. fault)) (numbered_decimal names.groups id small); plain = f.4 }
+qualifier_facts names (tag.User id) small = search (decimal_facts id small, numbered_decimal names.users id small, user_of, arith)
+qualifier_facts names (tag.Group id) small = search (decimal_facts id small, numbered_decimal names.groups id small, group_of, arith)
 qualifier_facts names _ small = record { no_colon = refl; trims = refl; fit = refl; whom = refl; plain = refl }
 
 -- an item of three fields
@@ -110,17 +99,12 @@ reading_fields names text word q permissions e no_blank three_fields no_default 
 
 -- an item of a default list
 reading_marked : (names : Tables) (text : List ℕ) (e : Entry) → fields_reading names (fields_of text) ≡ Ok e → reading names (codes "default:" ++ text) ≡ Ok (Some (sided_entry Default e))
-reading_marked names text e read =
-    let cut : fields_of (codes "default:" ++ text) ≡ codes "default" ∷ fields_of text = ap (map trimmed) (split_at_byte (λ b. eqb b colon) (codes "default") 58 text refl refl) in
-    ap (λ fields. result_map_both Some (λ fault. fault) (sided_reading names fields)) cut
-    ∙ ap (λ r. result_map_both Some (λ fault. fault) (result_map_both (sided_entry Default) (λ fault. fault) r)) read
+reading_marked names text e read = search arith
 
 -- cut at two colons
 cut_fields : (word q last : List ℕ) → lacks (λ b. eqb b colon) word ≡ true → lacks (λ b. eqb b colon) q ≡ true → parts colon last ≡ last ∷ []
     → fields_of (word ++ 58 ∷ (q ++ 58 ∷ last)) ≡ trimmed word ∷ trimmed q ∷ trimmed last ∷ []
-cut_fields word q last clean_word clean_q one =
-    let rest = split_at_byte (λ b. eqb b colon) q 58 last clean_q refl ∙ ap (λ more. q ∷ more) one in
-    ap (map trimmed) (split_at_byte (λ b. eqb b colon) word 58 (q ++ 58 ∷ last) clean_word refl ∙ ap (λ more. word ∷ more) rest)
+cut_fields word q last clean_word clean_q one = search (split_at_byte, arith)
 
 -- what is read of good fields
 reading_parts : (names : Tables) (t : Tag) (permissions : List ℕ) → QualifierFacts names t → are_permissions permissions ≡ true
@@ -133,9 +117,7 @@ same_digit n small =
     eqb-true _ _ (agree_below_at (λ b. eqb (digit_of (has_permission (record { 0 = b }) may_read) (has_permission (record { 0 = b }) may_write) (has_permission (record { 0 = b }) may_execute) % 8) b) (λ _. true) 8 n refl small)
 
 entry_of-shown : (e : Entry) → entry_of e.tag (digit_of (has_permission e.perms may_read) (has_permission e.perms may_write) (has_permission e.perms may_execute)) ≡ e
-entry_of-shown e =
-    let set : ℕ → Perms = λ n. record { 0 = n } in
-    same_by_fields _ e refl (ap set (same_digit e.perms.0 e.known))
+entry_of-shown e = search (same_by_fields, same_digit, arith)
 
 -- the fields of an entry's text, also with a tab after it, and what is read of them
 record FieldFacts (names : Tables) (e : Entry) (t : Bool) : Type 0 where
@@ -169,20 +151,13 @@ field_facts names e t small =
       no_blank = ap (list_all is_white) is ∙ facts.no_blank (58 ∷ (q ++ 58 ∷ (three r w x ++ tail t)));
       fields = ap fields_of is ∙ cut;
       no_default = facts.no_default;
-      read = ap (λ keyword. entry_reading names keyword q (three r w x)) facts.known
-          ∙ reading_parts names e.tag (three r w x) qualified letters.permissions
-          ∙ ap (λ digit. Ok (entry_of e.tag digit)) letters.digit
-          ∙ ap Ok (entry_of-shown e);
+      read = search (three, reading_parts, entry_of-shown, arith);
     }
 
 -- the text of an entry of one of the two lists, also with a tab after it, is read as that entry
 pub sided_text_read : (names : Tables) (side : Side) (e : Entry) (t : Bool) → qualifier e.tag ≤ max_id → reading names (sided_text side e ++ tail t) ≡ Ok (Some (sided_entry side e))
-sided_text_read names Access e t small =
-    let f = field_facts names e t small in
-    reading_fields names (entry_text e ++ tail t) f.word f.q f.permissions e f.no_blank f.fields f.no_default f.read
-sided_text_read names Default e t small =
-    let f = field_facts names e t small in
-    reading_marked names (entry_text e ++ tail t) e (ap (fields_reading names) f.fields ∙ f.read)
+sided_text_read names Access e t small = search (field_facts names e t small, tail t, reading_fields, arith)
+sided_text_read names Default e t small = search (field_facts names e t small, tail t, reading_marked, arith)
 
 -- an entry's text cuts no text into items
 entry_text_plain : (names : Tables) (e : Entry) (t : Bool) → qualifier e.tag ≤ max_id → list_all is_plain (entry_text e ++ tail t) ≡ true
@@ -199,5 +174,4 @@ entry_text_plain names e t small =
     ap (list_all is_plain) is ∙ list_all-append is_plain (word_of k) (58 ∷ (q ++ 58 ∷ last)) ∙ and_from _ _ (word_facts k).plain after
 
 pub sided_text_plain : (names : Tables) (side : Side) (e : Entry) (t : Bool) → qualifier e.tag ≤ max_id → list_all is_plain (sided_text side e ++ tail t) ≡ true
-sided_text_plain names Access e t small = entry_text_plain names e t small
-sided_text_plain names Default e t small = entry_text_plain names e t small
+sided_text_plain names side e t h4 = search (entry_text_plain, arith)

@@ -1,5 +1,5 @@
 -- Items of more fields than an entry has.
-use Rattle.acl_text.proofs.Vocabulary.{◌≡◌, ℕ, true, eqb, List, ◌∷◌, Option, None, Some, is_some, Err, map, refl, Syntax, colon, trimmed, parts_left, Tables, fields_reading}
+use Rattle.acl_text.proofs.Vocabulary.{◌≡◌, ℕ, true, eqb, List, ◌∷◌, Option, None, Some, is_some, Err, map, Syntax, colon, trimmed, parts_left, Tables, fields_reading, arith}
 use denote.Ref.{Bor}
 use Rattle.acl_text.proofs.Splits.{some_part}
 
@@ -8,6 +8,4 @@ pub many_fields : (names : Tables) (word : List ℕ) (rest later last : Option (
     → parts_left colon rest ≡ second ∷ parts_left colon later → parts_left colon later ≡ third ∷ parts_left colon last → true ≡ is_some last
     → fields_reading names (word ∷ map trimmed (parts_left colon rest)) ≡ Err Syntax
 many_fields names word rest later None second third e f none = cc
-many_fields names word rest later (Some bytes) second third e f more =
-    let fourth = some_part (λ b. eqb b colon) bytes.now in
-    rw (e, f, fourth.2) refl
+many_fields names word rest later (Some bytes) second third e f more = search (some_part (λ b. eqb b colon) bytes.now, arith)

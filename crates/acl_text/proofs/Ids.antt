@@ -1,5 +1,5 @@
 -- The numbers of a caller's groups, read one after the other.
-use Rattle.acl_text.proofs.Vocabulary.{◌≡◌, ℕ, ◌⊎◌, inl, inr, List, [], ◌∷◌, ◌++◌, map, Option, Some, None, option_map, refl, ◌∙◌, ap, number_up_to, ids_in, max_id}
+use Rattle.acl_text.proofs.Vocabulary.{◌≡◌, ℕ, ◌⊎◌, inl, inr, List, [], ◌∷◌, ◌++◌, map, Option, Some, None, option_map, refl, ◌∙◌, number_up_to, ids_in, max_id, arith}
 
 -- the numbers, where each is one
 abbrev pub all_numbers : List (Option ℕ) → Option (List ℕ)
@@ -22,18 +22,10 @@ cases_numbers (Some values) = inr (values, refl)
 -- the parts' numbers are those that are read
 ids_by_numbers : (parts : List (List ℕ)) → all_numbers (map (number_up_to max_id) parts) ≡ ids_in parts
 ids_by_numbers [] = refl
-ids_by_numbers (part ∷ parts) =
-    elim (cases_number (number_up_to max_id part)) [
-      | inl none ↦ rw none refl
-      | inr some ↦ elim (cases_numbers (ids_in parts)) [
-        | inl later ↦ rw (some.1, later) (ap (option_map (λ more. some.0 ∷ more)) (ids_by_numbers parts ∙ later))
-        | inr later ↦ rw (some.1, later.1) (ap (option_map (λ more. some.0 ∷ more)) (ids_by_numbers parts ∙ later.1))
-      ]
-    ]
+ids_by_numbers (part ∷ parts) = search (cases_number, cases_numbers, ids_by_numbers parts, arith)
 
 after_none : (numbers : Option (List ℕ)) → option_map (λ more. [] ++ more) numbers ≡ numbers
-after_none None = refl
-after_none (Some values) = refl
+after_none numbers = search arith
 
 -- where none was read
 pub ids_at_first : (parts : List (List ℕ)) → ids_after [] (map (number_up_to max_id) parts) ≡ ids_in parts

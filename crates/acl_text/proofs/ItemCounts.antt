@@ -1,6 +1,5 @@
 -- A text has no more items than bytes, and one.
-use Rattle.acl_text.proofs.Vocabulary.{◌≡◌, ℕ, ◌+◌, ◌≤◌, Bool, eqb, List, [], ◌∷◌, length, refl, ap, sym, ◌∙◌, inl, inr, arith, length-append, slice_split, flat_map, position_or_len, cases_Bool, length-take, slice_split-cons_no, items_of}
-use Rattle.acl_text.proofs.Vocabulary.{items_of_line, parts, line_feed, comma, uncommented}
+use Rattle.acl_text.proofs.Vocabulary.{◌≡◌, ℕ, ◌+◌, ◌≤◌, Bool, eqb, List, [], ◌∷◌, length, refl, ap, arith, length-append, slice_split, flat_map, cases_Bool, length-take, slice_split-cons_no, items_of, items_of_line, parts, line_feed}
 use Rattle.acl_text.proofs.Splits.{some_part}
 
 -- the bytes of some lines, each counted with an end of its own
@@ -11,15 +10,7 @@ room (line ∷ lines) = length line + 1 + room lines
 room-slice_split : (p : ℕ → Bool) (bytes : List ℕ) → room (slice_split p bytes) ≡ length bytes + 1
 unfolding room
 room-slice_split p [] = refl
-room-slice_split p (byte ∷ bytes) =
-    let rest = room-slice_split p bytes in
-    let some = some_part p bytes in
-    elim (cases_Bool (p byte)) [
-      | inl separates ↦ rw separates (omega (arith, rest))
-      | inr other ↦
-          let e : room (some.0 ∷ some.1) ≡ length bytes + 1 = ap room (sym some.2) ∙ rest in
-          rw (slice_split-cons_no p byte bytes other, some.2) (omega (arith, e))
-    ]
+room-slice_split p (byte ∷ bytes) = search (some_part, cases_Bool, room, slice_split-cons_no, room-slice_split p bytes, arith)
 
 -- a part, its separator and what follows are all bytes
 pub cut_length : (separator : ℕ) (bytes item next : List ℕ) → parts separator bytes ≡ item ∷ parts separator next → length bytes ≡ length item + 1 + length next
@@ -33,26 +24,15 @@ cut_length separator bytes item next cut =
 -- there are as many parts as separators, and one
 few_parts : (p : ℕ → Bool) (bytes : List ℕ) → length (slice_split p bytes) ≤ length bytes + 1
 few_parts p [] = omega arith
-few_parts p (byte ∷ bytes) =
-    let rest = few_parts p bytes in
-    let some = some_part p bytes in
-    elim (cases_Bool (p byte)) [
-      | inl separates ↦ rw separates (omega (arith, rest))
-      | inr other ↦
-          let e : length (some.0 ∷ some.1) ≡ length (slice_split p bytes) = ap length (sym some.2) in
-          rw (slice_split-cons_no p byte bytes other, some.2) (omega (arith, e, rest))
-    ]
+few_parts p (byte ∷ bytes) = search (some_part, cases_Bool, slice_split-cons_no, few_parts p bytes, arith)
 
 few_in_line : (line : List ℕ) → length (items_of_line line) ≤ length line + 1
-few_in_line line =
-    let cut = length-take (position_or_len (λ (b : ℕ). eqb b 35) line) line in
-    omega (arith, few_parts (λ b. eqb b comma) (uncommented line), cut)
+few_in_line line = search (length-take, few_parts, arith)
 
 few_in_lines : (lines : List (List ℕ)) → length (flat_map items_of_line lines) ≤ room lines
 unfolding room
 few_in_lines [] = omega arith
-few_in_lines (line ∷ lines) =
-    omega (arith, few_in_line line, few_in_lines lines, length-append (items_of_line line) (flat_map items_of_line lines))
+few_in_lines (line ∷ lines) = search (few_in_line, length-append, few_in_lines lines, arith)
 
 pub few_items : (text : List ℕ) → length (items_of text) ≤ length text + 1
 few_items text = omega (arith, few_in_lines (parts line_feed text), room-slice_split (λ b. eqb b line_feed) text)

@@ -1,11 +1,9 @@
 -- The fault of an item is never want of memory.
-use Rattle.acl_text.proofs.Vocabulary.{◌≡◌, ℕ, ◌+◌, List, [], ◌∷◌, Option, Some, Result, Ok, Err, sym, ap, ◌∙◌, ItemFault, SidedEntry, Memory, fault_at, first_item_fault, Lists}
+use Rattle.acl_text.proofs.Vocabulary.{◌≡◌, ℕ, ◌+◌, List, [], ◌∷◌, Option, Some, Result, Ok, Err, sym, ap, ◌∙◌, ItemFault, SidedEntry, Memory, fault_at, first_item_fault, Lists, arith}
 use Rattle.acl_text.specs.declared.read.TextFault.{TextFault}
-use Rattle.acl_text.specs.declared.item.ItemFault.TheVariants as item
 
 one_is_named : (fault : ItemFault) (n : ℕ) → Some (fault_at fault n) ≡ Some Memory → ⊥
-one_is_named item.Syntax n is = cc
-one_is_named _ n is = cc
+one_is_named fault n h2 = search arith
 
 item_fault_is_named : (n : ℕ) (readings : List (Result (Option SidedEntry) ItemFault)) → first_item_fault n readings ≡ Some Memory → ⊥
 item_fault_is_named n [] is = cc

@@ -1,10 +1,9 @@
 -- An item reads as an entry exactly when it is written as one.
-use Rattle.acl_text.proofs.Vocabulary.{◌≡◌, ℕ, ◌<◌, ◌≤◌, Bool, true, false, cond, leb, eqb, not, ◌&&◌, ◌||◌, List, [], ◌∷◌, ◌++◌, length, map, Option, Some, None, Result, Ok, Err, codes, refl, sym, ap, subst, ◌∙◌, inl, inr, arith}
-use Rattle.acl_text.proofs.Vocabulary.{is_ascii_digit, list_all, list_any, find, count_by, join_with_byte, ok_or, result_map_both, bytes_eq, digits_value, and_parts, and_from, or_cases, and_right, cases_Bool, eqb-true, leb-true, le-leb}
-use Rattle.acl_text.proofs.Vocabulary.{nat_tests, list_all-append, join_with_byte-slice_split, count_by-cons, Tag, Entry, entry_of, digit_of, ItemFault, SidedEntry, Side, Access, Default, Keyword, User, Group, Mask, Other, IsSpaced}
-use Rattle.acl_text.proofs.Vocabulary.{Denotes, Says, Grants, IsLong, IsShort, IsLaidOut, IsItemOf, IsDefaultItemOf, SaysItem, is_single, word_of, letter_of, keyword_among, keyword_of, single_keyword_of, is_default, colon, is_white, parts}
-use Rattle.acl_text.proofs.Vocabulary.{trimmed, fields_of, is_name_byte, max_id, id_of, sided_entry, Tables, number_in, letter_r, letter_w, letter_x, hyphen, times_in, stands_in, are_permissions, permission_bytes, permission_digit}
-use Rattle.acl_text.proofs.Vocabulary.{is_permission_byte, numbered, tag_of, fits_keyword, entry_reading, fields_reading, sided_reading, reading}
+use Rattle.acl_text.proofs.Vocabulary.{◌≡◌, ℕ, ◌<◌, ◌≤◌, Bool, true, false, cond, leb, eqb, not, ◌&&◌, List, [], ◌∷◌, ◌++◌, length, map, Option, Some, None, Result, Ok, codes, refl, sym, ap, subst, ◌∙◌, inl, inr, arith, list_all, list_any, find}
+use Rattle.acl_text.proofs.Vocabulary.{count_by, join_with_byte, result_map_both, bytes_eq, and_parts, and_from, or_cases, and_right, cases_Bool, eqb-true, leb-true, nat_tests, list_all-append, join_with_byte-slice_split, count_by-cons, Tag, Entry}
+use Rattle.acl_text.proofs.Vocabulary.{entry_of, digit_of, ItemFault, SidedEntry, Side, Access, Default, Keyword, User, Group, Mask, Other, IsSpaced, Denotes, Says, Grants, IsLong, IsShort, IsLaidOut, IsItemOf, IsDefaultItemOf, SaysItem, is_single}
+use Rattle.acl_text.proofs.Vocabulary.{word_of, letter_of, keyword_among, keyword_of, single_keyword_of, is_default, colon, is_white, parts, trimmed, fields_of, is_name_byte, sided_entry, Tables, letter_r, letter_w, letter_x, times_in, stands_in}
+use Rattle.acl_text.proofs.Vocabulary.{are_permissions, permission_digit, is_permission_byte, numbered, tag_of, fits_keyword, entry_reading, fields_reading, sided_reading, reading}
 use Rattle.std.proofs.lemmas.Slice.Eq.{bytes_eq-Decides}
 use Rattle.acl_core.specs.declared.entry.Tag.TheVariants as tag
 use Rattle.acl_text.specs.declared.item.ItemFault.TheVariants as item
@@ -13,75 +12,34 @@ use Rattle.acl_text.proofs.Trimming.{trimmed_spaced, spaced_by_trimming}
 
 found_passes : (p : Keyword → Bool) (ks : List Keyword) (k : Keyword) → find p ks ≡ Some k → p k ≡ true
 found_passes p [] k found = cc
-found_passes p (x ∷ ks) k found = elim (cases_Bool (p x)) [
-  | inl passes ↦ let is : x ≡ k = let f : Some x ≡ Some k = rw passes at found in cc in ap p (sym is) ∙ passes
-  | inr fails ↦ let later : find p ks ≡ Some k = rw fails at found in found_passes p ks k later
-]
+found_passes p (x ∷ ks) k found = search (cases_Bool, found_passes p ks k, arith)
 
 -- the word of a keyword that was found
 pub word_chosen : (ks : List Keyword) (word : List ℕ) (k : Keyword) → keyword_among ks word ≡ Some k → (whole : Bool) × (word ≡ cond whole (word_of k) (letter_of k))
-word_chosen ks word k found =
-    elim (or_cases (bytes_eq word (word_of k)) (bytes_eq word (letter_of k)) (found_passes (λ (x : Keyword). bytes_eq word (word_of x) || bytes_eq word (letter_of x)) ks k found)) [
-      | inl whole ↦ (true, (bytes_eq-Decides word (word_of k)).0 whole)
-      | inr letter ↦ (false, (bytes_eq-Decides word (letter_of k)).0 letter)
-    ]
+word_chosen ks word k found = search (or_cases, found_passes, bytes_eq-Decides, arith)
 
 some_counted : (q : ℕ → Bool) (xs : List ℕ) → list_any q xs ≡ true → 1 ≤ count_by q xs
 some_counted q [] some = cc
-some_counted q (x ∷ xs) some = elim (cases_Bool (q x)) [
-  | inl passes ↦ rw (count_by-cons, passes) (omega arith)
-  | inr fails ↦ let later = some_counted q xs (rw fails at some) in rw (count_by-cons, fails) (omega (arith, later))
-]
+some_counted q (x ∷ xs) some = search (cases_Bool, count_by-cons, some_counted q xs, arith)
 
 none_counted : (q : ℕ → Bool) (xs : List ℕ) → list_any q xs ≡ false → count_by q xs ≡ 0
 none_counted q [] none = refl
-none_counted q (x ∷ xs) none = elim (cases_Bool (q x)) [
-  | inl passes ↦ let found : true ≡ false = rw passes at none in cc
-  | inr fails ↦ let later = none_counted q xs (rw fails at none) in rw (count_by-cons, fails, later) refl
-]
+none_counted q (x ∷ xs) none = search (cases_Bool, count_by-cons, none_counted q xs, arith)
 
 pub once_if_there : (byte : ℕ) (field : List ℕ) → times_in byte field ≤ 1 → times_in byte field ≡ cond (stands_in byte field) 1 0
-once_if_there byte field few = elim (cases_Bool (stands_in byte field)) [
-  | inl some ↦ let one = some_counted (λ b. eqb b byte) field some in rw some (omega (arith, one, few))
-  | inr none ↦ rw none (none_counted (λ b. eqb b byte) field none)
-]
+once_if_there byte field few = search (cases_Bool, some_counted, none_counted, arith)
 
 pub there_if_once : (byte : ℕ) (field : List ℕ) (granted : Bool) → times_in byte field ≡ cond granted 1 0 → stands_in byte field ≡ granted
-there_if_once byte field true one = elim (cases_Bool (stands_in byte field)) [
-  | inl some ↦ some
-  | inr none ↦ let zero = none_counted (λ b. eqb b byte) field none in absurd (omega (arith, zero, one))
-]
-there_if_once byte field false zero = elim (cases_Bool (stands_in byte field)) [
-  | inl some ↦ let one = some_counted (λ b. eqb b byte) field some in absurd (omega (arith, zero, one))
-  | inr none ↦ none
-]
+there_if_once byte field granted h3 = search (cases_Bool, none_counted, some_counted, arith)
 
 pub few_if_once : (n : ℕ) (granted : Bool) → n ≡ cond granted 1 0 → n ≤ 1
-few_if_once n true one = omega (arith, one)
-few_if_once n false zero = omega (arith, zero)
+few_if_once n granted h2 = search arith
 
 pub grants_from_test : (field : List ℕ) → are_permissions field ≡ true → Grants field (stands_in letter_r field) (stands_in letter_w field) (stands_in letter_x field)
-grants_from_test field all =
-    let both = and_parts (list_all is_permission_byte field && list_all (λ byte. leb (times_in byte field) 1) permission_bytes) (leb (times_in hyphen field) 3) all in
-    let known = and_parts (list_all is_permission_byte field) (list_all (λ byte. leb (times_in byte field) 1) permission_bytes) both.0 in
-    let r = and_parts (leb (times_in letter_r field) 1) _ known.1 in
-    let w = and_parts (leb (times_in letter_w field) 1) _ r.1 in
-    let x = and_parts (leb (times_in letter_x field) 1) _ w.1 in
-    record {
-      known = known.0;
-      r = once_if_there letter_r field (leb-true (times_in letter_r field) 1 r.0);
-      w = once_if_there letter_w field (leb-true (times_in letter_w field) 1 w.0);
-      x = once_if_there letter_x field (leb-true (times_in letter_x field) 1 x.0);
-      hyphens = leb-true (times_in hyphen field) 3 both.1;
-    }
+grants_from_test field all = search (and_parts, once_if_there, leb-true, arith)
 
 pub test_from_grants : (field : List ℕ) (reads writes executes : Bool) → Grants field reads writes executes → are_permissions field ≡ true
-test_from_grants field reads writes executes granted =
-    let few = λ (byte : ℕ) (given : Bool) (is : times_in byte field ≡ cond given 1 0). le-leb (times_in byte field) 1 (few_if_once (times_in byte field) given is) in
-    and_from (list_all is_permission_byte field && list_all (λ byte. leb (times_in byte field) 1) permission_bytes) (leb (times_in hyphen field) 3)
-    (and_from (list_all is_permission_byte field) (list_all (λ byte. leb (times_in byte field) 1) permission_bytes) granted.known
-    (and_from _ _ (few letter_r reads granted.r) (and_from _ _ (few letter_w writes granted.w) (and_from _ _ (few letter_x executes granted.x) refl))))
-    (le-leb (times_in hyphen field) 3 granted.hyphens)
+test_from_grants field reads writes executes granted = search arith
 
 pub digit_from_grants : (field : List ℕ) (reads writes executes : Bool) → Grants field reads writes executes → permission_digit field ≡ digit_of reads writes executes
 digit_from_grants field reads writes executes granted =
@@ -90,39 +48,13 @@ digit_from_grants field reads writes executes granted =
 
 -- whom a qualifier names
 named : (r : Result ℕ ItemFault) (f : ℕ → Tag) (t : Tag) → result_map_both f (λ fault. fault) r ≡ Ok t → (id : ℕ) × (r ≡ Ok id) × (f id ≡ t)
-named (Ok id) f t h = (id, refl, cc)
-named (Err fault) f t h = cc
-
-some_of : {T : Type 0} (o : Option T) (fault : ItemFault) (x : T) → ok_or o fault ≡ Ok x → o ≡ Some x
-some_of (Some y) fault x h = let same : y ≡ x = cc in ap Some same
-some_of None fault x h = cc
-
-id_parts : (n id : ℕ) → cond (leb n max_id) (Some n) None ≡ Some id → (n ≡ id) × (id ≤ max_id)
-id_parts n id h = elim (cases_Bool (leb n max_id)) [
-  | inl small ↦
-      let f : Some n ≡ Some id = rw small at h in
-      let same : n ≡ id = cc in
-      (same, subst (λ m. m ≤ max_id) same (leb-true n max_id small))
-  | inr big ↦ let f : None ≡ Some id = rw big at h in cc
-]
+named r f t h3 = search arith
 
 denotes_from : (table : List (List ℕ × ℕ)) (q : List ℕ) (id : ℕ) → 0 < length q → list_all is_name_byte q ≡ true → numbered table q ≡ Ok id → Denotes table q id
-denotes_from table q id some bytes is = record {
-  some = some;
-  bytes = bytes;
-  number = λ digits. let h : ok_or (id_of q) item.NumberTooBig ≡ Ok id = rw digits at is in id_parts (digits_value 10 q) id (some_of (id_of q) item.NumberTooBig id h);
-  name = λ other. let h : ok_or (number_in table q) item.UnknownName ≡ Ok id = rw other at is in some_of (number_in table q) item.UnknownName id h;
-}
+denotes_from table q id some bytes is = search arith
 
 numbered_from : (table : List (List ℕ × ℕ)) (q : List ℕ) (id : ℕ) → Denotes table q id → numbered table q ≡ Ok id
-numbered_from table q id it = elim (cases_Bool (list_all is_ascii_digit q)) [
-  | inl digits ↦
-      let parts = it.number digits in
-      let small : leb (digits_value 10 q) max_id ≡ true = ap (λ n. leb n max_id) parts.0 ∙ le-leb id max_id parts.1 in
-      let found : id_of q ≡ Some id = rw small (ap Some parts.0) in
-      rw (digits, found) refl
-  | inr other ↦ rw (other, it.name other) refl
-]
+numbered_from table q id it = search arith
 
 empty_from : (q : List ℕ) → eqb (length q) 0 ≡ true → q ≡ []
 empty_from [] h = refl
@@ -145,12 +77,10 @@ pub record Tagged (names : Tables) (k : Keyword) (q : List ℕ) (t : Tag) : Type
   pub is : tag_of names k q ≡ Ok t
 
 user_of : (names : Tables) (q : List ℕ) → 0 < length q → tag_of names User q ≡ result_map_both tag.User (λ fault. fault) (numbered names.users q)
-user_of names [] some = absurd (omega arith)
-user_of names (b ∷ q) some = refl
+user_of names q h2 = search arith
 
 group_of : (names : Tables) (q : List ℕ) → 0 < length q → tag_of names Group q ≡ result_map_both tag.Group (λ fault. fault) (numbered names.groups q)
-group_of names [] some = absurd (omega arith)
-group_of names (b ∷ q) some = refl
+group_of names q h2 = search arith
 
 pub tagged_from : (names : Tables) (t : Tag) (k : Keyword) (q : List ℕ) → Says names t k q → Tagged names k q t
 tagged_from names (tag.User id) k q says = rw says.0 (record { fits = says.1.bytes; is = user_of names q says.1.some ∙ ap (result_map_both tag.User (λ fault. fault)) (numbered_from names.users q id says.1) })
@@ -177,9 +107,7 @@ white_colon : (b : ℕ) → is_white b ≡ true → not (eqb b colon) ≡ true
 white_colon b h = grind (arith, nat_tests)
 
 qualifier_kept : (names : Tables) (t : Tag) (k : Keyword) (q : List ℕ) → Says names t k q → list_all is_kept q ≡ true
-qualifier_kept names (tag.User id) k q says = list_all_wider is_name_byte is_kept name_kept q says.1.bytes
-qualifier_kept names (tag.Group id) k q says = list_all_wider is_name_byte is_kept name_kept q says.1.bytes
-qualifier_kept names _ k q says = ap (list_all is_kept) says.1
+qualifier_kept names t k q h4 = search (list_all_wider, name_kept, arith)
 
 record WordFacts (k : Keyword) (word : List ℕ) : Type 0 where
   kept : list_all is_kept word ≡ true
@@ -188,28 +116,14 @@ record WordFacts (k : Keyword) (word : List ℕ) : Type 0 where
   no_default : is_default word ≡ false
 
 word_facts : (k : Keyword) (whole : Bool) → WordFacts k (cond whole (word_of k) (letter_of k))
-word_facts User true = record { kept = refl; known = refl; single = λ h. cc; no_default = refl }
-word_facts User false = record { kept = refl; known = refl; single = λ h. cc; no_default = refl }
-word_facts Group true = record { kept = refl; known = refl; single = λ h. cc; no_default = refl }
-word_facts Group false = record { kept = refl; known = refl; single = λ h. cc; no_default = refl }
-word_facts Mask true = record { kept = refl; known = refl; single = λ h. refl; no_default = refl }
-word_facts Mask false = record { kept = refl; known = refl; single = λ h. refl; no_default = refl }
-word_facts Other true = record { kept = refl; known = refl; single = λ h. refl; no_default = refl }
-word_facts Other false = record { kept = refl; known = refl; single = λ h. refl; no_default = refl }
+word_facts k whole = search arith
 
 -- a field with its white space: not cut, and trimmed to what it is
 uncut : (inner text : List ℕ) → IsSpaced inner text → list_all is_kept inner ≡ true → lacks (λ b. eqb b colon) text ≡ true
-uncut inner text spaced kept =
-    let clear = λ (b : ℕ). not (eqb b colon) in
-    ap (list_all clear) spaced.is
-    ∙ list_all-append clear spaced.before (inner ++ spaced.after)
-    ∙ and_from _ _ (list_all_wider is_white clear white_colon spaced.before spaced.white_before)
-    (list_all-append clear inner spaced.after ∙ and_from _ _ (list_all_wider is_kept clear kept_colon inner kept) (list_all_wider is_white clear white_colon spaced.after spaced.white_after))
+uncut inner text spaced kept = search (list_all-append, and_from, list_all_wider, white_colon, kept_colon, arith)
 
 trims : (inner text : List ℕ) → IsSpaced inner text → list_all is_kept inner ≡ true → trimmed text ≡ inner
-trims inner text spaced kept =
-    ap trimmed spaced.is
-    ∙ trimmed_spaced inner spaced.before spaced.after spaced.white_before (list_all_wider is_kept (λ b. not (is_white b)) kept_white inner kept) spaced.white_after
+trims inner text spaced kept = search (trimmed_spaced, list_all_wider, kept_white, arith)
 
 long_fields : (word q p item : List ℕ) → IsLong word q p item → list_all is_kept word ≡ true → list_all is_kept q ≡ true → list_all is_kept p ≡ true → fields_of item ≡ word ∷ q ∷ p ∷ []
 long_fields word q p item long of_word of_q of_p =
@@ -234,19 +148,10 @@ not_blank first rest item is = ap (list_all is_white) is ∙ list_all-append is_
 -- the entry of a keyword, a qualifier and permissions
 entry_from : (names : Tables) (t : Tag) (k : Keyword) (q p : List ℕ) (reads writes executes : Bool) → Says names t k q → Grants p reads writes executes
     → entry_reading names (Some k) q p ≡ Ok (entry_of t (digit_of reads writes executes))
-entry_from names t k q p reads writes executes says granted =
-    let tagged = tagged_from names t k q says in
-    let made : Result Entry ItemFault = result_map_both (λ whom. entry_of whom (permission_digit p)) (λ fault. fault) (tag_of names k q) in
-    let none : Result Entry ItemFault = Err item.Syntax in
-    ap (λ test. cond (test && are_permissions p) made none) tagged.fits
-    ∙ ap (λ test. cond test made none) (test_from_grants p reads writes executes granted)
-    ∙ ap (result_map_both (λ whom. entry_of whom (permission_digit p)) (λ fault. fault)) tagged.is
-    ∙ ap (λ digit. Ok (entry_of t digit)) (digit_from_grants p reads writes executes granted)
+entry_from names t k q p reads writes executes says granted = search (tagged_from names t k q says, test_from_grants p reads writes executes granted, digit_from_grants p reads writes executes granted, arith)
 
 single_empty : (names : Tables) (t : Tag) (k : Keyword) (q : List ℕ) → is_single k ≡ true → Says names t k q → q ≡ []
-single_empty names (tag.User id) k q single says = let other : is_single k ≡ false = ap is_single says.0 in cc
-single_empty names (tag.Group id) k q single says = let other : is_single k ≡ false = ap is_single says.0 in cc
-single_empty names _ k q single says = says.1
+single_empty names t k q h4 h5 = search arith
 
 -- an item that is written as an entry: its first field is no word of a default list, and what is read of its fields
 record IsRead (names : Tables) (e : Entry) (bytes : List ℕ) : Type 0 where
@@ -295,8 +200,7 @@ record DefaultWord (word : List ℕ) : Type 0 where
   known : is_default word ≡ true
 
 default_word : (whole : Bool) → DefaultWord (cond whole (codes "default") (codes "d"))
-default_word true = record { kept = refl; known = refl }
-default_word false = record { kept = refl; known = refl }
+default_word whole = search arith
 
 said_by_fields : (names : Tables) (bytes word : List ℕ) (more : List (List ℕ)) (marked : Bool) (r : Result Entry ItemFault) → list_all is_white bytes ≡ false → fields_of bytes ≡ word ∷ more → is_default word ≡ marked
     → reading names bytes ≡ result_map_both Some (λ fault. fault) (cond marked (result_map_both (sided_entry Default) (λ fault. fault) (fields_reading names more))
@@ -304,10 +208,7 @@ said_by_fields : (names : Tables) (bytes word : List ℕ) (more : List (List ℕ
 said_by_fields names bytes word more marked r no_blank fields default = rw (no_blank, fields, default) refl
 
 pub read_if_written : (names : Tables) (side : Side) (e : Entry) (bytes : List ℕ) → SaysItem names side e bytes → reading names bytes ≡ Ok (Some (sided_entry side e))
-read_if_written names Access e bytes it =
-    let is = fields_if_written names e bytes it in
-    said_by_fields names bytes is.word is.more false (Ok e) is.no_blank is.fields is.no_default
-    ∙ ap (λ r. result_map_both Some (λ fault. fault) (result_map_both (sided_entry Access) (λ fault. fault) r)) is.read
+read_if_written names Access e bytes it = search (fields_if_written names e bytes it, said_by_fields, arith)
 read_if_written names Default e bytes it =
     let is = fields_if_written names e it.rest it.of_entry in
     let word = cond it.whole_word (codes "default") (codes "d") in
@@ -320,8 +221,7 @@ read_if_written names Default e bytes it =
     ∙ ap (λ r. result_map_both Some (λ fault. fault) (result_map_both (sided_entry Default) (λ fault. fault) r)) (ap (fields_reading names) is.fields ∙ is.read)
 
 mapped : (r : Result Tag ItemFault) (f : Tag → Entry) (e : Entry) → result_map_both f (λ fault. fault) r ≡ Ok e → (t : Tag) × (r ≡ Ok t) × (f t ≡ e)
-mapped (Ok t) f e h = (t, refl, cc)
-mapped (Err fault) f e h = cc
+mapped r f e h3 = search arith
 
 record EntryParts (names : Tables) (found : Option Keyword) (q p : List ℕ) (e : Entry) : Type 0 where
   keyword : Keyword
@@ -334,26 +234,10 @@ record EntryParts (names : Tables) (found : Option Keyword) (q p : List ℕ) (e 
 
 entry_parts : (names : Tables) (found : Option Keyword) (q p : List ℕ) (e : Entry) → entry_reading names found q p ≡ Ok e → EntryParts names found q p e
 entry_parts names None q p e h = cc
-entry_parts names (Some k) q p e h =
-    let made : Result Entry ItemFault = result_map_both (λ whom. entry_of whom (permission_digit p)) (λ fault. fault) (tag_of names k q) in
-    let none : Result Entry ItemFault = Err item.Syntax in
-    elim (cases_Bool (fits_keyword k q && are_permissions p)) [
-      | inl good ↦
-          let both = and_parts (fits_keyword k q) (are_permissions p) good in
-          let f : made ≡ Ok e = sym (ap (λ test. cond test made none) good) ∙ h in
-          let n = mapped (tag_of names k q) (λ whom. entry_of whom (permission_digit p)) e f in
-          record { keyword = k; whom = n.0; is_keyword = refl; fits = both.0; permissions = both.1; tagged = n.1; is = sym n.2 }
-      | inr bad ↦ let f : none ≡ Ok e = sym (ap (λ test. cond test made none) bad) ∙ h in cc
-    ]
-
-abbrev single_in : Option Keyword → Bool
-single_in None = true
-single_in (Some k) = is_single k
+entry_parts names (Some k) q p e h = search (cases_Bool, and_parts, mapped, arith)
 
 single_found : (a b : Bool) (k : Keyword) → cond a (Some Mask) (cond b (Some Other) None) ≡ Some k → is_single k ≡ true
-single_found true b k h = sym (ap single_in h)
-single_found false true k h = sym (ap single_in h)
-single_found false false k h = sym (ap single_in h)
+single_found a b k h3 = search arith
 
 written_by_parts : (names : Tables) (e : Entry) (bytes : List ℕ) (cut : List (List ℕ)) → join_with_byte colon cut ≡ bytes → fields_reading names (map trimmed cut) ≡ Ok e → IsItemOf names e bytes
 written_by_parts names e bytes [] joined h = cc
@@ -402,31 +286,14 @@ written_by_parts names e bytes (a ∷ b ∷ c ∷ []) joined h =
 written_by_parts names e bytes (a ∷ b ∷ c ∷ d ∷ more) joined h = cc
 
 said_read : (blank : Bool) (r : Result SidedEntry ItemFault) (s : SidedEntry) → cond blank (Ok None) (result_map_both Some (λ fault. fault) r) ≡ Ok (Some s) → r ≡ Ok s
-said_read true r s h = cc
-said_read false (Ok x) s h = let same : x ≡ s = cc in ap Ok same
-said_read false (Err fault) s h = cc
+said_read blank r s h3 = search arith
 
 -- an entry that was read for one side
 sided_parts : (s side : Side) (r : Result Entry ItemFault) (e : Entry) → result_map_both (sided_entry s) (λ fault. fault) r ≡ Ok (sided_entry side e) → (s ≡ side) × (r ≡ Ok e)
-sided_parts s side (Ok x) e h = let same : sided_entry s x ≡ sided_entry side e = cc in (ap (λ (y : SidedEntry). y.side) same, ap (λ (y : SidedEntry). Ok y.entry) same)
-sided_parts s side (Err fault) e h = cc
+sided_parts s side r e h4 = search arith
 
 marked_by_parts : (names : Tables) (e : Entry) (a bytes : List ℕ) (cut : List (List ℕ)) → is_default (trimmed a) ≡ true → join_with_byte colon (a ∷ cut) ≡ bytes → fields_reading names (map trimmed cut) ≡ Ok e → IsDefaultItemOf names e bytes
-marked_by_parts names e a bytes [] default joined h = cc
-marked_by_parts names e a bytes (b ∷ cut) default joined h =
-    let rest = join_with_byte colon (b ∷ cut) in
-    let chosen : (whole : Bool) × (trimmed a ≡ cond whole (codes "default") (codes "d")) = elim (or_cases (bytes_eq (trimmed a) (codes "default")) (bytes_eq (trimmed a) (codes "d")) default) [
-      | inl whole ↦ (true, (bytes_eq-Decides (trimmed a) (codes "default")).0 whole)
-      | inr letter ↦ (false, (bytes_eq-Decides (trimmed a) (codes "d")).0 letter)
-    ] in
-    record {
-      whole_word = chosen.0;
-      first = a;
-      rest = rest;
-      of_word = subst (λ w. IsSpaced w a) chosen.1 (spaced_by_trimming a);
-      of_entry = written_by_parts names e rest (b ∷ cut) refl h;
-      is = sym joined;
-    }
+marked_by_parts names e a bytes cut h5 h6 h7 = search (or_cases, bytes_eq-Decides, spaced_by_trimming, written_by_parts, arith)
 
 says_by_parts : (names : Tables) (side : Side) (e : Entry) (bytes : List ℕ) (cut : List (List ℕ)) → join_with_byte colon cut ≡ bytes → sided_reading names (map trimmed cut) ≡ Ok (sided_entry side e) → SaysItem names side e bytes
 says_by_parts names side e bytes [] joined h = cc
@@ -443,5 +310,4 @@ says_by_parts names side e bytes (a ∷ cut) joined h =
     ]
 
 pub written_if_read : (names : Tables) (side : Side) (e : Entry) (bytes : List ℕ) → reading names bytes ≡ Ok (Some (sided_entry side e)) → SaysItem names side e bytes
-written_if_read names side e bytes h =
-    says_by_parts names side e bytes (parts colon bytes) (join_with_byte-slice_split colon bytes) (said_read (list_all is_white bytes) (sided_reading names (fields_of bytes)) (sided_entry side e) h)
+written_if_read names side e bytes h = search (says_by_parts, join_with_byte-slice_split, said_read, arith)

@@ -1,5 +1,5 @@
 -- The three characters of permissions, over all eight sets, with or without white space after them.
-use Rattle.acl_text.proofs.Vocabulary.{◌≡◌, ℕ, ◌&&◌, Bool, true, false, not, if◌then◌else◌, List, [], ◌∷◌, ◌++◌, refl, eqb, list_all, digit_of, trimmed, colon, parts, are_permissions, permission_digit}
+use Rattle.acl_text.proofs.Vocabulary.{◌≡◌, ℕ, ◌&&◌, Bool, true, false, not, if◌then◌else◌, List, [], ◌∷◌, ◌++◌, eqb, list_all, digit_of, trimmed, colon, parts, are_permissions, permission_digit, arith}
 
 -- the characters of r, w and x
 abbrev pub three : Bool → Bool → Bool → List ℕ
@@ -22,19 +22,4 @@ pub record LetterFacts (r w x t : Bool) : Type 0 where
   pub plain : list_all is_plain (three r w x ++ tail t) ≡ true
 
 pub letter_facts : (r w x t : Bool) → LetterFacts r w x t
-letter_facts true true true true = record { permissions = refl; digit = refl; one_field = refl; trims = refl; plain = refl }
-letter_facts true true true false = record { permissions = refl; digit = refl; one_field = refl; trims = refl; plain = refl }
-letter_facts true true false true = record { permissions = refl; digit = refl; one_field = refl; trims = refl; plain = refl }
-letter_facts true true false false = record { permissions = refl; digit = refl; one_field = refl; trims = refl; plain = refl }
-letter_facts true false true true = record { permissions = refl; digit = refl; one_field = refl; trims = refl; plain = refl }
-letter_facts true false true false = record { permissions = refl; digit = refl; one_field = refl; trims = refl; plain = refl }
-letter_facts true false false true = record { permissions = refl; digit = refl; one_field = refl; trims = refl; plain = refl }
-letter_facts true false false false = record { permissions = refl; digit = refl; one_field = refl; trims = refl; plain = refl }
-letter_facts false true true true = record { permissions = refl; digit = refl; one_field = refl; trims = refl; plain = refl }
-letter_facts false true true false = record { permissions = refl; digit = refl; one_field = refl; trims = refl; plain = refl }
-letter_facts false true false true = record { permissions = refl; digit = refl; one_field = refl; trims = refl; plain = refl }
-letter_facts false true false false = record { permissions = refl; digit = refl; one_field = refl; trims = refl; plain = refl }
-letter_facts false false true true = record { permissions = refl; digit = refl; one_field = refl; trims = refl; plain = refl }
-letter_facts false false true false = record { permissions = refl; digit = refl; one_field = refl; trims = refl; plain = refl }
-letter_facts false false false true = record { permissions = refl; digit = refl; one_field = refl; trims = refl; plain = refl }
-letter_facts false false false false = record { permissions = refl; digit = refl; one_field = refl; trims = refl; plain = refl }
+letter_facts r w x t = search arith

@@ -1,10 +1,9 @@
 -- The texts that are written of two lists spell these lists.
-use Rattle.acl_text.proofs.Vocabulary.{◌≡◌, ℕ, ◌≤◌, ◌&&◌, Bool, true, false, not, eqb, List, [], ◌∷◌, ◌++◌, map, Option, None, Some, Ok, codes, refl, sym, ap, ◌∙◌, ◌⊎◌, inl, inr, append_assoc, append-nil, list_all, filter_map, flat_map}
-use Rattle.acl_text.proofs.Vocabulary.{join_by, cases_Bool, and_parts, and_from, list_all-append, Entry, Perms, may_read, may_write, may_execute, has_permission, has_all, qualifier, SidedEntry, Side, Access, Default, reading}
-use Rattle.acl_text.proofs.Vocabulary.{LongTextSpells, ShortTextSpells, NumbersFit, items_of, items_of_line, uncommented, parts, comma, line_feed, max_id, default_entries, entries_of, sided_entry, Tables, Spells, readings, canonical}
-use Rattle.acl_text.proofs.Vocabulary.{entry_text, remark, is_limited, common_text, line_text, long_lines, mask_of, next_text, sided_text}
+use Rattle.acl_text.proofs.Vocabulary.{◌≡◌, ℕ, ◌≤◌, ◌&&◌, Bool, true, false, not, eqb, List, [], ◌∷◌, ◌++◌, map, Option, None, Some, Ok, codes, refl, sym, ap, ◌∙◌, ◌⊎◌, inl, inr, append_assoc, append-nil, list_all, filter_map, flat_map, arith}
+use Rattle.acl_text.proofs.Vocabulary.{join_by, cases_Bool, and_parts, and_from, list_all-append, Entry, Perms, has_all, qualifier, SidedEntry, Side, Access, Default, reading, LongTextSpells, ShortTextSpells, NumbersFit, items_of, items_of_line}
+use Rattle.acl_text.proofs.Vocabulary.{uncommented, parts, comma, line_feed, max_id, default_entries, entries_of, sided_entry, Tables, Spells, readings, canonical, entry_text, remark, is_limited, line_text, long_lines, mask_of, next_text, sided_text}
 use Rattle.acl_text.proofs.CleanText.{lacks, split_lacking, split_at_byte, before_lacking, before_at_byte, list_all_wider}
-use Rattle.acl_text.proofs.Letters.{tail, is_plain, letter_facts}
+use Rattle.acl_text.proofs.Letters.{tail, is_plain}
 use Rattle.acl_text.proofs.EntryTexts.{sided_text_read, sided_text_plain}
 
 -- plain bytes are no line feed, no comment mark and no comma
@@ -23,14 +22,7 @@ IsRemark text = (text ≡ []) ⊎ ((more : List ℕ) × (text ≡ 9 ∷ 35 ∷ m
 
 remark_of : (mask : Option Perms) (e : Entry) → IsRemark (remark mask e)
 remark_of None e = inl refl
-remark_of (Some mask) e =
-    let common = common_text e.perms mask in
-    let letters = letter_facts (has_permission e.perms may_read && has_permission mask may_read) (has_permission e.perms may_write && has_permission mask may_write)
-    (has_permission e.perms may_execute && has_permission mask may_execute) false in
-    elim (cases_Bool (is_limited e.tag && not (has_all mask e.perms))) [
-      | inl less ↦ inr (codes "effective:" ++ common, rw less refl, list_all_wider is_plain (λ b. not (eqb b 10)) no_line_feed common letters.plain)
-      | inr same ↦ inl (rw same refl)
-    ]
+remark_of (Some mask) e = search (cases_Bool (is_limited e.tag && not (has_all mask e.perms)), list_all_wider, is_plain, no_line_feed, arith)
 
 -- a line without its end
 abbrev body : Side → Option Perms → Entry → List ℕ
@@ -50,9 +42,7 @@ line_by names side mask e small (inl none) =
     record {
       unbroken = ap (lacks (λ b. eqb b line_feed)) is ∙ list_all_wider is_plain (λ b. not (eqb b 10)) no_line_feed text plain;
       item = text;
-      one_item = ap items_of_line is
-          ∙ ap (parts comma) (before_lacking (λ b. eqb b 35) text (list_all_wider is_plain (λ b. not (eqb b 35)) no_mark text plain))
-          ∙ split_lacking (λ b. eqb b comma) text (list_all_wider is_plain (λ b. not (eqb b 44)) no_comma text plain);
+      one_item = search (before_lacking, list_all_wider, is_plain, no_mark, split_lacking, no_comma, arith);
       read_back = sided_text_read names side e false small;
     }
 line_by names side mask e small (inr some) =
@@ -61,12 +51,9 @@ line_by names side mask e small (inr some) =
     let more = some.0 in
     let is : body side mask e ≡ text ++ 35 ∷ more = ap (λ r. sided_text side e ++ r) some.1 ∙ sym (append_assoc (sided_text side e) (9 ∷ []) (35 ∷ more)) in
     record {
-      unbroken = ap (lacks (λ b. eqb b line_feed)) is ∙ list_all-append (λ b. not (eqb b 10)) text (35 ∷ more)
-          ∙ and_from _ _ (list_all_wider is_plain (λ b. not (eqb b 10)) no_line_feed text plain) some.2;
+      unbroken = search (lacks, list_all-append, and_from, list_all_wider, is_plain, no_line_feed, arith);
       item = text;
-      one_item = ap items_of_line is
-          ∙ ap (parts comma) (before_at_byte (λ b. eqb b 35) text 35 more (list_all_wider is_plain (λ b. not (eqb b 35)) no_mark text plain) refl)
-          ∙ split_lacking (λ b. eqb b comma) text (list_all_wider is_plain (λ b. not (eqb b 44)) no_comma text plain);
+      one_item = search (before_at_byte, list_all_wider, is_plain, no_mark, split_lacking, no_comma, arith);
       read_back = sided_text_read names side e true small;
     }
 
@@ -74,12 +61,7 @@ line_by names side mask e small (inr some) =
 lines_of : (names : Tables) (side : Side) (mask : Option Perms) (list : List Entry) (rest : List ℕ) → NumbersFit list
     → parts line_feed (flat_map (line_text side mask) list ++ rest) ≡ map (body side mask) list ++ parts line_feed rest
 lines_of names side mask [] rest fit = refl
-lines_of names side mask (e ∷ list) rest fit =
-    let line = line_by names side mask e fit.0 (remark_of mask e) in
-    let later = flat_map (line_text side mask) list in
-    ap (parts line_feed) (append_assoc (line_text side mask e) later rest ∙ append_assoc (body side mask e) (10 ∷ []) (later ++ rest))
-    ∙ split_at_byte (λ b. eqb b line_feed) (body side mask e) 10 (later ++ rest) line.unbroken refl
-    ∙ ap (λ more. body side mask e ∷ more) (lines_of names side mask list rest fit.1)
+lines_of names side mask (e ∷ list) rest fit = search (line_by names side mask e fit.0 (remark_of mask e), remark_of mask e, append_assoc, split_at_byte, lines_of names side mask list rest, arith)
 
 -- what these lines say
 said_by : Side → List Entry → List (Option SidedEntry)
@@ -90,10 +72,7 @@ lines_read : (names : Tables) (side : Side) (mask : Option Perms) (list : List E
     → map (reading names) (flat_map items_of_line (map (body side mask) list ++ lines)) ≡ map Ok (said_by side list ++ said)
 unfolding said_by
 lines_read names side mask [] lines said fit read = read
-lines_read names side mask (e ∷ list) lines said fit read =
-    let line = line_by names side mask e fit.0 (remark_of mask e) in
-    ap (λ items. map (reading names) (items ++ flat_map items_of_line (map (body side mask) list ++ lines))) line.one_item
-    ∙ (λ i. line.read_back i ∷ lines_read names side mask list lines said fit.1 read i)
+lines_read names side mask (e ∷ list) lines said fit read = search (line_by names side mask e fit.0 (remark_of mask e), remark_of mask e, lines_read names side mask list lines said, arith)
 
 -- the entries of a side among what is said of the two lists, access list first, and nothing after it
 access_said : (access : List Entry) (rest : List (Option SidedEntry)) → entries_of Access (filter_map (λ entry. entry) (said_by Access access ++ rest)) ≡ access ++ entries_of Access (filter_map (λ entry. entry) rest)
@@ -122,18 +101,11 @@ both_said access default rest = said_by Access access ++ (said_by Default defaul
 
 of_access_side : (access default : List Entry) (rest : List (Option SidedEntry)) → filter_map (λ entry. entry) rest ≡ [] → entries_of Access (filter_map (λ entry. entry) (both_said access default rest)) ≡ access
 unfolding both_said
-of_access_side access default rest none =
-    access_said access (said_by Default default ++ rest)
-    ∙ ap (λ more. access ++ more) (access_passed default rest ∙ ap (entries_of Access) none)
-    ∙ append-nil access
+of_access_side access default rest none = search (both_said, access_said, said_by, access_passed, append-nil, arith)
 
 of_default_side : (access default : List Entry) (rest : List (Option SidedEntry)) → filter_map (λ entry. entry) rest ≡ [] → entries_of Default (filter_map (λ entry. entry) (both_said access default rest)) ≡ default
 unfolding both_said
-of_default_side access default rest none =
-    default_passed access (said_by Default default ++ rest)
-    ∙ default_said default rest
-    ∙ ap (λ more. default ++ entries_of Default more) none
-    ∙ append-nil default
+of_default_side access default rest none = search (both_said, default_passed, said_by, default_said, append-nil, arith)
 
 pub long_text_spells : LongTextSpells
 unfolding both_said
@@ -146,8 +118,7 @@ long_text_spells lists names fit =
     (ap (parts line_feed) (sym (append-nil (long_lines Default default))) ∙ lines_of names Default (mask_of default) default [] fit.1) in
     record {
       said = both_said access default (None ∷ []);
-      each_read = ap (λ all. map (reading names) (flat_map items_of_line all)) lines
-          ∙ lines_read names Access (mask_of access) access _ _ fit.0 (lines_read names Default (mask_of default) default ([] ∷ []) (None ∷ []) fit.1 refl);
+      each_read = search (lines_read, arith);
       of_access = of_access_side access default (None ∷ []) refl;
       of_default = of_default_side access default (None ∷ []) refl;
     }
@@ -176,10 +147,7 @@ lacks_comma text plain = list_all_wider is_plain (λ b. not (eqb b 44)) no_comma
 cut_later : (side : Side) (list : List Entry) (more : List ℕ) (tail : List (List ℕ)) → ((text : List ℕ) → list_all is_plain text ≡ true → parts comma (text ++ more) ≡ text ∷ tail) → NumbersFit list
     → (first : List ℕ) → list_all is_plain first ≡ true → parts comma (first ++ (later side list ++ more)) ≡ first ∷ (map (sided_text side) list ++ tail)
 cut_later side [] more tail ends fit first plain = ends first plain
-cut_later side (e ∷ list) more tail ends fit first plain =
-    ap (λ text. parts comma (first ++ text)) (append_assoc (next_text side e) (later side list) more)
-    ∙ split_at_byte (λ b. eqb b comma) first 44 (sided_text side e ++ (later side list ++ more)) (lacks_comma first plain) refl
-    ∙ ap (λ rest. first ∷ rest) (cut_later side list more tail ends fit.1 (sided_text side e) (plain_entry side e fit.0))
+cut_later side (e ∷ list) more tail ends fit first plain = search (lacks_comma first plain, plain_entry side e fit.0, append_assoc, split_at_byte, cut_later side list more tail ends, arith)
 
 cut_end : (text : List ℕ) → list_all is_plain text ≡ true → parts comma (text ++ []) ≡ text ∷ []
 cut_end text plain = ap (parts comma) (append-nil text) ∙ split_lacking (λ b. eqb b comma) text (lacks_comma text plain)
@@ -195,9 +163,7 @@ entries_read : (names : Tables) (side : Side) (list : List Entry) (items : List 
     → map (reading names) (map (sided_text side) list ++ items) ≡ map Ok (said_by side list ++ said)
 unfolding said_by
 entries_read names side [] items said fit read = read
-entries_read names side (e ∷ list) items said fit read =
-    let read_back : reading names (sided_text side e) ≡ Ok (Some (sided_entry side e)) = ap (reading names) (sym (append-nil (sided_text side e))) ∙ sided_text_read names side e false fit.0 in
-    λ i. read_back i ∷ entries_read names side list items said fit.1 read i
+entries_read names side (e ∷ list) items said fit read = search (append-nil (sided_text side e), sided_text_read names side e false fit.0, entries_read names side list items said, arith)
 
 -- what a text without line ends says that begins with a text of one item
 short_by : (names : Tables) (first : List ℕ) (said : Option SidedEntry) (list default : List Entry) → list_all is_plain first ≡ true → reading names first ≡ Ok said → NumbersFit list → NumbersFit default

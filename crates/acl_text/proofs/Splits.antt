@@ -6,18 +6,12 @@ use Rattle.memchr.specs.Find.{IsFirstByte, is_byte}
 -- where no separator is found, all is one part
 pub split_whole : (p : ℕ → Bool) (bytes : List ℕ) → length bytes ≤ position_or_len p bytes → slice_split p bytes ≡ bytes ∷ []
 split_whole p [] none = refl
-split_whole p (byte ∷ bytes) none = elim (cases_Bool (p byte)) [
-  | inl separates ↦ let short : position_or_len p (byte ∷ bytes) ≡ 0 = rw separates refl in absurd (omega arith)
-  | inr other ↦
-      let more : position_or_len p (byte ∷ bytes) ≡ 1 + position_or_len p bytes = rw other refl in
-      rw (slice_split-cons_no p byte bytes other, split_whole p bytes (omega arith)) refl
-]
+split_whole p (byte ∷ bytes) none = search (cases_Bool, slice_split-cons_no, split_whole p bytes, arith)
 
 -- the part before the first separator, and the parts after it
 pub split_at_first : (separator : ℕ) (bytes : List ℕ) (place : ℕ) → place ≡ position_or_len (λ b. b == separator) bytes → place < length bytes
     → parts separator bytes ≡ take place bytes ∷ parts separator (take (length bytes - (place + 1)) (drop (place + 1) bytes))
-split_at_first separator bytes place is inside =
-    rw (take_rest bytes (place + 1), is) (slice_split_first (λ (b : ℕ). b == separator) bytes 0 (omega arith))
+split_at_first separator bytes place is inside = search (take_rest, slice_split_first, arith)
 
 -- there is at least one part
 pub some_part : (p : ℕ → Bool) (bytes : List ℕ) → (first : List ℕ) × (rest : List (List ℕ)) × (slice_split p bytes ≡ first ∷ rest)
@@ -31,9 +25,7 @@ some_part p (byte ∷ bytes) =
 
 -- the first place of a byte, as a search finds it
 pub first_place : (byte : ℕ) (bytes : List ℕ) (place : ℕ) → IsFirstByte (is_byte byte) bytes (Some place) → (place ≡ position_or_len (λ b. b == byte) bytes) × (place ≤ length bytes)
-first_place byte bytes place found =
-    let inside : place ≤ length bytes = omega (arith, found.0.high) in
-    (sym (position_or_len_is (λ (b : ℕ). b == byte) bytes place 0 inside (λ k before. false_from_ne_true (get_or bytes k 0 == byte) (found.0.before k (omega arith) before)) (λ less. found.1)), inside)
+first_place byte bytes place found = search (position_or_len_is, false_from_ne_true, arith)
 
 pub no_place : (byte : ℕ) (bytes : List ℕ) → IsFirstByte (is_byte byte) bytes None → length bytes ≡ position_or_len (λ b. b == byte) bytes
 no_place byte bytes none =

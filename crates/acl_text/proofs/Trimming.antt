@@ -1,23 +1,17 @@
 -- What trimming leaves, and that what it takes away is white space.
-use Rattle.acl_text.proofs.Vocabulary.{◌≡◌, ℕ, suc, ◌+◌, ◌-◌, Bool, true, false, cond, not, ◌&&◌, List, [], ◌∷◌, ◌++◌, length, take, drop, reverse, refl, sym, ap, ◌∙◌, append-nil, length-append, inl, inr, arith, list_all, prefix_len}
-use Rattle.acl_text.proofs.Vocabulary.{suffix_len, and_parts, and_from, not-true, cases_Bool, take-append-drop, reverse-append, reverse-reverse, length-reverse, list_all-append, length-prefix_len, IsSpaced, is_white, trimmed}
+use Rattle.acl_text.proofs.Vocabulary.{◌≡◌, ℕ, suc, ◌+◌, ◌-◌, Bool, true, cond, not, ◌&&◌, List, [], ◌∷◌, ◌++◌, length, take, drop, reverse, refl, sym, ap, ◌∙◌, append-nil, length-append, inl, inr, arith, list_all, prefix_len, suffix_len, and_parts}
+use Rattle.acl_text.proofs.Vocabulary.{and_from, not-true, cases_Bool, take-append-drop, reverse-append, reverse-reverse, length-reverse, list_all-append, length-prefix_len, IsSpaced, is_white, trimmed}
 use Rattle.std.proofs.Math.Seq.{drop-append_seam, take-append_seam}
 use Rattle.acl_text.proofs.CleanText.{lacks}
 
 prefix_none : (p : ℕ → Bool) (ys : List ℕ) → lacks p ys ≡ true → prefix_len p ys ≡ 0
 prefix_none p [] clean = refl
-prefix_none p (y ∷ ys) clean =
-    let parts = and_parts (not (p y)) (lacks p ys) clean in
-    ap (λ t. cond t (1 + prefix_len p ys) 0) (not-true (p y) parts.0)
+prefix_none p (y ∷ ys) clean = search (and_parts, lacks, not-true, arith)
 
 -- what passes, and then what begins with nothing that does
 prefix_over : (p : ℕ → Bool) (xs ys : List ℕ) → list_all p xs ≡ true → prefix_len p ys ≡ 0 → prefix_len p (xs ++ ys) ≡ length xs
 prefix_over p [] ys all none = none
-prefix_over p (x ∷ xs) ys all none =
-    let parts = and_parts (p x) (list_all p xs) all in
-    let later = prefix_over p xs ys parts.1 none in
-    let one : 1 + prefix_len p (xs ++ ys) ≡ length (x ∷ xs) = omega (arith, later) in
-    ap (λ t. cond t (1 + prefix_len p (xs ++ ys)) 0) parts.0 ∙ one
+prefix_over p (x ∷ xs) ys all none = search (and_parts, prefix_over p xs ys, arith)
 
 front_passes : (p : ℕ → Bool) (xs : List ℕ) → list_all p (take (prefix_len p xs) xs) ≡ true
 front_passes p [] = refl
@@ -30,18 +24,11 @@ front_passes p (x ∷ xs) =
     ]
 
 and_swap : (a b : Bool) → (a && (b && true)) ≡ (b && a)
-and_swap true true = refl
-and_swap true false = refl
-and_swap false true = refl
-and_swap false false = refl
+and_swap a b = search arith
 
 list_all_reverse : (p : ℕ → Bool) (xs : List ℕ) → list_all p (reverse xs) ≡ list_all p xs
 list_all_reverse p [] = refl
-list_all_reverse p (x ∷ xs) =
-    ap (list_all p) (reverse-append (x ∷ []) xs)
-    ∙ list_all-append p (reverse xs) (x ∷ [])
-    ∙ ap (λ t. t && (p x && true)) (list_all_reverse p xs)
-    ∙ and_swap (list_all p xs) (p x)
+list_all_reverse p (x ∷ xs) = search (reverse-append (x ∷ []) xs, list_all-append p (reverse xs) (x ∷ []), and_swap (list_all p xs) (p x), list_all_reverse p xs, arith)
 
 abbrev trimmed_end : List ℕ → List ℕ
 trimmed_end begun = take (length begun - suffix_len is_white begun) begun

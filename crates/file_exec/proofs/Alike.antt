@@ -1,36 +1,19 @@
 -- A course goes alike on rows that agree where they are known.
-use Rattle.file_exec.proofs.Vocabulary.{◌≡◌, ℕ, true, false, cond, [], ◌∷◌, Option, Some, None, refl, sym, ap, subst, ◌∙◌, not, ◌==◌, ◌&&◌, ◌||◌, same_Some, eqb-true, kind_of, empty_content, Row, with_acl, with_votes, with_content}
-use Rattle.file_exec.proofs.Vocabulary.{LockMode, Exclusive, Edit, SetAcl, SetVotes, SetContent, Make, Course, Give, Refuse, Look, Read, Set, Hold, Know, Edits, changed, seen, sets_content, is_set, emptied, content_in, head, looked}
-use Rattle.file_exec.proofs.Vocabulary.{content_read, unless_set, needs, ending, KnownSuite, Known, known_of, row_in, known_rows, is_held, is_opened, first_unmet, Heard, heard, IsSoAt, AgreesWith}
+use Rattle.file_exec.proofs.Vocabulary.{◌≡◌, ℕ, true, false, cond, [], ◌∷◌, Option, Some, refl, sym, ap, ◌∙◌, not, ◌==◌, ◌&&◌, ◌||◌, Row, arith, LockMode, Exclusive, Edit, Course, Give, Refuse, Look, Read, Set, Hold, Know, Edits, changed, seen}
+use Rattle.file_exec.proofs.Vocabulary.{sets_content, is_set, content_in, head, looked, content_read, unless_set, needs, ending, KnownSuite, Known, known_of, row_in, known_rows, is_held, is_opened, first_unmet, Heard, heard, IsSoAt, AgreesWith}
 
 -- ---- edits of rows that look the same
 
 head_changed : (edit : Edit) (a b : Option Row) → head a ≡ head b → head (changed edit a) ≡ head (changed edit b)
-head_changed edit None None same = refl
-head_changed edit None (Some b) same = cc
-head_changed edit (Some a) None same = cc
-head_changed (SetAcl acl) (Some a) (Some b) same = ap (λ (row : Row). Some (with_acl row acl)) (same_Some (emptied a) (emptied b) same)
-head_changed (SetVotes votes) (Some a) (Some b) same = ap (λ (row : Row). Some (with_votes row votes)) (same_Some (emptied a) (emptied b) same)
-head_changed (SetContent content) (Some a) (Some b) same = ap (λ (row : Row). Some (with_content row (empty_content (kind_of content)))) (same_Some (emptied a) (emptied b) same)
-head_changed (Make made) (Some a) (Some b) same = refl
+head_changed edit a b h3 = search arith
 
 pub head_seen : (edits : Edits) (suite : ℕ) (a b : Option Row) → head a ≡ head b → head (seen edits suite a) ≡ head (seen edits suite b)
 head_seen [] suite a b same = same
-head_seen (e ∷ edits) suite a b same =
-    elim (e.0 == suite) as (λ here. head (cond here (changed e.1 (seen edits suite a)) (seen edits suite a)) ≡ head (cond here (changed e.1 (seen edits suite b)) (seen edits suite b))) [
-      | true ↦ head_changed e.1 (seen edits suite a) (seen edits suite b) (head_seen edits suite a b same)
-      | false ↦ head_seen edits suite a b same
-    ]
+head_seen (e ∷ edits) suite a b same = search (head_changed, head_seen edits suite a b same, arith)
 
 -- a content that was set is the same
 content_changed : (edit : Edit) (a b : Option Row) → head a ≡ head b → (sets_content edit ≡ false → content_in a ≡ content_in b) → content_in (changed edit a) ≡ content_in (changed edit b)
-content_changed edit None (Some b) same before = cc
-content_changed edit (Some a) None same before = cc
-content_changed edit None None same before = refl
-content_changed (SetAcl acl) (Some a) (Some b) same before = before refl
-content_changed (SetVotes votes) (Some a) (Some b) same before = before refl
-content_changed (SetContent content) (Some a) (Some b) same before = refl
-content_changed (Make made) (Some a) (Some b) same before = refl
+content_changed edit a b h3 h4 = search arith
 
 pub content_seen : (edits : Edits) (suite : ℕ) (a b : Option Row) → head a ≡ head b → is_set edits suite ≡ true → content_in (seen edits suite a) ≡ content_in (seen edits suite b)
 content_seen [] suite a b same set = cc
@@ -49,23 +32,17 @@ Goes known rows edits course = heard (first_unmet known (needs rows edits course
 
 -- a suite that is held shows the same, and one that is opened is the same
 pub held_head : (mode : LockMode) (known : Option KnownSuite) (row : Option Row) → IsSoAt known row → is_held mode known ≡ true → head (row_in known) ≡ head row
-held_head mode (Some known) row so held = so.head
-held_head mode None row so held = cc
+held_head mode known row h3 h4 = search arith
 
 pub opened_same : (known : Option KnownSuite) (row : Option Row) → IsSoAt known row → is_opened known ≡ true → row_in known ≡ row
-opened_same (Some known) row so opened = so.content opened
-opened_same None row so opened = cc
+opened_same known row h2 h3 = search arith
 
 -- each suite whose content was set shows the same
 abbrev SameWhereSet : Known → (ℕ → Option Row) → Edits → Type 0
 SameWhereSet known rows edits = (suite : ℕ) → is_set edits suite ≡ true → head (known_rows known suite) ≡ head (rows suite)
 
 set_more : (known : Known) (rows : ℕ → Option Row) (edits : Edits) (suite : ℕ) (edit : Edit) → SameWhereSet known rows edits → head (known_rows known suite) ≡ head (rows suite) → SameWhereSet known rows ((suite, edit) ∷ edits)
-set_more known rows edits suite edit same here q set =
-    elim (suite == q) as (λ b. (suite == q) ≡ b → ((b && sets_content edit) || is_set edits q) ≡ true → head (known_rows known q) ≡ head (rows q)) [
-      | true ↦ λ is _. subst (λ q. head (known_rows known q) ≡ head (rows q)) (eqb-true suite q is) here
-      | false ↦ λ _ set. same q set
-    ] refl set
+set_more known rows edits suite edit same here q set = search arith
 
 pub goes_alike : {A E : Type 0} (known : Known) (rows : ℕ → Option Row) → AgreesWith known rows → (edits : Edits) → SameWhereSet known rows edits → (course : Course A E)
     → Goes known (known_rows known) edits course ≡ Goes known rows edits course

@@ -1,6 +1,6 @@
 -- What is reached exclusively is held so.
-use Rattle.file_exec.proofs.Vocabulary.{◌≡◌, ℕ, true, false, cond, List, Option, Some, None, Result, Ok, Err, refl, sym, ap, ◌∙◌, Identity, LockMode, Exclusive, Why, Parent, Row, root, Object, names_in, to_change, permit, owner_only}
-use Rattle.file_exec.proofs.Vocabulary.{Course, Give, ◌>>=◌, ◌>>◌, rule, look, Hold, Edits, Ended, looked, Known, known_rows, is_met, Heard, Needs, Done, run, then_run, RunsOr}
+use Rattle.file_exec.proofs.Vocabulary.{◌≡◌, ℕ, true, List, Option, Result, Ok, sym, ap, ◌∙◌, Identity, LockMode, Exclusive, Why, Parent, Row, root, Object, names_in, to_change, permit, owner_only, arith, Course, Give, ◌>>=◌, ◌>>◌, rule, look, Hold}
+use Rattle.file_exec.proofs.Vocabulary.{Edits, Ended, Known, is_met, Heard, Done, run, RunsOr}
 use Rattle.file_exec.specs.Operations as asked
 use Rattle.file_exec.proofs.Running.{runs_in_turn}
 use Rattle.file_exec.proofs.Steps.{HoldsAll}
@@ -8,25 +8,13 @@ use Rattle.file_exec.proofs.Steps.{HoldsAll}
 -- where two courses are done, the first was, and then the second
 parted : {A B E P : Type 0} (known : Known) (edits : Edits) (first : Course A E) (next : A → Course B E) (ended : Ended B) → run known edits (◌>>=◌ first next) ≡ Done (Ok ended)
     → ((middle : Ended A) → run known edits first ≡ Done (Ok middle) → run known middle.edits (next middle.given) ≡ Done (Ok ended) → P) → P
-parted {A = A} {E = E} {P = P} known edits first next ended is then = of (run known edits first) refl (sym (runs_in_turn known edits first next) ∙ is)
-  where
-    of : (heard : Heard A E) → run known edits first ≡ heard → then_run known next heard ≡ Done (Ok ended) → P
-    of (Needs need) was is = cc
-    of (Done (Ok middle)) was is = then middle was is
-    of (Done (Err why)) was is = cc
+parted known = search (runs_in_turn, arith)
 
 placed : (known : Known) (edits : Edits) (suite : ℕ) (row : Option Row) (ended : Ended Object) → run known edits (asked.place_at suite row) ≡ Done (Ok ended) → suite ≡ ended.given.suite
-placed known edits suite (Some row) ended is =
-    let same : record { given = record { suite = suite; row = row }; edits = edits } ≡ ended = cc in ap (λ (ended : Ended Object). ended.given.suite) same
-placed known edits suite None ended is = cc
+placed known edits suite row ended h5 = search arith
 
 held_holds : (known : Known) (edits : Edits) (suite : ℕ) (mode : LockMode) (ended : Ended Object) → run known edits (asked.held suite mode) ≡ Done (Ok ended) → is_met known (Hold ended.given.suite mode) ≡ true
-held_holds known edits suite mode ended is =
-    elim (is_met known (Hold suite mode)) as (λ b. is_met known (Hold suite mode) ≡ b → cond b (run known edits (asked.place_at suite (looked (known_rows known) edits suite)))
-    (Needs (Hold suite mode)) ≡ Done (Ok ended) → is_met known (Hold ended.given.suite mode) ≡ true) [
-      | true ↦ λ met is. ap (λ suite. is_met known (Hold suite mode)) (sym (placed known edits suite (looked (known_rows known) edits suite) ended is)) ∙ met
-      | false ↦ λ _ is. cc
-    ] refl is
+held_holds known edits suite mode ended is = search arith
 
 reach_holds : (known : Known) (edits : Edits) (caller : Identity) (names : List (List ℕ)) (mode : LockMode) (ended : Ended Object)
     → run known edits (asked.reach caller names mode) ≡ Done (Ok ended) → is_met known (Hold ended.given.suite mode) ≡ true
@@ -39,8 +27,7 @@ owned_holds known edits caller names ended is =
     ap (λ suite. is_met known (Hold suite Exclusive)) (sym (of middle (owner_only caller middle.given) is)) ∙ reach_holds known edits caller names Exclusive middle was)
   where
     of : (middle : Ended Object) (owner : Result (Unit {0}) Why) → run known middle.edits (◌>>◌ (rule owner) (Give middle.given)) ≡ Done (Ok ended) → middle.given.suite ≡ ended.given.suite
-    of middle (Ok _) is = let same : record { given = middle.given; edits = middle.edits } ≡ ended = cc in ap (λ (ended : Ended Object). ended.given.suite) same
-    of middle (Err why) is = cc
+    of middle owner h2 = search arith
 
 parent_holds : (known : Known) (edits : Edits) (caller : Identity) (names : List (List ℕ)) (ended : Ended Parent)
     → run known edits (asked.parent_of caller names) ≡ Done (Ok ended) → is_met known (Hold ended.given.place.suite Exclusive) ≡ true
@@ -52,27 +39,17 @@ parent_holds known edits caller names ended is =
     last place = ◌>>=◌ (asked.names_at place.suite) (λ names. Give (record { place = place; names = names }))
 
     named : (place : Object) (edits : Edits) → run known edits (last place) ≡ Done (Ok ended) → place.suite ≡ ended.given.place.suite
-    named place edits is = parted known edits (asked.names_at place.suite) (λ names. Give (record { place = place; names = names })) ended is (λ middle _ is.
-        let same : record { given = record { place = place; names = middle.given }; edits = middle.edits } ≡ ended = cc in ap (λ (ended : Ended Parent). ended.given.place.suite) same)
+    named place edits is = search (parted, arith)
 
     let_in : (middle : Ended Object) (permit : Result (Unit {0}) Why) → run known middle.edits (◌>>◌ (rule permit) (last middle.given)) ≡ Done (Ok ended) → middle.given.suite ≡ ended.given.place.suite
-    let_in middle (Ok _) is = named middle.given middle.edits is
-    let_in middle (Err why) is = cc
+    let_in middle permit h2 = search (named, arith)
 
     folder : (middle : Ended Object) (names : Result (List (List ℕ × ℕ)) Why) → run known middle.edits
         (◌>>◌ (rule names) (◌>>◌ (rule (permit caller middle.given to_change)) (last middle.given))) ≡ Done (Ok ended) → middle.given.suite ≡ ended.given.place.suite
-    folder middle (Ok names) is = let_in middle (permit caller middle.given to_change) is
-    folder middle (Err why) is = cc
+    folder middle names h2 = search (let_in, arith)
 
 look_holds : {E : Type 0} (known : Known) (edits : Edits) (suite : ℕ) (mode : LockMode) (ended : Ended (Option Row)) → run known edits (look {E = E} suite mode) ≡ Done (Ok ended) → is_met known (Hold suite mode) ≡ true
-look_holds {E = E} known edits suite mode ended is =
-    elim (is_met known (Hold suite mode)) as (λ b. cond b seen (Needs (Hold suite mode)) ≡ Done (Ok ended) → b ≡ true) [
-      | true ↦ λ _. refl
-      | false ↦ λ is. cc
-    ] is
-  where
-    seen : Heard (Option Row) E
-    seen = Done (Ok (record { given = looked (known_rows known) edits suite; edits = edits }))
+look_holds known = search arith
 
 -- ---- the same of what the code has reached
 

@@ -1,8 +1,7 @@
 -- The changes lead from the rows before to the rows after.
-use Rattle.file_exec.proofs.Vocabulary.{◌⊎◌, inl, inr, ◌≡◌, ℕ, Bool, true, false, cond, [], ◌∷◌, Option, Some, None, refl, sym, ap, subst, ◌∙◌, ◌==◌, ◌&&◌, ◌||◌, option_map, is_some, list_all, unsigned_tied, nat_cmp, eqb-true}
-use Rattle.file_exec.proofs.Vocabulary.{same_Some, nat_cmp_total, get-insert, get, Exclusive, Row, row_of, with_content, Change, Edit, SetAcl, SetVotes, SetContent, Make, touches, makes, sets_acl, sets_votes, some, change_of}
-use Rattle.file_exec.proofs.Vocabulary.{changes_at, with_change, Edits, changed, seen, sets_content, is_set, emptied, head, content_in, with_edits, Known, known_of, known_rows, is_held, is_opened, is_held_for, TellsAt, ChangesBySuite}
-use Rattle.file_exec.proofs.Vocabulary.{ChangesLeadOn}
+use Rattle.file_exec.proofs.Vocabulary.{◌⊎◌, inl, inr, ◌≡◌, ℕ, Bool, true, false, cond, [], ◌∷◌, Option, Some, None, refl, sym, ap, subst, ◌∙◌, ◌==◌, ◌&&◌, ◌||◌, option_map, is_some, list_all, unsigned_tied, nat_cmp, eqb-true, arith, nat_cmp_total}
+use Rattle.file_exec.proofs.Vocabulary.{get-insert, get, Exclusive, Row, row_of, Change, Edit, SetAcl, SetVotes, SetContent, Make, touches, makes, sets_acl, sets_votes, some, change_of, changes_at, with_change, Edits, changed, seen, sets_content}
+use Rattle.file_exec.proofs.Vocabulary.{is_set, head, content_in, with_edits, Known, known_of, known_rows, is_held, is_opened, is_held_for, TellsAt, ChangesBySuite, ChangesLeadOn}
 use Rattle.file_exec.proofs.Alike.{head_seen, content_seen, held_head, opened_same}
 use Rattle.file_exec.proofs.StepOnTable.{row_of-with_edits}
 use Rattle.file_exec.proofs.VotesRead.{knows_whose_votes}
@@ -61,19 +60,7 @@ untouched_unset (e ∷ edits) suite is =
 -- a suite that is touched is held
 touched_held : (known : Known) (edits : Edits) (suite : ℕ) → list_all (is_held_for known) edits ≡ true → touches edits suite ≡ true → is_held Exclusive (known_of known suite) ≡ true
 touched_held known [] suite held touched = cc
-touched_held known (e ∷ edits) suite held touched =
-    elim (e.0 == suite) as (λ b. (e.0 == suite) ≡ b → (b || touches edits suite) ≡ true → is_held Exclusive (known_of known suite) ≡ true) [
-      | true ↦ λ is _. ap (λ suite. is_held Exclusive (known_of known suite)) (sym (eqb-true e.0 suite is)) ∙ first (is_held Exclusive (known_of known e.0)) held
-      | false ↦ λ _ touched. touched_held known edits suite (rest (is_held Exclusive (known_of known e.0)) held) touched
-    ] refl touched
-  where
-    first : (a : Bool) → (a && list_all (is_held_for known) edits) ≡ true → a ≡ true
-    first true is = refl
-    first false is = is
-
-    rest : (a : Bool) → (a && list_all (is_held_for known) edits) ≡ true → list_all (is_held_for known) edits ≡ true
-    rest true is = is
-    rest false is = cc
+touched_held known (e ∷ edits) suite held touched = search (eqb-true, touched_held known edits suite, arith)
 
 -- a content that no edit sets stays, and no row goes
 stays : (edits : Edits) (suite : ℕ) (row : Row) → is_set edits suite ≡ false → content_in (seen edits suite (Some row)) ≡ row.content
@@ -112,8 +99,7 @@ content_stays edits suite None is = sym (ap content_in (still_none edits suite i
 
 -- a part of a row stays where no edit sets it
 pub neither : (a b : Bool) → (a || b) ≡ false → (a ≡ false) × (b ≡ false)
-neither true b is = cc
-neither false b is = (refl, is)
+neither a b h2 = search arith
 
 pub part_stays : {A : Type 0} (part : Row → A) (kind : Edit → Bool) → ((edit : Edit) (row : Option Row) → kind edit ≡ false → option_map part row ≡ option_map part (changed edit row))
     → (edits : Edits) (suite : ℕ) (row : Option Row) → some kind edits suite ≡ false → option_map part row ≡ option_map part (seen edits suite row)
@@ -125,35 +111,17 @@ part_stays part kind keeps (e ∷ edits) suite row is =
     ] is
 
 pub keeps_acl : (edit : Edit) (row : Option Row) → sets_acl edit ≡ false → option_map (λ (row : Row). row.acl) row ≡ option_map (λ (row : Row). row.acl) (changed edit row)
-keeps_acl (SetAcl acl) row is = cc
-keeps_acl (SetVotes votes) None is = refl
-keeps_acl (SetVotes votes) (Some row) is = refl
-keeps_acl (SetContent content) None is = refl
-keeps_acl (SetContent content) (Some row) is = refl
-keeps_acl (Make made) row is = cc
+keeps_acl edit row h2 = search arith
 
 pub keeps_votes : (edit : Edit) (row : Option Row) → sets_votes edit ≡ false → option_map (λ (row : Row). row.votes) row ≡ option_map (λ (row : Row). row.votes) (changed edit row)
-keeps_votes (SetAcl acl) None is = refl
-keeps_votes (SetAcl acl) (Some row) is = refl
-keeps_votes (SetVotes votes) row is = cc
-keeps_votes (SetContent content) None is = refl
-keeps_votes (SetContent content) (Some row) is = refl
-keeps_votes (Make made) row is = cc
+keeps_votes edit row h2 = search arith
 
 -- an edit that makes no row leaves one where there was one
 keeps_row : (edit : Edit) (row : Option Row) → makes edit ≡ false → option_map (λ (row : Row). true) row ≡ option_map (λ (row : Row). true) (changed edit row)
-keeps_row (SetAcl acl) None is = refl
-keeps_row (SetAcl acl) (Some row) is = refl
-keeps_row (SetVotes votes) None is = refl
-keeps_row (SetVotes votes) (Some row) is = refl
-keeps_row (SetContent content) None is = refl
-keeps_row (SetContent content) (Some row) is = refl
-keeps_row (Make made) row is = cc
+keeps_row edit row h2 = search arith
 
 was_there : (before after : Option Row) (row : Row) → option_map (λ (row : Row). true) before ≡ option_map (λ (row : Row). true) after → head (Some row) ≡ head after → is_some before ≡ true
-was_there (Some before) after row same there = refl
-was_there None (Some after) row same there = cc
-was_there None None row same there = cc
+was_there before after row h3 h4 = search arith
 
 -- no edit takes a row away
 none_before : (edits : Edits) (suite : ℕ) (row : Option Row) → seen edits suite row ≡ None → row ≡ None
@@ -173,16 +141,10 @@ none_before (e ∷ edits) suite row is =
 
 -- a row is what it is without its content, and its content
 same_rows : (a b : Option Row) → head a ≡ head b → content_in a ≡ content_in b → a ≡ b
-same_rows None None heads contents = refl
-same_rows None (Some b) heads contents = cc
-same_rows (Some a) None heads contents = cc
-same_rows (Some a) (Some b) heads contents =
-    ap (λ (row : Row). Some (with_content row a.content)) (same_Some (emptied a) (emptied b) heads)
-    ∙ ap (λ content. Some (with_content (emptied b) content)) contents
+same_rows a b h2 h3 = search arith
 
 none_alike : (row : Option Row) → None ≡ head row → row ≡ None
-none_alike None is = refl
-none_alike (Some row) is = cc
+none_alike row h1 = search arith
 
 pub changes_lead_on : ChangesLeadOn
 changes_lead_on service known rows t caller ops ended suite agrees is =

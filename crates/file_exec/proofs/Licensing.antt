@@ -1,10 +1,10 @@
 -- Each operation walked once: what it reads it has looked at, and what it sets it has a licence for.
-use Rattle.file_exec.proofs.Vocabulary.{◌≡◌, ℕ, zero, suc, ◌+◌, ◌≤◌, ◌<◌, Bool, true, false, cond, List, [], ◌∷◌, ◌++◌, length, drop, get_or, Option, Some, None, Result, Ok, Err, refl, sym, ap, subst, ◌∙◌, arith, ◌==◌, ◌||◌, not}
-use Rattle.file_exec.proofs.Vocabulary.{nat_lt, nat_le, is_some, AllByRecursion, false≢true, nat_tests, length-drop, drop_more, Identity, Content, Bytes, Names, kind_of, max_content, max_names, LockMode, Shared, Exclusive, Answer}
-use Rattle.file_exec.proofs.Vocabulary.{Action, Op, Refusal, Why, Service, known_votes, votes_of_new, max_operations, gives_default, is_misplaced, refuse_if, last_name, is_used, names_of, Row, root, made_number, found_or, is_miscounted}
-use Rattle.file_exec.proofs.Vocabulary.{Object, bytes_in, names_in, to_read, to_write, to_search, to_change, permit, permit_others, owner_only, Edit, Need, Hold, Know, Course, Give, Refuse, Look, Read, Set, ◌>>=◌, rule, at_place, Edits}
-use Rattle.file_exec.proofs.Vocabulary.{is_set, looked, content_read, unless_set, needs, Ended, ending, KnownSuite, Known, known_of, row_in, known_rows, is_held, is_met, is_opened, first_unmet, heard, Needs, Done, exec_of, IsSoAt}
-use Rattle.file_exec.proofs.Vocabulary.{AgreesWith, IsTold, IsShown, MayChange, Licensed, writes_bytes, changes_lists, changes_votes, adds_name, makes_row, drops_name, HasLicence, AllLicensed, EditsAreLicensed}
+use Rattle.file_exec.proofs.Vocabulary.{◌≡◌, ℕ, zero, suc, ◌+◌, ◌≤◌, ◌<◌, Bool, true, false, cond, List, [], ◌∷◌, ◌++◌, length, drop, get_or, Option, Some, None, Result, Ok, refl, sym, ap, subst, ◌∙◌, arith, ◌==◌, ◌||◌, not, nat_lt, nat_le, is_some}
+use Rattle.file_exec.proofs.Vocabulary.{AllByRecursion, false≢true, nat_tests, length-drop, drop_more, Identity, kind_of, max_content, max_names, LockMode, Shared, Exclusive, Answer, Action, Op, Refusal, Why, Service, known_votes, votes_of_new}
+use Rattle.file_exec.proofs.Vocabulary.{max_operations, gives_default, is_misplaced, refuse_if, last_name, names_of, Row, root, made_number, found_or, is_miscounted, Object, bytes_in, names_in, to_read, to_write, to_change, permit, permit_others}
+use Rattle.file_exec.proofs.Vocabulary.{owner_only, Edit, Need, Hold, Know, Course, Give, Refuse, Look, Read, Set, ◌>>=◌, rule, at_place, Edits, is_set, looked, content_read, unless_set, needs, Ended, ending, KnownSuite, Known, known_of, known_rows}
+use Rattle.file_exec.proofs.Vocabulary.{is_held, is_met, is_opened, first_unmet, heard, Needs, Done, exec_of, AgreesWith, IsTold, IsShown, MayChange, Licensed, writes_bytes, changes_lists, changes_votes, adds_name, makes_row, drops_name, HasLicence}
+use Rattle.file_exec.proofs.Vocabulary.{AllLicensed, EditsAreLicensed}
 use Rattle.suite_content.specs.Folders as folders
 use Rattle.file_ops.specs.declared.operation.Action.TheVariants as action
 use Rattle.file_ops.specs.declared.refusal.Why.TheVariants as why
@@ -15,8 +15,7 @@ use Rattle.file_exec.proofs.Unmet.{met, done_unmet}
 -- ---- courses
 
 held_known : (mode : LockMode) (found : Option KnownSuite) → is_held mode found ≡ true → is_some found ≡ true
-held_known mode (Some held) is = refl
-held_known mode None is = is
+held_known mode found h2 = search arith
 
 -- of the edits so far, a suite and what is set of it
 abbrev Grounds : Type 1
@@ -65,13 +64,11 @@ module _ (known : Known) (rows : ℕ → Option Row) where
   in_turn {L = L} {P = P} {Q = Q} {edits = edits} {course = course} next does rest = record { goes = turned L P Q edits course next does.goes (λ now x is. (rest now x is).goes) }
 
   ruled : {A B E : Type 0} {L : Grounds} {Q : Edits → B → Type 0} {edits : Edits} (result : Result A E) (next : A → Course B E) → ((x : A) → result ≡ Ok x → Does L Q edits (next x)) → Does L Q edits (◌>>=◌ (rule result) next)
-  ruled (Ok given) next rest = rest given refl
-  ruled (Err why) next rest = record { goes = tt }
+  ruled result next h2 = search arith
 
   -- what a rule gives, gives the course
   gives : {A E : Type 0} {L : Grounds} {Q : Edits → A → Type 0} {edits : Edits} (result : Result A E) → ((x : A) → result ≡ Ok x → Q edits x) → Does L Q edits (rule result)
-  gives (Ok given) rest = record { goes = rest given refl }
-  gives (Err why) rest = record { goes = tt }
+  gives result h1 = search arith
 
   -- ---- ways that set nothing, on whatever grounds
 
@@ -82,8 +79,7 @@ module _ (known : Known) (rows : ℕ → Option Row) where
 
     place : (Q : Edits → Object → Type 0) (edits : Edits) (suite : ℕ) (row : Option Row) → looked rows edits suite ≡ row → ((row : Row) → looked rows edits suite ≡ Some row → Q edits (record { suite = suite; row = row }))
         → Goes L Q edits (asked.place_at suite row)
-    place Q edits suite (Some row) is rest = rest row is
-    place Q edits suite None is rest = tt
+    place h0 edits suite row h4 h5 = search arith
 
     held : (Q : Edits → Object → Type 0) (edits : Edits) (suite : ℕ) (mode : LockMode) → (Found suite → (row : Row) → looked rows edits suite ≡ Some row → Q edits (record { suite = suite; row = row }))
         → Does L Q edits (asked.held suite mode)
@@ -100,10 +96,7 @@ module _ (known : Known) (rows : ℕ → Option Row) where
     bytes_at edits suite found = record { goes = (found, λ _. (gives {L = L} {Q = Any} {edits = edits} (bytes_in (content_read rows edits suite)) (λ _ _. tt)).goes) }
 
     step : (edits : Edits) (suite : ℕ) (name : List ℕ) → Does L Any edits (asked.step caller suite name)
-    step edits suite name =
-        in_turn {P = λ _ _. Found suite} _ (held (λ _ _. Found suite) edits suite Shared (λ found _ _. found)) (λ now folder found.
-        ruled (names_in folder.row.content) _ (λ _ _. ruled (permit caller folder to_search) _ (λ _ _.
-        in_turn {P = AreNames suite} _ (names_at now suite found) (λ later names _. gives (found_or (folders.number_of names name) why.NoName) (λ _ _. tt)))))
+    step edits suite name = search arith
 
     walk : (edits : Edits) (suite : ℕ) (names : List (List ℕ)) → Does L Any edits (asked.walk caller suite names)
     walk edits suite [] = record { goes = tt }
@@ -132,19 +125,13 @@ module _ (known : Known) (rows : ℕ → Option Row) where
         read_shown edits place at =
             record { goes = (at.1, λ _. (gives {L = L} {Q = λ later names. IsShown rows later place × AreNames place.suite later names} {edits = edits} (names_in (content_read rows edits place.suite)) (λ names is. (at.0, is))).goes) }
 
-    used_content : (P : Edits → Unit {0} → Type 0) (edits : Edits) → P edits tt → (suite : ℕ) → Found suite → (row : Row) (content : Content) → Goes L P edits (asked.refuse_used suite (Some (record row { content = content })))
-    used_content P edits is suite found row (Bytes bytes) = is
-    used_content P edits is suite found row (Names names) = (found, λ _. (gives {L = L} {Q = P} {edits = edits} (refuse_if (is_used (content_read rows edits suite)) why.NotEmpty) (λ _ _. is)).goes)
-
     refuse_used : (P : Edits → Unit {0} → Type 0) (edits : Edits) → P edits tt → (suite : ℕ) → Found suite → (row : Option Row) → Goes L P edits (asked.refuse_used suite row)
-    refuse_used P edits is suite found None = is
-    refuse_used P edits is suite found (Some row) = used_content P edits is suite found row row.content
+    refuse_used h0 edits h2 suite h4 row = search arith
 
   -- ---- operations
 
   not_refused : (b : Bool) (why : Why) (x : Unit {0}) → refuse_if b why ≡ Ok x → b ≡ false
-  not_refused true why x is = cc
-  not_refused false why x is = refl
+  not_refused b why x h3 = search arith
 
   within : (length limit : ℕ) → nat_lt limit length ≡ false → nat_le length limit ≡ true
   within length limit is = grind (arith, nat_tests)
@@ -313,11 +300,7 @@ edits_are_licensed service known rows t caller ops ended agrees is =
 
 -- what is known agrees with itself
 pub agrees_itself : (known : Known) → AgreesWith known (known_rows known)
-agrees_itself known suite = of (known_of known suite)
-  where
-    of : (found : Option KnownSuite) → IsSoAt found (row_in found)
-    of (Some held) = record { head = refl; content = λ _. refl }
-    of None = tt
+agrees_itself known suite = search arith
 
 -- where it is done, on what is known
 pub known_licensed : (service : Service) (known : Known) (t : ℕ) (caller : Identity) (ops : List Op) (ended : Ended (List Answer)) → exec_of service known t caller ops ≡ Done (Ok ended)

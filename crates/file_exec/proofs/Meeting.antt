@@ -1,16 +1,6 @@
 -- What the caller's steps come to.
-use Rattle.file_exec.proofs.Vocabulary.{◌≡◌, ℕ, Bool, true, false, cond, Option, Some, None, arith, refl, sym, ap, subst, ◌∙◌, ◌==◌, option_map, option_map_or, unsigned_tied, nat_cmp, eqb-true, nat_tests, nat_cmp_total, get-replace}
-use Rattle.file_exec.proofs.Vocabulary.{replace, empty_content, LockMode, Shared, Exclusive, serves, Row, with_content, KnownSuite, Know, head, Known, known_of, opened, is_opened, IsMore, IsMoreAt, MoreKnown, IsStep, FitsRow}
-use Rattle.file_exec.proofs.Vocabulary.{OpeningMeets}
-
--- nothing was changed
-is_more_itself : (known : Option KnownSuite) → IsMoreAt known known
-is_more_itself (Some known) = record { mode = serves_itself known.mode; head = refl; opened = λ is. is; content = λ _. refl }
-  where
-    serves_itself : (mode : LockMode) → serves mode mode ≡ true
-    serves_itself Shared = refl
-    serves_itself Exclusive = refl
-is_more_itself None = tt
+use Rattle.file_exec.proofs.Vocabulary.{◌≡◌, ℕ, Bool, true, cond, Option, Some, arith, refl, sym, ap, subst, ◌∙◌, ◌==◌, option_map, option_map_or, unsigned_tied, nat_cmp, eqb-true, nat_tests, nat_cmp_total, get-replace, replace, LockMode, serves}
+use Rattle.file_exec.proofs.Vocabulary.{Row, with_content, KnownSuite, Know, head, Known, known_of, opened, is_opened, IsMore, IsMoreAt, MoreKnown, IsStep, FitsRow, OpeningMeets}
 
 -- one suite was changed
 replaced : (known : Known) (suite : ℕ) (before after : KnownSuite) (q : ℕ) → known_of known suite ≡ Some before → known_of (replace nat_cmp known suite after) q ≡ cond (suite == q) (Some after) (known_of known q)
@@ -20,15 +10,10 @@ replaced known suite before after q was =
     ∙ at (suite == q) refl
   where
     at : (b : Bool) → (suite == q) ≡ b → cond b (option_map (λ _. after) (known_of known q)) (known_of known q) ≡ cond b (Some after) (known_of known q)
-    at true is = ap (option_map (λ _. after)) (sym (ap (known_of known) (eqb-true suite q is)) ∙ was)
-    at false is = refl
+    at b h1 = search (eqb-true, arith)
 
 more_at : (known more : Known) (suite : ℕ) (after : KnownSuite) → ((q : ℕ) → known_of more q ≡ cond (suite == q) (Some after) (known_of known q)) → IsMoreAt (known_of known suite) (Some after) → MoreKnown known more
-more_at known more suite after changed is_more q = subst (IsMoreAt (known_of known q)) (sym (changed q)) (of (suite == q) refl)
-  where
-    of : (b : Bool) → (suite == q) ≡ b → IsMoreAt (known_of known q) (cond b (Some after) (known_of known q))
-    of true is = subst (λ q. IsMoreAt (known_of known q) (Some after)) (eqb-true suite q is) is_more
-    of false is = is_more_itself (known_of known q)
+more_at known more suite after changed is_more q = search arith
 
 itself : (suite : ℕ) → (suite == suite) ≡ true
 itself suite = grind (arith, nat_tests)
@@ -49,12 +34,10 @@ opening_meets known suite held content was closed fits =
     changed q = replaced known suite held (opened held content) q was
 
     serves_itself : (mode : LockMode) → serves mode mode ≡ true
-    serves_itself Shared = refl
-    serves_itself Exclusive = refl
+    serves_itself mode = search arith
 
     same_head : (row : Option Row) → FitsRow row content → head row ≡ head (option_map (λ row. with_content row content) row)
-    same_head None fits = refl
-    same_head (Some row) fits = ap (λ kind. Some (with_content row (empty_content kind))) fits
+    same_head row h1 = search arith
 
     is_more : IsMore held (opened held content)
     is_more = record { mode = serves_itself held.mode; head = same_head held.row fits; opened = λ _. refl; content = λ is. cc }

@@ -1,46 +1,21 @@
 -- What knowing more comes to.
-use Rattle.file_exec.proofs.Vocabulary.{◌≡◌, ◌<◌, ◌≤◌, Bool, true, false, cond, List, [], ◌∷◌, length, Option, Some, None, Result, refl, sym, ap, ◌∙◌, arith, not, filter, find, same_Some, LockMode, Shared, Exclusive, serves, row_of}
-use Rattle.file_exec.proofs.Vocabulary.{KnownSuite, Need, Hold, Know, Course, Ended, needs, ending, Known, known_of, row_in, known_rows, is_held, is_opened, is_met, first_unmet, Needs, Done, heard, followed, IsSoAt, AgreesWith}
-use Rattle.file_exec.proofs.Vocabulary.{on_table, transaction, IsMoreAt, MoreKnown, MoreKnownChangesNothing, AMetNeedIsProgress, DoneIsTheTables}
+use Rattle.file_exec.proofs.Vocabulary.{◌≡◌, ◌<◌, ◌≤◌, Bool, true, false, cond, List, [], ◌∷◌, length, Option, Some, None, Result, refl, sym, ap, ◌∙◌, arith, not, filter, find, same_Some, row_of, Need, Course, Ended, needs, ending, Known, known_rows}
+use Rattle.file_exec.proofs.Vocabulary.{is_met, first_unmet, Needs, Done, heard, followed, AgreesWith, on_table, transaction, MoreKnown, MoreKnownChangesNothing, AMetNeedIsProgress, DoneIsTheTables}
 use Rattle.file_exec.proofs.Alike.{goes_alike}
 use Rattle.file_exec.proofs.OnTable.{on_transaction}
 
 done_unmet : {A E : Type 0} (unmet : Option Need) (end end' : Result (Ended A) E) → heard unmet end ≡ Done end' → (unmet ≡ None) × (end ≡ end')
-done_unmet None end end' is = (refl, cc)
-done_unmet (Some need) end end' is = cc
+done_unmet unmet end end' h3 = search arith
 
 needs_unmet : {A E : Type 0} (unmet : Option Need) (end : Result (Ended A) E) (need : Need) → heard unmet end ≡ Needs need → unmet ≡ Some need
-needs_unmet None end need is = cc
-needs_unmet (Some first) end need is = let same : first ≡ need = cc in ap (λ need. Some need) same
+needs_unmet unmet end need h3 = search arith
 
 -- what is known less agrees with the rows that are known more
 less_agrees : (less more : Known) → MoreKnown less more → AgreesWith less (known_rows more)
-less_agrees less more is_more suite = of (known_of less suite) (known_of more suite) (is_more suite)
-  where
-    of : (less more : Option KnownSuite) → IsMoreAt less more → IsSoAt less (row_in more)
-    of (Some less) (Some more) is = record { head = is.head; content = is.content }
-    of (Some less) None is = cc
-    of None more is = tt
-
--- a need that is met stays so
-serves_on : (more less want : LockMode) → serves more less ≡ true → serves less want ≡ true → serves more want ≡ true
-serves_on Exclusive less want over under = refl
-serves_on Shared Shared want over under = under
-serves_on Shared Exclusive want over under = cc
+less_agrees less more is_more suite = search arith
 
 met_on : (less more : Known) → MoreKnown less more → (need : Need) → is_met less need ≡ true → is_met more need ≡ true
-met_on less more is_more (Hold suite mode) met = of (known_of less suite) (known_of more suite) (is_more suite) met
-  where
-    of : (less more : Option KnownSuite) → IsMoreAt less more → is_held mode less ≡ true → is_held mode more ≡ true
-    of (Some less) (Some more) is held = serves_on more.mode less.mode mode is.mode held
-    of (Some less) None is held = cc
-    of None more is held = cc
-met_on less more is_more (Know suite) met = of (known_of less suite) (known_of more suite) (is_more suite) met
-  where
-    of : (less more : Option KnownSuite) → IsMoreAt less more → is_opened less ≡ true → is_opened more ≡ true
-    of (Some less) (Some more) is opened = is.opened opened
-    of (Some less) None is opened = cc
-    of None more is opened = cc
+met_on less more h2 need h4 = search arith
 
 -- ---- lists of needs
 
@@ -61,12 +36,7 @@ module _ (less more : Need → Bool) (stays : (need : Need) → less need ≡ tr
 
   no_more_left : (needed : List Need) → length (left_more needed) ≤ length (left_less needed)
   no_more_left [] = omega arith
-  no_more_left (need ∷ needed) =
-      let rest = no_more_left needed in
-      elim (less need) as (λ b. less need ≡ b → length (cond (not (more need)) (need ∷ left_more needed) (left_more needed)) ≤ length (cond (not b) (need ∷ left_less needed) (left_less needed))) [
-        | true ↦ λ met. rw (stays need met) rest
-        | false ↦ λ _. elim (more need) as (λ b. length (cond (not b) (need ∷ left_more needed) (left_more needed)) ≤ length (need ∷ left_less needed)) [ true ↦ omega arith | false ↦ omega arith ]
-      ] refl
+  no_more_left (need ∷ needed) = search (no_more_left needed, arith)
 
   fewer_left : (needed : List Need) (need : Need) → find (λ need. not (less need)) needed ≡ Some need → more need ≡ true → length (left_more needed) < length (left_less needed)
   fewer_left [] need is met = cc

@@ -1,8 +1,7 @@
 -- On a table a course is the operation that it stands for.
-use Rattle.file_exec.proofs.Vocabulary.{◌≡◌, ℕ, true, false, cond, List, [], ◌∷◌, ◌++◌, Option, Some, None, Result, Ok, Err, refl, sym, ap, subst, ◌∙◌, ◌+◌, nat_le, length, is_some, Identity, Content, Bytes, Names, LockMode, Shared}
-use Rattle.file_exec.proofs.Vocabulary.{Exclusive, Why, Row, Rows, row_of, with_row, new_row, made_number, root, found_or, ok_map, names_of, Op, Action, Refusal, max_names, on_table, IsTheTransaction, known_votes, votes_of_new, Service}
-use Rattle.file_exec.proofs.Vocabulary.{Init, Configuration, Lists, Kind, gives_default, is_misplaced, lists_of, Answer, Edit, SetAcl, SetVotes, SetContent, Make, Course, Give, Refuse, Look, Read, Set, ◌>>=◌, ◌>>◌, rule, look, set}
-use Rattle.file_exec.proofs.Vocabulary.{at_place, Edits, changed, head, content_in, looked, content_read, Ended, ending, put, with_edits}
+use Rattle.file_exec.proofs.Vocabulary.{◌≡◌, ℕ, List, [], ◌∷◌, ◌++◌, Option, Some, Result, Ok, Err, refl, ap, ◌∙◌, ◌+◌, nat_le, Identity, LockMode, Shared, arith, Exclusive, Why, Row, Rows, row_of, root, found_or, ok_map, names_of, Op, Action}
+use Rattle.file_exec.proofs.Vocabulary.{Refusal, IsTheTransaction, Service, Init, Configuration, Lists, Kind, Answer, Edit, Course, Give, Refuse, Look, Read, Set, ◌>>=◌, ◌>>◌, rule, look, set, at_place, Edits, changed, head, looked, content_read}
+use Rattle.file_exec.proofs.Vocabulary.{Ended, ending, put, with_edits}
 use Rattle.suite_content.specs.Folders as folders
 use Rattle.file_ops.specs.declared.refusal.Why.TheVariants as why
 use Rattle.file_ops.specs.Steps as steps
@@ -32,8 +31,7 @@ on_step rows caller suite name =
     ∙ on_rule rows (found_or (folders.number_of names name) why.NoName))))
 
 same_result : {A : Type 0} (r : Result A Why) → r ≡ ok_map (λ x. x) r
-same_result (Ok x) = refl
-same_result (Err why) = refl
+same_result r = search arith
 
 on_walk : (rows : Rows) (caller : Identity) (suite : ℕ) (names : List (List ℕ)) → On rows (asked.walk caller suite names) ≡ unedited (plain.walk rows caller suite names)
 on_walk rows caller suite [] = refl
@@ -53,22 +51,11 @@ on_reach rows caller names mode =
     (λ suite _. place suite (row_of rows suite))
   where
     place : (suite : ℕ) (found : Option Row) → On rows (asked.place_at suite (head found)) ≡ unedited (ok_map emptied_place (steps.◌>>=◌ (found_or found why.NoName) (λ row. Ok (record { suite = suite; row = row }))))
-    place suite (Some row) = refl
-    place suite None = refl
+    place suite found = search arith
 
 -- the row of a place that was reached is there
 reached_there : (rows : Rows) (caller : Identity) (names : List (List ℕ)) (place : plain.Object) → plain.reach rows caller names ≡ Ok place → row_of rows place.suite ≡ Some place.row
-reached_there rows caller names place is = walked (plain.walk rows caller root names) is
-  where
-    found_there : (suite : ℕ) (found : Option Row) → row_of rows suite ≡ found → steps.◌>>=◌ (found_or found why.NoName) (λ row. Ok (record { suite = suite; row = row })) ≡ Ok place → row_of rows place.suite ≡ Some place.row
-    found_there suite None there is = cc
-    found_there suite (Some row) there is =
-        let same : record { suite = suite; row = row } ≡ place = cc in
-        subst (λ (place : plain.Object). row_of rows place.suite ≡ Some place.row) same there
-
-    walked : (walk : Result ℕ Why) → steps.◌>>=◌ walk (plain.place_of rows) ≡ Ok place → row_of rows place.suite ≡ Some place.row
-    walked (Ok suite) is = found_there suite (row_of rows suite) refl is
-    walked (Err why) is = cc
+reached_there rows caller names place is = search arith
 
 -- ---- operations
 
@@ -92,18 +79,10 @@ module _ (rows : Rows) (caller : Identity) (names : List (List ℕ)) where
       (λ place is. same place (reached_there rows caller names place is))
 
   on_bytes_read : Does (On rows (asked.bytes_read caller names)) (plain_ops.bytes_read rows caller names)
-  on_bytes_read =
-      at_reach Shared _ _ (λ place there.
-      ruled_out rows Does does_err _ _ _ (
-      at_file rows Does does_err place.row _ _ (λ bytes is.
-      ap (outcome rows) (on_bytes rows place.suite place.row bytes (λ bytes. Give (answer.Read bytes)) there is))))
+  on_bytes_read = search (at_reach, ruled_out, does_err, at_file, outcome, on_bytes, arith)
 
   on_names_listed : Does (On rows (asked.names_listed caller names)) (plain_ops.names_listed rows caller names)
-  on_names_listed =
-      at_reach Shared _ _ (λ place there.
-      ruled_out rows Does does_err _ _ _ (
-      at_folder rows Does does_err place.row _ _ (λ entries is.
-      ap (outcome rows) (on_names rows place.suite place.row entries (λ entries. Give (answer.List (folders.names_in entries))) there is))))
+  on_names_listed = search (at_reach, ruled_out, does_err, at_folder, outcome, on_names, arith)
 
   at_shown : (next : plain.Object → Course Answer Why) (later : plain.Object → Result plain_ops.Performed Why)
       → ((place : plain.Object) → Does (On rows (next (emptied_place place))) (later place))
@@ -129,8 +108,7 @@ module _ (rows : Rows) (caller : Identity) (names : List (List ℕ)) where
       owned_there place (Ok found) was is = let same : found ≡ place = owner (plain.owner_only caller found) is in reached_there rows caller names place (was ∙ ap (λ place. Ok place) same)
         where
           owner : (rule : Result (Unit {0}) Why) → steps.◌>>◌ rule (Ok found) ≡ Ok place → found ≡ place
-          owner (Ok x) is = cc
-          owner (Err why) is = cc
+          owner rule h1 = search arith
 
   on_list_shown : Does (On rows (asked.list_shown caller names)) (plain_ops.list_shown rows caller names)
   on_list_shown = at_shown _ _ (λ place. refl)
@@ -143,24 +121,13 @@ module _ (rows : Rows) (caller : Identity) (names : List (List ℕ)) where
   on_set suite row edit given there = ap (λ found. Ok (given, put suite (changed edit found) rows)) there
 
   on_bytes_written : (bytes : List ℕ) → Does (On rows (asked.bytes_written caller names bytes)) (plain_ops.bytes_written rows caller names bytes)
-  on_bytes_written bytes =
-      ruled_out rows Does does_err _ _ _ (
-      at_reach Exclusive _ _ (λ place there.
-      ruled_out rows Does does_err _ _ _ (
-      at_file rows Does does_err place.row _ _ (λ before is.
-      on_set place.suite place.row (SetContent (Bytes bytes)) answer.Wrote there))))
+  on_bytes_written bytes = search (ruled_out, does_err, at_reach, at_file, on_set, arith)
 
   on_list_set : (acl : Lists) → Does (On rows (asked.list_set caller names acl)) (plain_ops.list_set rows caller names acl)
-  on_list_set acl =
-      at_owned _ _ (λ place there.
-      at_kind rows Does does_err place.row (λ kind. plain_ops.refuse_if (is_misplaced kind (is_some acl.default)) why.DefaultOnFile) _ _ (
-      on_set place.suite place.row (SetAcl acl) answer.Set there))
+  on_list_set acl = search (at_owned, at_kind, does_err, on_set, arith)
 
   on_votes_set : (service : Service) (given : Configuration) → Does (On rows (asked.votes_set service caller names given)) (plain_ops.votes_set service rows caller names given)
-  on_votes_set service given =
-      ruled rows Does does_err (known_votes service given) _ _ (λ votes _.
-      at_owned _ _ (λ place there.
-      on_set place.suite place.row (SetVotes votes) answer.Set there))
+  on_votes_set service given = search (ruled, does_err, at_owned, on_set, arith)
 
 abbrev emptied_parent : plain_ops.Parent → plain_ops.Parent
 emptied_parent parent = record { place = emptied_place parent.place; names = parent.names }
@@ -178,23 +145,7 @@ on_parent rows caller names =
 
 -- the row of the folder of a parent is there
 parent_there : (rows : Rows) (caller : Identity) (names : List (List ℕ)) (parent : plain_ops.Parent) → plain_ops.parent_of rows caller names ≡ Ok parent → row_of rows parent.place.suite ≡ Some parent.place.row
-parent_there rows caller names parent is = reached (plain.reach rows caller names) refl is
-  where
-    end : (place : plain.Object) (entries : List (List ℕ × ℕ)) (rule : Result (Unit {0}) Why) → steps.◌>>◌ rule (Ok (record { place = place; names = entries })) ≡ Ok parent → place ≡ parent.place
-    end place entries (Ok x) is = let same : record { place = place; names = entries } ≡ parent = cc in ap (λ (parent : plain_ops.Parent). parent.place) same
-    end place entries (Err why) is = cc
-
-    folder : (place : plain.Object) (names : Result (List (List ℕ × ℕ)) Why) → steps.◌>>=◌ names (λ entries. steps.◌>>◌ (plain.permit caller place plain.to_change) (Ok (record { place = place; names = entries }))) ≡ Ok parent
-        → place ≡ parent.place
-    folder place (Ok entries) is = end place entries (plain.permit caller place plain.to_change) is
-    folder place (Err why) is = cc
-
-    reached : (reach : Result plain.Object Why) → plain.reach rows caller names ≡ reach
-        → steps.◌>>=◌ reach (λ place. steps.◌>>=◌ (plain.names_in place.row.content) (λ entries. steps.◌>>◌ (plain.permit caller place plain.to_change) (Ok (record { place = place; names = entries })))) ≡ Ok parent
-        → row_of rows parent.place.suite ≡ Some parent.place.row
-    reached (Err why) was is = cc
-    reached (Ok place) was is =
-        subst (λ (place : plain.Object). row_of rows place.suite ≡ Some place.row) (folder place (plain.names_in place.row.content) is) (reached_there rows caller names place was)
+parent_there rows caller names parent is = search arith
 
 module _ (rows : Rows) (caller : Identity) where
   at_parent : (names : List (List ℕ)) (next : plain_ops.Parent → Course Answer Why) (later : plain_ops.Parent → Result plain_ops.Performed Why)
@@ -206,57 +157,18 @@ module _ (rows : Rows) (caller : Identity) where
 
   on_made : (service : Service) (number : ℕ) (names : List (List ℕ)) (kind : Kind) (init : Init) (given : Option Configuration)
       → Does rows caller names (On rows (asked.made service number caller names kind init given)) (plain_ops.made service rows number caller names kind init given)
-  on_made service number names kind init given =
-      ruled rows (Does rows caller names) (does_err rows caller names) (plain_ops.last_name names) _ _ (λ path _.
-      ruled rows (Does rows caller names) (does_err rows caller names) (votes_of_new service given) _ _ (λ votes _.
-      ruled_out rows (Does rows caller names) (does_err rows caller names) (plain_ops.refuse_if (is_misplaced kind (gives_default init)) why.DefaultOnFile) _ _ (
-      at_parent path.folders _ _ (λ parent there.
-      let full = plain_ops.refuse_if (nat_le max_names (length parent.names)) why.FolderFull in
-      let named : Edit = SetContent (Names (folders.with_name parent.names path.name number)) in
-      let new = new_row kind (lists_of kind parent.place.row.acl.default init) votes caller in
-      let last : Course Answer Why = ◌>>◌ (look number Exclusive) (◌>>◌ (set parent.place.suite named) (◌>>◌ (set number (Make new)) (Give (answer.Made number)))) in
-      let done : Result plain_ops.Performed Why = Ok (record { answer = answer.Made number; rows = plain_ops.with_made rows parent path.name number new }) in
-      ruled_out rows (Does rows caller names) (does_err rows caller names) (plain_ops.refuse_if (is_some (folders.number_of parent.names path.name)) why.Exists) (◌>>◌ (rule full) last) (steps.◌>>◌ full done) (
-      ruled_out rows (Does rows caller names) (does_err rows caller names) full last done (
-      ap (λ found. Ok (answer.Made number, with_row (put parent.place.suite (changed named found) rows) number new)) there))))))
+  on_made service number names kind init given = search (ruled, does_err, ruled_out, at_parent, nat_le, arith)
 
   -- a suite that is dropped is used where the table says so
   at_used : (names : List (List ℕ)) (suite : ℕ) (next : Course Answer Why) (later : Result plain_ops.Performed Why) → Does rows caller names (On rows next) later
       → Does rows caller names (On rows (◌>>=◌ (look suite Shared) (λ row. ◌>>◌ (asked.refuse_used suite row) next))) (steps.◌>>◌ (plain_ops.refuse_if (plain_ops.has_names (row_of rows suite)) why.NotEmpty) later)
-  at_used names suite next later same =
-      elim (row_of rows suite) as (λ found. row_of rows suite ≡ found → Does rows caller names (On rows (◌>>◌ (asked.refuse_used suite (head found)) next)) (steps.◌>>◌ (plain_ops.refuse_if (plain_ops.has_names found) why.NotEmpty) later)) [
-        | None ↦ λ _. same
-        | Some row ↦ λ there. content row there (row.content) refl
-      ] refl
-    where
-      content : (row : Row) → row_of rows suite ≡ Some row → (content : Content) → row.content ≡ content
-          → Does rows caller names (On rows (◌>>◌ (asked.refuse_used suite (head (Some (record row { content = content })))) next)) (steps.◌>>◌ (plain_ops.refuse_if (plain_ops.is_used content) why.NotEmpty) later)
-      content row there (Bytes bytes) is = same
-      content row there (Names entries) is =
-          let used = plain_ops.refuse_if (plain_ops.is_used (Names entries)) why.NotEmpty in
-          subst (λ ended. Does rows caller names ended (steps.◌>>◌ used later))
-          (sym (ap (λ found. On rows (◌>>◌ (rule (plain_ops.refuse_if (plain_ops.is_used (content_in found)) why.NotEmpty)) next)) there ∙ ap
-          (λ content. On rows (◌>>◌ (rule (plain_ops.refuse_if (plain_ops.is_used content) why.NotEmpty)) next)) is))
-          (ruled_out rows (Does rows caller names) (does_err rows caller names) used next later same)
+  at_used names suite next later same = search arith
 
   on_dropped : (names : List (List ℕ)) → Does rows caller names (On rows (asked.dropped caller names)) (plain_ops.dropped rows caller names)
-  on_dropped names =
-      ruled rows (Does rows caller names) (does_err rows caller names) (plain_ops.last_name names) _ _ (λ path _.
-      at_parent path.folders _ _ (λ parent there.
-      ruled rows (Does rows caller names) (does_err rows caller names) (found_or (folders.number_of parent.names path.name) why.NoName) _ _ (λ number _.
-      at_used names number _ _ (
-      on_set rows caller names parent.place.suite parent.place.row (SetContent (Names (folders.without_name parent.names path.name))) answer.Dropped there))))
+  on_dropped names = search (ruled, does_err, at_parent, at_used, on_set, arith)
 
   on_act : (service : Service) (t at : ℕ) (names : List (List ℕ)) (action : Action) → Does rows caller names (On rows (asked.act service t at caller names action)) (plain_ops.act service rows t at caller names action)
-  on_act service t at names action.Read = on_bytes_read rows caller names
-  on_act service t at names (action.Write bytes) = on_bytes_written rows caller names bytes
-  on_act service t at names action.List = on_names_listed rows caller names
-  on_act service t at names (action.Make kind init votes) = on_made service (made_number t at) names kind init votes
-  on_act service t at names action.Drop = on_dropped names
-  on_act service t at names action.GetAcl = on_list_shown rows caller names
-  on_act service t at names (action.SetAcl acl) = on_list_set rows caller names acl
-  on_act service t at names action.GetVotes = on_votes_shown rows caller names
-  on_act service t at names (action.SetVotes votes) = on_votes_set rows caller names service votes
+  on_act service t at names action = search (on_bytes_read, on_bytes_written, on_names_listed, on_made, on_dropped, on_list_shown, on_list_set, on_votes_shown, on_votes_set, arith)
 
   pub on_operation : (service : Service) (t at : ℕ) (op : Op) → outcome rows (On rows (asked.operation service t at caller op)) ≡ ok_map as_pair (plain_ops.operation service rows t at caller op)
   on_operation service t at op = ruled rows (Does rows caller []) (does_err rows caller []) (found_or (names_of op.path) why.BadPath) _ _ (λ names _. on_act service t at names op.action)
@@ -307,15 +219,4 @@ on_play service rows answers t at caller (op ∷ ops) =
 
 -- on a table the course of a transaction is the transaction
 pub on_transaction : IsTheTransaction
-on_transaction service rows t caller ops =
-    elim (plain_all.is_miscounted ops) as (λ b. on_table rows (On rows (cond b (Refuse (record { op = 0; why = why.OpCount })) (asked.play service [] t 0 caller ops))) ≡ steps.◌>>◌
-    (cond b (Err (record { op = 0; why = why.OpCount })) (Ok tt)) (plain_all.play service (record { answers = []; rows = rows }) t 0 caller ops)) [
-      | true ↦ refl
-      | false ↦ from (On rows (asked.play service [] t 0 caller ops)) (plain_all.play service (record { answers = []; rows = rows }) t 0 caller ops) (on_play service rows [] t 0 caller ops)
-    ]
-  where
-    from : (ended : Result (Ended (List Answer)) Refusal) (played : Result plain_all.Played Refusal) → outcome rows ended ≡ ok_map as_played played → on_table rows ended ≡ played
-    from (Ok ended) (Ok played) same = let pair : (ended.given, with_edits rows ended.edits) ≡ (played.answers, played.rows) = cc in ap (λ (pair : List Answer × Rows). Ok (record { answers = pair.0; rows = pair.1 })) pair
-    from (Err why) (Err other) same = cc
-    from (Ok ended) (Err why) same = cc
-    from (Err why) (Ok played) same = cc
+on_transaction service rows t caller ops = search (on_play service rows [] t 0 caller ops, outcome, arith)

@@ -1,9 +1,8 @@
 -- Operations of a transaction one after the other.
-use Rattle.file_exec.proofs.Vocabulary.{◌≡◌, ℕ, zero, suc, ◌+◌, ◌≤◌, true, false, cond, List, [], ◌∷◌, ◌++◌, Some, Result, Ok, Err, length, get_or, take, arith, refl, sym, ap, subst, ◌∙◌, ◌<◌, ◌⊎◌, inl, inr, eq-zero-or-pos, ◌==◌, ◌||◌}
-use Rattle.file_exec.proofs.Vocabulary.{IfOk, OnErr, nat_tests, result_ok, Identity, Exclusive, Answer, Op, Refusal, Why, Service, is_miscounted, Outcome, Hold, Know, Stop, Course, Give, Refuse, Look, Read, Set, at_place, Edits, Ended}
-use Rattle.file_exec.proofs.Vocabulary.{is_set, looked, content_read, operation, play, Known, known_rows, is_met, Heard, Needs, Done, is_given, exec_of, run, then_run, answered, end_of, Told, Runs}
+use Rattle.file_exec.proofs.Vocabulary.{◌≡◌, ℕ, zero, suc, ◌+◌, ◌≤◌, true, false, cond, List, [], ◌∷◌, ◌++◌, Result, Ok, Err, length, get_or, take, arith, refl, sym, ap, ◌∙◌, ◌<◌, eq-zero-or-pos, ◌==◌, ◌||◌, IfOk, OnErr, nat_tests, result_ok}
+use Rattle.file_exec.proofs.Vocabulary.{Identity, Exclusive, Answer, Op, Refusal, Why, Service, is_miscounted, Outcome, Hold, Know, Stop, Course, Give, Refuse, Look, Read, Set, at_place, Edits, Ended, is_set, looked, content_read, operation, play}
+use Rattle.file_exec.proofs.Vocabulary.{Known, known_rows, is_met, Heard, Needs, Done, is_given, exec_of, run, then_run, answered, end_of, Told, Runs}
 use Rattle.file_ops.specs.declared.refusal.Why.TheVariants as why
-use Rattle.file_exec.specs.declared.stop.Stop.TheVariants as stop
 use Rattle.file_exec.proofs.Running.{runs_in_turn, exec_runs}
 
 -- what an operation at a place comes to, its refusal naming it
@@ -38,9 +37,7 @@ module _ (known : Known) (service : Service) (t : ℕ) (caller : Identity) where
   -- the operations from one on, by what that one comes to
   from_one : (edits : Edits) (answers : List Answer) (at : ℕ) (op : Op) (ops : List Op)
       → run known edits (play service answers t at caller (op ∷ ops)) ≡ then_run known (λ answer. play service (answers ++ answer ∷ []) t (at + 1) caller ops) (named at (run known edits (operation service t at caller op)))
-  from_one edits answers at op ops =
-      runs_in_turn known edits (at_place at (operation service t at caller op)) (λ answer. play service (answers ++ answer ∷ []) t (at + 1) caller ops)
-      ∙ ap (then_run known (λ answer. play service (answers ++ answer ∷ []) t (at + 1) caller ops)) (run_at_place known edits at (operation service t at caller op))
+  from_one edits answers at op ops = search (runs_in_turn, run_at_place, arith)
 
   -- the operations before a place, and then the others
   pub parts : (edits : Edits) (answers : List Answer) (at to : ℕ) (first then : List Op) → to ≡ at + length first
@@ -56,28 +53,16 @@ module _ (known : Known) (service : Service) (t : ℕ) (caller : Identity) where
           → (heard : Heard Answer Refusal)
           → then_run known (λ answer. play service (answers ++ answer ∷ []) t (at + 1) caller (first ++ then)) heard
           ≡ then_run known (λ answers. play service answers t to caller then) (then_run known (λ answer. play service (answers ++ answer ∷ []) t (at + 1) caller first) heard)
-      of rest (Needs need) = refl
-      of rest (Done (Ok ended)) = rest ended
-      of rest (Done (Err why)) = refl
+      of h0 heard = search arith
 
   pub one_more : (before after : Edits) (answers : List Answer) (at : ℕ) (op : Op) (ops : List Op) (answer : Answer) → Runs (λ answer. answer) (Ok answer) known before after (operation service t at caller op)
       → run known before (play service answers t at caller (op ∷ ops)) ≡ run known after (play service (answers ++ answer ∷ []) t (at + 1) caller ops)
-  one_more before after answers at op ops answer gave =
-      from_one before answers at op ops ∙ ap (λ heard. then_run known (λ answer. play service (answers ++ answer ∷ []) t (at + 1) caller ops) (named at heard)) gave.told
+  one_more before after answers at op ops answer gave = search (from_one, arith)
 
   pub one_ends : {E : Type 0} (before after : Edits) (answers : List Answer) (at : ℕ) (op : Op) (ops : List Op) (e : Stop) (result : Result Outcome E)
       → Runs (λ (answer : Answer). answer) (Err e) known before after (operation service t at caller op)
       → result_ok result ≡ end_of at e → IfOk result (λ outcome. outcome ≡ answered known (run known before (play service answers t at caller (op ∷ ops))))
-  one_ends before after answers at op ops e (Err error) ended is = tt
-  one_ends before after answers at op ops e (Ok outcome) ended is = of e ended.told is
-    where
-      of : (e : Stop) → Told (λ heard. is_given heard ≡ true) (λ (answer : Answer). answer) (Err e) after (run known before (operation service t at caller op))
-          → Some outcome ≡ end_of at e → outcome ≡ answered known (run known before (play service answers t at caller (op ∷ ops)))
-      of (stop.Needs need) told is =
-          cc (is, ap (answered known) (from_one before answers at op ops ∙ ap (λ heard. then_run known (λ answer. play service (answers ++ answer ∷ []) t (at + 1) caller ops) (named at heard)) told))
-      of (stop.Refused why) told is =
-          cc (is, ap (answered known) (from_one before answers at op ops ∙ ap (λ heard. then_run known (λ answer. play service (answers ++ answer ∷ []) t (at + 1) caller ops) (named at heard)) told))
-      of stop.Memory told is = cc
+  one_ends before after answers at op ops e result h8 h9 = search (from_one, arith)
 
   -- the executor plays the operations, where they are well counted
   pub exec_plays : (ops : List Op) → is_miscounted ops ≡ false → exec_of service known t caller ops ≡ run known [] (play service [] t 0 caller ops)
@@ -97,47 +82,25 @@ first_given known service t caller op given =
     next answer = play service ([] ++ answer ∷ []) t 1 caller []
 
     of : (heard : Heard Answer Why) → is_given heard ≡ true → is_given (then_run known next (named 0 heard)) ≡ true
-    of (Needs need) given = cc
-    of (Done (Ok ended)) given = refl
-    of (Done (Err why)) given = cc
+    of heard h1 = search arith
 
 first_taken : (ops : List Op) (op : Op) → 0 < length ops → op ≡ get_or ops 0 op → op ∷ [] ≡ take 1 ops
-first_taken [] op some is = absurd (omega arith)
-first_taken (first ∷ later) op some is = ap (λ op. op ∷ []) is
+first_taken ops op h2 h3 = search arith
 
 -- once an operation gives something, the first one did
 pub begins : (known : Known) (service : Service) (t : ℕ) (caller : Identity) (ops : List Op) (log : Edits) (at index : ℕ) (op : Op)
     → (index ≡ 0 → log ≡ []) → (0 < index → is_given (exec_of service known t caller (take 1 ops)) ≡ true) → at ≡ index → index < length ops → op ≡ get_or ops index op
     → is_given (run known log (operation service t at caller op)) ≡ true → is_given (exec_of service known t caller (take 1 ops)) ≡ true
-begins known service t caller ops log at index op unbegun begun counted below is given = of (eq-zero-or-pos index)
-  where
-    of : (index ≡ 0) ⊎ (0 < index) → is_given (exec_of service known t caller (take 1 ops)) ≡ true
-    of (inr later) = begun later
-    of (inl none) =
-        subst (λ ops. is_given (exec_of service known t caller ops) ≡ true) (first_taken ops op (subst (λ index. index < length ops) none below) (is ∙ ap (λ index. get_or ops index op) none))
-        (first_given known service t caller op (ap (λ log. is_given (run known log (operation service t 0 caller op))) (sym (unbegun none)) ∙ ap
-        (λ at. is_given (run known log (operation service t at caller op))) (sym (counted ∙ none)) ∙ given))
+begins known service t caller ops log at index op unbegun begun counted below is given = search (eq-zero-or-pos, first_taken, first_given, arith)
 
 -- once some operations were done, the first one gave something
 pub begun_first : (known : Known) (service : Service) (t : ℕ) (caller : Identity) (ops : List Op) (at : ℕ) (ended : Ended (List Answer)) → 0 < at → 0 < length ops
     → run known [] (play service [] t 0 caller (take at ops)) ≡ Done (Ok ended) → is_given (exec_of service known t caller (take 1 ops)) ≡ true
 begun_first known service t caller ops zero ended some any is = absurd (omega arith)
 begun_first known service t caller [] (suc at) ended some any is = absurd (omega arith)
-begun_first known service t caller (op ∷ ops) (suc at) ended some any is =
-    first_given known service t caller op (of (run known [] (operation service t 0 caller op)) (sym (from_one known service t caller [] [] 0 op (take at ops)) ∙ is))
-  where
-    next : Answer → Course (List Answer) Refusal
-    next answer = play service ([] ++ answer ∷ []) t 1 caller (take at ops)
-
-    of : (heard : Heard Answer Why) → then_run known next (named 0 heard) ≡ Done (Ok ended) → is_given heard ≡ true
-    of (Needs need) is = cc
-    of (Done (Ok ended)) is = refl
-    of (Done (Err why)) is = cc
+begun_first known service t caller (op ∷ ops) (suc at) ended some any is = search (first_given, from_one, arith)
 
 -- memory is refused to an operation only where it gives something
 pub ends_given : {E : Type 0} (at : ℕ) (e : Stop) (result : Result Outcome E) (heard : Heard Answer Why) (after : Edits) {P : Type 0} → Told (λ heard. is_given heard ≡ true) (λ (answer : Answer). answer) (Err e) after heard
     → result_ok result ≡ end_of at e → (is_given heard ≡ true → P) → OnErr result P
-ends_given at e (Ok outcome) heard after told is then = tt
-ends_given at (stop.Needs need) (Err error) heard after told is then = cc
-ends_given at (stop.Refused why) (Err error) heard after told is then = cc
-ends_given at stop.Memory (Err error) heard after told is then = then told
+ends_given at e result heard after h5 h6 h7 = search arith

@@ -1,8 +1,8 @@
 -- How far a transaction came, and how it goes on from there.
-use Rattle.file_exec.proofs.Vocabulary.{◌≡◌, ℕ, ◌+◌, ◌<◌, ◌≤◌, Bool, true, false, Option, Some, None, List, [], ◌∷◌, ◌++◌, length, get_or, take, drop, Result, Ok, Err, arith, refl, sym, ap, subst, ◌∙◌, cond, not, ◌&&◌, take-append-drop}
-use Rattle.file_exec.proofs.Vocabulary.{take_more, drop_more, length-take, Identity, kind_of, same_names, same_names_decides, Kind, File, Folder, Answer, Op, Refusal, Why, Service, Row, root, Course, Give, ◌>>=◌, at_place, Edits, Ended}
-use Rattle.file_exec.proofs.Vocabulary.{Known, known_of, opened_suite, Heard, Needs, Done, is_given, exec_of, KnownSuite, MoreKnown, FitsRow, operation, play, walk, Reached, Leads, walked, walked_next, IsReached, UnbegunIsReached}
-use Rattle.file_exec.proofs.Vocabulary.{ReachedStays, is_of_kind, fits_row, takes, TakingTellsMore, run, then_run, Runs, LeadsTo, only_reads, from_root, point_after, WalkPoint}
+use Rattle.file_exec.proofs.Vocabulary.{◌≡◌, ℕ, ◌+◌, ◌<◌, ◌≤◌, Bool, true, false, Option, Some, None, List, [], ◌∷◌, ◌++◌, length, get_or, take, drop, Result, Ok, arith, refl, sym, ap, subst, ◌∙◌, cond, not, ◌&&◌, take-append-drop, take_more}
+use Rattle.file_exec.proofs.Vocabulary.{drop_more, length-take, Identity, same_names, same_names_decides, Kind, Answer, Op, Refusal, Why, Service, Row, root, Course, Give, ◌>>=◌, at_place, Edits, Ended, Known, known_of, opened_suite, Heard, Done}
+use Rattle.file_exec.proofs.Vocabulary.{is_given, exec_of, KnownSuite, MoreKnown, FitsRow, operation, play, walk, Reached, walked, walked_next, IsReached, UnbegunIsReached, ReachedStays, is_of_kind, fits_row, takes, TakingTellsMore, run, then_run}
+use Rattle.file_exec.proofs.Vocabulary.{Runs, LeadsTo, only_reads, from_root, point_after, WalkPoint}
 use Rattle.file_exec.proofs.Meeting.{opening_meets}
 use Rattle.file_exec.proofs.More.{done_stays}
 use Rattle.file_exec.proofs.Playing.{named, run_at_place, parts, one_more, begins, begun_first}
@@ -32,18 +32,10 @@ module _ (service : Service) (t : ℕ) (caller : Identity) (ops : List Op) (reac
   -- where the operations were done, what is left is the walk
   walk_left : (known : Known) → run known [] (play service [] t 0 caller (take reached.at ops)) ≡ Done (Ok (record { given = reached.answers; edits = reached.edits }))
       → run known [] so_far ≡ then_run known (with_walk reached.answers) (named reached.at (run known reached.edits walk_so_far))
-  walk_left known done =
-      runs_in_turn known [] (play service [] t 0 caller (take reached.at ops)) (λ answers. ◌>>=◌ (at_place reached.at walk_so_far) (with_walk answers))
-      ∙ ap (then_run known (λ answers. ◌>>=◌ (at_place reached.at walk_so_far) (with_walk answers))) done
-      ∙ runs_in_turn known reached.edits (at_place reached.at walk_so_far) (with_walk reached.answers)
-      ∙ ap (then_run known (with_walk reached.answers)) (run_at_place known reached.edits reached.at walk_so_far)
+  walk_left known done = search (runs_in_turn, run_at_place, arith)
 
   walked_to : (known : Known) (heard : Heard ℕ Why) → then_run known (with_walk reached.answers) (named reached.at heard) ≡ Done came → heard ≡ Done (Ok (record { given = reached.suite; edits = reached.edits }))
-  walked_to known (Needs need) is = cc
-  walked_to known (Done (Ok ended)) is =
-      let same : record { given = (reached.answers, ended.given); edits = ended.edits } ≡ record { given = (reached.answers, reached.suite); edits = reached.edits } = cc in
-      ap (λ (ended : Ended (List Answer × ℕ)). Done (Ok (record { given = ended.given.1; edits = ended.edits }))) same
-  walked_to known (Done (Err why)) is = cc
+  walked_to known heard h2 = search arith
 
   stays : (less more : Known) → MoreKnown less more → IsReached service less t caller ops reached → IsReached service more t caller ops reached
   stays less more is_more is =
@@ -77,13 +69,6 @@ module _ (service : Service) (known : Known) (t : ℕ) (caller : Identity) (ops 
 
     pub plays_next : run known reached.edits (play service reached.answers t reached.at caller (op ∷ drop (reached.at + 1) ops)) ≡ run known [] (play service [] t 0 caller ops)
     plays_next = ap (λ left. run known reached.edits (play service reached.answers t reached.at caller left)) (sym next_is) ∙ plays_on (omega arith)
-
-    pub next_led : Leads known reached.edits caller (walked op) reached.depth reached.suite
-    next_led = subst (λ left. Leads known reached.edits caller (walked_next left) reached.depth reached.suite) next_is is.led
-
-    -- it may come farther
-    pub comes_on : (depth suite : ℕ) → Leads known reached.edits caller (walked op) depth suite → IsReached service known t caller ops (record reached { depth = depth; suite = suite })
-    comes_on depth suite leads = record { done = is.done; led = subst (λ left. Leads known reached.edits caller (walked_next left) depth suite) (sym next_is) leads }
 
     -- or be done, and the walk of the one after it led to a suite
     pub done_too : (answer : Answer) (after : Edits) (point : WalkPoint) → Runs (λ answer. answer) (Ok answer) known reached.edits after (operation service t reached.at caller op)
@@ -119,9 +104,7 @@ module _ (service : Service) (known : Known) (t : ℕ) (caller : Identity) (ops 
   given_first op below is_op given = begins known service t caller ops reached.edits reached.at reached.at op unbegun begun refl below is_op given
     where
       none_set : (ops : List Op) → run known [] (play service [] t 0 caller (take 0 ops)) ≡ Done (Ok (record { given = reached.answers; edits = reached.edits })) → reached.edits ≡ []
-      none_set ops done =
-          let same : record { given = []; edits = [] } ≡ record { given = reached.answers; edits = reached.edits } = cc in
-          ap (λ (ended : Ended (List Answer)). ended.edits) (sym same)
+      none_set ops done = search arith
 
       unbegun : reached.at ≡ 0 → reached.edits ≡ []
       unbegun none = none_set ops (ap (λ at. run known [] (play service [] t 0 caller (take at ops))) (sym none) ∙ is.done)
@@ -132,25 +115,19 @@ module _ (service : Service) (known : Known) (t : ℕ) (caller : Identity) (ops 
 -- ---- to open a suite
 
 same_kind : (a b : Kind) → is_of_kind a b ≡ true → a ≡ b
-same_kind File File is = refl
-same_kind File Folder is = cc
-same_kind Folder File is = cc
-same_kind Folder Folder is = refl
+same_kind a b h2 = search arith
 
 pub taking_tells_more : TakingTellsMore
 taking_tells_more known suite content may = of (known_of known suite) refl may
   where
     left : (a b : Bool) → (not a && b) ≡ true → a ≡ false
-    left false b is = refl
-    left true b is = cc
+    left a b h2 = search arith
 
     right : (a b : Bool) → (not a && b) ≡ true → b ≡ true
-    right false b is = is
-    right true b is = cc
+    right a b h2 = search arith
 
     fits : (row : Option Row) → fits_row row content ≡ true → FitsRow row content
-    fits (Some row) is = same_kind (kind_of row.content) (kind_of content) is
-    fits None is = tt
+    fits row h1 = search (same_kind, arith)
 
     of : (held : Option KnownSuite) → known_of known suite ≡ held → takes held content ≡ true → MoreKnown known (opened_suite known suite content)
     of (Some held) was may =

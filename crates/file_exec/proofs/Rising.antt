@@ -1,6 +1,6 @@
 -- The pairs of an ordered list, put one after the other into a map.
-use Rattle.file_exec.proofs.Vocabulary.{◌≡◌, ℕ, ◌+◌, ◌<◌, zero, suc, add-one, take, get_or, Less, Greater, subst, List, [], ◌∷◌, length, sym, ap, ◌∙◌, arith, nat_cmp, AllByRecursion, keys_of, nat_tests, sorted_head, sorted_tail}
-use Rattle.file_exec.proofs.Vocabulary.{IsOrdered, insert, insert_step}
+use Rattle.file_exec.proofs.Vocabulary.{◌≡◌, ℕ, ◌+◌, ◌<◌, zero, suc, add-one, take, get_or, Less, Greater, subst, List, [], ◌∷◌, length, sym, ap, ◌∙◌, arith, nat_cmp, AllByRecursion, keys_of, nat_tests, sorted_head, sorted_tail, IsOrdered, insert}
+use Rattle.file_exec.proofs.Vocabulary.{insert_step}
 
 swapped : (key other : ℕ) → nat_cmp key other ≡ Less → nat_cmp other key ≡ Greater
 swapped key other less = grind (arith, nat_tests)

@@ -1,6 +1,6 @@
 -- To run a course is to follow it.
-use Rattle.file_exec.proofs.Vocabulary.{◌≡◌, true, false, cond, [], ◌∷◌, Some, refl, not, ◌||◌, Exclusive, Course, Give, Refuse, Look, Read, Set, ◌>>=◌, transaction, Hold, Know, Edits, is_set, looked, content_read, unless_set, needs}
-use Rattle.file_exec.proofs.Vocabulary.{ending, Known, known_rows, is_met, first_unmet, Needs, heard, run, then_run, ExecRuns}
+use Rattle.file_exec.proofs.Vocabulary.{◌≡◌, true, false, cond, [], ◌∷◌, Some, refl, not, ◌||◌, Exclusive, Course, Give, Refuse, Look, Read, Set, ◌>>=◌, transaction, Hold, Know, Edits, is_set, looked, content_read, unless_set, needs, arith, ending}
+use Rattle.file_exec.proofs.Vocabulary.{Known, known_rows, is_met, first_unmet, Needs, heard, run, then_run, ExecRuns}
 
 -- two courses one after the other are run one after the other
 pub runs_in_turn : {A B E : Type 0} (known : Known) (edits : Edits) (first : Course A E) (next : A → Course B E) → run known edits (◌>>=◌ first next) ≡ then_run known next (run known edits first)
@@ -43,10 +43,7 @@ followed_runs known edits (Read suite later) =
     (ending (known_rows known) edits (later (content_read (known_rows known) edits suite))) ≡ cond (s || is_met known (Know suite))
     (run known edits (later (content_read (known_rows known) edits suite))) (Needs (Know suite))) [
       | true ↦ rest
-      | false ↦ elim (is_met known (Know suite)) as
-          (λ b. heard (cond (not b) (Some (Know suite)) (first_unmet known (needs (known_rows known) edits (later (content_read (known_rows known) edits suite)))))
-          (ending (known_rows known) edits (later (content_read (known_rows known) edits suite))) ≡ cond b (run known edits (later (content_read (known_rows known) edits suite)))
-          (Needs (Know suite))) [ true ↦ rest | false ↦ refl ]
+      | false ↦ search arith
     ]
 followed_runs known edits (Set suite edit later) =
     let rest = followed_runs known ((suite, edit) ∷ edits) later in

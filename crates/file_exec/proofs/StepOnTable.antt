@@ -1,7 +1,6 @@
 -- On a table a step of a course is the step that it stands for, and what comes after edits sees them.
-use Rattle.file_exec.proofs.Vocabulary.{◌≡◌, ℕ, Bool, true, false, cond, List, [], ◌∷◌, ◌++◌, Option, Some, None, Result, Ok, Err, refl, sym, ap, subst, ◌∙◌, ◌==◌, unsigned_tied, eqb-true, nat_cmp_total, get-insert, Bytes, Names}
-use Rattle.file_exec.proofs.Vocabulary.{kind_of, empty_content, LockMode, Why, Row, Rows, row_of, found_or, ok_map, Kind, File, Folder, Edit, SetAcl, SetVotes, SetContent, Make, Course, Give, Refuse, Look, Read, Set, ◌>>=◌, ◌>>◌, rule}
-use Rattle.file_exec.proofs.Vocabulary.{Edits, changed, seen, emptied, head, content_in, looked, content_read, Ended, ending, put, with_edits}
+use Rattle.file_exec.proofs.Vocabulary.{◌≡◌, ℕ, Bool, cond, List, [], ◌∷◌, ◌++◌, Option, Some, None, Result, Ok, Err, refl, sym, ap, ◌∙◌, ◌==◌, unsigned_tied, eqb-true, nat_cmp_total, get-insert, Bytes, Names, arith, kind_of, LockMode, Why, Row}
+use Rattle.file_exec.proofs.Vocabulary.{Rows, row_of, ok_map, Kind, Edit, Course, Give, Refuse, Look, Read, Set, ◌>>=◌, ◌>>◌, rule, Edits, changed, seen, emptied, head, content_in, looked, content_read, Ended, ending, put, with_edits}
 use Rattle.file_ops.specs.declared.refusal.Why.TheVariants as why
 use Rattle.file_ops.specs.Steps as steps
 use Rattle.file_ops.specs.Walks as plain
@@ -16,29 +15,12 @@ row_of-put suite edit rows q (Some row) is =
     ∙ at (suite == q) refl
   where
     at : (b : Bool) → (suite == q) ≡ b → cond b (Some row) (row_of rows q) ≡ cond b (changed edit (row_of rows q)) (row_of rows q)
-    at true here = is ∙ ap (λ q. changed edit (row_of rows q)) (eqb-true suite q here)
-    at false _ = refl
-row_of-put suite edit rows q None is = at (suite == q) refl
-  where
-    stays : (found : Option Row) → None ≡ changed edit found → found ≡ changed edit found
-    stays None is = is
-    stays (Some row) is = still edit is
-      where
-        still : (edit : Edit) → None ≡ changed edit (Some row) → Some row ≡ changed edit (Some row)
-        still (SetAcl acl) is = cc
-        still (SetVotes votes) is = cc
-        still (SetContent content) is = cc
-        still (Make made) is = cc
-
-    at : (b : Bool) → (suite == q) ≡ b → row_of rows q ≡ cond b (changed edit (row_of rows q)) (row_of rows q)
-    at true here = subst (λ q. row_of rows q ≡ changed edit (row_of rows q)) (eqb-true suite q here) (stays (row_of rows suite) is)
-    at false _ = refl
+    at b h1 = search (eqb-true, arith)
+row_of-put suite edit rows q None is = search (eqb-true, arith)
 
 pub row_of-with_edits : (rows : Rows) (edits : Edits) (q : ℕ) → row_of (with_edits rows edits) q ≡ seen edits q (row_of rows q)
 row_of-with_edits rows [] q = refl
-row_of-with_edits rows (e ∷ edits) q =
-    row_of-put e.0 e.1 (with_edits rows edits) q _ refl
-    ∙ ap (λ row. cond (e.0 == q) (changed e.1 row) row) (row_of-with_edits rows edits q)
+row_of-with_edits rows (e ∷ edits) q = search (row_of-put, row_of-with_edits rows edits q, arith)
 
 -- ---- courses one after the other
 
@@ -92,8 +74,7 @@ abbrev pub On : {A E : Type 0} → Rows → Course A E → Result (Ended A) E
 On rows course = ending (row_of rows) [] course
 
 pub on_rule : {A E : Type 0} (rows : Rows) (result : Result A E) → On rows (rule result) ≡ unedited result
-on_rule rows (Ok given) = refl
-on_rule rows (Err why) = refl
+on_rule rows result = search arith
 
 -- ---- one step of a course and of what it stands for; P compares the ends, and holds of a refusal and itself
 
@@ -103,54 +84,30 @@ emptied_place place = record { suite = place.suite; row = emptied place.row }
 module _ {A Z : Type 0} (rows : Rows) (P : Result (Ended A) Why → Result Z Why → Type 0) (err : (why : Why) → P (Err why) (Err why)) where
   pub free : {B C : Type 0} (first : Course B Why) (see : C → B) (r : Result C Why) (next : B → Course A Why) (later : C → Result Z Why) → On rows first ≡ unedited (ok_map see r)
       → ((x : C) → r ≡ Ok x → P (On rows (next (see x))) (later x)) → P (On rows (◌>>=◌ first next)) (steps.◌>>=◌ r later)
-  free {C = C} first see r next later is same =
-      subst (λ ended. P ended (steps.◌>>=◌ r later)) (sym (ending_bind (row_of rows) [] first next ∙ ap (go_on (row_of rows) next) is)) (go r refl)
-    where
-      go : (q : Result C Why) → r ≡ q → P (go_on (row_of rows) next (unedited (ok_map see q))) (steps.◌>>=◌ q later)
-      go (Ok x) is = same x is
-      go (Err why) is = err why
+  free first = search (ending_bind, arith)
 
   pub ruled : {B : Type 0} (r : Result B Why) (next : B → Course A Why) (later : B → Result Z Why) → ((x : B) → r ≡ Ok x → P (On rows (next x)) (later x)) → P (On rows (◌>>=◌ (rule r) next)) (steps.◌>>=◌ r later)
-  ruled (Ok x) next later same = same x refl
-  ruled (Err why) next later same = err why
+  ruled r next later h3 = search arith
 
   pub ruled_out : {B : Type 0} (r : Result B Why) (next : Course A Why) (later : Result Z Why) → P (On rows next) later → P (On rows (◌>>◌ (rule r) next)) (steps.◌>>◌ r later)
-  ruled_out (Ok x) next later same = same
-  ruled_out (Err why) next later same = err why
+  ruled_out r next later h3 = search arith
 
   pub at_held : (suite : ℕ) (mode : LockMode) (next : plain.Object → Course A Why) (later : plain.Object → Result Z Why)
       → ((row : Row) → row_of rows suite ≡ Some row → P (On rows (next (emptied_place (record { suite = suite; row = row })))) (later (record { suite = suite; row = row })))
       → P (On rows (◌>>=◌ (asked.held suite mode) next)) (steps.◌>>=◌ (plain.place_of rows suite) later)
-  at_held suite mode next later same =
-      elim (row_of rows suite) as (λ found. row_of rows suite ≡ found → P (On rows (◌>>=◌ (asked.place_at suite (head found)) next))
-      (steps.◌>>=◌ (steps.◌>>=◌ (found_or found why.NoName) (λ row. Ok (record { suite = suite; row = row }))) later)) [
-        | None ↦ λ _. err why.NoName
-        | Some row ↦ λ there. same row there
-      ] refl
+  at_held suite mode next later same = search arith
 
   pub at_folder : (row : Row) (next : Course A Why) (later : List (List ℕ × ℕ) → Result Z Why) → ((names : List (List ℕ × ℕ)) → row.content ≡ Names names → P (On rows next) (later names))
       → P (On rows (◌>>◌ (rule (plain.names_in (emptied row).content)) next)) (steps.◌>>=◌ (plain.names_in row.content) later)
-  at_folder row next later same =
-      elim (row.content) as (λ content. row.content ≡ content → P (On rows (◌>>◌ (rule (plain.names_in (empty_content (kind_of content)))) next)) (steps.◌>>=◌ (plain.names_in content) later)) [
-        | Bytes bytes ↦ λ _. err why.NotFolder
-        | Names names ↦ λ is. same names is
-      ] refl
+  at_folder row next later same = search arith
 
   pub at_file : (row : Row) (next : Course A Why) (later : List ℕ → Result Z Why) → ((bytes : List ℕ) → row.content ≡ Bytes bytes → P (On rows next) (later bytes))
       → P (On rows (◌>>◌ (rule (plain.bytes_in (emptied row).content)) next)) (steps.◌>>=◌ (plain.bytes_in row.content) later)
-  at_file row next later same =
-      elim (row.content) as (λ content. row.content ≡ content → P (On rows (◌>>◌ (rule (plain.bytes_in (empty_content (kind_of content)))) next)) (steps.◌>>=◌ (plain.bytes_in content) later)) [
-        | Bytes bytes ↦ λ is. same bytes is
-        | Names names ↦ λ _. err why.IsFolder
-      ] refl
+  at_file row next later same = search arith
 
   pub at_kind : (row : Row) (rule_of : Kind → Result (Unit {0}) Why) (next : Course A Why) (later : Result Z Why) → P (On rows next) later
       → P (On rows (◌>>◌ (rule (rule_of (kind_of (emptied row).content))) next)) (steps.◌>>◌ (rule_of (kind_of row.content)) later)
-  at_kind row rule_of next later same =
-      elim (row.content) as (λ content. P (On rows (◌>>◌ (rule (rule_of (kind_of (empty_content (kind_of content))))) next)) (steps.◌>>◌ (rule_of (kind_of content)) later)) [
-        | Bytes bytes ↦ ruled_out (rule_of File) next later same
-        | Names names ↦ ruled_out (rule_of Folder) next later same
-      ]
+  at_kind row rule_of next later same = search arith
 
 -- what is read of a row that is there
 pub on_names : {A : Type 0} (rows : Rows) (suite : ℕ) (row : Row) (names : List (List ℕ × ℕ)) (next : List (List ℕ × ℕ) → Course A Why) → row_of rows suite ≡ Some row → row.content ≡ Names names

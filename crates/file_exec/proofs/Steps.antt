@@ -1,6 +1,6 @@
 -- The code of a course step by step.
-use Rattle.file_exec.proofs.Vocabulary.{◌≡◌, ℕ, Bool, true, false, cond, ◌∷◌, Result, Ok, Err, refl, sym, ap, subst, ◌∙◌, false≢true, IsErr, IsErrAnd, Why, Stop, Edit, Course, Give, Set, ◌>>=◌, ◌>>◌, rule, set, Exclusive, Hold, Edits}
-use Rattle.file_exec.proofs.Vocabulary.{Known, is_met, Heard, Needs, Done, is_given, run, then_run, Told, RunsOr, Runs, set_both}
+use Rattle.file_exec.proofs.Vocabulary.{◌≡◌, ℕ, true, false, ◌∷◌, Result, Ok, Err, refl, sym, ap, subst, ◌∙◌, false≢true, IsErr, IsErrAnd, Why, Stop, Edit, Course, Give, Set, ◌>>=◌, ◌>>◌, rule, set, Exclusive, Hold, Edits, arith, Known, is_met}
+use Rattle.file_exec.proofs.Vocabulary.{Heard, is_given, run, then_run, Told, RunsOr, Runs, set_both}
 use Rattle.file_exec.specs.declared.stop.Stop.TheVariants as stop
 use Rattle.file_exec.proofs.Running.{runs_in_turn}
 
@@ -9,8 +9,7 @@ abbrev pub Fails : {A : Type 0} → Result A Stop → Stop → Type 0
 Fails result e = IsErr result × IsErrAnd result (λ error. error ≡ e)
 
 pub failed : {A : Type 0} (result : Result A Stop) (e : Stop) → Fails result e → result ≡ Err e
-failed (Ok x) e fails = cc (fails.0)
-failed (Err error) e fails = ap (λ e. Err e) fails.1
+failed result e h2 = search arith
 
 -- the same course for what is run, in other words
 pub in_other_words : {A B : Type 0} {memory : Heard B Why → Type 0} {see : A → B} {result : Result A Stop} {known : Known} {before after : Edits} {course other : Course B Why}
@@ -32,12 +31,7 @@ module _ {A B C D : Type 0} {memory : Heard B Why → Type 0} {see : A → B} {k
   pub stops_with : {e : Stop} {after : Edits} (next : B → Course D Why) {memory' : Heard D Why → Type 0} {see' : C → D} {result : Result C Stop}
       → (memory (run known before first) → memory' (run known before (◌>>=◌ first next)))
       → RunsOr memory see (Err e) known before middle first → Fails result e → RunsOr memory' see' result known before after (◌>>=◌ first next)
-  stops_with {e = e} {after = after} next {memory' = memory'} {see' = see'} {result = result} refused stopped fails = rw (failed result e fails) (record { told = of e stopped.told })
-    where
-      of : (e : Stop) → Told memory see (Err e) middle (run known before first) → Told memory' see' (Err e) after (run known before (◌>>=◌ first next))
-      of (stop.Needs need) told = runs_in_turn known before first next ∙ ap (then_run known next) told
-      of (stop.Refused why) told = runs_in_turn known before first next ∙ ap (then_run known next) told
-      of stop.Memory told = refused told
+  stops_with next = search (failed, runs_in_turn, arith)
 
 -- the same after a part that takes no memory
 pub stops : {A B C D : Type 0} {see : A → B} {known : Known} {before middle after : Edits} {first : Course B Why} {e : Stop} (next : B → Course D Why) {memory : Heard D Why → Type 0} {see' : C → D} {result : Result C Stop}
@@ -47,16 +41,7 @@ stops next stopped fails = stops_with next (λ never. absurd (false≢true (sym 
 -- the same before a part that gives something in each case
 pub stops_last : {A B C D : Type 0} {see : A → B} {known : Known} {before middle after : Edits} {first : Course B Why} {e : Stop} (last : B → D) {see' : C → D} {result : Result C Stop}
     → Runs see (Err e) known before middle first → Fails result e → Runs see' result known before after (◌>>=◌ first (λ given. Give (last given)))
-stops_last {B = B} {D = D} {known = known} {before = before} {first = first} last stopped fails =
-    stops_with (λ given. Give (last given)) (λ given. ap is_given (runs_in_turn known before first (λ given. Give (last given))) ∙ of (run known before first) given) stopped fails
-  where
-    next : B → Course D Why
-    next given = Give (last given)
-
-    of : (heard : Heard B Why) → is_given heard ≡ true → is_given (then_run known next heard) ≡ true
-    of (Needs need) given = cc
-    of (Done (Ok ended)) given = refl
-    of (Done (Err why)) given = cc
+stops_last last = search (stops_with, runs_in_turn, arith)
 
 module _ {B C D : Type 0} {r : Result B Why} {known : Known} {before after : Edits} {memory : Heard D Why → Type 0} where
   -- what a rule gives, and its refusal
@@ -78,8 +63,7 @@ pub record HoldsAll (known : Known) (suite : ℕ) : Type 0 where
 -- an edit of a suite that is held gives what follows on it
 set_gives : {D : Type 0} (known : Known) (before : Edits) (suite : ℕ) (edit : Edit) (later : Course D Why) → HoldsAll known suite
     → is_given (run known ((suite, edit) ∷ before) later) ≡ true → is_given (run known before (Set suite edit later)) ≡ true
-set_gives known before suite edit later holds given =
-    ap (λ b. is_given (cond b (run known ((suite, edit) ∷ before) later) (Needs (Hold suite Exclusive)))) holds.held ∙ given
+set_gives known before suite edit later holds given = search arith
 
 -- an edit in other words
 pub same_set : {A : Type 0} {see : A → Unit {0}} {result : Result A Stop} {known : Known} {before after : Edits} {suite : ℕ} {edit other : Edit}
@@ -89,9 +73,7 @@ same_set {see = see} {result = result} {known = known} {before = before} {after 
 -- two edits in other words
 pub same_both : {A : Type 0} {see : A → Unit {0}} {result : Result A Stop} {known : Known} {before after : Edits} {first first' second second' : ℕ × Edit}
     → first ≡ first' → second ≡ second' → Runs see result known before after (set_both first second) → Runs see result known before after (set_both first' second')
-same_both {see = see} {result = result} {known = known} {before = before} {after = after} {first = first} {second' = second'} same same' runs =
-    subst (λ first. Runs see result known before after (set_both first second')) same
-    (subst (λ second. Runs see result known before after (set_both first second)) same' runs)
+same_both h0 = search arith
 
 -- an edit, and what follows on it
 module _ {A C D : Type 0} {see : A → Unit {0}} {known : Known} {before middle : Edits} {suite : ℕ} {edit : Edit} {later : Course D Why} where
@@ -101,15 +83,7 @@ module _ {A C D : Type 0} {see : A → Unit {0}} {known : Known} {before middle 
 
   pub stopped_set : {e : Stop} {after : Edits} {see' : C → D} {result : Result C Stop} → is_given (run known ((suite, edit) ∷ before) later) ≡ true
       → Runs see (Err e) known before middle (set suite edit) → Fails result e → Runs see' result known before after (Set suite edit later)
-  stopped_set rest stopped fails = stops_with (λ _. later) (of (is_met known (Hold suite Exclusive)) rest) stopped fails
-    where
-      was_set : Heard (Unit {0}) Why
-      was_set = Done (Ok (record { given = tt; edits = (suite, edit) ∷ before }))
-
-      of : (b : Bool) → is_given (run known ((suite, edit) ∷ before) later) ≡ true → is_given (cond b was_set (Needs (Hold suite Exclusive))) ≡ true
-          → is_given (cond b (run known ((suite, edit) ∷ before) later) (Needs (Hold suite Exclusive))) ≡ true
-      of true rest given = rest
-      of false rest given = cc
+  stopped_set rest stopped fails = search arith
 
 -- memory was refused before an edit
 pub unset : {C D : Type 0} {known : Known} {before after : Edits} {suite : ℕ} {edit : Edit} {later : Course D Why} {see' : C → D} {result : Result C Stop}
@@ -120,8 +94,7 @@ unset {known = known} {before = before} {suite = suite} {edit = edit} {later = l
 module _ {C D : Type 0} {known : Known} {before : Edits} {suite other : ℕ} {edit next : Edit} {later : Course D Why} where
   pub unset_both : {after : Edits} {see' : C → D} {result : Result C Stop} → HoldsAll known suite → HoldsAll known other → is_given (run known ((other, next) ∷ (suite, edit) ∷ before) later) ≡ true → Fails result stop.Memory
       → Runs see' result known before after (Set suite edit (Set other next later))
-  unset_both first second given fails =
-      out_of_memory (set_gives known before suite edit (Set other next later) first (set_gives known ((suite, edit) ∷ before) other next later second given)) fails
+  unset_both first second given fails = search arith
 
   pub stopped_first : {A : Type 0} {see : A → Unit {0}} {middle after : Edits} {e : Stop} {see' : C → D} {result : Result C Stop} → HoldsAll known other → is_given (run known ((other, next) ∷ (suite, edit) ∷ before) later) ≡ true
       → Runs see (Err e) known before middle (set suite edit) → Fails result e → Runs see' result known before after (Set suite edit (Set other next later))

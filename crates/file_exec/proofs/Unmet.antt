@@ -1,7 +1,6 @@
 -- What is asked for is not known, and what is set is held.
-use Rattle.file_exec.proofs.Vocabulary.{◌≡◌, ℕ, Bool, true, false, cond, List, [], ◌∷◌, Option, Some, None, Result, Ok, refl, sym, ap, ◌∙◌, not, ◌&&◌, list_all, same_Some, Row, Exclusive, Course, Give, Refuse, Look, Read, Set, Need}
-use Rattle.file_exec.proofs.Vocabulary.{Hold, Know, Edits, is_set, looked, content_read, unless_set, needs, Ended, ending, transaction, Known, known_rows, is_met, first_unmet, Needs, Done, heard, is_held_for, SetsWhatIsHeld}
-use Rattle.file_exec.proofs.Vocabulary.{NeedsWhatIsUnmet}
+use Rattle.file_exec.proofs.Vocabulary.{◌≡◌, ℕ, Bool, true, false, cond, List, [], ◌∷◌, Option, Some, None, Result, Ok, refl, sym, ap, ◌∙◌, not, ◌&&◌, list_all, same_Some, Row, Exclusive, Course, Give, Refuse, Look, Read, Set, Need, Hold, Know}
+use Rattle.file_exec.proofs.Vocabulary.{Edits, is_set, looked, content_read, unless_set, needs, Ended, ending, transaction, Known, known_rows, is_met, first_unmet, Needs, Done, heard, is_held_for, SetsWhatIsHeld, NeedsWhatIsUnmet}
 
 -- where nothing is unmet, the first is met and nothing of the others is unmet
 pub met : (known : Known) (need : Need) (later : List Need) → first_unmet known (need ∷ later) ≡ None → (is_met known need ≡ true) × (first_unmet known later ≡ None)

@@ -1,7 +1,7 @@
 -- What the changes that the executor answers say of what was known.
-use Rattle.file_exec.proofs.Vocabulary.{◌≡◌, ℕ, Bool, true, false, cond, List, [], ◌∷◌, Option, Some, None, Ok, Err, refl, sym, ap, ◌∙◌, ◌==◌, ◌&&◌, ◌||◌, is_some, option_map, list_all, nat_cmp, eqb-true, same_Some, get, Configuration}
-use Rattle.file_exec.proofs.Vocabulary.{Exclusive, Answer, Refusal, Row, Change, Outcome, Edit, SetAcl, SetVotes, SetContent, Make, Edits, Ended, changed, seen, is_set, Known, known_of, known_rows, is_held, Heard, Needs, Done, exec_of}
-use Rattle.file_exec.proofs.Vocabulary.{is_held_for, sets_acl, sets_votes, makes, touches, some, change_of, changes_of, answered, ChangesAreHeld, UnsetVotesStay}
+use Rattle.file_exec.proofs.Vocabulary.{◌≡◌, ℕ, Bool, true, false, cond, List, [], ◌∷◌, Option, Some, None, Ok, refl, sym, ap, ◌∙◌, is_some, option_map, list_all, nat_cmp, eqb-true, same_Some, get, Configuration, arith, Exclusive, Answer, Refusal}
+use Rattle.file_exec.proofs.Vocabulary.{Row, Change, Edit, Edits, Ended, changed, seen, is_set, Known, known_of, known_rows, is_held, Heard, Done, exec_of, is_held_for, sets_acl, sets_votes, makes, touches, some, change_of, changes_of, answered}
+use Rattle.file_exec.proofs.Vocabulary.{ChangesAreHeld, UnsetVotesStay}
 use Rattle.file_exec.specs.declared.executor.Outcome.TheVariants as outcome
 use Rattle.file_exec.proofs.Leading.{changes_by_suite}
 use Rattle.file_exec.proofs.Unmet.{sets_what_is_held}
@@ -13,37 +13,17 @@ Changes = List (ℕ × Change)
 abbrev FromLog : Known → Heard (List Answer) Refusal → Changes → Type 0
 FromLog known heard changes = (ended : Ended (List Answer)) × (heard ≡ Done (Ok ended)) × (changes ≡ changes_of known ended.edits)
 
-abbrev changes_in : Outcome → Changes
-changes_in (outcome.Need need) = []
-changes_in (outcome.Done answers changes) = changes
-changes_in (outcome.Refused refusal) = []
-
 from_log : (known : Known) (heard : Heard (List Answer) Refusal) (answers : List Answer) (changes : Changes) → answered known heard ≡ outcome.Done answers changes → FromLog known heard changes
-from_log known (Needs need) answers changes is = cc
-from_log known (Done (Err refusal)) answers changes is = cc
-from_log known (Done (Ok ended)) answers changes is = (ended, refl, sym (ap changes_in is))
+from_log known heard answers changes h4 = search arith
 
 -- ---- what is changed is held
 
 touched_held : (known : Known) (log : Edits) (number : ℕ) → list_all (is_held_for known) log ≡ true → touches log number ≡ true → is_held Exclusive (known_of known number) ≡ true
 touched_held known [] number all touched = cc
-touched_held known (e ∷ log) number all touched = of (touched_held known log number (second (is_held_for known e) (list_all (is_held_for known) log) all)) (e.0 == number) refl touched
-  where
-    first : (a b : Bool) → (a && b) ≡ true → a ≡ true
-    first true b is = refl
-    first false b is = cc
-
-    second : (a b : Bool) → (a && b) ≡ true → b ≡ true
-    second true b is = is
-    second false b is = cc
-
-    of : (touches log number ≡ true → is_held Exclusive (known_of known number) ≡ true) → (b : Bool) → (e.0 == number) ≡ b → (b || touches log number) ≡ true → is_held Exclusive (known_of known number) ≡ true
-    of again true same _ = ap (λ number. is_held Exclusive (known_of known number)) (sym (eqb-true e.0 number same)) ∙ first (is_held_for known e) (list_all (is_held_for known) log) all
-    of again false _ later = again later
+touched_held known (e ∷ log) number all touched = search (eqb-true, touched_held known log number, arith)
 
 changed_touched : (b : Bool) (change : Option Change) → is_some (cond b change None) ≡ true → b ≡ true
-changed_touched true change is = refl
-changed_touched false change is = cc
+changed_touched b change h2 = search arith
 
 pub changes_are_held : ChangesAreHeld
 changes_are_held service known t caller ops answers changes suite is told =
@@ -58,29 +38,11 @@ abbrev votes_of : Option Row → Option Configuration
 votes_of row = option_map (λ (row : Row). row.votes) row
 
 unset_votes : (edit : Edit) (row : Option Row) → sets_votes edit ≡ false → votes_of (changed edit row) ≡ votes_of row
-unset_votes (SetAcl acl) (Some row) is = refl
-unset_votes (SetAcl acl) None is = refl
-unset_votes (SetContent content) (Some row) is = refl
-unset_votes (SetContent content) None is = refl
-unset_votes (SetVotes votes) row is = cc
-unset_votes (Make made) row is = cc
+unset_votes edit row h2 = search arith
 
 seen_votes : (log : Edits) (number : ℕ) (row : Option Row) → some sets_votes log number ≡ false → votes_of (seen log number row) ≡ votes_of row
 seen_votes [] number row none = refl
-seen_votes (e ∷ log) number row none = of (seen_votes log number row) (e.0 == number) none
-  where
-    left : (a b : Bool) → (a || b) ≡ false → a ≡ false
-    left false b is = refl
-    left true b is = cc
-
-    right : (a b : Bool) → (a || b) ≡ false → b ≡ false
-    right false b is = is
-    right true b is = cc
-
-    of : (some sets_votes log number ≡ false → votes_of (seen log number row) ≡ votes_of row) → (b : Bool) → ((b && sets_votes e.1) || some sets_votes log number) ≡ false
-        → votes_of (cond b (changed e.1 (seen log number row)) (seen log number row)) ≡ votes_of row
-    of again true none = unset_votes e.1 (seen log number row) (left (sets_votes e.1) (some sets_votes log number) none) ∙ again (right (sets_votes e.1) (some sets_votes log number) none)
-    of again false none = again none
+seen_votes (e ∷ log) number row none = search (unset_votes, seen_votes log number row, arith)
 
 abbrev told_of : Edits → ℕ → Option Row → Option Change
 told_of log number row = option_map (λ row. record {

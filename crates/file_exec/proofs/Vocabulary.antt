@@ -1,6 +1,6 @@
 -- The names that the proofs of this crate take from elsewhere, each with one meaning here.
-pub use Rattle.std.proofs.Common.{Bool, Err, Greater, IfOk, Less, List, None, Ok, OnErr, Option, Result, Some, [], add-one, ap, arith, cond, drop, false, filter, find, get_or, inl, inr, is_some, length, nat_le, nat_lt, not, option_map}
-pub use Rattle.std.proofs.Common.{refl, subst, suc, sym, take, true, zero, ℕ, ◌&&◌, ◌++◌, ◌+◌, ◌-◌, ◌<◌, ◌==◌, ◌||◌, ◌∙◌, ◌∷◌, ◌≡◌, ◌≤◌, ◌⊎◌}
+pub use Rattle.std.proofs.Common.{Bool, Err, Greater, IfOk, Less, List, None, Ok, OnErr, Option, Result, Some, [], add-one, ap, arith, cond, drop, false, filter, find, get_or, inl, inr, is_some, length, nat_le, nat_lt, not, option_map, refl, subst}
+pub use Rattle.std.proofs.Common.{suc, sym, take, true, zero, ℕ, ◌&&◌, ◌++◌, ◌+◌, ◌-◌, ◌<◌, ◌==◌, ◌||◌, ◌∙◌, ◌∷◌, ◌≡◌, ◌≤◌, ◌⊎◌}
 pub use Rattle.std.proofs.Math.Nat.{eq-zero-or-pos}
 pub use Rattle.std.proofs.lemmas.Bool.{eqb-true, false≢true}
 pub use Rattle.std.proofs.lemmas.Bool.Decides.{nat_tests}
@@ -20,13 +20,13 @@ pub use Rattle.acl_core.specs.declared.perms.Perms.{Perms}
 pub use Rattle.file_ops.proofs.Permitting.{same_permit, same_permit_others}
 pub use Rattle.file_ops.specs.KnownVotes.{known_votes, votes_of_new}
 pub use Rattle.file_ops.specs.Limits.{max_operations}
-pub use Rattle.file_ops.specs.Lists.{gives_default, is_misplaced, lists_of}
-pub use Rattle.file_ops.specs.Operations.{Parent, is_used, last_name, refuse_if}
+pub use Rattle.file_ops.specs.Lists.{gives_default, is_misplaced}
+pub use Rattle.file_ops.specs.Operations.{Parent, last_name, refuse_if}
 pub use Rattle.file_ops.specs.Paths.{names_of}
-pub use Rattle.file_ops.specs.Rows.{Row, Rows, made_number, new_row, root, row_of, with_acl, with_content, with_row, with_votes}
+pub use Rattle.file_ops.specs.Rows.{Row, Rows, made_number, root, row_of, with_content}
 pub use Rattle.file_ops.specs.Steps.{found_or, ok_map}
 pub use Rattle.file_ops.specs.Transactions.{is_miscounted}
-pub use Rattle.file_ops.specs.Walks.{Object, bytes_in, names_in, owner_only, permit, permit_others, to_change, to_read, to_search, to_write}
+pub use Rattle.file_ops.specs.Walks.{Object, bytes_in, names_in, owner_only, permit, permit_others, to_change, to_read, to_write}
 pub use Rattle.file_ops.specs.declared.answer.Answer.{Answer}
 pub use Rattle.file_ops.specs.declared.operation.Action.{Action}
 pub use Rattle.file_ops.specs.declared.operation.Init.{Init}
@@ -40,10 +40,8 @@ pub use Rattle.suite_content.specs.Contents.{empty_content, kind_of}
 pub use Rattle.suite_content.specs.Folders.{same_names}
 pub use Rattle.suite_content.specs.Limits.{max_content, max_names}
 pub use Rattle.suite_content.specs.code.Equality.{same_names_decides}
-pub use Rattle.suite_content.specs.declared.content.Content.{Content}
 pub use Rattle.suite_content.specs.declared.content.Content.TheVariants.{Bytes, Names}
 pub use Rattle.suite_content.specs.declared.content.Kind.{Kind}
-pub use Rattle.suite_content.specs.declared.content.Kind.TheVariants.{File, Folder}
 pub use Rattle.suite_prefix.specs.LockModes.{serves}
 pub use Rattle.suite_prefix.specs.declared.lock_mode.LockMode.{LockMode}
 pub use Rattle.suite_prefix.specs.declared.lock_mode.LockMode.TheVariants.{Exclusive, Shared}
@@ -51,8 +49,8 @@ pub use Rattle.vote_core.specs.Quorums.{Configuration}
 pub use Rattle.file_exec.specs.Changes.{answered, change_of, changes_at, changes_of, makes, sets_acl, sets_votes, some, touches, with_change}
 pub use Rattle.file_exec.specs.Courses.{Course, Give, Look, Read, Refuse, Set, at_place, look, rule, set, ◌>>=◌, ◌>>◌}
 pub use Rattle.file_exec.specs.Following.{Edits, Ended, changed, content_in, content_read, emptied, ending, head, is_set, looked, needs, put, seen, sets_content, unless_set, with_edits}
-pub use Rattle.file_exec.specs.Known.{AgreesWith, Done, Heard, IsSoAt, IsTheTransaction, Known, Needs, NeedsWhatIsUnmet, SetsWhatIsHeld, exec_of, first_unmet, followed, heard, is_given, is_held, is_held_for, is_met, is_opened, known_of}
-pub use Rattle.file_exec.specs.Known.{known_rows, on_table, opened, opened_suite, row_in}
+pub use Rattle.file_exec.specs.Known.{AgreesWith, Done, Heard, IsSoAt, IsTheTransaction, Known, Needs, NeedsWhatIsUnmet, SetsWhatIsHeld, exec_of, first_unmet, followed, heard, is_given, is_held, is_held_for, is_met, is_opened, known_of, known_rows}
+pub use Rattle.file_exec.specs.Known.{on_table, opened, opened_suite, row_in}
 pub use Rattle.file_exec.specs.KnownSuites.{KnownSuite}
 pub use Rattle.file_exec.specs.Laws.{AMetNeedIsProgress, ChangesAreHeld, ChangesBySuite, ChangesLeadOn, DoneIsTheTables, FitsRow, IsMore, IsMoreAt, IsStep, MoreKnown, MoreKnownChangesNothing, OpeningMeets, TellsAt, UnsetVotesStay}
 pub use Rattle.file_exec.specs.Licensed.{AllLicensed, EditsAreLicensed, HasLicence, IsShown, IsTold, Licensed, MayChange, adds_name, changes_lists, changes_votes, drops_name, makes_row, writes_bytes}

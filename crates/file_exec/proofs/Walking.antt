@@ -1,6 +1,6 @@
 -- Walks that go on from where they came.
-use Rattle.file_exec.proofs.Vocabulary.{◌≡◌, ℕ, ◌+◌, ◌<◌, List, [], ◌∷◌, ◌++◌, length, get_or, take, drop, Ok, Err, refl, sym, ap, ◌∙◌, take-append-drop, take_more, drop_more, Identity, Why, root, Edits, Ended, Known, Heard, Needs}
-use Rattle.file_exec.proofs.Vocabulary.{Done, step, walk, Leads, run, then_run}
+use Rattle.file_exec.proofs.Vocabulary.{◌≡◌, ℕ, ◌+◌, ◌<◌, List, [], ◌∷◌, ◌++◌, length, get_or, take, drop, Ok, Err, refl, sym, ap, ◌∙◌, take-append-drop, take_more, drop_more, Identity, Why, root, Edits, Ended, Known, Heard, Needs, Done, step, walk}
+use Rattle.file_exec.proofs.Vocabulary.{Leads, run, then_run}
 use Rattle.file_exec.proofs.Running.{runs_in_turn}
 
 -- a walk along some names and then others is one walk after the other

@@ -1,6 +1,6 @@
 -- Where the capacity of folders is kept: wherever names come and go.
-use Rattle.file_ops.proofs.Vocabulary.{◌≡◌, ◌≢◌, ℕ, ◌+◌, ◌≤◌, true, false, List, length, Option, Some, ap, ◌∙◌, ⊎_elim, arith, ◌==◌, if◌then◌else◌, is_some, Bool, option_map, nat_cmp, cases_Bool, eqb-true, eqb-false, IsOrdered, get, insert}
-use Rattle.file_ops.proofs.Vocabulary.{replace, remove, Roomy, IsFolder, number_of, with_name, without_name, length-with_name, length-without_name, StoredRow, StoredRows, capacity_in, capacity_of, capacity_at, KeepsCapacity}
+use Rattle.file_ops.proofs.Vocabulary.{◌≡◌, ◌≢◌, ℕ, ◌+◌, ◌≤◌, List, length, Option, Some, ap, ◌∙◌, ⊎_elim, arith, ◌==◌, if◌then◌else◌, is_some, Bool, option_map, nat_cmp, cases_Bool, eqb-true, eqb-false, IsOrdered, get, insert, replace, remove}
+use Rattle.file_ops.proofs.Vocabulary.{Roomy, IsFolder, number_of, with_name, without_name, length-with_name, length-without_name, StoredRow, StoredRows, capacity_in, capacity_of, capacity_at, KeepsCapacity}
 use Rattle.sorted_map.specs.Numbers.{get_insert_apart, get_replace_here, get_replace_apart, get_remove_apart}
 use Rattle.file_ops.specs.declared.stored.StoredContent.TheVariants.{Names}
 
@@ -22,17 +22,7 @@ capacity_at-remove_apart rows s q ordered apart = ap capacity_of (get_remove_apa
 
 -- a row exchanged for one that holds as much
 pub keeps_capacity : (rows : StoredRows) (s : ℕ) (before row : StoredRow) → get nat_cmp rows s ≡ Some before → capacity_in before.content ≤ capacity_in row.content → KeepsCapacity rows (replace nat_cmp rows s row)
-keeps_capacity rows s before row there more = record {
-  kept = λ q. each q s
-      (λ same. ap_le q s same)
-      (λ apart. omega (arith, capacity_at-replace_apart rows s row q apart));
-}
-  where
-    here : capacity_at rows s ≤ capacity_at (replace nat_cmp rows s row) s
-    here = omega (arith, more, ap capacity_of there, capacity_at-replace_here rows s before row there)
-
-    ap_le : (q s' : ℕ) → q ≡ s → capacity_at rows q ≤ capacity_at (replace nat_cmp rows s row) q
-    ap_le q s' same = rw same here
+keeps_capacity rows s before row there more = search (each, capacity_at-replace_apart, capacity_at-replace_here, arith)
 
 -- a name put in, or taken out
 pub insert_keeps : (old new : Roomy (List ℕ) ℕ) (name : List ℕ) (number : ℕ) (before : Option ℕ) → IsFolder old.pairs → new.pairs ≡ with_name old.pairs name number
@@ -43,10 +33,7 @@ insert_keeps old new name number before ordered edit was room =
     by_test (is_some before) (is_some (number_of old.pairs name)) (length old.pairs) (length new.pairs) old.room new.room same longer room
   where
     by_test : (b c : Bool) (n n' r r' : ℕ) → b ≡ c → n' ≡ n + (if c then 0 else 1) → r ≤ r' + (if b then 0 else 1) → n + r ≤ n' + r'
-    by_test true true n n' r r' same longer room = omega arith
-    by_test true false n n' r r' same longer room = cc
-    by_test false true n n' r r' same longer room = cc
-    by_test false false n n' r r' same longer room = omega arith
+    by_test b c n n' r r' h6 h7 h8 = search arith
 
 pub remove_keeps : (old new : Roomy (List ℕ) ℕ) (name : List ℕ) (before : Option ℕ) → new.pairs ≡ without_name old.pairs name → before ≡ number_of old.pairs name
     → new.room ≡ old.room + (if is_some before then 1 else 0) → capacity_in (Names old) ≤ capacity_in (Names new)
@@ -56,15 +43,9 @@ remove_keeps old new name before edit was room =
     by_test (is_some before) (is_some (number_of old.pairs name)) (length old.pairs) (length new.pairs) (length (without_name old.pairs name)) old.room new.room (ap is_some was) shorter all room
   where
     by_test : (b c : Bool) (n n' m r r' : ℕ) → b ≡ c → n' ≡ m → m + (if c then 1 else 0) ≡ n → r' ≡ r + (if b then 1 else 0) → n + r ≤ n' + r'
-    by_test true true n n' m r r' same shorter all room = omega arith
-    by_test true false n n' m r r' same shorter all room = cc
-    by_test false true n n' m r r' same shorter all room = cc
-    by_test false false n n' m r r' same shorter all room = omega arith
+    by_test b c n n' m r r' h7 h8 h9 h10 = search arith
 
 -- a row put over another one, whose capacity waits with it
 pub made_capacity : (old named new : StoredRows) (number : ℕ) (row : StoredRow) (before : Option StoredRow) → KeepsCapacity old named → before ≡ get nat_cmp named number
     → new ≡ insert nat_cmp named number row → (suite : ℕ) → capacity_at old suite ≤ (if suite == number then capacity_of before else capacity_at new suite)
-made_capacity old named new number row before kept was put suite = ⊎_elim
-    (λ same. rw same (omega (arith, kept.kept suite, ap (capacity_at named) (eqb-true suite number same), ap capacity_of was)))
-    (λ other. rw other (omega (arith, kept.kept suite, ap (λ rows. capacity_at rows suite) put, capacity_at-insert_apart named number row suite (eqb-false suite number other))))
-    (cases_Bool (suite == number))
+made_capacity old named new number row before kept was put suite = search (eqb-true, capacity_at-insert_apart, eqb-false, cases_Bool, arith)

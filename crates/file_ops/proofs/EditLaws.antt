@@ -1,6 +1,6 @@
 -- Edits of one row: one after another, and taken back.
-use Rattle.file_ops.proofs.Vocabulary.{◌≡◌, ℕ, List, Option, Some, None, refl, sym, ap, ◌∙◌, subst, option_map_or, nat_cmp, is_eq, cond-true, nat_cmp_total, tied_itself, same_Some, IsOrdered, get-insert, IsOrdered-insert, insert-insert}
-use Rattle.file_ops.proofs.Vocabulary.{insert_same, Content, with_name, without_name, without-with_name, Row, Rows, row_of, with_row, with_content, edited, number_in, number_at, in_names, put_name, drop_name}
+use Rattle.file_ops.proofs.Vocabulary.{◌≡◌, ℕ, List, Option, Some, None, refl, sym, ap, ◌∙◌, subst, option_map_or, nat_cmp, is_eq, cond-true, nat_cmp_total, tied_itself, same_Some, IsOrdered, get-insert, IsOrdered-insert, insert-insert, arith}
+use Rattle.file_ops.proofs.Vocabulary.{insert_same, Content, with_name, without_name, without-with_name, Row, Rows, row_of, with_row, edited, number_in, number_at, in_names, put_name, drop_name}
 use Rattle.suite_content.specs.declared.content.Content.TheVariants.{Bytes, Names}
 
 -- the row that was put is there
@@ -38,9 +38,7 @@ edited-back rows suite edit back ordered undoes = by_found (row_of rows suite)
 
 -- the same, of a row that is known
 pub edited-back-at : (rows : Rows) (suite : ℕ) (edit back : Row → Row) (row : Row) → IsOrdered nat_cmp rows → row_of rows suite ≡ Some row → back (edit row) ≡ row → edited (edited rows suite edit) suite back ≡ rows
-edited-back-at rows suite edit back row ordered there undoes =
-    edited-back rows suite edit back ordered
-    (λ found there'. let same : row ≡ found = same_Some row found (sym there ∙ there') in subst (λ r. back (edit r) ≡ r) same undoes)
+edited-back-at rows suite edit back row ordered there undoes = search (edited-back, same_Some, arith)
 
 -- a name that was put is taken out again
 drop-put_in : (held : Content) (name : List ℕ) (number : ℕ) → number_in held name ≡ None → in_names (λ names. without_name names name) (in_names (λ names. with_name names name number) held) ≡ held
@@ -48,6 +46,4 @@ drop-put_in (Names names) name number absent = ap Names (without-with_name names
 drop-put_in (Bytes bytes) name number absent = refl
 
 pub drop-put_name : (rows : Rows) (folder : ℕ) (name : List ℕ) (number : ℕ) → IsOrdered nat_cmp rows → number_at rows folder name ≡ None → edited (edited rows folder (put_name name number)) folder (drop_name name) ≡ rows
-drop-put_name rows folder name number ordered absent =
-    edited-back rows folder (put_name name number) (drop_name name) ordered
-    (λ row there. ap (with_content row) (drop-put_in row.content name number (sym (ap (λ found. option_map_or (λ r. number_in r.content name) found None) there) ∙ absent)))
+drop-put_name rows folder name number ordered absent = search (edited-back, drop-put_in, arith)

@@ -12,9 +12,7 @@ at_end [] name = refl
 at_end (first ∷ rest) name = at_end rest name
 
 behind : (rest : List (List ℕ)) (name : List ℕ) → last_name (rest ++ name ∷ []) ≡ Ok (record { folders = rest; name = name })
-behind rest name =
-    let places : length (rest ++ name ∷ []) - 1 ≡ length rest = omega (arith, length-append rest (name ∷ [])) in
-    rw (places, at_end rest name, take-append_seam rest (name ∷ [])) refl
+behind rest name = search (length-append rest (name ∷ []), at_end rest name, take-append_seam rest (name ∷ []), arith)
 
 -- what splitting the last name off gives
 pub last_name-split : (names : List (List ℕ)) (split : Option (Bor (List ℕ) × Bor (List (List ℕ))))

@@ -1,5 +1,5 @@
 -- Operations from a place on are refused by a number above that place, so a refusal of the first operation is that of the first one played.
-use Rattle.file_ops.proofs.Vocabulary.{◌≡◌, ℕ, ◌+◌, ◌<◌, false, List, [], ◌∷◌, ◌++◌, Result, Ok, Err, arith, IfErr, IsOk, false≢true, Identity, Why, ◌>>=◌, Rows, Performed, operation, AnswersFirst}
+use Rattle.file_ops.proofs.Vocabulary.{◌≡◌, ℕ, ◌+◌, ◌<◌, false, List, [], ◌∷◌, ◌++◌, Result, Ok, Err, arith, IfErr, IsOk, false≢true, Identity, ◌>>=◌, Rows, operation, AnswersFirst}
 use Rattle.std.proofs.lemmas.Grind.{common_steps}
 use Rattle.file_ops.specs.declared.answer.Answer.{Answer}
 use Rattle.file_ops.specs.declared.operation.Op.{Op}
@@ -29,11 +29,7 @@ vain result at (Err refusal) above = λ same. absurd (omega arith)
 
 pub first_done : (result : Result (List Answer) ApplyError) (service : Service) (played : Played) (t at : ℕ) (caller : Identity) (op : Op) (later : List Op)
     → IsOk (operation service played.rows t at caller op) → AnswersFirst result at (play service played t at caller (op ∷ later))
-first_done result service played t at caller op later ok = cases (operation service played.rows t at caller op) ok
-  where
-    cases : (done : Result Performed Why) → IsOk done → AnswersFirst result at (◌>>=◌ (after played.answers at done) (λ next. play service next t (at + 1) caller later))
-    cases (Ok done) ok = vain result at _ (refused_later service (record { answers = played.answers ++ done.answer ∷ []; rows = done.rows }) t (at + 1) caller later)
-    cases (Err why) ok = absurd (false≢true ok)
+first_done result service played t at caller op later ok = search (vain, refused_later, false≢true, arith)
 
 told : (result : Result (List Answer) ApplyError) (outcome : Result Played Refusal) → IsAbove 0 outcome → AnswersFirst result 0 outcome → RefusesFirst result outcome
 told result (Ok played) above first = tt

@@ -1,27 +1,16 @@
 -- What a listing finds.
-use Rattle.file_ops.proofs.Vocabulary.{◌≡◌, ℕ, List, Option, None, Some, Result, Ok, Err, IfOk, refl, ap, sym, ◌∙◌, Identity, Content, Why, Row, Rows, row_of, root, ◌>>=◌, found_or, listed_in, names_listed, Object, names_in, permit}
-use Rattle.file_ops.proofs.Vocabulary.{place_of, reach, to_read, walk}
+use Rattle.file_ops.proofs.Vocabulary.{◌≡◌, ℕ, List, Some, Result, Ok, Err, IfOk, refl, ap, Identity, Content, Why, Rows, row_of, root, ◌>>=◌, listed_in, names_listed, Object, names_in, permit, arith, place_of, reach, to_read, walk}
 use Rattle.suite_content.specs.declared.content.Content.TheVariants.{Bytes, Names}
 use Rattle.suite_content.specs.Folders as folders
 use Rattle.file_ops.specs.declared.answer.Answer.TheVariants as answer
-use Rattle.file_ops.specs.declared.refusal.Why.TheVariants as why
 
 -- the names of a folder are those that are listed
 pub listed : (content : Content) (entries : List (List ℕ × ℕ)) → names_in content ≡ Ok entries → listed_in content ≡ folders.names_in entries
 listed (Names names) entries is = ap folders.names_in (cc is)
 listed (Bytes bytes) entries is = absurd (cc is)
 
-placed : (suite : ℕ) (row : Option Row) (place : Object) → ◌>>=◌ (found_or row why.NoName) (λ (r : Row). Ok (record { suite = suite; row = r })) ≡ Ok place → (place.suite ≡ suite) × (row ≡ Some place.row)
-placed suite None place is = absurd (cc is)
-placed suite (Some row) place is =
-    let same : record { suite = suite; row = row } ≡ place = cc is in
-    (ap (λ (p : Object). p.suite) (sym same), ap (λ (p : Object). Some p.row) same)
-
 walked : (rows : Rows) (place : Object) (suite : Result ℕ Why) → ◌>>=◌ suite (place_of rows) ≡ Ok place → row_of rows place.suite ≡ Some place.row
-walked rows place (Err why) is = absurd (cc is)
-walked rows place (Ok suite) is =
-    let at = placed suite (row_of rows suite) place is in
-    ap (row_of rows) at.0 ∙ at.1
+walked rows place suite h3 = search arith
 
 -- what is reached is there
 pub reached : (rows : Rows) (caller : Identity) (names : List (List ℕ)) (place : Object) → reach rows caller names ≡ Ok place → row_of rows place.suite ≡ Some place.row

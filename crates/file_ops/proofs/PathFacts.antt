@@ -1,6 +1,6 @@
 -- Texts cut at their slashes: which are paths.
-use Rattle.file_ops.proofs.Vocabulary.{◌≡◌, ◌≢◌, ℕ, ◌<◌, ◌≤◌, Bool, true, false, not, ◌&&◌, cond, nat_eq, List, [], ◌∷◌, ◌++◌, length, take, drop, Some, None, refl, sym, ap, ◌∙◌, arith, nat_le, codes, list_all, slice_split, onto_first}
-use Rattle.file_ops.proofs.Vocabulary.{false≢true, true≢false, not_from_false, not-true, false_from_ne_true, eqb-true, list_all-append, length-slice_split, max_path_names, is_slash, is_name, some_names, names_between, names_of}
+use Rattle.file_ops.proofs.Vocabulary.{◌≡◌, ◌≢◌, ℕ, ◌<◌, ◌≤◌, Bool, true, false, not, ◌&&◌, cond, nat_eq, List, [], ◌∷◌, ◌++◌, length, take, drop, Some, None, refl, sym, ap, ◌∙◌, arith, nat_le, codes, list_all, slice_split, onto_first, false≢true}
+use Rattle.file_ops.proofs.Vocabulary.{not_from_false, not-true, false_from_ne_true, eqb-true, list_all-append, length-slice_split, max_path_names, is_slash, is_name, some_names, names_between, names_of}
 use Rattle.std.specs.Cmp.Lexicographic.{pointwise}
 use Rattle.std.proofs.lemmas.Bool.Decides.{nat_tests}
 use Rattle.std.specs.Str.{bytes_eq}
@@ -22,9 +22,7 @@ not_all parts bad = grind (arith, nat_tests)
 
 -- a test of two parts
 both : (a b : Bool) → (a && b) ≡ true → (a ≡ true) × (b ≡ true)
-both true true test = (refl, refl)
-both true false test = absurd (false≢true test)
-both false b test = absurd (false≢true test)
+both a b h2 = search arith
 
 differs : (bytes other : List ℕ) → bytes ≢ other → not (bytes_eq bytes other) ≡ true
 differs bytes other apart = not_from_false _ (false_from_ne_true _ (λ e. apart ((bytes_eq-Decides bytes other).0 e)))
@@ -33,11 +31,7 @@ apart : (bytes other : List ℕ) → not (bytes_eq bytes other) ≡ true → byt
 apart bytes other test same = false≢true (sym (not-true _ test) ∙ (bytes_eq-Decides bytes other).1 same)
 
 pub test_name : (bytes : List ℕ) → IsName bytes → is_name bytes ≡ true
-test_name bytes name =
-    let long : nat_le 1 (length bytes) ≡ true = grind (arith, nat_tests) in
-    let short : nat_le (length bytes) max_name ≡ true = grind (arith, nat_tests) in
-    both_true (both_true (both_true (both_true long short) (list_all-from_AllPass is_name_byte bytes name.portable))
-    (differs bytes (codes ".") name.not_dot)) (differs bytes (codes "..") name.not_dot_dot)
+test_name bytes name = search (nat_tests, list_all-from_AllPass, differs, arith)
 
 at_least_one : (bytes : List ℕ) → nat_le 1 (length bytes) ≡ true → 1 ≤ length bytes
 at_least_one bytes test = grind (arith, nat_tests)
@@ -76,16 +70,11 @@ some_part text = omega (arith, length-slice_split is_slash text)
 
 -- a text whose first byte is no slash has a first part
 front : (b : Bool) (byte : ℕ) (parts : List (List ℕ)) → b ≡ false → names_between (cond b ([] ∷ parts) (onto_first byte parts)) ≡ None
-front true byte parts other = absurd (true≢false other)
-front false byte [] other = refl
-front false byte (part ∷ parts) other = refl
+front b byte parts h3 = search arith
 
 -- what stands after the first slash is no empty part alone, where a byte stands there
 behind : (b : Bool) (byte : ℕ) (parts : List (List ℕ)) → 1 ≤ length parts → let behind' = cond b ([] ∷ parts) (onto_first byte parts) in names_between ([] ∷ behind') ≡ some_names behind'
-behind true byte [] some = absurd (omega arith)
-behind true byte (part ∷ parts) some = refl
-behind false byte [] some = refl
-behind false byte (part ∷ parts) some = refl
+behind b byte parts h3 = search arith
 
 pub other_first : (byte : ℕ) (rest : List ℕ) → is_slash byte ≡ false → names_of (byte ∷ rest) ≡ None
 other_first byte rest other = front (is_slash byte) byte (slice_split is_slash rest) other

@@ -1,5 +1,5 @@
 -- The names of a path, written, are its text again.
-use Rattle.file_ops.proofs.Vocabulary.{◌≡◌, ℕ, Bool, true, false, List, [], ◌∷◌, Some, refl, sym, ap, ◌∙◌, slice_split, eqb-true, none-some, same_Some, cond_some, join_with_byte-slice_split, is_slash, names_of, written}
+use Rattle.file_ops.proofs.Vocabulary.{◌≡◌, ℕ, Bool, List, [], ◌∷◌, Some, refl, sym, ap, ◌∙◌, slice_split, eqb-true, none-some, same_Some, cond_some, join_with_byte-slice_split, is_slash, names_of, written, arith}
 use Rattle.file_ops.proofs.PathFacts.{other_first, after_slash}
 
 pub written_back : (text : List ℕ) (names : List (List ℕ)) → names_of text ≡ Some names → written names ≡ text
@@ -14,10 +14,7 @@ written_back (byte ∷ rest) names is = by (is_slash byte) refl
         ap written (sym same) ∙ ap (λ t. 47 ∷ t) (join_with_byte-slice_split 47 (next ∷ rest))
 
     by : (slash : Bool) → is_slash byte ≡ slash → written names ≡ byte ∷ rest
-    by false other = absurd (none-some _ (sym (other_first byte rest other) ∙ is))
-    by true slash =
-        let first : byte ≡ 47 = eqb-true byte 47 slash in
-        behind rest (ap (λ b. names_of (b ∷ rest)) (sym first) ∙ is) ∙ ap (λ b. b ∷ rest) (sym first)
+    by slash h1 = search (none-some, other_first, eqb-true, behind, arith)
 
 -- names that were read of a text are read of it as it is written again
 pub read_back : (text : List ℕ) (names : List (List ℕ)) → names_of text ≡ Some names → names_of (written names) ≡ Some names

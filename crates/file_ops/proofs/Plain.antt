@@ -1,6 +1,6 @@
 -- Stored rows as the rows that are seen of them: an edit of the ones is an edit of the others.
-use Rattle.file_ops.proofs.Vocabulary.{◌≡◌, ℕ, List, [], ◌∷◌, Some, None, refl, sym, ap, ◌∙◌, ⊎_elim, subst, is_some, option_map, option_map_or, nat_cmp, is_at, cases_Bool, nat_cmp_total, none-some, IsOrdered, get, insert, replace, remove}
-use Rattle.file_ops.proofs.Vocabulary.{by_answer, insert_present, replace_same, StoredContent, StoredRow, StoredRows, plain, plain_content, plain_row, Row, row_of, with_row, with_content, edited, in_names, number_in, number_at}
+use Rattle.file_ops.proofs.Vocabulary.{◌≡◌, ℕ, List, [], ◌∷◌, Some, None, refl, sym, ap, ◌∙◌, subst, is_some, option_map, option_map_or, nat_cmp, is_at, cases_Bool, nat_cmp_total, none-some, IsOrdered, get, insert, replace, remove, arith}
+use Rattle.file_ops.proofs.Vocabulary.{insert_present, replace_same, StoredContent, StoredRow, StoredRows, plain, plain_content, plain_row, Row, row_of, with_row, with_content, edited, in_names, number_in, number_at}
 use Rattle.std.specs.List.Sorted.{IsStrictlySortedBy}
 use Rattle.std.proofs.lemmas.Map.Made.{lookup-map_values, keys_of-map_values}
 
@@ -10,24 +10,15 @@ row_of-plain rows suite = lookup-map_values plain_row (is_at (nat_cmp suite)) ro
 
 pub plain-replace : (rows : StoredRows) (suite : ℕ) (row : StoredRow) → plain (replace nat_cmp rows suite row) ≡ replace nat_cmp (plain rows) suite (plain_row row)
 plain-replace [] suite row = refl
-plain-replace (e ∷ es) suite row = ⊎_elim
-    (λ here. rw (here) refl)
-    (λ there. rw (there) (ap (λ l. (e.0, plain_row e.1) ∷ l) (plain-replace es suite row)))
-    (cases_Bool (is_at (nat_cmp suite) e.0))
+plain-replace (e ∷ es) suite row = search (cases_Bool, plain-replace es suite row, arith)
 
 pub plain-insert : (rows : StoredRows) (suite : ℕ) (row : StoredRow) → plain (insert nat_cmp rows suite row) ≡ insert nat_cmp (plain rows) suite (plain_row row)
 plain-insert [] suite row = refl
-plain-insert (e ∷ es) suite row = by_answer (nat_cmp suite e.0)
-    (λ less. rw (less) refl)
-    (λ equal. rw (equal) refl)
-    (λ greater. rw (greater) (ap (λ l. (e.0, plain_row e.1) ∷ l) (plain-insert es suite row)))
+plain-insert (e ∷ es) suite row = search (plain-insert es suite row, arith)
 
 pub plain-remove : (rows : StoredRows) (suite : ℕ) → plain (remove nat_cmp rows suite) ≡ remove nat_cmp (plain rows) suite
 plain-remove [] suite = refl
-plain-remove (e ∷ es) suite = ⊎_elim
-    (λ here. rw (here) refl)
-    (λ there. rw (there) (ap (λ l. (e.0, plain_row e.1) ∷ l) (plain-remove es suite)))
-    (cases_Bool (is_at (nat_cmp suite) e.0))
+plain-remove (e ∷ es) suite = search (cases_Bool, plain-remove es suite, arith)
 
 pub ordered-plain : (rows : StoredRows) → IsOrdered nat_cmp rows → IsOrdered nat_cmp (plain rows)
 ordered-plain rows ordered = subst (IsStrictlySortedBy nat_cmp) (sym (keys_of-map_values plain_row rows)) ordered

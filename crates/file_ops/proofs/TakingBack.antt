@@ -1,9 +1,8 @@
 -- Each undo takes its change back.
-use Rattle.file_ops.proofs.Vocabulary.{◌≡◌, ◌≢◌, ℕ, ◌+◌, ◌<◌, ◌≤◌, true, List, [], ◌∷◌, length, Option, Some, None, refl, sym, ap, ◌∙◌, subst, ⊎_elim, arith, Less, Greater, ◌==◌, if◌then◌else◌, is_some, IfSome, option_map, option_map_or}
-use Rattle.file_ops.proofs.Vocabulary.{nat_cmp, is_eq, is_at, cases_Bool, eqb-true, eqb-false, false≢true, nat_cmp_total, none-some, same_Some, IsOrdered, get, replace, Roomy, by_answer, insert_step, remove-insert, insert-insert}
-use Rattle.file_ops.proofs.Vocabulary.{insert_same, name_cmp, number_of, with_name, Content, StoredContent, StoredRow, Row, Rows, row_of, with_row, with_acl, with_votes, with_content, StoredRows, plain, plain_content, plain_row, exchanged}
-use Rattle.file_ops.proofs.Vocabulary.{restored_row, with_stored_content, with_stored_acl, with_stored_votes, edited, number_at, in_names, put_acl, put_votes, put_content, put_row, put_name, drop_name, capacity_in, capacity_of, capacity_at}
-use Rattle.file_ops.proofs.Vocabulary.{KeepsCapacity, has_room_for, HasRoom, restored, TakesBack}
+use Rattle.file_ops.proofs.Vocabulary.{◌≡◌, ◌≢◌, ℕ, ◌+◌, ◌<◌, ◌≤◌, true, List, [], ◌∷◌, length, Option, Some, None, refl, sym, ap, ◌∙◌, ⊎_elim, arith, ◌==◌, if◌then◌else◌, is_some, option_map, option_map_or, nat_cmp, cases_Bool, eqb-true, eqb-false}
+use Rattle.file_ops.proofs.Vocabulary.{false≢true, nat_cmp_total, none-some, same_Some, IsOrdered, get, replace, Roomy, remove-insert, insert-insert, insert_same, number_of, with_name, Content, StoredContent, StoredRow, Row, Rows, row_of, with_row}
+use Rattle.file_ops.proofs.Vocabulary.{with_acl, with_votes, with_content, StoredRows, plain, plain_content, plain_row, exchanged, restored_row, with_stored_content, with_stored_acl, with_stored_votes, edited, number_at, put_acl, put_votes}
+use Rattle.file_ops.proofs.Vocabulary.{put_content, put_row, put_name, drop_name, capacity_in, capacity_of, capacity_at, KeepsCapacity, has_room_for, HasRoom, restored, TakesBack}
 use Rattle.std.proofs.lemmas.Map.Entries.{lookup_head, lookup_tail}
 use Rattle.acl_core.specs.declared.lists.Lists.{Lists}
 use Rattle.vote_core.specs.Quorums.{Configuration}
@@ -29,23 +28,17 @@ exchanged-none rows s edit absent = ap (λ found. option_map_or (λ r. replace n
 -- a row exchanged, as it is seen
 pub plain-exchanged : (rows : StoredRows) (s : ℕ) (edit : StoredRow → StoredRow) (seen : Row → Row) → IsOrdered nat_cmp rows
     → ((row : StoredRow) → plain_row (edit row) ≡ seen (plain_row row)) → plain (exchanged rows s edit) ≡ edited (plain rows) s seen
-plain-exchanged rows s edit seen ordered same = by_stored (get nat_cmp rows s)
-    (λ absent. ap plain (exchanged-none rows s edit absent) ∙ edited-absent rows s seen absent)
-    (λ row there. ap plain (exchanged-some rows s edit row there) ∙ edited-there rows s row (edit row) seen ordered there (same row))
+plain-exchanged rows s edit seen ordered same = search (by_stored, exchanged-none, edited-absent, exchanged-some, edited-there, arith)
 
 exchanged_here : (rows : StoredRows) (s : ℕ) (edit : StoredRow → StoredRow) (row : StoredRow) → get nat_cmp rows s ≡ Some row → capacity_at (exchanged rows s edit) s ≡ capacity_in (edit row).content
 exchanged_here rows s edit row there = ap (λ r. capacity_at r s) (exchanged-some rows s edit row there) ∙ capacity_at-replace_here rows s row (edit row) there
 
 exchanged_apart : (rows : StoredRows) (s : ℕ) (edit : StoredRow → StoredRow) (q : ℕ) → q ≢ s → capacity_at (exchanged rows s edit) q ≡ capacity_at rows q
-exchanged_apart rows s edit q apart = by_stored (get nat_cmp rows s)
-    (λ absent. ap (λ r. capacity_at r q) (exchanged-none rows s edit absent))
-    (λ row there. ap (λ r. capacity_at r q) (exchanged-some rows s edit row there) ∙ capacity_at-replace_apart rows s (edit row) q apart)
+exchanged_apart rows s edit q apart = search (by_stored, exchanged-none, exchanged-some, capacity_at-replace_apart, arith)
 
 -- a row that is seen is stored
 stored_row : (rows : StoredRows) (s : ℕ) → is_some (row_of (plain rows) s) ≡ true → (row : StoredRow) × (get nat_cmp rows s ≡ Some row)
-stored_row rows s there = by_stored (get nat_cmp rows s)
-    (λ absent. absurd (false≢true (ap is_some (sym (row_of-plain rows s ∙ ap (option_map plain_row) absent)) ∙ there)))
-    (λ row found. (row, found))
+stored_row rows s there = search (row_of-plain rows s, false≢true, arith)
 
 -- ---- what was held before
 
@@ -90,11 +83,7 @@ record Leaves (edit : StoredRow → StoredRow) (seen : Row → Row) : Type 0 whe
 
 -- it changes no capacity
 left_capacity : (rows : StoredRows) (s : ℕ) (edit : StoredRow → StoredRow) (seen : Row → Row) → Leaves edit seen → (q : ℕ) → capacity_at (exchanged rows s edit) q ≡ capacity_at rows q
-left_capacity rows s edit seen leaves q = each q s
-    (λ same. by_stored (get nat_cmp rows s)
-    (λ absent. ap (λ r. capacity_at r q) (exchanged-none rows s edit absent))
-    (λ row there. ap (capacity_at (exchanged rows s edit)) same ∙ exchanged_here rows s edit row there ∙ ap capacity_in (leaves.content row) ∙ sym (ap (capacity_at rows) same ∙ ap capacity_of there)))
-    (exchanged_apart rows s edit q)
+left_capacity rows s edit seen leaves q = search (each, by_stored, exchanged-none, exchanged_here, exchanged_apart, arith)
 
 -- it can be taken back
 left_taken : (rows : StoredRows) (s : ℕ) (edit : StoredRow → StoredRow) (seen back : Row → Row) (row : StoredRow) → IsOrdered nat_cmp rows → Leaves edit seen
@@ -106,10 +95,7 @@ left_taken rows s edit seen back row ordered leaves there undoes =
 -- and is what takes another one back
 left_back : (before now : StoredRows) (s : ℕ) (edit : StoredRow → StoredRow) (seen : Row → Row) → IsOrdered nat_cmp now → Leaves edit seen
     → edited (plain now) s seen ≡ plain before → ((q : ℕ) → capacity_at before q ≤ capacity_at now q) → Restores before (exchanged now s edit)
-left_back before now s edit seen ordered leaves rows capacity = record {
-  rows = plain-exchanged now s edit seen ordered leaves.plainly ∙ rows;
-  capacity = λ q. omega (arith, capacity q, left_capacity now s edit seen leaves q);
-}
+left_back before now s edit seen ordered leaves rows capacity = search (plain-exchanged, left_capacity, arith)
 
 leaves_listed : (acl : Lists) → Leaves (with_stored_acl acl) (put_acl acl)
 leaves_listed acl = record { plainly = λ row. refl; content = λ row. refl }
@@ -154,10 +140,7 @@ plain-restored rows s (Some row) ordered = plain-exchanged rows s (λ r. row) (p
 
 restored_capacity : (rows : StoredRows) (s : ℕ) (saved : Option StoredRow) → IsOrdered nat_cmp rows → is_some (row_of (plain rows) s) ≡ true → (q : ℕ)
     → (if q == s then capacity_of saved else capacity_at rows q) ≤ capacity_at (restored_row rows s saved) q
-restored_capacity rows s None ordered there q = ⊎_elim
-    (λ same. rw same (omega arith))
-    (λ other. rw other (omega (arith, capacity_at-remove_apart rows s q ordered (eqb-false q s other))))
-    (cases_Bool (q == s))
+restored_capacity rows s None ordered there q = search (capacity_at-remove_apart, eqb-false, cases_Bool, arith)
 restored_capacity rows s (Some row) ordered there q =
     let found = stored_row rows s there in
     ⊎_elim
@@ -168,10 +151,7 @@ restored_capacity rows s (Some row) ordered there q =
 pub made_back : (before now after : StoredRows) (folder : ℕ) (name : List ℕ) (number : ℕ) (saved : Option StoredRow) → IsOrdered nat_cmp now
     → TakesBack (Made folder name number saved) before now → plain after ≡ edited (plain (restored_row now number saved)) folder (drop_name name)
     → KeepsCapacity (restored_row now number saved) after → Restores before after
-made_back before now after folder name number saved ordered back dropped kept = record {
-  rows = dropped ∙ ap (λ rows. edited rows folder (drop_name name)) (plain-restored now number saved ordered) ∙ back.rows;
-  capacity = λ q. omega (arith, back.capacity q, restored_capacity now number saved ordered back.there q, kept.kept q);
-}
+made_back before now after folder name number saved ordered back dropped kept = search (plain-restored, restored_capacity, arith)
 
 -- what a new row changes can be taken back
 back_to : (rows : Rows) (number : ℕ) (row : Row) (saved : Option StoredRow) → IsOrdered nat_cmp rows → option_map plain_row saved ≡ row_of rows number → restored (with_row rows number row) number saved ≡ rows
@@ -183,26 +163,14 @@ back_to rows number row (Some before) ordered was =
 
 pub made_taken : (old new : StoredRows) (folder : ℕ) (name : List ℕ) (number : ℕ) (row : StoredRow) (saved : Option StoredRow) → number_at (plain old) folder name ≡ None
     → Makes old new folder name number row saved → TakesBack (Made folder name number saved) old new
-made_taken old new folder name number row saved absent made =
-    let ordered = ordered-plain old made.ordered in
-    let named = edited (plain old) folder (put_name name number) in
-    record {
-      rows = ap (λ r. edited (restored r number saved) folder (drop_name name)) made.rows
-          ∙ ap (λ r. edited r folder (drop_name name)) (back_to named number (plain_row row) saved (ordered-edited (plain old) folder (put_name name number) ordered) made.made_over)
-          ∙ drop-put_name (plain old) folder name number ordered absent;
-      capacity = made.capacity;
-      there = ap (λ r. is_some (row_of r number)) made.rows ∙ ap is_some (row_of-with_same named number (plain_row row));
-    }
+made_taken old new folder name number row saved absent made = search (ordered-plain, back_to, ordered-edited, drop-put_name, row_of-with_same, arith)
 
 -- ---- a name put back
 
 -- a name that is absent makes its folder longer by one
 longer : (names : List (List ℕ × ℕ)) (name : List ℕ) (number : ℕ) → number_of names name ≡ None → length (with_name names name number) ≡ length names + 1
 longer [] name number absent = refl
-longer (e ∷ es) name number absent = by_answer (name_cmp name e.0)
-    (λ less. rw (insert_step name_cmp e es name number Less less) (omega arith))
-    (λ equal. absurd (none-some e.1 (sym absent ∙ lookup_head (is_at (name_cmp name)) e es (ap is_eq equal))))
-    (λ greater. rw (insert_step name_cmp e es name number Greater greater) (omega (arith, longer es name number (sym (lookup_tail (is_at (name_cmp name)) e es (ap is_eq greater)) ∙ absent))))
+longer (e ∷ es) name number absent = search (none-some, lookup_head, lookup_tail, longer es name number, arith)
 
 abbrev length_in : Content → ℕ
 length_in (content.Names names) = length names
@@ -217,9 +185,7 @@ length_in-le (Names names) = omega arith
 length_in-le (Bytes bytes) = omega arith
 
 length_at-le : (rows : StoredRows) (s : ℕ) → length_at (plain rows) s ≤ capacity_at rows s
-length_at-le rows s = by_stored (get nat_cmp rows s)
-    (λ absent. omega (arith, ap (λ found. option_map_or (λ row. length_in row.content) found 0) (row_of-plain rows s ∙ ap (option_map plain_row) absent)))
-    (λ row there. omega (arith, length_in-le row.content, ap capacity_of there, ap (λ found. option_map_or (λ r. length_in r.content) found 0) (row_of-plain rows s ∙ ap (option_map plain_row) there)))
+length_at-le rows s = search (by_stored, row_of-plain, length_in-le, arith)
 
 by_held : (held : StoredContent) (name : List ℕ) → ((names : Roomy (List ℕ) ℕ) → held ≡ Names names → number_of names.pairs name ≡ None → 0 < names.room) → has_room_for held name
 by_held (Names names) name room = room names refl
@@ -228,15 +194,7 @@ by_held (Bytes bytes) name room = tt
 -- once the name is put back
 length_at-put : (now : StoredRows) (folder : ℕ) (name : List ℕ) (number : ℕ) (row : StoredRow) (names : Roomy (List ℕ) ℕ) → get nat_cmp now folder ≡ Some row
     → row.content ≡ Names names → number_of names.pairs name ≡ None → length_at (edited (plain now) folder (put_name name number)) folder ≡ length names.pairs + 1
-length_at-put now folder name number row names there holds absent =
-    ap (λ rows. length_at rows folder) (edited-some (plain now) folder (put_name name number) (plain_row row) (row_of-plain now folder ∙ ap (option_map plain_row) there))
-    ∙ ap (λ found. option_map_or (λ r. length_in r.content) found 0) (row_of-with_same (plain now) folder (put_name name number (plain_row row)))
-    ∙ ap (λ held. length_in (in_names (λ ns. with_name ns name number) (plain_content held))) holds
-    ∙ longer names.pairs name number absent
+length_at-put now folder name number row names there holds absent = search (edited-some, row_of-plain, row_of-with_same, longer, arith)
 
 pub room_to_put_back : (before now : StoredRows) (folder : ℕ) (name : List ℕ) (number : ℕ) → TakesBack (Dropped folder name number) before now → HasRoom now folder name
-room_to_put_back before now folder name number back = by_stored (get nat_cmp now folder)
-    (λ absent. subst (λ found. IfSome found (λ row. has_room_for row.content name)) (sym absent) tt)
-    (λ row there. subst (λ found. IfSome found (λ r. has_room_for r.content name)) (sym there)
-    (by_held row.content name (λ names holds absent.
-    omega (arith, length_at-put now folder name number row names there holds absent, ap (λ rows. length_at rows folder) back.rows, length_at-le before folder, back.capacity folder, ap capacity_of there, ap capacity_in holds))))
+room_to_put_back before now folder name number back = search (length_at-le before folder, by_stored, by_held, length_at-put, arith)

@@ -1,46 +1,23 @@
 -- A call that waits for another one need not be placed: what comes of it comes of the other.
-use Rattle.history_judge.proofs.Vocabulary.{◌≡◌, inl, inr, ⊎_elim, ℕ, zero, suc, ◌≤◌, ◌<◌, List, [], ◌∷◌, ◌++◌, Option, Some, None, sym, ap, subst, ◌∙◌, arith}
-use Rattle.history_judge.proofs.Vocabulary.{slice_get, Contains, same_Some, Contains-append_cases, Identity, Rows, PlainTable, replies, Call, CallReply}
-use Rattle.history_judge.proofs.Vocabulary.{Placed, Due, Waits, IsPassed, IsDone, IsGone, GoesOn, FitsTold, WasToldBefore, outcome, outcome_of, left_by}
-use Rattle.history_judge.proofs.Vocabulary.{after_call, calls_of, Calls, set_of, LeadsTo, IsDue}
+use Rattle.history_judge.proofs.Vocabulary.{◌≡◌, inl, inr, ⊎_elim, ℕ, zero, suc, ◌≤◌, ◌<◌, List, [], ◌∷◌, ◌++◌, Option, Some, None, sym, subst, ◌∙◌, arith, slice_get, Contains, same_Some, Contains-append_cases, Rows, PlainTable, Call, CallReply}
+use Rattle.history_judge.proofs.Vocabulary.{Placed, Due, Waits, IsPassed, IsDone, IsGone, GoesOn, WasToldBefore, calls_of, Calls, set_of, LeadsTo, IsDue}
 use Rattle.history_judge.proofs.Sameness.{outcome_same}
 use Rattle.history_judge.proofs.Searching.{StandsFor, stand_for}
 use Rattle.history_judge.proofs.Standing.{precede_told, untold_call}
 use Rattle.history_judge.proofs.Going.{into_then, comes_on}
 
 told_later : (told : Option CallReply) (called later : ℕ) → called ≤ later → WasToldBefore told called → WasToldBefore told later
-told_later None called later less before = before
-told_later (Some told) called later less before = omega (arith, less, before)
+told_later told called later h3 h4 = search arith
 
 module _ (opening : PlainTable) (history : List Call) where
   abbrev calls : Calls Rows
   calls = calls_of opening.service history
 
   untold_right : (number : ℕ) (call : Call) → slice_get history number ≡ Some call → call.told ≡ None → (rows : Rows) → calls.IsRight rows number
-  untold_right number call at none rows other at' =
-      subst (λ told. FitsTold told (replies (outcome opening.service rows number other)))
-      (sym (ap (λ (call : Call). call.told) (same_Some other call (sym at' ∙ at)) ∙ none)) tt
+  untold_right number call at none rows other at' = search arith
 
   waits_stands : (pending early : List ℕ) (number : ℕ) (waits : Waits history pending early number) → StandsFor calls waits.other number
-  waits_stands pending early number waits = record {
-    untold = untold_call opening history waits.other waits.other_call waits.other_at waits.alike.untold;
-    other_untold = untold_call opening history number waits.call waits.at waits.alike.other_untold;
-    in_time = λ before precedes. (
-      precedes.0,
-      waits.call,
-      precedes.2,
-      waits.at,
-      told_later precedes.0.told precedes.1.called waits.call.called
-          (subst (λ (call : Call). call.called ≤ waits.call.called) (same_Some waits.other_call precedes.1 (sym waits.other_at ∙ precedes.3)) waits.alike.called) precedes.4,
-    );
-    right = untold_right waits.other waits.other_call waits.other_at waits.alike.untold;
-    other_right = untold_right number waits.call waits.at waits.alike.other_untold;
-    same = λ rows.
-        ap (after_call opening.service rows waits.other) waits.other_at
-        ∙ ap (left_by rows) (outcome_same opening.service waits.other number waits.other_call.caller rows waits.other_call.asked waits.call.asked waits.alike.asked
-        ∙ ap (λ (caller : Identity). outcome_of opening.service rows number caller waits.call.asked) waits.alike.caller)
-        ∙ sym (ap (after_call opening.service rows number) waits.at);
-  }
+  waits_stands pending early number waits = search (untold_call, told_later, same_Some, untold_right, outcome_same, arith)
 
   module _ (settled pending : List ℕ) (due : Due) (is : IsDue history pending settled due) (found : List Placed) (placed : Placed) where
     passed_waits : (number : ℕ) → Waits history pending placed.early.items number → ((other : ℕ) → other < number → Contains pending other → IsPassed opening history settled found placed other)
@@ -79,6 +56,4 @@ module _ (opening : PlainTable) (history : List Call) where
   pub goes_on : (settled pending : List ℕ) (due : Due) → IsDue history pending settled due → (found : List Placed) (head : ℕ)
       → ((placed : Placed) → slice_get found head ≡ Some placed → Contains placed.early.items due.number → ⊥)
       → ((number : ℕ) → Contains pending number → IsGone opening history settled pending found head number) → GoesOn opening history settled found head
-  goes_on settled pending due is found head lacks gone placed at =
-      comes_on opening history settled pending due is found placed (lacks placed at)
-      (passed_all settled pending due is found placed (λ number there. gone number there placed at))
+  goes_on settled pending due is found head lacks gone placed at = search (comes_on, passed_all, arith)

@@ -1,7 +1,6 @@
 -- The laws, from what every event keeps.
-use Rattle.law_suite_machine.proofs.Vocabulary.{◌≡◌, ◌≤◌, inl, inr, List, sym, ap, subst, ◌∙◌, arith, empty_content, Prefix, PrefixKind, Replica, held_by, Beginning, Entry, row, prefix_at, content_at, WasCopy, World, IsQuorum, effect}
-use Rattle.law_suite_machine.proofs.Vocabulary.{begun, Always, after, IsOneRegister, CopiesWere, ReplacedIsSuperseded, QuorumsShowRow, DecidedOnce, LocksHoldCopies, LocksStand, OneRegister, EveryCopyWas, AlwaysSuperseded, AlwaysCurrent}
-use Rattle.law_suite_machine.proofs.Vocabulary.{AlwaysOnce, LocksAlwaysHold, LocksAlwaysStand, WhatWasStays}
+use Rattle.law_suite_machine.proofs.Vocabulary.{◌≡◌, ◌≤◌, inl, inr, List, sym, subst, ◌∙◌, arith, Prefix, Replica, Beginning, Entry, row, WasCopy, World, IsQuorum, effect, begun, Always, after, IsOneRegister, CopiesWere, ReplacedIsSuperseded}
+use Rattle.law_suite_machine.proofs.Vocabulary.{QuorumsShowRow, DecidedOnce, LocksHoldCopies, LocksStand, OneRegister, EveryCopyWas, AlwaysSuperseded, AlwaysCurrent, AlwaysOnce, LocksAlwaysHold, LocksAlwaysStand, WhatWasStays}
 use Rattle.law_suite_machine.proofs.Rows.{Logged}
 use Rattle.law_suite_machine.proofs.Sound.{effect_held}
 use Rattle.law_suite_machine.proofs.Invariant.{Inv}
@@ -22,22 +21,11 @@ superseded start w inv p lt set quorum =
 
 -- a copy of the row's version has the row's prefix
 row_prefix : (start : Beginning) (log : List Entry) → Logged start log → (c : Replica) → WasCopy start log c → (row start log).prefix.pver ≤ c.prefix.pver → c.prefix ≡ (row start log).prefix
-row_prefix start log l c was le =
-    let top = was.0.0 in
-    sym was.0.1 ∙ ap (prefix_at start log) (let e : c.prefix.pver ≡ (row start log).prefix.pver = omega arith in e) ∙ l.own.0.1
+row_prefix start log l c was le = search arith
 
 -- a copy of the row's content version has the row's content
 row_content : (start : Beginning) (log : List Entry) → Logged start log → (c : Replica) → WasCopy start log c → c.dver ≡ (row start log).dver → c.content ≡ (row start log).content
-row_content start log l c was e = elim (was.1) [
-  | inl had ↦ elim (l.own.1) [
-    | inl own ↦ sym had.2 ∙ ap (content_at start log) e ∙ own.2
-    | inr none ↦ let some = had.0 in let zero = none.0 in absurd (omega arith)
-  ]
-  | inr none ↦ elim (l.own.1) [
-    | inl own ↦ let some = own.0 in let zero = none.0 in absurd (omega arith)
-    | inr zero ↦ none.1 ∙ ap (λ (k : PrefixKind). empty_content (held_by k)) (ap (λ (p : Prefix). p.kind) (sym was.0.1) ∙ l.kind zero.0 c.prefix.pver) ∙ sym zero.1
-  ]
-]
+row_content start log l c was e = search arith
 
 pub quorums_show : (start : Beginning) (w : World) → Inv start w → QuorumsShowRow start w
 quorums_show start w inv =

@@ -1,6 +1,6 @@
 -- What every event keeps.
-use Rattle.law_suite_machine.proofs.Vocabulary.{◌≡◌, ℕ, ◌<◌, ◌≤◌, Bool, IsTrue, false, ◌⊎◌, List, map, Option, Some, sym, subst, nat_eq, AllByRecursion, Replica, Beginning, Entry, transaction, row, prefix_at, WasCopy, World, Told, Verdict}
-use Rattle.law_suite_machine.proofs.Vocabulary.{Answered, Refused, IsQuorum, effect, IsDistinct}
+use Rattle.law_suite_machine.proofs.Vocabulary.{◌≡◌, ℕ, ◌<◌, ◌≤◌, Bool, IsTrue, false, ◌⊎◌, List, map, Option, Some, sym, subst, nat_eq, AllByRecursion, Replica, Beginning, Entry, transaction, row, prefix_at, WasCopy, World, Told, Verdict, Answered}
+use Rattle.law_suite_machine.proofs.Vocabulary.{Refused, IsQuorum, effect, IsDistinct}
 use Rattle.law_suite_machine.proofs.Rows.{Logged}
 use Rattle.law_suite_machine.proofs.Sound.{Sound}
 

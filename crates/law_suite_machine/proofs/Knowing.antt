@@ -1,22 +1,17 @@
 -- What a transaction knows when it is decided is what the register holds.
-use Rattle.law_suite_machine.proofs.Vocabulary.{◌≡◌, ℕ, ◌≤◌, Bool, inl, inr, List, Some, sym, ap, subst, ◌∙◌, arith, Content, Prefix, Replica, Beginning, Known, Entry, row, prefix_at, content_at, empty_of, GoesWith, IsKnown, World, Hold}
-use Rattle.law_suite_machine.proofs.Vocabulary.{Told, IsQuorum, effect, IsReady, Knows}
+use Rattle.law_suite_machine.proofs.Vocabulary.{◌≡◌, ℕ, ◌≤◌, Bool, inl, inr, List, Some, sym, ap, subst, ◌∙◌, arith, Content, Prefix, Replica, Beginning, Known, Entry, row, prefix_at, GoesWith, IsKnown, World, Hold, Told, IsQuorum, effect, IsReady}
+use Rattle.law_suite_machine.proofs.Vocabulary.{Knows}
 use Rattle.law_suite_machine.proofs.Rows.{Logged}
 use Rattle.law_suite_machine.proofs.Sound.{Sound, effect_held}
 use Rattle.law_suite_machine.proofs.Invariant.{Inv}
 
 -- where a transaction that is ready was told a copy, its lock still stands
 pub still_locked : (w : World) → Sound w → (t : ℕ) → IsReady w t → (i : ℕ) (a : Told) → w.told i t ≡ Some a → (h : Hold) × (w.lock i t ≡ Some h)
-still_locked w s t ready i a told =
-    let r = ready.prepared i a told in
-    let l = s.stands i t r.0 r.1 (ready.undecided, ready.going) in
-    (l.0, l.1)
+still_locked w s t ready i a told = search arith
 
 -- and that copy is in effect there
 pub told_effect : (w : World) → Sound w → (t : ℕ) → IsReady w t → (i : ℕ) (a : Told) → w.told i t ≡ Some a → effect w i ≡ a.copy
-told_effect w s t ready i a told =
-    let l = still_locked w s t ready i a told in
-    effect_held w s i t l.0 l.1 (λ e. let none = ready.undecided in cc) ∙ s.shown i t a l.0 told l.1
+told_effect w s t ready i a told = search (still_locked, effect_held, arith)
 
 -- the prefix that it knows has the row's version
 version_known : (start : Beginning) (w : World) → Inv start w → (t : ℕ) (set : ℕ → Bool) (known : Known) → IsReady w t → Knows start w t set known → known.prefix.pver ≡ (row start w.log).prefix.pver
@@ -51,23 +46,7 @@ dver_known start w inv t set known ready k =
 -- a content that goes with the row's prefix at the row's version is the row's
 row_content : (start : Beginning) (log : List Entry) → Logged start log → (prefix : Prefix) (d : ℕ) (content : Content) → prefix ≡ (row start log).prefix
     → d ≡ (row start log).dver → GoesWith start log prefix d content → content ≡ (row start log).content
-row_content start log l prefix d content ep ed (inl was) =
-    elim (l.own.1) [
-      | inl own ↦ sym was.2 ∙ ap (content_at start log) ed ∙ own.2
-      | inr zero ↦ let some = was.0 in let e = zero.0 in absurd (omega arith)
-    ]
-row_content start log l prefix d content ep ed (inr none) =
-    elim (l.own.1) [
-      | inl own ↦ let some = own.0 in let e = none.0 in absurd (omega arith)
-      | inr zero ↦ none.1 ∙ ap empty_of ep ∙ sym zero.1
-    ]
+row_content start log h2 prefix d content h6 h7 h8 = search arith
 
 pub all_known : (start : Beginning) (w : World) → Inv start w → (t : ℕ) (set : ℕ → Bool) (known : Known) → IsReady w t → Knows start w t set known → IsKnown (row start w.log) known
-all_known start w inv t set known ready k =
-    let ep = prefix_known start w inv t set known ready k in
-    let ed = dver_known start w inv t set known ready k in
-    record {
-      prefix = ep;
-      dver = ed;
-      content = λ content e. row_content start w.log inv.logged known.prefix known.dver content ep ed (k.content content e);
-    }
+all_known start w inv t set known ready k = search (prefix_known start w inv t set known ready k, dver_known start w inv t set known ready k, row_content, arith)

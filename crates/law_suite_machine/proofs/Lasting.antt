@@ -1,6 +1,6 @@
 -- What was so stays so under each event.
-use Rattle.law_suite_machine.proofs.Vocabulary.{◌≡◌, ℕ, Bool, true, List, [], ◌∷◌, ◌++◌, Option, Some, None, refl, sym, ap, ◌∙◌, append_assoc, Beginning, Known, Change, Read, Wrote, World, Verdict, Answered, Refused, Aborted, set1, Event}
-use Rattle.law_suite_machine.proofs.Vocabulary.{Held, Upgrade, Aim, Prepare, DecideRead, DecideRefused, DecideWrite, DecideElsewhere, Overrule, GiveUp, Finish, Lose, happens, run, decided, May, Obeys, MayWrite, Stays}
+use Rattle.law_suite_machine.proofs.Vocabulary.{◌≡◌, ℕ, Bool, true, List, [], ◌∷◌, ◌++◌, Option, Some, None, refl, sym, ap, ◌∙◌, append_assoc, Beginning, Known, Change, Read, Wrote, World, Verdict, Answered, Refused, Aborted, set1, Event, Held}
+use Rattle.law_suite_machine.proofs.Vocabulary.{Upgrade, Aim, Prepare, DecideRead, DecideRefused, DecideWrite, DecideElsewhere, Overrule, GiveUp, Finish, Lose, happens, run, decided, May, Obeys, MayWrite, Stays}
 use Rattle.law_suite_machine.proofs.Places.{at1}
 use Rattle.law_suite_machine.proofs.Rows.{was_prefix, was_content}
 use Rattle.law_suite_machine.proofs.Invariant.{Inv}

@@ -1,16 +1,10 @@
 -- What a function has after one place is changed.
-use Rattle.law_suite_machine.proofs.Vocabulary.{◌≡◌, ℕ, true, false, cond, ◌&&◌, refl, arith, ◌==◌, set1, set2}
+use Rattle.law_suite_machine.proofs.Vocabulary.{◌≡◌, ℕ, true, false, refl, arith, ◌==◌, set1, set2}
 use Rattle.std.proofs.lemmas.Bool.Decides.{nat_tests}
 
 -- the place of i and t
 abbrev pub IsAt : ℕ → ℕ → ℕ → ℕ → Type 0
 IsAt i t j u = (j ≡ i) × (u ≡ t)
-
-at_is : (i t j u : ℕ) → ((j == i) && (u == t)) ≡ true → IsAt i t j u
-at_is i t j u e = (grind (arith, nat_tests), grind (arith, nat_tests))
-
-at_not : (i t j u : ℕ) → ((j == i) && (u == t)) ≡ false → IsAt i t j u → ⊥
-at_not i t j u e h = let a = h.0 in let b = h.1 in grind (arith, nat_tests)
 
 pub one_is : (t u : ℕ) → (u == t) ≡ true → u ≡ t
 one_is t u e = grind (arith, nat_tests)
@@ -26,30 +20,10 @@ another t u h = elim (u == t) as (λ b. (u == t) ≡ b → b ≡ false) [ true �
 
 -- what holds of the new value there and of the old ones elsewhere holds of each
 pub at1 : {X : Type 0} (P : X → Type 0) (f : ℕ → X) (t : ℕ) (x : X) (u : ℕ) → (u ≡ t → P x) → ((u ≡ t → ⊥) → P (f u)) → P (set1 f t x u)
-at1 P f t x u here there =
-    elim (u == t) as (λ b. (u == t) ≡ b → P (cond b x (f u))) [
-      | true ↦ λ e. here (one_is t u e)
-      | false ↦ λ e. there (one_not t u e)
-    ] refl
+at1 h0 f t x u here there = search arith
 
 pub at2 : {X : Type 0} (P : X → Type 0) (f : ℕ → ℕ → X) (i t : ℕ) (x : X) (j u : ℕ) → (IsAt i t j u → P x) → ((IsAt i t j u → ⊥) → P (f j u)) → P (set2 f i t x j u)
-at2 P f i t x j u here there =
-    elim ((j == i) && (u == t)) as (λ b. ((j == i) && (u == t)) ≡ b → P (cond b x (f j u))) [
-      | true ↦ λ e. here (at_is i t j u e)
-      | false ↦ λ e. there (at_not i t j u e)
-    ] refl
-
--- the same of two functions, changed at one place
-pub at1_both : {X Y : Type 0} (P : X → Y → Type 0) (f : ℕ → X) (g : ℕ → Y) (t : ℕ) (x : X) (y : Y) (u : ℕ) → (u ≡ t → P x y) → ((u ≡ t → ⊥) → P (f u) (g u)) → P (set1 f t x u) (set1 g t y u)
-at1_both P f g t x y u here there =
-    elim (u == t) as (λ b. (u == t) ≡ b → P (cond b x (f u)) (cond b y (g u))) [
-      | true ↦ λ e. here (one_is t u e)
-      | false ↦ λ e. there (one_not t u e)
-    ] refl
+at2 h0 f i t x j u here there = search arith
 
 pub at2_both : {X Y : Type 0} (P : X → Y → Type 0) (f : ℕ → ℕ → X) (g : ℕ → ℕ → Y) (i t : ℕ) (x : X) (y : Y) (j u : ℕ) → (IsAt i t j u → P x y) → ((IsAt i t j u → ⊥) → P (f j u) (g j u)) → P (set2 f i t x j u) (set2 g i t y j u)
-at2_both P f g i t x y j u here there =
-    elim ((j == i) && (u == t)) as (λ b. ((j == i) && (u == t)) ≡ b → P (cond b x (f j u)) (cond b y (g j u))) [
-      | true ↦ λ e. here (at_is i t j u e)
-      | false ↦ λ e. there (at_not i t j u e)
-    ] refl
+at2_both h0 f g i t x y j u here there = search arith

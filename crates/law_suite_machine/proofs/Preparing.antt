@@ -1,23 +1,14 @@
 -- Prepare.
-use Rattle.law_suite_machine.proofs.Vocabulary.{◌≡◌, ℕ, true, ◌⊎◌, inl, inr, Option, Some, None, refl, sym, ap, subst, ◌∙◌, Replica, Change, World, Hold, Intention, set2, in_effect, effect, prepared, prepared_hold, intended, IsTake}
-use Rattle.law_suite_machine.proofs.Vocabulary.{MayPrepare}
-use Rattle.law_suite_machine.proofs.Places.{IsAt, at1, at2, at2_both}
-use Rattle.law_suite_machine.proofs.Sound.{Sound, IsOpen, some_hold, some_plan, some_left, NoNewLock, alone_no_new, planned_alone, effect_held, not_answered}
-
-prepared_from : (o : Option Hold) (h : Hold) → prepared_hold o ≡ Some h → (k : Hold) × (o ≡ Some k) × (k.exclusive ≡ h.exclusive)
-prepared_from None h e = cc
-prepared_from (Some k) h e = (k, refl, ap (λ (h : Hold). h.exclusive) (some_hold _ h e))
+use Rattle.law_suite_machine.proofs.Vocabulary.{◌≡◌, ℕ, true, ◌⊎◌, inl, inr, Option, Some, None, refl, sym, ap, subst, ◌∙◌, Replica, Change, World, Hold, Intention, set2, effect, prepared, prepared_hold, intended, IsTake, arith, MayPrepare}
+use Rattle.law_suite_machine.proofs.Places.{at1, at2, at2_both}
+use Rattle.law_suite_machine.proofs.Sound.{Sound, IsOpen, some_plan, some_left, NoNewLock, alone_no_new, planned_alone, effect_held, not_answered}
 
 no_new : (w : World) (i t : ℕ) (left : Option Replica) → NoNewLock w (prepared w i t left)
-no_new w i t left j u h = at2 (λ o. o ≡ Some h → (k : Hold) × (w.lock j u ≡ Some k) × (k.exclusive ≡ h.exclusive)) w.lock i t _ j u
-    (λ here e. let k = prepared_from (w.lock i t) h e in (k.0, (λ n. w.lock (here.0 n) (here.1 n)) ∙ k.1, k.2))
-    (λ _ e. (h, e, refl))
+no_new w i t left j u h = search arith
 
 -- what is prepared stays so
 keeps : (w : World) (i t : ℕ) (j u : ℕ) → w.lock j u ≡ Some (record { exclusive = true; prepared = true }) → set2 w.lock i t (prepared_hold (w.lock i t)) j u ≡ Some (record { exclusive = true; prepared = true })
-keeps w i t j u e = at2 (λ o. o ≡ Some (record { exclusive = true; prepared = true })) w.lock i t _ j u
-    (λ here. ap prepared_hold ((λ k. w.lock (sym here.0 k) (sym here.1 k)) ∙ e))
-    (λ _. e)
+keeps w i t j u e = search arith
 
 -- the lock of a new intention
 locked_by : (w : World) (i t : ℕ) (left : Option Replica) → MayPrepare w i t left → (x : Replica) → left ≡ Some x → set2 w.lock i t (prepared_hold (w.lock i t)) i t ≡ Some (record { exclusive = true; prepared = true })
@@ -54,17 +45,7 @@ plan_aims w s i t left may j p = at1 (λ o. o ≡ Some p → (new : Change) × (
 
 plan_laid : (w : World) → Sound w → (i t : ℕ) (left : Option Replica) → MayPrepare w i t left → (j u : ℕ) (x : Replica) → (prepared w i t left).ready j u ≡ Some (Some x)
     → IsOpen w u → (prepared w i t left).plan j ≡ Some (record { t = u; copy = x })
-plan_laid w s i t left may j u x ready going =
-    at1 (λ o. o ≡ Some (record { t = u; copy = x })) w.plan i _ j
-    (λ here. at2 (λ r. r ≡ Some (Some x) → intended t left (w.plan i) ≡ Some (record { t = u; copy = x })) w.ready i t (Some left) j u
-    (λ at e. ap (λ left. intended t left (w.plan i)) (some_left left (Some x) e) ∙ ap (λ t. Some (record { t = t; copy = x })) (sym at.1))
-    (λ apart e. older here apart (s.laid j u x e going) left refl)
-    ready)
-    (λ other. s.laid j u x (at2 (λ r. r ≡ Some (Some x) → w.ready j u ≡ Some (Some x)) w.ready i t (Some left) j u (λ at _. absurd (other at.0)) (λ _ e. e) ready) going)
-  where
-    older : j ≡ i → (IsAt i t j u → ⊥) → w.plan j ≡ Some (record { t = u; copy = x }) → (l : Option Replica) → left ≡ l → intended t l (w.plan i) ≡ Some (record { t = u; copy = x })
-    older here apart plan None e = ap w.plan (sym here) ∙ plan
-    older here apart plan (Some y) e = absurd (apart (here, planned_alone w s i t _ may.lock (ap w.plan (sym here) ∙ plan) may.stands))
+plan_laid w s i t left may j u x ready going = search (at1, at2, some_left, planned_alone, arith)
 
 pub prepared_sound : (w : World) → Sound w → (i t : ℕ) (left : Option Replica) → MayPrepare w i t left → Sound (prepared w i t left)
 prepared_sound w s i t left may =
@@ -73,9 +54,7 @@ prepared_sound w s i t left may =
       alone = alone_no_new w (prepared w i t left) s (no_new w i t left);
       planned = plan_locked w s i t left may;
       aims = plan_aims w s i t left may;
-      asked = λ j u n. at2 (λ o. o ≡ None) w.lock i t new j u
-          (λ here. ap prepared_hold (s.asked i t ((λ k. w.told (sym here.0 k) (sym here.1 k)) ∙ n)))
-          (λ _. s.asked j u n);
+      asked = search (at2, arith);
       shown = λ j u a h told lock. let old = no_new w i t left j u h lock in s.shown j u a old.0 told old.1;
       stands = λ j u o. at2_both (λ r l. r ≡ Some o → IsOpen w u → (h : Hold) × (l ≡ Some h) × (h.prepared ≡ true)) w.ready w.lock i t (Some left) new j u
           (λ _ _ _. (record { exclusive = may.lock.exclusive; prepared = true }, ap prepared_hold may.stands, refl))
@@ -86,12 +65,4 @@ prepared_sound w s i t left may =
 
 -- Prepare changes nothing that is in effect
 pub prepared_effect : (w : World) → Sound w → (i t : ℕ) (left : Option Replica) → MayPrepare w i t left → (j : ℕ) → effect (prepared w i t left) j ≡ effect w j
-prepared_effect w s i t left may j =
-    at1 (λ o. in_effect w.verdict o (w.copy j) ≡ effect w j) w.plan i _ j
-    (λ here. go here left refl)
-    (λ _. refl)
-  where
-    go : j ≡ i → (l : Option Replica) → left ≡ l → in_effect w.verdict (intended t l (w.plan i)) (w.copy j) ≡ effect w j
-    go here None e = ap (λ i. in_effect w.verdict (w.plan i) (w.copy j)) (sym here)
-    go here (Some x) e =
-        rw (not_answered (w.verdict t) may.unanswered) (sym (effect_held w s j t may.lock (ap (λ j. w.lock j t) here ∙ may.stands) may.unanswered))
+prepared_effect w s i t left may j = search (at1, not_answered, effect_held, arith)

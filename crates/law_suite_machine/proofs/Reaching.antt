@@ -1,6 +1,6 @@
 -- A decided write: each quorum of votes that the register had shows a newer prefix or the new one, and each quorum of its votes the content.
-use Rattle.law_suite_machine.proofs.Vocabulary.{◌≡◌, ℕ, ◌+◌, ◌<◌, ◌≤◌, Bool, IsTrue, ◌⊎◌, inl, inr, Some, sym, ap, subst, ◌∙◌, arith, Configuration, is_write_quorum, SharedMember, IsValid, Prefix, Replica, Beginning, Known, Change, row}
-use Rattle.law_suite_machine.proofs.Vocabulary.{prefix_at, World, Answered, IsQuorum, effect, decided, holds_exclusively, MayWrite}
+use Rattle.law_suite_machine.proofs.Vocabulary.{◌≡◌, ℕ, ◌+◌, ◌<◌, ◌≤◌, Bool, IsTrue, ◌⊎◌, inl, inr, Some, sym, ap, subst, ◌∙◌, arith, Configuration, is_write_quorum, SharedMember, IsValid, Prefix, Replica, Beginning, Known, Change, row, prefix_at}
+use Rattle.law_suite_machine.proofs.Vocabulary.{World, Answered, IsQuorum, effect, decided, holds_exclusively, MayWrite}
 use Rattle.vote_core.proofs.Meet.{reads_meet_writes, writes_meet}
 use Rattle.law_suite_machine.proofs.Rows.{prefix_here, prefix_before}
 use Rattle.law_suite_machine.proofs.Sound.{Sound}
@@ -16,22 +16,13 @@ quorum_meets votes valid set writers (inr other) write = writes_meet votes valid
 
 -- the prefix under which it asked for exclusive locks is the one that it knew
 under_known : (start : Beginning) (w : World) → Inv start w → (t : ℕ) (set : ℕ → Bool) (known : Known) (new : Change) → (may : MayWrite start w t set known new) → may.under ≡ known.prefix
-under_known start w inv t set known new may =
-    let is = all_known start w inv t set known may.ready may.knows in
-    let le = may.under_was.0 in
-    let more = may.under_newest in
-    let same = ap (λ (p : Prefix). p.pver) is.prefix in
-    let e : may.under.pver ≡ (row start w.log).prefix.pver = omega arith in
-    sym may.under_was.1 ∙ ap (prefix_at start w.log) e ∙ inv.logged.own.0.1 ∙ sym is.prefix
+under_known start w inv t set known new may = search (all_known start w inv t set known may.ready may.knows, arith)
 
 writes_known : (start : Beginning) (w : World) → Inv start w → (t : ℕ) (set : ℕ → Bool) (known : Known) (new : Change) → MayWrite start w t set known new → IsTrue (is_write_quorum known.prefix.votes (holds_exclusively w t))
 writes_known start w inv t set known new may = subst (λ (p : Prefix). IsTrue (is_write_quorum p.votes (holds_exclusively w t))) (under_known start w inv t set known new may) may.quorum
 
 writes_new : (start : Beginning) (w : World) → Inv start w → (t : ℕ) (set : ℕ → Bool) (known : Known) (new : Change) → MayWrite start w t set known new → IsTrue (is_write_quorum new.prefix.votes (holds_exclusively w t))
-writes_new start w inv t set known new may = elim (may.widened) [
-  | inl same ↦ subst (λ v. IsTrue (is_write_quorum v (holds_exclusively w t))) (sym same) (writes_known start w inv t set known new may)
-  | inr write ↦ write
-]
+writes_new start w inv t set known new may = search (writes_known start w inv t set known new may, arith)
 
 -- ---- prefixes
 
@@ -45,15 +36,11 @@ IsAbove p top c = (p < c.prefix.pver) ⊎ (c.prefix.pver ≡ top)
 
 -- the prefix stays: what was shown is shown, or an intention of the same version
 kept_above : (p : ℕ) (top : ℕ) (new : Change) (old c : Replica) → new.prefix.pver ≡ top → IsTaken new old c → IsAbove p top old → IsAbove p new.prefix.pver c
-kept_above p top new old c same (inl take) above = inr (ap (λ (p : Prefix). p.pver) take.prefix)
-kept_above p top new old c same (inr e) (inl lt) = inl (subst (λ (c : Replica). p < c.prefix.pver) (sym e) lt)
-kept_above p top new old c same (inr e) (inr is) = inr (ap (λ (c : Replica). c.prefix.pver) e ∙ is ∙ sym same)
+kept_above p top new old c h5 h6 h7 = search arith
 
 -- under an older prefix what was shown was newer already
 older_above : (p : ℕ) (top : ℕ) (new : Change) (old c : Replica) → p < top → IsTaken new old c → IsAbove p top old → IsAbove p new.prefix.pver c
-older_above p top new old c lt (inl take) above = inr (ap (λ (p : Prefix). p.pver) take.prefix)
-older_above p top new old c lt (inr e) (inl more) = inl (subst (λ (c : Replica). p < c.prefix.pver) (sym e) more)
-older_above p top new old c lt (inr e) (inr is) = inl (let at = ap (λ (c : Replica). c.prefix.pver) e in omega arith)
+older_above p top new old c h5 h6 h7 = search arith
 
 -- two versions are equal, or one is above the other
 compared : (p n : ℕ) → p ≤ n → (p ≡ n) ⊎ (p < n)
@@ -63,10 +50,7 @@ compared p n le = grind arith
 shown_prefix : (start : Beginning) (w : World) → Sound w → (t : ℕ) (set : ℕ → Bool) (known : Known) (new : Change) → MayWrite start w t set known new
     → ((i : ℕ) → IsTrue (holds_exclusively w t i) → (left : Replica) × (w.ready i t ≡ Some (Some left)) × (left.prefix.pver ≡ new.prefix.pver))
     → (votes : Configuration) → IsValid votes → IsTrue (is_write_quorum votes (holds_exclusively w t)) → (q : ℕ → Bool) → IsQuorum votes q → ShowsIn (now start w t known new) q (λ c. c.prefix.pver ≡ new.prefix.pver)
-shown_prefix start w s t set known new may all votes valid write q quorum =
-    let m = quorum_meets votes valid q (holds_exclusively w t) quorum write in
-    let x = all m.server m.in_second in
-    (m.server, m.in_first, ap (λ (c : Replica). c.prefix.pver) (lays w s t (new_log start w t known new) may.ready m.server x.0 x.1) ∙ x.2)
+shown_prefix start w s t set known new may all votes valid write q quorum = search (quorum_meets votes valid q (holds_exclusively w t) quorum write, new_log start w t known new, lays, arith)
 
 -- quorums of the votes that the register had before
 before : (start : Beginning) (w : World) → Inv start w → (t : ℕ) (set : ℕ → Bool) (known : Known) (new : Change) → MayWrite start w t set known new → (n : ℕ)

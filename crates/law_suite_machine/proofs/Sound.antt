@@ -1,5 +1,5 @@
 -- What the locks, the intentions and the replies have to do with one another.
-use Rattle.law_suite_machine.proofs.Vocabulary.{◌≡◌, ℕ, true, false, ◌⊎◌, Option, Some, None, refl, ap, ◌∙◌, ◌≢◌, Replica, Change, World, Hold, Told, Intention, Verdict, Answered, Refused, Aborted, is_answered, in_effect, effect, IsTake}
+use Rattle.law_suite_machine.proofs.Vocabulary.{◌≡◌, ℕ, true, false, ◌⊎◌, Option, Some, None, refl, ap, ◌∙◌, ◌≢◌, Replica, Change, World, Hold, Told, Intention, Verdict, Answered, Aborted, is_answered, in_effect, effect, IsTake, arith}
 
 -- it may still be decided
 abbrev pub IsOpen : World → ℕ → Type 0
@@ -26,9 +26,6 @@ some_told a b e = cc
 pub some_plan : (a b : Intention) → Some a ≡ Some b → a ≡ b
 some_plan a b e = cc
 
-pub some_change : (a b : Change) → Some a ≡ Some b → a ≡ b
-some_change a b e = cc
-
 pub some_left : (a b : Option Replica) → Some a ≡ Some b → a ≡ b
 some_left a b e = cc
 
@@ -39,10 +36,7 @@ pub planned_alone : (w : World) → Sound w → (i t : ℕ) (p : Intention) (h :
 planned_alone w s i t p h plan lock = s.alone i p.t t _ h (s.planned i p plan) lock refl
 
 pub not_answered : (o : Option Verdict) → o ≢ Some Answered → is_answered o ≡ false
-not_answered None other = refl
-not_answered (Some Answered) other = absurd (other refl)
-not_answered (Some Refused) other = refl
-not_answered (Some Aborted) other = refl
+not_answered o h1 = search arith
 
 -- an intention of a transaction that is not answered has no effect
 pub without_effect : (verdict : ℕ → Option Verdict) (o : Option Intention) (c : Replica) → ((p : Intention) → o ≡ Some p → is_answered (verdict p.t) ≡ false) → in_effect verdict o c ≡ c
@@ -61,7 +55,4 @@ abbrev pub NoNewLock : World → World → Type 0
 NoNewLock w w' = (j u : ℕ) (h : Hold) → w'.lock j u ≡ Some h → (k : Hold) × (w.lock j u ≡ Some k) × (k.exclusive ≡ h.exclusive)
 
 pub alone_no_new : (w w' : World) → Sound w → NoNewLock w w' → (j u x : ℕ) (h k : Hold) → w'.lock j u ≡ Some h → w'.lock j x ≡ Some k → h.exclusive ≡ true → u ≡ x
-alone_no_new w w' s old j u x h k lu lx ex =
-    let a = old j u h lu in
-    let b = old j x k lx in
-    s.alone j u x a.0 b.0 a.1 b.1 (a.2 ∙ ex)
+alone_no_new w w' s old j u x h k lu lx ex = search arith

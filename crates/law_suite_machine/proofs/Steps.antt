@@ -1,9 +1,9 @@
 -- Every event keeps the invariant.
-use Rattle.law_suite_machine.proofs.Vocabulary.{◌≡◌, ℕ, Bool, true, false, ◌⊎◌, inl, inr, List, [], ◌∷◌, map, Some, None, refl, sym, ap, subst, nat_eq, Replica, Beginning, Known, Change, Entry, Read, transaction, WasCopy, World, Told}
-use Rattle.law_suite_machine.proofs.Vocabulary.{Intention, Verdict, Answered, Refused, Aborted, set1, is_answered, effect, Event, Held, Upgrade, Aim, Prepare, DecideRead, DecideRefused, DecideWrite, DecideElsewhere, Overrule, GiveUp}
-use Rattle.law_suite_machine.proofs.Vocabulary.{Finish, Lose, happens, run, held, upgraded, prepared, decided, finished, May, Obeys, MayRead, MayWrite, MayFinish}
+use Rattle.law_suite_machine.proofs.Vocabulary.{◌≡◌, ℕ, Bool, true, false, ◌⊎◌, inl, inr, List, [], ◌∷◌, map, Some, None, refl, ap, subst, nat_eq, Replica, Beginning, Known, Change, Entry, Read, transaction, WasCopy, World, Told, arith, Intention}
+use Rattle.law_suite_machine.proofs.Vocabulary.{Verdict, Answered, Refused, Aborted, set1, is_answered, Event, Held, Upgrade, Aim, Prepare, DecideRead, DecideRefused, DecideWrite, DecideElsewhere, Overrule, GiveUp, Finish, Lose, happens, run, held}
+use Rattle.law_suite_machine.proofs.Vocabulary.{upgraded, decided, finished, May, Obeys, MayRead, MayWrite, MayFinish}
 use Rattle.std.proofs.lemmas.Map.Keys.{IsDistinct-cons}
-use Rattle.law_suite_machine.proofs.Places.{at1, at2}
+use Rattle.law_suite_machine.proofs.Places.{at2}
 use Rattle.law_suite_machine.proofs.Sound.{Sound, some_told}
 use Rattle.law_suite_machine.proofs.Holding.{held_sound, upgraded_sound, lost_sound, told_from}
 use Rattle.law_suite_machine.proofs.Preparing.{prepared_sound, prepared_effect}
@@ -30,10 +30,7 @@ upgraded_told start w inv i t j u a = at2 (λ o. o ≡ Some a → WasCopy start 
 -- ---- Finish
 
 finished_stored : (start : Beginning) (w : World) → Inv start w → (i t : ℕ) (v : Verdict) → MayFinish w t v → (j : ℕ) → WasCopy start w.log ((finished w i t v).copy j)
-finished_stored start w inv i t v may j = elim (finished_copy w inv.sound i t v may j) [
-  | inl same ↦ subst (WasCopy start w.log) (sym same) (inv.stored j)
-  | inr effective ↦ subst (WasCopy start w.log) (sym effective) (inv.current.were j)
-]
+finished_stored start w inv i t v may j = search (finished_copy, arith)
 
 -- ---- decisions
 
@@ -42,9 +39,7 @@ abbrev IsEnd : Verdict → Type 0
 IsEnd v = (v ≡ Answered) ⊎ (v ≡ Refused)
 
 verdict_now : (w : World) (t : ℕ) (v : Verdict) → IsEnd v → (set1 w.verdict t (Some v) t ≡ Some Answered) ⊎ (set1 w.verdict t (Some v) t ≡ Some Refused)
-verdict_now w t v end = at1 (λ o. (o ≡ Some Answered) ⊎ (o ≡ Some Refused)) w.verdict t (Some v) t
-    (λ _. elim end [ inl answered ↦ inl (ap Some answered) | inr refused ↦ inr (ap Some refused) ])
-    (λ other. absurd (other refl))
+verdict_now w t v end = search arith
 
 still_going : (w : World) (t : ℕ) (v : Verdict) → w.gave_up t ≡ false → w.gave_up t ≡ true → v ≡ Aborted
 still_going w t v going gone = cc
@@ -64,8 +59,7 @@ read_step start w inv t v end set known may =
       sound = decided_sound w inv.sound t v log (still_going w t v ready.going);
       stored = inv.stored;
       told = inv.told;
-      current = read_current start (effect (decided w t v log)) w.log t known
-          (same_current start (effect w) (effect (decided w t v log)) w.log (decided_effect w t v log ready.undecided (unaimed_unplanned w inv.sound t v may.unaimed)) inv.current);
+      current = search (read_current, same_current, decided_effect, unaimed_unplanned, arith);
       logged = read_logged start w.log t known (all_known start w inv t set known ready may.knows) inv.logged;
       once = IsDistinct-cons nat_eq t (map transaction w.log) (unlogged w t ready.undecided w.log inv.recorded) inv.once;
       recorded = ((verdict_now w t v end, ready.going), recorded_on w t v ready.undecided w.log inv.recorded);
@@ -89,15 +83,7 @@ write_step start w inv t set known new may =
 -- a verdict that adds nothing to the log and lays no intention open
 quiet_step : (start : Beginning) (w : World) → Inv start w → (t : ℕ) (v : Verdict) → w.verdict t ≡ None → (w.gave_up t ≡ true → v ≡ Aborted)
     → ((i : ℕ) (p : Intention) → w.plan i ≡ Some p → p.t ≡ t → is_answered (Some v) ≡ false) → Inv start (decided w t v w.log)
-quiet_step start w inv t v undecided fit unplanned = record {
-  sound = decided_sound w inv.sound t v w.log fit;
-  stored = inv.stored;
-  told = inv.told;
-  current = same_current start (effect w) (effect (decided w t v w.log)) w.log (decided_effect w t v w.log undecided unplanned) inv.current;
-  logged = inv.logged;
-  once = inv.once;
-  recorded = recorded_on w t v undecided w.log inv.recorded;
-}
+quiet_step start w inv t v undecided fit unplanned = search (decided_sound, same_current, decided_effect, recorded_on, arith)
 
 -- a transaction that has not asked for the suite intends nothing there
 untold_unplanned : (w : World) → Sound w → (t : ℕ) (v : Verdict) → ((i : ℕ) → w.told i t ≡ None) → (i : ℕ) (p : Intention) → w.plan i ≡ Some p → p.t ≡ t → is_answered (Some v) ≡ false
@@ -113,38 +99,14 @@ pub step : (start : Beginning) (w : World) → Inv start w → (event : Event) �
 step start w inv (Held i t e) may = record { sound = held_sound w inv.sound i t e may; stored = inv.stored; told = held_told start w inv i t e; current = inv.current; logged = inv.logged; once = inv.once; recorded = inv.recorded }
 step start w inv (Upgrade i t) may = record { sound = upgraded_sound w inv.sound i t may; stored = inv.stored; told = upgraded_told start w inv i t; current = inv.current; logged = inv.logged; once = inv.once; recorded = inv.recorded }
 step start w inv (Aim t new) may = record { sound = aimed_sound w inv.sound t new may; stored = inv.stored; told = inv.told; current = inv.current; logged = inv.logged; once = inv.once; recorded = inv.recorded }
-step start w inv (Prepare i t left) may = record {
-  sound = prepared_sound w inv.sound i t left may;
-  stored = inv.stored;
-  told = inv.told;
-  current = same_current start (effect w) (effect (prepared w i t left)) w.log (prepared_effect w inv.sound i t left may) inv.current;
-  logged = inv.logged;
-  once = inv.once;
-  recorded = inv.recorded;
-}
+step start w inv (Prepare i t left) may = search (prepared_sound, same_current, prepared_effect, arith)
 step start w inv (DecideRead t set known) may = read_step start w inv t Answered (inl refl) set known may
 step start w inv (DecideRefused t set known) may = read_step start w inv t Refused (inr refl) set known may
 step start w inv (DecideWrite t set known new) may = write_step start w inv t set known new may
 step start w inv (DecideElsewhere t v) may = quiet_step start w inv t v may.undecided (still_going w t v may.going) (untold_unplanned w inv.sound t v may.untold)
 step start w inv (Overrule t) may = quiet_step start w inv t Aborted may.undecided (λ _. refl) (λ _ _ _ _. refl)
-step start w inv (GiveUp t) may = record {
-  sound = given_up_sound w inv.sound t may;
-  stored = inv.stored;
-  told = inv.told;
-  current = inv.current;
-  logged = inv.logged;
-  once = inv.once;
-  recorded = recorded_given_up w t may w.log inv.recorded;
-}
-step start w inv (Finish i t v) may = record {
-  sound = finished_sound w inv.sound i t v may;
-  stored = finished_stored start w inv i t v may;
-  told = inv.told;
-  current = same_current start (effect w) (effect (finished w i t v)) w.log (finished_effect w inv.sound i t v may) inv.current;
-  logged = inv.logged;
-  once = inv.once;
-  recorded = inv.recorded;
-}
+step start w inv (GiveUp t) may = search (given_up_sound, recorded_given_up, arith)
+step start w inv (Finish i t v) may = search (finished_sound, finished_stored, same_current, finished_effect, arith)
 step start w inv (Lose keep) may = record { sound = lost_sound w inv.sound keep may; stored = inv.stored; told = inv.told; current = inv.current; logged = inv.logged; once = inv.once; recorded = inv.recorded }
 
 pub all_steps : (start : Beginning) (w : World) → Inv start w → (events : List Event) → Obeys start w events → Inv start (run start w events)

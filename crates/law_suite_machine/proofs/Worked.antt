@@ -1,15 +1,13 @@
 -- A run that obeys. Transaction 5 makes the suite. In transaction 7 the votes move from server 0 to server 1 with a write; a lock of transaction 8 is lost in a crash, transaction 9 is overruled,
 -- and transaction 10 reads what was written. Server 0 keeps the older content.
-use Rattle.law_suite_machine.proofs.Vocabulary.{◌≡◌, ℕ, ◌+◌, ◌*◌, ◌<◌, ◌≤◌, Bool, IsTrue, true, false, ◌⊎◌, inl, inr, List, [], ◌∷◌, Option, Some, None, cond, refl, sym, ap, subst, ◌∙◌, arith, lit≤, lit<, ◌==◌, ◌++◌, Configuration}
-use Rattle.law_suite_machine.proofs.Vocabulary.{votes_at, IsValid, max_servers, Content, Prefix, Replica, Beginning, IsBeginning, Known, Change, World, Hold, Told, Answered, Aborted, begun, set2, Event, Held, Upgrade, Aim, Prepare}
-use Rattle.law_suite_machine.proofs.Vocabulary.{DecideRead, DecideWrite, Overrule, GiveUp, Finish, Lose, run, happens, Obeys, IsReady, Knows, IsTake, MayRead, MayWrite, MayLose, is_exclusive, holds_exclusively, SomeRunObeys}
-use Rattle.std.proofs.lemmas.List.Elements.{All-from_recursion}
+use Rattle.law_suite_machine.proofs.Vocabulary.{◌≡◌, ℕ, ◌+◌, ◌*◌, ◌<◌, ◌≤◌, Bool, IsTrue, true, false, ◌⊎◌, inl, inr, List, [], ◌∷◌, Option, Some, None, cond, refl, sym, ap, subst, arith, lit≤, lit<, ◌==◌, ◌++◌, Configuration, votes_at, IsValid}
+use Rattle.law_suite_machine.proofs.Vocabulary.{max_servers, Content, Prefix, Replica, Beginning, IsBeginning, Known, Change, World, Hold, Told, Answered, Aborted, begun, set2, Event, Held, Upgrade, Aim, Prepare, DecideRead, DecideWrite, Overrule}
+use Rattle.law_suite_machine.proofs.Vocabulary.{GiveUp, Finish, Lose, run, happens, Obeys, IsReady, Knows, MayRead, MayWrite, MayLose, is_exclusive, holds_exclusively, SomeRunObeys}
 use Rattle.suite_content.specs.declared.content.Content.TheVariants.{Bytes}
 use Rattle.suite_prefix.specs.TwoLists.{closed_lists}
 use Rattle.suite_prefix.specs.declared.copies.PrefixKind.TheVariants.{Absent, File}
 use Rattle.std.specs.List.{IsDistinct}
-use Rattle.law_suite_machine.proofs.Places.{at2, one_is}
-use Rattle.law_suite_machine.proofs.Sound.{some_hold, some_told}
+use Rattle.law_suite_machine.proofs.Places.{one_is}
 
 -- ---- what there is
 
@@ -98,40 +96,18 @@ w18 = run start w6 (nexts_then [])
 
 valid_one : (server n r w : ℕ) → server < max_servers → n < 256 → (0 < n) → (0 < r) × (r ≤ n) → (0 < w) × (w ≤ n) → n < r + w → n < 2 * w → IsValid (record { reps = (server, n) ∷ []; r = r; w = w })
 unfolding IsDistinct
-valid_one server n r w known few some r_fits w_fits meets others = record {
-  some_listed = lit< tt;
-  numbered = All-from_recursion (λ (rep : ℕ × ℕ). rep.0 < max_servers) ((server, n) ∷ []) (known, tt);
-  few_votes = All-from_recursion (λ (rep : ℕ × ℕ). rep.1 < 256) ((server, n) ∷ []) (few, tt);
-  listed_once = (tt, tt);
-  some_votes = omega arith;
-  r_in_range = (r_fits.0, omega arith);
-  w_in_range = (w_fits.0, omega arith);
-  reads_meet_writes = omega arith;
-  writes_meet = omega arith;
-}
+valid_one server n r w known few some r_fits w_fits meets others = search arith
 
 begins : IsBeginning start
-begins = record {
-  no_prefix = refl;
-  no_content = refl;
-  empty = refl;
-  valid = valid_one 0 1 1 1 (lit< tt) (lit< tt) (lit< tt) (lit< tt, lit≤ tt) (lit< tt, lit≤ tt) (lit< tt) (lit< tt);
-  first = inl refl;
-}
+begins = search (valid_one 0 1 1 1 (lit< tt) (lit< tt) (lit< tt) (lit< tt, lit≤ tt) (lit< tt, lit≤ tt) (lit< tt) (lit< tt), arith)
 
 -- ---- the making
 
 said5 : (i : ℕ) (a : Told) → w3.told i 5 ≡ Some a → (i ≡ 0) × (a ≡ record { exclusive = true; copy = never })
-said5 i a = at2 (λ o. o ≡ Some a → (i ≡ 0) × (a ≡ record { exclusive = true; copy = never })) (begun start).told 0 5 (Some (record { exclusive = true; copy = never })) i 5
-    (λ here e. (here.0, sym (some_told _ a e)))
-    (λ _ e. cc)
+said5 i a = search arith
 
 exclusive5 : (i : ℕ) → IsTrue (holds_exclusively w3 5 i) → i ≡ 0
-exclusive5 i = go (w3.told i 5) refl
-  where
-    go : (o : Option Told) → w3.told i 5 ≡ o → IsTrue (is_exclusive o) → i ≡ 0
-    go None e x = cc
-    go (Some a) e x = (said5 i a e).0
+exclusive5 i = search arith
 
 ready5 : IsReady w3 5
 ready5 = record {
@@ -170,28 +146,11 @@ write5 = record {
   covers_content = inr (inr refl, λ i e _. subst (λ i. (left : Replica) × (w3.ready i 5 ≡ Some (Some left)) × (left.dver ≡ 1)) (sym (exclusive5 i e)) (made, refl, refl));
 }
 
-takes5 : IsTake never making made
-takes5 = record { prefix = refl; content = inl (refl, refl); empty = λ e. absurd (omega arith) }
-
 some_left : (a b : Replica) → Some a ≡ Some b → a ≡ b
 some_left a b e = cc
 
 obeys_makes : Obeys start (begun start) makes
-obeys_makes = (
-  record { untold = refl; free = λ u k e _. cc },
-  (
-    record { unaimed = refl },
-    (
-      record {
-        lock = record { exclusive = true; prepared = false };
-        stands = refl;
-        unanswered = λ e. cc;
-        intends = λ x e. record { exclusive = refl; new = making; aimed = refl; take = subst (IsTake never making) (some_left made x e) takes5 };
-      },
-      tt,
-    ),
-  ),
-)
+obeys_makes = search arith
 
 -- ---- what transaction 7 was told
 
@@ -204,16 +163,8 @@ said1 = record { exclusive = true; copy = never }
 abbrev IsSaid : ℕ → Told → Type 0
 IsSaid i a = ((i ≡ 0) × (a ≡ said0)) ⊎ ((i ≡ 1) × (a ≡ said1))
 
--- what others were told is nothing that it was told
-others_told : (f : ℕ → ℕ → Option Told) (j u : ℕ) (x : Option Told) (i t : ℕ) → (t ≡ u → ⊥) → f i t ≡ None → set2 f j u x i t ≡ None
-others_told f j u x i t other none = at2 (λ o. o ≡ None) f j u x i t (λ here. absurd (other here.1)) (λ _. none)
-
 told7 : (i : ℕ) (a : Told) → w6.told i 7 ≡ Some a → IsSaid i a
-told7 i a =
-    at2 (λ o. o ≡ Some a → IsSaid i a) (run start w5 (Held 0 7 false ∷ Upgrade 0 7 ∷ [])).told 1 7 (Some said1) i 7 (λ here e. inr (here.0, sym (some_told _ a e)))
-    (λ _. at2 (λ o. o ≡ Some a → IsSaid i a) (run start w5 (Held 0 7 false ∷ [])).told 0 7 (Some said0) i 7 (λ here e. inl (here.0, sym (some_told _ a e)))
-    (λ apart. at2 (λ o. o ≡ Some a → IsSaid i a) w5.told 0 7 (Some (record { exclusive = false; copy = made })) i 7 (λ here. absurd (apart here))
-    (λ _ e. let none = others_told (begun start).told 0 5 (Some (record { exclusive = true; copy = never })) i 7 (λ e. omega arith) refl in cc)))
+told7 i a = search arith
 
 exclusive7 : (i : ℕ) → IsTrue (holds_exclusively w6 7 i) → (a : Told) × IsSaid i a
 exclusive7 i = go (w6.told i 7) refl
@@ -280,52 +231,12 @@ write7 = record {
 
 -- ---- locks
 
-takes0 : IsTake made new left0
-takes0 = record { prefix = refl; content = inr (refl, inr refl); empty = λ e. absurd (omega arith) }
-
-takes1 : IsTake never new left1
-takes1 = record { prefix = refl; content = inl (refl, refl); empty = λ e. absurd (omega arith) }
-
 -- the locks of a transaction that is finished at a server, before and after another is held there
 abbrev gone : Bool → Option Hold
 gone mine = cond mine None (cond mine (Some (record { exclusive = true; prepared = true })) (cond mine (Some (record { exclusive = true; prepared = false })) None))
 
-free0 : (u : ℕ) (k : Hold) → w5.lock 0 u ≡ Some k → ⊥
-free0 u k = elim (u == 5) as (λ b. gone b ≡ Some k → ⊥) [ true ↦ λ e. cc | false ↦ λ e. cc ]
-
-alone0 : (u : ℕ) (k : Hold) → (run start w5 (Held 0 7 false ∷ [])).lock 0 u ≡ Some k → u ≡ 7
-alone0 u k = at2 (λ o. o ≡ Some k → u ≡ 7) w5.lock 0 7 (Some (record { exclusive = false; prepared = false })) 0 u (λ here _. here.1) (λ _ e. absurd (free0 u k e))
-
 obeys_firsts : Obeys start w5 firsts
-obeys_firsts = (
-  record { untold = refl; free = λ u k e _. absurd (free0 u k e) },
-  (
-    record { lock = record { exclusive = false; prepared = false }; stands = refl; free = λ u k e _. alone0 u k e },
-    (
-      record { untold = refl; free = λ u k e _. cc },
-      (
-        record { unaimed = refl },
-        (
-          record {
-            lock = record { exclusive = true; prepared = false };
-            stands = refl;
-            unanswered = λ e. cc;
-            intends = λ x e. record { exclusive = refl; new = new; aimed = refl; take = subst (IsTake made new) (some_left left0 x e) takes0 };
-          },
-          (
-            record {
-              lock = record { exclusive = true; prepared = false };
-              stands = refl;
-              unanswered = λ e. cc;
-              intends = λ x e. record { exclusive = refl; new = new; aimed = refl; take = subst (IsTake never new) (some_left left1 x e) takes1 };
-            },
-            tt,
-          ),
-        ),
-      ),
-    ),
-  ),
-)
+obeys_firsts = search arith
 
 -- ---- the crash
 
@@ -334,14 +245,7 @@ w9 = run start w6 (DecideWrite 7 (just 0) known7 new ∷ Finish 1 7 Answered ∷
 
 -- the lock that it loses is not prepared
 crash : MayLose w9 keep
-crash = record {
-  prepared_stay = λ i t lock stands prepared. at2 (λ b. b ≡ true) (λ _ _. true) 2 8 false i t
-      (λ here.
-      let there : w9.lock 2 8 ≡ Some lock = (λ k. w9.lock (sym here.0 k) (sym here.1 k)) ∙ stands in
-      let same = ap (λ (h : Hold). h.prepared) (some_hold (record { exclusive = true; prepared = false }) lock there) in
-      same ∙ prepared)
-      (λ _. refl);
-}
+crash = search arith
 
 -- when transaction 10 asks, no lock stands at server 1
 free1 : (u : ℕ) (k : Hold) → w16.lock 1 u ≡ Some k → u ≡ 10
@@ -352,29 +256,15 @@ free1 u k = elim (u == 7) as (λ b. gone b ≡ Some k → u ≡ 10) [ true ↦ �
 abbrev said10 : Told
 said10 = record { exclusive = false; copy = left1 }
 
-untold10 : (i : ℕ) → w16.told i 10 ≡ None
-untold10 i =
-    others_told (run start w6 (DecideWrite 7 (just 0) known7 new ∷ Finish 1 7 Answered ∷ Held 2 8 true ∷ [])).told 3 9 _ i 10 (λ e. omega arith)
-    (others_told w6.told 2 8 _ i 10 (λ e. omega arith)
-    (others_told (run start w5 (Held 0 7 false ∷ Upgrade 0 7 ∷ [])).told 1 7 _ i 10 (λ e. omega arith)
-    (others_told (run start w5 (Held 0 7 false ∷ [])).told 0 7 _ i 10 (λ e. omega arith)
-    (others_told w5.told 0 7 _ i 10 (λ e. omega arith) (others_told (begun start).told 0 5 _ i 10 (λ e. omega arith) refl)))))
-
 told10 : (i : ℕ) (a : Told) → w18.told i 10 ≡ Some a → (i ≡ 1) × (a ≡ said10)
-told10 i a = at2 (λ o. o ≡ Some a → (i ≡ 1) × (a ≡ said10)) w16.told 1 10 (Some said10) i 10
-    (λ here e. (here.0, sym (some_told _ a e)))
-    (λ _ e. let none = untold10 i in cc)
+told10 i a = search arith
 
 some_content : (a b : Content) → Some a ≡ Some b → a ≡ b
 some_content a b e = cc
 
 read10 : MayRead start w18 10 (just 1) known10
 read10 = record {
-  ready = record {
-    undecided = refl;
-    going = refl;
-    prepared = λ i a e. subst (λ i. (left : Option Replica) × (w18.ready i 10 ≡ Some left)) (sym (told10 i a e).0) (None, refl);
-  };
+  ready = search (told10, arith);
   knows = record {
     told = λ i e. subst (λ i. (a : Told) × (w18.told i 10 ≡ Some a)) (sym (one_is 1 i e)) (said10, refl);
     quorum = inl refl;
@@ -393,43 +283,7 @@ read10 = record {
 -- ---- the run
 
 obeys_nexts : Obeys start w6 (nexts_then (DecideRead 10 (just 1) known10 ∷ []))
-obeys_nexts = (
-  write7,
-  (
-    record { ended = inl refl },
-    (
-      record { untold = refl; free = λ u k e _. cc },
-      (
-        crash,
-        (
-          record { undecided = inl refl },
-          (
-            record { untold = refl; free = λ u k e _. cc },
-            (
-              record { lock = record { exclusive = true; prepared = false }; stands = refl; unanswered = λ e. cc; intends = λ x e. cc },
-              (
-                record { undecided = refl },
-                (
-                  record { ended = inl refl },
-                  (
-                    record { ended = inl refl },
-                    (
-                      record { untold = refl; free = λ u k e _. free1 u k e },
-                      (
-                        record { lock = record { exclusive = false; prepared = false }; stands = refl; unanswered = λ e. cc; intends = λ x e. cc },
-                        (read10, tt),
-                      ),
-                    ),
-                  ),
-                ),
-              ),
-            ),
-          ),
-        ),
-      ),
-    ),
-  ),
-)
+obeys_nexts = search (write7, crash, free1, read10, arith)
 
 joined : (w : World) (first later : List Event) → Obeys start w first → Obeys start (run start w first) later → Obeys start w (first ++ later)
 joined w [] later may next = next

@@ -1,7 +1,7 @@
 -- The entries of a shelf, as its rings and its values make them.
-use Rattle.recency.proofs.Vocabulary.{◌≡◌, ℕ, zero, suc, ◌+◌, ◌-◌, ◌<◌, ◌≤◌, Bool, true, false, not, cond, List, [], ◌∷◌, ◌++◌, length, length-append, map, filter, find, get_or, set, Option, Some, None, option_map, is_some, sym, refl, ◌∙◌}
-use Rattle.recency.proofs.Vocabulary.{subst, ap, inl, inr, eq-eqb, ne_eqb, arith, true≢false, get_or-set_same, get_or-set_other, length-set, any-default, In, Once, without, Mark, Listed, keys, is_of_site, of_site, without_slot, touched}
-use Rattle.recency.proofs.Vocabulary.{first_of, older_than, last_of, Sited, Entry, is_in, entry_of, value_of, entry_with, entries_of}
+use Rattle.recency.proofs.Vocabulary.{◌≡◌, ℕ, zero, suc, ◌+◌, ◌-◌, ◌<◌, ◌≤◌, Bool, true, false, cond, List, [], ◌∷◌, ◌++◌, length, length-append, map, filter, find, get_or, set, Option, Some, None, option_map, is_some, sym, refl, ◌∙◌, subst, ap, inl}
+use Rattle.recency.proofs.Vocabulary.{inr, eq-eqb, arith, true≢false, get_or-set_same, get_or-set_other, length-set, any-default, In, Once, without, Mark, Listed, keys, is_of_site, of_site, without_slot, touched, first_of, older_than, last_of, Sited}
+use Rattle.recency.proofs.Vocabulary.{Entry, is_in, entry_of, value_of, entry_with, entries_of}
 use Rattle.std.specs.List.{cons_option}
 use Rattle.recency.specs.Held.{IsHeld}
 use Rattle.recency.specs.Shelf as shelf
@@ -10,8 +10,7 @@ use Rattle.recency.proofs.Order.{length_keys, keys_without, of_site_same, of_sit
 use Rattle.recency.proofs.Steps.{touched_is}
 
 by_flag : (X : Type 0) (t : Bool) → (t ≡ true → X) → (t ≡ false → X) → X
-by_flag X true f g = f refl
-by_flag X false f g = g refl
+by_flag h0 t h2 h3 = search arith
 
 pub length_map : {X Y : Type 0} (f : X → Y) (xs : List X) → length (map f xs) ≡ length xs
 length_map f [] = refl
@@ -19,17 +18,11 @@ length_map f (x ∷ xs) = let h = length_map f xs in omega arith
 
 pub filter_map_is : {X Y : Type 0} (f : X → Y) (p : Y → Bool) (xs : List X) → filter p (map f xs) ≡ map f (filter (λ x. p (f x)) xs)
 filter_map_is f p [] = refl
-filter_map_is f p (x ∷ xs) =
-    by_flag (filter p (map f (x ∷ xs)) ≡ map f (filter (λ x. p (f x)) (x ∷ xs))) (p (f x))
-    (λ e. ap (λ (t : Bool). cond t (f x ∷ filter p (map f xs)) (filter p (map f xs))) e ∙ ap (λ l. f x ∷ l) (filter_map_is f p xs) ∙ sym (ap (λ (t : Bool). map f (cond t (x ∷ filter (λ x. p (f x)) xs) (filter (λ x. p (f x)) xs))) e))
-    (λ e. ap (λ (t : Bool). cond t (f x ∷ filter p (map f xs)) (filter p (map f xs))) e ∙ filter_map_is f p xs ∙ sym (ap (λ (t : Bool). map f (cond t (x ∷ filter (λ x. p (f x)) xs) (filter (λ x. p (f x)) xs))) e))
+filter_map_is f p (x ∷ xs) = search (by_flag, filter_map_is f p xs, arith)
 
 pub length_filter : {X : Type 0} (p : X → Bool) (xs : List X) → length (filter p xs) ≤ length xs
 length_filter p [] = omega arith
-length_filter p (x ∷ xs) =
-    by_flag (length (filter p (x ∷ xs)) ≤ length (x ∷ xs)) (p x)
-    (λ e. let h = ap (λ (t : Bool). length (cond t (x ∷ filter p xs) (filter p xs))) e in let k = length_filter p xs in omega arith)
-    (λ e. let h = ap (λ (t : Bool). length (cond t (x ∷ filter p xs) (filter p xs))) e in let k = length_filter p xs in omega arith)
+length_filter p (x ∷ xs) = search (by_flag, length_filter p xs, arith)
 
 -- ---- marks of one site
 
@@ -56,20 +49,14 @@ one_site x t u (e ∷ es) o i j =
 
 -- how many marks a site has without one
 pub site_shorter : (x t : ℕ) (order : List Mark) → In x (keys (of_site t order)) → Once (keys order) → length (of_site t (without_slot x order)) + 1 ≡ length (of_site t order)
-site_shorter x t order i o =
-    let a = length-without x (keys (of_site t order)) i (once_site t order o) in
-    let b = length_keys (of_site t order) in let c = length_keys (of_site t (without_slot x order)) in let d = ap length (site_without t x order) in omega arith
+site_shorter x t order i o = search (length-without, once_site, length_keys, site_without, arith)
 
 pub site_same : (x t : ℕ) (order : List Mark) → (In x (keys (of_site t order)) → ⊥) → length (of_site t (without_slot x order)) ≡ length (of_site t order)
-site_same x t order out =
-    let b = length_keys (of_site t order) in let c = length_keys (of_site t (without_slot x order)) in let d = ap length (site_without t x order ∙ without-none x (keys (of_site t order)) out) in omega arith
+site_same x t order out = search (length_keys (of_site t order), length_keys (of_site t (without_slot x order)), site_without t x order, without-none x (keys (of_site t order)) out, arith)
 
 pub in_keep : (k x : ℕ) (ys : List ℕ) → In k ys → (k ≡ x → ⊥) → In k (without x ys)
 in_keep k x [] i differs = absurd i
-in_keep k x (y ∷ ys) i differs =
-    by_equal (In k (without x (y ∷ ys))) x y
-    (λ e. subst (In k) (sym (without-same x y ys e)) (elim i [ inl q ↦ absurd (differs (q ∙ sym e)) | inr j ↦ in_keep k x ys j differs ]))
-    (λ out. subst (In k) (sym (without-other x y ys out)) (elim i [ inl q ↦ inl q | inr j ↦ inr (in_keep k x ys j differs) ]))
+in_keep k x (y ∷ ys) i differs = search (by_equal, without-same, without-other, in_keep k x ys, arith)
 
 pub map_map : {X Y Z : Type 0} (g : Y → Z) (f : X → Y) (xs : List X) → map g (map f xs) ≡ map (λ x. g (f x)) xs
 map_map g f [] = refl
@@ -86,8 +73,7 @@ unmarked x (e ∷ es) out = without_slot_other x e es (λ q. out (inl (sym q))) 
 
 module _ {V : Type 0} where
   pub by_some : (o : Option V) → is_some o ≡ true → (v : V) × (o ≡ Some v)
-  by_some (Some v) e = (v, refl)
-  by_some None e = absurd (true≢false (sym e))
+  by_some o h1 = search arith
 
   abbrev pub value_at : List (Option V) → ℕ → Option V
   value_at values k = get_or values k None
@@ -107,9 +93,7 @@ module _ {V : Type 0} where
   -- the entries' slots and sites are the marks
   pub marks_of : (values : List (Option V)) (order : List Mark) → AllHeld values order → map marked (entries_of values order) ≡ order
   marks_of values [] h = refl
-  marks_of values (e ∷ es) h =
-      let w = by_some (value_at values e.0) (h e.0 (inl refl)) in
-      ap (map marked) (entries_cons values e es w.0 w.1) ∙ ap (λ (l : List Mark). e ∷ l) (marks_of values es (λ k i. h k (inr i)))
+  marks_of values (e ∷ es) h = search (by_some, entries_cons, marks_of values es, arith)
 
   pub length_entries : (values : List (Option V)) (order : List Mark) → AllHeld values order → length (entries_of values order) ≡ length order
   length_entries values order h = sym (length_map marked (entries_of values order)) ∙ ap length (marks_of values order h)
@@ -118,53 +102,38 @@ module _ {V : Type 0} where
   sites_of values order t h = ap (of_site t) (sym (marks_of values order h)) ∙ filter_map_is marked (is_of_site t) (entries_of values order)
 
   twice : (o : Option (Entry V)) → option_map (λ (e : Mark). e.0) (option_map marked o) ≡ option_map (λ (e : Entry V). e.slot) o
-  twice None = refl
-  twice (Some e) = refl
+  twice o = search arith
 
   pub oldest_entry : (xs : List (Entry V)) → option_map (λ (e : Mark). e.0) (last_of (map marked xs)) ≡ option_map (λ (e : Entry V). e.slot) (last_of xs)
   oldest_entry xs = ap (option_map (λ (e : Mark). e.0)) (last_map marked xs) ∙ twice (last_of xs)
 
   pub newest_entry : (xs : List (Entry V)) → option_map (λ (e : Mark). e.0) (first_of (map marked xs)) ≡ option_map (λ (e : Entry V). e.slot) (first_of xs)
-  newest_entry [] = refl
-  newest_entry (x ∷ xs) = refl
+  newest_entry xs = search arith
 
   pub older_entry : (k : ℕ) (xs : List (Entry V)) → option_map (λ (e : Mark). e.0) (older_than k (map marked xs)) ≡ option_map (λ (e : Entry V). e.slot) (shelf.older_than k xs)
   older_entry k [] = refl
-  older_entry k (x ∷ xs) =
-      by_flag (option_map (λ (e : Mark). e.0) (older_than k (map marked (x ∷ xs))) ≡ option_map (λ (e : Entry V). e.slot) (shelf.older_than k (x ∷ xs))) (is_in k x)
-      (λ q. ap (λ (b : Bool). option_map (λ (e : Mark). e.0) (cond b (first_of (map marked xs)) (older_than k (map marked xs)))) q ∙ newest_entry xs
-      ∙ sym (ap (λ (b : Bool). option_map (λ (e : Entry V). e.slot) (cond b (first_of xs) (shelf.older_than k xs))) q))
-      (λ q. ap (λ (b : Bool). option_map (λ (e : Mark). e.0) (cond b (first_of (map marked xs)) (older_than k (map marked xs)))) q ∙ older_entry k xs
-      ∙ sym (ap (λ (b : Bool). option_map (λ (e : Entry V). e.slot) (cond b (first_of xs) (shelf.older_than k xs))) q))
+  older_entry k (x ∷ xs) = search (by_flag, newest_entry, older_entry k xs, arith)
 
   -- ---- a value that changes
 
   pub entries_set : (values : List (Option V)) (x : ℕ) (w : Option V) (order : List Mark) → (In x (keys order) → ⊥) → entries_of (set values x w) order ≡ entries_of values order
   entries_set values x w [] out = refl
-  entries_set values x w (e ∷ es) out =
-      ap (λ (o : Option V). cons_option (entry_with e o) (entries_of (set values x w) es)) (get_or-set_other values x e.0 w None (λ q. out (inl (sym q))))
-      ∙ ap (cons_option (entry_with e (value_at values e.0))) (entries_set values x w es (λ i. out (inr i)))
+  entries_set values x w (e ∷ es) out = search (get_or-set_other, entries_set values x w es, arith)
 
   drop_one : (x : ℕ) (e : Mark) (o : Option V) (rest : List (Entry V)) → e.0 ≡ x → shelf.without x (cons_option (entry_with e o) rest) ≡ shelf.without x rest
-  drop_one x e None rest q = refl
-  drop_one x e (Some v) rest q = ap (λ (t : Bool). cond (not t) (entry e.0 e.1 v ∷ shelf.without x rest) (shelf.without x rest)) (eq-eqb e.0 x q)
+  drop_one x e o rest h4 = search arith
 
   keep_one : (x : ℕ) (e : Mark) (o : Option V) (rest : List (Entry V)) → (e.0 ≡ x → ⊥) → shelf.without x (cons_option (entry_with e o) rest) ≡ cons_option (entry_with e o) (shelf.without x rest)
-  keep_one x e None rest differs = refl
-  keep_one x e (Some v) rest differs = ap (λ (t : Bool). cond (not t) (entry e.0 e.1 v ∷ shelf.without x rest) (shelf.without x rest)) (ne_eqb e.0 x differs)
+  keep_one x e o rest h4 = search arith
 
   pub entries_without : (values : List (Option V)) (x : ℕ) (order : List Mark) → entries_of values (without_slot x order) ≡ shelf.without x (entries_of values order)
   entries_without values x [] = refl
-  entries_without values x (e ∷ es) =
-      by_equal (entries_of values (without_slot x (e ∷ es)) ≡ shelf.without x (entries_of values (e ∷ es))) e.0 x
-      (λ q. ap (entries_of values) (without_slot_same x e es q) ∙ entries_without values x es ∙ sym (drop_one x e (value_at values e.0) (entries_of values es) q))
-      (λ differs. ap (entries_of values) (without_slot_other x e es differs) ∙ ap (cons_option (entry_with e (value_at values e.0))) (entries_without values x es) ∙ sym (keep_one x e (value_at values e.0) (entries_of values es) differs))
+  entries_without values x (e ∷ es) = search (by_equal, without_slot_same, drop_one, without_slot_other, keep_one, entries_without values x es, arith)
 
   -- ---- what is found
 
   find_past : (x : ℕ) (e : Mark) (o : Option V) (rest : List (Entry V)) → (e.0 ≡ x → ⊥) → find (is_in x) (cons_option (entry_with e o) rest) ≡ find (is_in x) rest
-  find_past x e None rest differs = refl
-  find_past x e (Some v) rest differs = ap (λ (t : Bool). cond t (Some (entry e.0 e.1 v)) (find (is_in x) rest)) (ne_eqb e.0 x differs)
+  find_past x e o rest h4 = search arith
 
   pub find_none : (values : List (Option V)) (x : ℕ) (order : List Mark) → (In x (keys order) → ⊥) → entry_of x (entries_of values order) ≡ None
   find_none values x [] out = refl
@@ -186,12 +155,10 @@ module _ {V : Type 0} where
       (λ other. subst (λ (os : List Mark). In x (keys os)) (of_site_other t e es other) i)) o.1 h)
 
   pub is_none : (o : Option V) → is_some o ≡ false → o ≡ None
-  is_none None e = refl
-  is_none (Some v) e = absurd (true≢false e)
+  is_none o h1 = search arith
 
   none_is : (o : Option V) → is_some o ≡ false → o ≡ None
-  none_is None e = refl
-  none_is (Some v) e = absurd (true≢false e)
+  none_is o h1 = search arith
 
   -- the same slots in use, in another order
   held_as : (rings : Listed) (values : List (Option V)) (counts : List ℕ) → IsHeld rings values counts → (to : List Mark) (now : Listed) → now.order ≡ to → now.slots ≡ rings.slots → length to ≤ rings.slots → Once (keys to)
@@ -224,30 +191,17 @@ module _ {V : Type 0} where
     none_there x e = find_none values x order (λ i. true≢false (sym (h.held x i) ∙ e))
 
     pub some_there : (x : ℕ) → is_some (value_at values x) ≡ true → (t : ℕ) × (v : V) × (t < 16) × In x (keys (of_site t order)) × (value_at values x ≡ Some v) × (entry_of x entries ≡ Some (entry x t v))
-    some_there x e =
-        let w = in_some x order (h.only x e) h.sited in
-        let v = by_some (value_at values x) e in
-        (w.0, v.0, w.1, w.2, v.1, find_held values x w.0 v.0 order w.2 h.once v.1)
+    some_there x e = search (in_some, by_some, find_held, arith)
 
     -- what a slot holds
     pub value_is : (x : ℕ) → value_at values x ≡ value_of x entries
-    value_is x =
-        by_flag (value_at values x ≡ value_of x entries) (is_some (value_at values x))
-        (λ e. let w = some_there x e in w.4 ∙ sym (ap (option_map (λ (n : Entry V). n.value)) w.5))
-        (λ e. none_is (value_at values x) e ∙ sym (ap (option_map (λ (n : Entry V). n.value)) (none_there x e)))
+    value_is x = search (by_flag, some_there, none_is, none_there, arith)
 
     pub is_there : (x : ℕ) → is_some (value_at values x) ≡ is_some (entry_of x entries)
-    is_there x =
-        by_flag (is_some (value_at values x) ≡ is_some (entry_of x entries)) (is_some (value_at values x))
-        (λ e. e ∙ sym (ap is_some (some_there x e).5))
-        (λ e. e ∙ sym (ap is_some (none_there x e)))
+    is_there x = search (by_flag, some_there, none_there, arith)
 
     pub touched_entries : (x : ℕ) → is_some (value_at values x) ≡ true → entries_of values (touched x order) ≡ shelf.touched x entries
-    touched_entries x e =
-        let w = some_there x e in
-        ap (entries_of values) (touched_is x w.0 order w.3 h.once) ∙ entries_cons values (x, w.0) (without_slot x order) w.1 w.4
-        ∙ ap (λ (l : List (Entry V)). entry x w.0 w.1 ∷ l) (entries_without values x order)
-        ∙ sym (ap (λ (o : Option (Entry V)). shelf.in_front o x entries) w.5)
+    touched_entries x e = search (some_there, touched_is, entries_cons, entries_without, arith)
 
     pub untouched_entries : (x : ℕ) → is_some (value_at values x) ≡ false → shelf.touched x entries ≡ entries
     untouched_entries x e = ap (λ (o : Option (Entry V)). shelf.in_front o x entries) (none_there x e)
@@ -286,10 +240,7 @@ module _ {V : Type 0} where
       else_there k differs = get_or-set_other values x k w None differs
 
       pub put_view : shelf.shelf_in now (set values x w) ≡ record { slots = rings.slots; entries = entry x s v ∷ entries }
-      put_view =
-          let e : entries_of (set values x w) now.order ≡ entry x s v ∷ entries =
-          ap (entries_of (set values x w)) is ∙ entries_cons (set values x w) (x, s) order v there ∙ ap (λ (l : List (Entry V)). entry x s v ∷ l) (entries_set values x w order out) in
-          λ i. record { slots = same i; entries = e i }
+      put_view = search (entries_cons, there, entries_set, arith)
 
       pub put_held : IsHeld now (set values x w) (set counts s (get_or counts s 0 + 1))
       put_held =
@@ -302,9 +253,7 @@ module _ {V : Type 0} where
             once = (out, h.once);
             below = λ k i. elim i [ inl q ↦ subst (λ (m : ℕ). m < rings.slots) (sym q) lt | inr j ↦ h.below k j ];
             sited = (site, h.sited);
-            held = λ k i. by_equal (is_some (value_at (set values x w) k) ≡ true) k x
-                (λ q. ap (λ (m : ℕ). is_some (value_at (set values x w) m)) q ∙ ap is_some there)
-                (λ differs. ap is_some (else_there k differs) ∙ elim i [ inl q ↦ absurd (differs q) | inr j ↦ h.held k j ]);
+            held = search (by_equal, there, else_there, arith);
             only = λ k e. by_equal (In k (keys to)) k x (λ q. inl q) (λ differs. inr (h.only k (sym (ap is_some (else_there k differs)) ∙ e)));
             many = length-set counts s (get_or counts s 0 + 1) ∙ h.many;
             counted = λ t lt'. by_equal (get_or (set counts s (get_or counts s 0 + 1)) t 0 ≡ length (of_site t to)) t s
@@ -332,10 +281,7 @@ module _ {V : Type 0} where
       gone = get_or-set_same values x w None lt' ∙ wrote
 
       pub take_view : shelf.shelf_in now (set values x w) ≡ record { slots = rings.slots; entries = shelf.without x entries }
-      take_view =
-          let e : entries_of (set values x w) now.order ≡ shelf.without x entries =
-          ap (entries_of (set values x w)) is ∙ entries_set values x w (without_slot x order) out_of ∙ entries_without values x order in
-          λ j. record { slots = same j; entries = e j }
+      take_view = search (entries_set, out_of, entries_without, arith)
 
       shorter : length (without_slot x order) ≤ length order
       shorter = let a = length_keys order in let b = length_keys (without_slot x order) in let c = ap length (keys_without x order) in let d = length-without x (keys order) (in_all t x order i) h.once in omega arith
@@ -352,16 +298,9 @@ module _ {V : Type 0} where
             below = λ k j. h.below k (in-without k x (keys order) (subst (In k) (keys_without x order) j)).0;
             sited = sited_without x order h.sited;
             held = λ k j. let m = in-without k x (keys order) (subst (In k) (keys_without x order) j) in ap is_some (else_there' k m.1) ∙ h.held k m.0;
-            only = λ k e. by_equal (In k (keys to)) k x
-                (λ q. absurd (true≢false (sym e ∙ ap (λ (m : ℕ). is_some (value_at (set values x w) m)) q ∙ ap is_some gone)))
-                (λ differs. subst (In k) (sym (keys_without x order)) (in_keep k x (keys order) (h.only k (sym (ap is_some (else_there' k differs)) ∙ e)) differs));
+            only = search (by_equal, gone, keys_without, in_keep, else_there', arith);
             many = length-set counts t (get_or counts t 0 - 1) ∙ h.many;
-            counted = λ u lu. by_equal (get_or (set counts t (get_or counts t 0 - 1)) u 0 ≡ length (of_site u to)) u t
-                (λ q.
-                let a = ap (λ (k : ℕ). get_or (set counts t (get_or counts t 0 - 1)) k 0) q in
-                let b = get_or-set_same counts t (get_or counts t 0 - 1) 0 (let m = h.many in omega arith) in
-                let c = h.counted t site in let d = site_shorter x t order i h.once in let f = ap (λ (k : ℕ). length (of_site k to)) q in omega arith)
-                (λ differs. get_or-set_other counts t u (get_or counts t 0 - 1) 0 differs ∙ h.counted u lu ∙ sym (site_same x u order (λ j. differs (one_site x u t order h.once j i))));
+            counted = search (by_equal, get_or-set_same, site_shorter, get_or-set_other, site_same, one_site, arith);
           })) in
           build now.order now.slots is same
 
@@ -410,17 +349,4 @@ module _ {V : Type 0} where
   emptied_more values count e = record { len = let a = length-append values (None ∷ []) in let b = e.len in omega arith; none = none_pushed values e.none }
 
   pub emptied_held : (values : List (Option V)) (rings : Listed) (counts : List ℕ) → Emptied values rings.slots → rings.order ≡ [] → length counts ≡ 16 → ((t : ℕ) → get_or counts t 0 ≡ 0) → IsHeld rings values counts
-  emptied_held values rings counts e is many none =
-      let build : (o : List Mark) → o ≡ [] → IsHeld (record { slots = rings.slots; order = o; free = rings.free }) values counts =
-      λ o eo. subst (λ (os : List Mark). IsHeld (record { slots = rings.slots; order = os; free = rings.free }) values counts) (sym eo) (record {
-        len = e.len;
-        room = omega arith;
-        once = tt;
-        below = λ k i. absurd i;
-        sited = tt;
-        held = λ k i. absurd i;
-        only = λ k q. absurd (true≢false (sym q ∙ ap is_some (e.none k)));
-        many = many;
-        counted = λ t lt. none t;
-      }) in
-      build rings.order is
+  emptied_held values rings counts e is many none = search arith

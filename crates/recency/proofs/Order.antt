@@ -1,7 +1,6 @@
 -- What each call of the rings makes of their lists.
-use Rattle.recency.proofs.Vocabulary.{◌≡◌, ℕ, ◌+◌, ◌<◌, ◌⊎◌, Bool, true, false, not, cond, if◌then◌else◌, List, [], ◌∷◌, length, map, Some, None, option_map, sym, refl, ◌∙◌, subst, ap, inl, inr, eq-eqb, ne_eqb, arith, lt_irrefl, ◌≤◌}
-use Rattle.recency.proofs.Vocabulary.{nat_lt, le-ltb, lt-ltb, then_some, Ptr, Node, In, without, Path, follow, older_in, newer_in, list_at, Ringed, Mark, keys, of_site, own_of, without_slot, first_of, older_than, last_of, Sited, listed_in}
-use Rattle.recency.proofs.Vocabulary.{IsListed}
+use Rattle.recency.proofs.Vocabulary.{◌≡◌, ℕ, ◌+◌, ◌<◌, ◌⊎◌, Bool, true, false, not, cond, if◌then◌else◌, List, [], ◌∷◌, length, map, Some, None, option_map, sym, refl, ◌∙◌, subst, ap, inl, inr, eq-eqb, ne_eqb, arith, lt_irrefl, ◌≤◌, nat_lt, le-ltb}
+use Rattle.recency.proofs.Vocabulary.{lt-ltb, then_some, Ptr, Node, In, without, Path, follow, older_in, newer_in, list_at, Ringed, Mark, keys, of_site, own_of, without_slot, first_of, older_than, last_of, Sited, listed_in, IsListed}
 use Rattle.recency.proofs.Paths.{by_equal, without-same, without-other, followed}
 
 -- ---- lists of marks
@@ -12,10 +11,7 @@ length_keys (e ∷ es) = let r = length_keys es in omega arith
 
 pub keys_without : (x : ℕ) (order : List Mark) → keys (without_slot x order) ≡ without x (keys order)
 keys_without x [] = refl
-keys_without x (e ∷ es) =
-    by_equal (keys (without_slot x (e ∷ es)) ≡ without x (e.0 ∷ keys es)) x e.0
-    (λ q. ap (λ (t : Bool). keys (cond (not t) (e ∷ without_slot x es) (without_slot x es))) (eq-eqb e.0 x (sym q)) ∙ keys_without x es ∙ sym (without-same x e.0 (keys es) q))
-    (λ differs. ap (λ (t : Bool). keys (cond (not t) (e ∷ without_slot x es) (without_slot x es))) (ne_eqb e.0 x (λ q. differs (sym q))) ∙ ap (λ (ks : List ℕ). e.0 ∷ ks) (keys_without x es) ∙ sym (without-other x e.0 (keys es) differs))
+keys_without x (e ∷ es) = search (by_equal, eq-eqb, without-same, ne_eqb, without-other, keys_without x es, arith)
 
 -- the first of a site's list, or another site's
 pub of_site_same : (t : ℕ) (e : Mark) (es : List Mark) → e.1 ≡ t → of_site t (e ∷ es) ≡ e ∷ of_site t es
@@ -32,45 +28,22 @@ without_slot_other x e es differs = ap (λ (t : Bool). cond (not t) (e ∷ witho
 
 pub site_without : (t x : ℕ) (order : List Mark) → keys (of_site t (without_slot x order)) ≡ without x (keys (of_site t order))
 site_without t x [] = refl
-site_without t x (e ∷ es) =
-    by_equal (keys (of_site t (without_slot x (e ∷ es))) ≡ without x (keys (of_site t (e ∷ es)))) e.0 x
-    (λ q. ap (λ (l : List Mark). keys (of_site t l)) (without_slot_same x e es q) ∙ site_without t x es
-    ∙ by_equal (without x (keys (of_site t es)) ≡ without x (keys (of_site t (e ∷ es)))) e.1 t
-    (λ s. sym (ap (λ (l : List Mark). without x (keys l)) (of_site_same t e es s) ∙ without-same x e.0 (keys (of_site t es)) (sym q)))
-    (λ s. sym (ap (λ (l : List Mark). without x (keys l)) (of_site_other t e es s))))
-    (λ differs. ap (λ (l : List Mark). keys (of_site t l)) (without_slot_other x e es differs)
-    ∙ by_equal (keys (of_site t (e ∷ without_slot x es)) ≡ without x (keys (of_site t (e ∷ es)))) e.1 t
-    (λ s. ap keys (of_site_same t e (without_slot x es) s) ∙ ap (λ (ks : List ℕ). e.0 ∷ ks) (site_without t x es)
-    ∙ sym (ap (λ (l : List Mark). without x (keys l)) (of_site_same t e es s) ∙ without-other x e.0 (keys (of_site t es)) (λ q. differs (sym q))))
-    (λ s. ap keys (of_site_other t e (without_slot x es) s) ∙ site_without t x es ∙ sym (ap (λ (l : List Mark). without x (keys l)) (of_site_other t e es s))))
+site_without t x (e ∷ es) = search (by_equal, without_slot_same, of_site_same, without-same, of_site_other, without_slot_other, without-other, site_without t x es, arith)
 
 pub sited_without : (x : ℕ) (order : List Mark) → Sited order → Sited (without_slot x order)
 sited_without x [] h = tt
-sited_without x (e ∷ es) h =
-    by_equal (Sited (without_slot x (e ∷ es))) e.0 x
-    (λ q. subst Sited (sym (without_slot_same x e es q)) (sited_without x es h.1))
-    (λ differs. subst Sited (sym (without_slot_other x e es differs)) (h.0, sited_without x es h.1))
+sited_without x (e ∷ es) h = search (by_equal, without_slot_same, without_slot_other, sited_without x es, arith)
 
 -- what is in a site's list is in the list of all
 pub in_all : (t k : ℕ) (order : List Mark) → In k (keys (of_site t order)) → In k (keys order)
 in_all t k [] i = i
-in_all t k (e ∷ es) i =
-    by_equal (In k (keys (e ∷ es))) e.1 t
-    (λ q. elim (subst (λ (l : List Mark). In k (keys l)) (of_site_same t e es q) i) [ inl w ↦ inl w | inr j ↦ inr (in_all t k es j) ])
-    (λ differs. inr (in_all t k es (subst (λ (l : List Mark). In k (keys l)) (of_site_other t e es differs) i)))
+in_all t k (e ∷ es) i = search (by_equal, of_site_same, of_site_other, in_all t k es, arith)
 
 -- and the other way
 pub in_some : (k : ℕ) (order : List Mark) → In k (keys order) → Sited order → (t : ℕ) × (t < 16) × In k (keys (of_site t order))
 in_some k [] i h = absurd i
 in_some k (e ∷ es) (inl q) h = (e.1, h.0, subst (λ (l : List Mark). In k (keys l)) (sym (of_site_same e.1 e es refl)) (inl q))
-in_some k (e ∷ es) (inr j) h =
-    let r = in_some k es j h.1 in (
-      r.0,
-      r.1,
-      by_equal (In k (keys (of_site r.0 (e ∷ es)))) e.1 r.0
-          (λ q. subst (λ (l : List Mark). In k (keys l)) (sym (of_site_same r.0 e es q)) (inr r.2))
-          (λ differs. subst (λ (l : List Mark). In k (keys l)) (sym (of_site_other r.0 e es differs)) r.2),
-    )
+in_some k (e ∷ es) (inr j) h = search (by_equal, of_site_same, of_site_other, in_some k es j, arith)
 
 pub own_site : (order : List Mark) (free : List ℕ) (t : ℕ) → (t ≡ 16 → ⊥) → own_of order free t ≡ keys (of_site t order)
 own_site order free t differs = ap (λ (b : Bool). if b then free else keys (of_site t order)) (ne_eqb t 16 differs)

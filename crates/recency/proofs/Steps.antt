@@ -1,7 +1,7 @@
 -- The changes of nodes, as a vector's contracts tell of them.
-use Rattle.recency.proofs.Vocabulary.{◌≡◌, ℕ, ◌+◌, ◌<◌, ◌≤◌, ◌^◌, Bool, true, false, List, [], ◌∷◌, length, get_or, find, Option, Some, ◌==◌, cond, sym, refl, ◌∙◌, subst, ap, inl, inr, eq-eqb, ne_eqb, arith, lt_irrefl, Ptr, Vec, vec_ptr}
-use Rattle.recency.proofs.Vocabulary.{vec_len, Node, number, IsNodeAt, IsNode, index_of, node_at, link_in, left, entered, LinksLead, LinkLeads, AreLinked, In, Once, Path, older_in, newer_in, relisted, Ringed, Mark, Listed, keys, of_site}
-use Rattle.recency.proofs.Vocabulary.{own_of, without_slot, first_if_some, touched, listed_in, IsListed, IsFound}
+use Rattle.recency.proofs.Vocabulary.{◌≡◌, ℕ, ◌+◌, ◌<◌, ◌≤◌, ◌^◌, Bool, true, false, List, [], ◌∷◌, length, get_or, find, Option, Some, ◌==◌, cond, sym, refl, ◌∙◌, subst, ap, inl, inr, eq-eqb, ne_eqb, arith, lt_irrefl, Ptr, Vec, vec_ptr, vec_len}
+use Rattle.recency.proofs.Vocabulary.{Node, number, IsNodeAt, IsNode, index_of, node_at, link_in, left, entered, LinksLead, LinkLeads, AreLinked, In, Once, Path, older_in, newer_in, relisted, Ringed, Mark, Listed, keys, of_site, own_of, without_slot}
+use Rattle.recency.proofs.Vocabulary.{first_if_some, touched, listed_in, IsListed, IsFound}
 use Rattle.recency.proofs.Seen.{seen}
 use Rattle.recency.proofs.Paths.{by_equal}
 use Rattle.recency.proofs.Nodes.{left_leads, entered_leads, leads_still}
@@ -9,8 +9,7 @@ use Rattle.recency.proofs.Order.{found, own_free, free_at, listed_at, in_some, i
 use Rattle.recency.proofs.Calls.{At, puts, touches, takes}
 
 still : (w : Bool) (t : ℕ) (n : Node) → link_in w (record n { list = t }) ≡ link_in w n
-still true t n = refl
-still false t n = refl
+still w t n = search arith
 
 -- ---- links still lead to nodes
 
@@ -19,9 +18,7 @@ module _ {A : Type 0} (v w : Vec Node A) (linked : AreLinked v) (same : (vec_ptr
   linked_in = subst (λ (many : ℕ). LinksLead (vec_ptr v) many v.items) v.ok.0 linked
 
   moved : (items : List Node) → w.items ≡ items → LinksLead (vec_ptr v) (length v.items) items → AreLinked w
-  moved items is h =
-      subst (λ (many : ℕ). LinksLead (vec_ptr w) many w.items) (sym same.1) (subst (λ (b : Ptr). LinksLead b (vec_len v) w.items) (sym same.0)
-      (subst (λ (ns : List Node). LinksLead (vec_ptr v) (vec_len v) ns) (sym is) (subst (λ (many : ℕ). LinksLead (vec_ptr v) many items) (sym v.ok.0) h)))
+  moved items is h = search arith
 
   node_in : (p : Ptr) → IsNode v p → IsNodeAt (vec_ptr v) (length v.items) p
   node_in p at = subst (λ (many : ℕ). IsNodeAt (vec_ptr v) many p) v.ok.0 at
@@ -62,10 +59,7 @@ module _ {A : Type 0} (slots : ℕ) (v : Vec Node A) (order : List Mark) (free :
 
   -- a place that is found in this vector or in one that was made of it
   pub at_of : (w : Vec Node A) → vec_ptr w ≡ vec_ptr v → vec_len w ≡ vec_len v → (p : Ptr) (k : ℕ) → IsNode w p → index_of w p ≡ k → At slots (vec_ptr v) p k
-  at_of w b n p k lies is = record {
-    is = subst (λ (base : Ptr). number base p ≡ k) b is;
-    lies = subst (λ (many : ℕ). IsNodeAt (vec_ptr v) many p) (n ∙ len_is) (subst (λ (base : Ptr). IsNodeAt base (vec_len w) p) b lies);
-  }
+  at_of w b n p k lies is = search arith
 
   -- what a look at a node tells
   pub looked : (p : Ptr) (n : Node) (k : ℕ) → IsNode v p → index_of v p ≡ k → n ≡ get_or v.items (index_of v p) n → node_at v.items k ≡ n
@@ -82,8 +76,7 @@ module _ {A : Type 0} (slots : ℕ) (v : Vec Node A) (order : List Mark) (free :
   leads_older p n k lt at is shows = (leads_on true k n lt (looked p n k at is shows)).1
 
   pub older_slot : (p : Ptr) (n m : Node) (k : ℕ) → k < slots + 18 → IsNode v p → index_of v p ≡ k → n ≡ get_or v.items (index_of v p) n → m ≡ get_or v.items (index_of v n.all.older.ptr) m → m.slot ≡ older_in true (vec_ptr v) v.items k
-  older_slot p n m k lt at is shows next =
-      slot_is n.all.older.ptr m (leads_older p n k lt at is shows) next ∙ sym (ap (λ (x : Node). number (vec_ptr v) x.all.older.ptr) (looked p n k at is shows))
+  older_slot p n m k lt at is shows next = search (slot_is n.all.older.ptr m (leads_older p n k lt at is shows) next, leads_older p n k lt, looked p n k, arith)
 
   pub used_below : (k : ℕ) → In k (keys order) → k < vec_len v
   used_below k i = let a = r.all_below k i in let e = len_is in omega arith
@@ -202,10 +195,7 @@ found_order slots base nodes order free l = ap (λ (t : Listed). t.order) (found
 
 module _ {A : Type 0} (slots : ℕ) (v : Vec Node A) (order : List Mark) (free : List ℕ) (l : IsListed slots (vec_ptr v) v.items order free) where
   pub used_site : (k : ℕ) → In k (keys order) → (n : Node) → node_at v.items k ≡ n → (n.list < 16) × In k (keys (of_site n.list order))
-  used_site k i n is =
-      let w = in_some k order i l.sited in
-      let e : w.0 ≡ n.list = sym (listed_at slots (vec_ptr v) v.items order free l w.0 w.1 k w.2).1 ∙ ap (λ (m : Node). m.list) is in
-      (subst (λ (t : ℕ). t < 16) e w.1, subst (λ (t : ℕ). In k (keys (of_site t order))) e w.2)
+  used_site k i n is = search (in_some, listed_at, arith)
 
   pub slots_fit : slots + 18 < 2 ^ 63
   slots_fit = let e = len_is slots v order free l in let a = v.ok.1 in let b = v.small in omega arith

@@ -1,7 +1,7 @@
 -- The names that the proofs of this crate take from elsewhere, each with one meaning here.
-pub use Rattle.std.proofs.Common.{Bool, List, None, Option, Some, [], add_comm, ap, arith, cond, eq-eqb, eqb, eqb-true, false, filter, find, get_or, get_or-set_other, get_or-set_same, if◌then◌else◌, inl, inr, is_some, le-ltb, le_refl}
-pub use Rattle.std.proofs.Common.{length, length-append, length-set, lt-ltb, lt_irrefl, map, nat_lt, ne_eqb, not, not-le_of_lt, not-suc-le-zero, option_copied, option_map, refl, set, subst, suc, sym, true, true≢false, zero, ℕ, ◌++◌, ◌+◌}
-pub use Rattle.std.proofs.Common.{◌-◌, ◌<◌, ◌==◌, ◌∙◌, ◌∷◌, ◌≡◌, ◌≤◌, ◌⊎◌}
+pub use Rattle.std.proofs.Common.{Bool, List, None, Option, Some, [], add_comm, ap, arith, cond, eq-eqb, eqb, eqb-true, false, filter, find, get_or, get_or-set_other, get_or-set_same, if◌then◌else◌, inl, inr, is_some, le-ltb, le_refl, length}
+pub use Rattle.std.proofs.Common.{length-append, length-set, lt-ltb, lt_irrefl, map, nat_lt, ne_eqb, not, not-le_of_lt, not-suc-le-zero, option_copied, option_map, refl, set, subst, suc, sym, true, true≢false, zero, ℕ, ◌++◌, ◌+◌, ◌-◌, ◌<◌, ◌==◌, ◌∙◌}
+pub use Rattle.std.proofs.Common.{◌∷◌, ◌≡◌, ◌≤◌, ◌⊎◌}
 pub use Rattle.std.specs.Vec.{vec_ptr}
 pub use Prim.Native.Nat.{◌*◌, ◌^◌}
 pub use Rattle.core.proofs.ptr.Rows.{hd, one_below, times_below}
@@ -38,7 +38,7 @@ pub use prog.Wp.{Calls, Env, Loops, Tables, WpFn}
 pub use seplogic.Ra.Ura.{Ura}
 pub use sound.WpLaws.{WpFn-mono}
 pub use types.ByLocal.{alloc_all, env, free_all, get, give_at, look_at, pass_all, sets, sets_last, take_at, through}
-pub use types.Kit.{ !, at_ret, await, by, done, drop, feq_i, fjoin, flt_l, frame, fsplit, fsplit3, group, join, keep, later, move, pick, qed, raw, rewrite, some, split, suffices, use1, ‵, ◌$◌, ◌∵◌, ◌⊛◌}
+pub use types.Kit.{!, at_ret, await, by, done, drop, feq_i, fjoin, flt_l, frame, fsplit, fsplit3, group, join, keep, later, move, pick, qed, raw, rewrite, some, split, suffices, use1, ‵, ◌$◌, ◌∵◌, ◌⊛◌}
 pub use types.Logic.{Logic, sem}
 pub use types.Run.{addr, bin, blocks, enter, exec, first, of_opd, returns, size_lit, stop}
 pub use Rattle.recency.specs.Links.{AreLinked, IsNode, IsNodeAt, LinkLeads, LinksLead, entered, index_of, left, link_in, no_node, node_at, node_size, number, with_both, with_link, with_newer, with_older}

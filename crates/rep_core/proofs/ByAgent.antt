@@ -1,6 +1,6 @@
 -- A map that is kept by agent has at a transaction what its agent's map has there, and changes as its agent's map does.
-use Rattle.rep_core.proofs.Vocabulary.{◌≡◌, ◌≢◌, ℕ, zero, suc, cond, List, [], ◌∷◌, Some, None, refl, sym, ◌∙◌, ap, ⊎_elim, arith, nat_cmp, is_eq, is_at, cases_Bool, eqb_tells, nat_cmp_total, lookup_head, lookup_tail, none-some, IsOrdered}
-use Rattle.rep_core.proofs.Vocabulary.{get, insert, flipped, get-insert, IsOrdered-insert, same_maps, get_insert_here, get_insert_apart, Roomy, agent_of, pairs_at, with_pairs, merged, IsByAgent}
+use Rattle.rep_core.proofs.Vocabulary.{◌≡◌, ◌≢◌, ℕ, zero, suc, cond, List, [], ◌∷◌, Some, None, refl, sym, ◌∙◌, ap, ⊎_elim, arith, nat_cmp, is_eq, is_at, cases_Bool, eqb_tells, nat_cmp_total, lookup_head, lookup_tail, none-some, IsOrdered, get}
+use Rattle.rep_core.proofs.Vocabulary.{insert, flipped, get-insert, IsOrdered-insert, same_maps, get_insert_here, get_insert_apart, Roomy, agent_of, pairs_at, with_pairs, merged, IsByAgent}
 use Rattle.std.specs.List.Sorted.{IsStrictlySortedBy}
 
 module _ {V : Type 0} where

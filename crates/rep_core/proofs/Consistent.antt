@@ -1,8 +1,8 @@
 -- A server is consistent as it opens, and stays so whatever it is asked.
-use Rattle.rep_core.proofs.Vocabulary.{◌≡◌, ℕ, ◌≤◌, Bool, true, false, cond, List, [], ◌∷◌, Option, Some, None, Less, refl, sym, ap, subst, ◌∙◌, arith, ◌==◌, ◌&&◌, ◌||◌, not, filter, list_any, list_all, AllByRecursion, keys_of, nat_cmp}
-use Rattle.rep_core.proofs.Vocabulary.{and_parts, nat_tests, nat_cmp_total, same_Some, none-some, IsOrdered, get, insert, IsOrdered-insert, Opening, LockMode, Shared, Exclusive, is_exclusive, serves, Intention, Lock, Part, Request, Stamped}
-use Rattle.rep_core.proofs.Vocabulary.{rise, is_own, has_lock_for, locked, prepared_lock, with_prepared, released, Store, IsSound, copy_of, is_keep, goes_with, is_sound_part, lists_twice, with_intention, with_intentions, suites_with}
-use Rattle.rep_core.proofs.Vocabulary.{max_suites, State, opening, prepares, stands_prepared, is_answered, step, IsAlone, HasPreparedLock, IntentionsLocked, IsConsistent, ConsistencyIsKept, finished}
+use Rattle.rep_core.proofs.Vocabulary.{◌≡◌, ℕ, ◌≤◌, Bool, true, false, cond, List, [], ◌∷◌, Option, Some, Less, refl, sym, ◌∙◌, arith, ◌==◌, ◌&&◌, ◌||◌, not, filter, list_all, AllByRecursion, keys_of, nat_cmp, and_parts, nat_tests, nat_cmp_total}
+use Rattle.rep_core.proofs.Vocabulary.{same_Some, none-some, IsOrdered, get, insert, IsOrdered-insert, Opening, LockMode, is_exclusive, serves, Intention, Lock, Part, Request, Stamped, rise, is_own, has_lock_for, locked, prepared_lock, with_prepared}
+use Rattle.rep_core.proofs.Vocabulary.{released, Store, IsSound, copy_of, is_keep, goes_with, is_sound_part, lists_twice, with_intention, with_intentions, suites_with, max_suites, State, opening, prepares, is_answered, step, IsAlone, HasPreparedLock}
+use Rattle.rep_core.proofs.Vocabulary.{IntentionsLocked, IsConsistent, ConsistencyIsKept, finished}
 use Rattle.std.specs.List.Sorted.{IsStrictlySortedBy}
 use Rattle.rep_core.proofs.Members.{Has, has_from, contains_from, map_has, has_any, any_has, all_at}
 use Rattle.rep_core.proofs.Finding.{find_some}
@@ -22,49 +22,22 @@ pub record Looked (st : State) (t : ℕ) (parts : List Part) : Type 0 where
   pub once : lists_twice parts ≡ false
   pub sound : list_all (is_sound_part st.store) parts ≡ true
 
-three : (a b c d : Bool) → (not a && (b && not c && d)) ≡ true → (b ≡ true) × (c ≡ false) × (d ≡ true)
-three a b c d is = (grind (arith, nat_tests), grind (arith, nat_tests), grind (arith, nat_tests))
-
 pub looked : (st : State) (t : ℕ) (parts : List Part) → prepares st t parts ≡ true → Looked st t parts
-looked st t parts does =
-    let all = three (stands_prepared st t parts) (list_all (has_lock_for t st.locks) parts) (lists_twice parts) (list_all (is_sound_part st.store) parts) does in
-    record { locks = all.0; once = all.1; sound = all.2 }
+looked st t parts does = search arith
 
 -- ---- locks rise
 
 rise_ways : (st : State) → rise st.locks ≡ true → Ways st (λ _ new. rise new.locks ≡ true)
-rise_ways st up = record {
-  same = λ _. up;
-  poll = λ t suite mode free. rise_locked t suite mode st.locks up;
-  upgrade = λ t suite has free. rise_locked t suite Exclusive st.locks up;
-  prepare = λ t parts does few. rise_prepared t parts st.locks up;
-  decide = λ t decision none. up;
-  resolve = λ t none. up;
-  finish = λ t verdict is. rise_filter (λ l. not (l.t == t)) st.locks up;
-  break = λ t suite. rise_filter (λ l. not (is_own t suite l && not l.prepared)) st.locks up;
-  crash = rise_filter (λ l. l.prepared) st.locks up;
-  return = up;
-}
+rise_ways st up = search (rise_locked, rise_prepared, rise_filter, arith)
 
 -- ---- intentions beside their locks
 
 serves_exclusive : (have want : LockMode) → serves have want ≡ true → is_exclusive want ≡ true → is_exclusive have ≡ true
-serves_exclusive Exclusive want is strong = refl
-serves_exclusive Shared Exclusive is strong = is
-serves_exclusive Shared Shared is strong = strong
+serves_exclusive have want h2 h3 = search arith
 
 -- a lock that stands prepared through a change
 beside_later : (old new : List Lock) (t suite : ℕ) → HasPreparedLock old t suite → ((l : Lock) → Has old l → l.prepared ≡ true → l.t ≡ t → Stands new l) → HasPreparedLock new t suite
-beside_later old new t suite beside stands =
-    let later = stands beside.lock (has_from old beside.lock beside.there) beside.prepared beside.of_it in
-    record {
-      lock = later.0;
-      there = contains_from new later.0 later.1;
-      of_it = later.2.t ∙ beside.of_it;
-      on_it = later.2.suite ∙ beside.on_it;
-      exclusive = serves_exclusive later.0.mode beside.lock.mode later.2.mode beside.exclusive;
-      prepared = later.2.prepared;
-    }
+beside_later old new t suite beside stands = search (has_from old beside.lock beside.there, contains_from, serves_exclusive, arith)
 
 locked_with : (st : State) (t suite : ℕ) (mode : LockMode) → IntentionsLocked st → IntentionsLocked (record st { locks = locked t suite mode st.locks })
 locked_with st t suite mode locks z intention has =
@@ -111,8 +84,7 @@ new_locked st t parts suite part sees is changes =
       of_it = own.0;
       on_it = own.1 ∙ here;
       exclusive = serves_exclusive l.mode part.mode tests.1 (or_other (is_keep part.take) (is_exclusive part.mode) of_part.0 changes);
-      prepared = now_prepared l.prepared (l.t == t) (list_any (λ part. part.suite == l.suite) parts) (is_itself l.t t own.0)
-          (has_any (λ part. part.suite == l.suite) parts part found.0 (is_itself part.suite l.suite (sym own.1)));
+      prepared = search (now_prepared, is_itself, has_any, arith);
     }
 
 locked_prepare : (st : State) (t : ℕ) (parts : List Part) → Looked st t parts → IntentionsLocked st → IntentionsLocked (laid t parts st)
@@ -122,28 +94,10 @@ locked_prepare st t parts sees locks suite intention has = by_part (part_of suit
     old was = beside_later st.locks (with_prepared t parts st.locks) intention.t suite (locks suite intention was) (λ l there p _. still_prepared t parts st.locks l there p)
 
     by_part : (o : Option Part) → part_of suite parts ≡ o → planned t o (get nat_cmp st.store.intentions suite) ≡ Some intention → HasPreparedLock (with_prepared t parts st.locks) intention.t suite
-    by_part None is was = old was
-    by_part (Some part) is was =
-        elim (is_keep part.take) as (λ b. is_keep part.take ≡ b → cond b (get nat_cmp st.store.intentions suite) (Some (record { t = t; take = part.take })) ≡ Some intention
-        → HasPreparedLock (with_prepared t parts st.locks) intention.t suite) [
-          | true ↦ λ _ was. old was
-          | false ↦ λ changes new. subst (λ u. HasPreparedLock (with_prepared t parts st.locks) u suite)
-              (ap (λ (x : Intention). x.t) (same_Some (record { t = t; take = part.take }) intention new)) (new_locked st t parts suite part sees is changes)
-        ] refl was
+    by_part o h1 h2 = search (old, same_Some, new_locked, arith)
 
 locked_ways : (st : State) → IsOrdered nat_cmp st.store.intentions → IntentionsLocked st → Ways st (λ _ new. IntentionsLocked new)
-locked_ways st rising locks = record {
-  same = λ _. locks;
-  poll = λ t suite mode free. locked_with st t suite mode locks;
-  upgrade = λ t suite has free. locked_with st t suite Exclusive locks;
-  prepare = λ t parts does few. locked_prepare st t parts (looked st t parts does) locks;
-  decide = λ t decision none. locks;
-  resolve = λ t none. locks;
-  finish = λ t verdict is. locked_finish st t (is_answered verdict) rising locks;
-  break = λ t suite. locked_filter st (λ l. not (is_own t suite l && not l.prepared)) (λ l p. kept_by_break t suite l p) st.up locks;
-  crash = locked_filter st (λ l. l.prepared) (λ l p. p) false locks;
-  return = locks;
-}
+locked_ways st rising locks = search (locked_with, locked_prepare, looked, locked_finish, locked_filter, kept_by_break, arith)
 
 -- ---- a sound store
 
@@ -159,14 +113,12 @@ ordered-with_intentions t (part ∷ parts) intentions rising =
 module _ {V : Type 0} (q : ℕ × V → Bool) where
   below-filter : (a : ℕ) (pairs : List (ℕ × V)) → AllByRecursion (λ b. nat_cmp a b ≡ Less) (keys_of pairs) → AllByRecursion (λ b. nat_cmp a b ≡ Less) (keys_of (filter q pairs))
   below-filter a [] all = tt
-  below-filter a (e ∷ es) all =
-      elim (q e) as (λ b. AllByRecursion (λ b. nat_cmp a b ≡ Less) (keys_of (cond b (e ∷ filter q es) (filter q es)))) [ true ↦ (all.0, below-filter a es all.1) | false ↦ below-filter a es all.1 ]
+  below-filter a (e ∷ es) all = search (below-filter a es, arith)
 
   pub ordered-filter : (pairs : List (ℕ × V)) → IsOrdered nat_cmp pairs → IsOrdered nat_cmp (filter q pairs)
   unfolding IsStrictlySortedBy
   ordered-filter [] rising = rising
-  ordered-filter (e ∷ es) rising =
-      elim (q e) as (λ b. IsOrdered nat_cmp (cond b (e ∷ filter q es) (filter q es))) [ true ↦ (below-filter e.0 es rising.0, ordered-filter es rising.1) | false ↦ ordered-filter es rising.1 ]
+  ordered-filter (e ∷ es) rising = search (below-filter e.0 es rising.0, ordered-filter es, arith)
 
 pub sound_finished : (store : Store) (t : ℕ) (answered : Bool) → IsSound store → IsSound (finished t answered store)
 sound_finished store t true sound = sound_answered store t sound (ordered-filter (λ pair. not (pair.1.t == t)) store.intentions sound.rising)
@@ -189,36 +141,13 @@ sound_ways st sound = record {
 -- ---- few suites
 
 copies_finished : (store : Store) (t : ℕ) (answered : Bool) → IsOrdered nat_cmp store.copies → IsOrdered nat_cmp (finished t answered store).copies
-copies_finished store t true rising = all_ordered store.c0 t store.intentions store.copies rising
-copies_finished store t false rising = rising
+copies_finished store t answered h3 = search (all_ordered, arith)
 
 copies_ways : (st : State) → IsOrdered nat_cmp st.store.copies → Ways st (λ _ new. IsOrdered nat_cmp new.store.copies)
-copies_ways st rising = record {
-  same = λ _. rising;
-  poll = λ t suite mode free. rising;
-  upgrade = λ t suite has free. rising;
-  prepare = λ t parts does few. rising;
-  decide = λ t decision none. rising;
-  resolve = λ t none. rising;
-  finish = λ t verdict is. copies_finished st.store t (is_answered verdict) rising;
-  break = λ t suite. rising;
-  crash = rising;
-  return = rising;
-}
+copies_ways st rising = search (copies_finished, arith)
 
 few_ways : (st : State) → IsOrdered nat_cmp st.store.copies → suites_with st.store ≤ max_suites → Ways st (λ _ new. suites_with new.store ≤ max_suites)
-few_ways st rising few = record {
-  same = λ _. few;
-  poll = λ t suite mode free. few;
-  upgrade = λ t suite has free. few;
-  prepare = λ t parts does room. few_intended st.store t parts room;
-  decide = λ t decision none. few;
-  resolve = λ t none. few;
-  finish = λ t verdict is. few_finished st.store t (is_answered verdict) rising few;
-  break = λ t suite. few;
-  crash = few;
-  return = few;
-}
+few_ways st rising few = search (few_intended, few_finished, arith)
 
 -- ---- all of it
 
@@ -239,14 +168,7 @@ consistent_step st asked is = record {
 }
 
 pub consistent_opening : (index : ℕ) (given : Opening) → IsConsistent (opening index given)
-consistent_opening index given = record {
-  rising = refl;
-  copies_rise = ordered_opening index given;
-  alone = alone_contained [] (λ a b has_a has_b _ _. absurd has_a);
-  locked = λ suite intention has. absurd (none-some intention has);
-  sound = sound_opening index given;
-  few = few_opening index given;
-}
+consistent_opening index given = search (ordered_opening index given, alone_contained [] (λ a b has_a has_b _ _. absurd has_a), sound_opening index given, few_opening index given, none-some, arith)
 
 pub consistency_is_kept : ConsistencyIsKept
 consistency_is_kept = record { opening = consistent_opening; step = consistent_step }

@@ -1,7 +1,7 @@
 -- How many suites have a copy or an intention, after a Prepare.
-use Rattle.rep_core.proofs.Vocabulary.{◌≡◌, ℕ, ◌+◌, Bool, true, false, cond, ◌&&◌, List, [], ◌∷◌, length, Less, Equal, Greater, refl, sym, ap, ◌∙◌, arith, not, ◌==◌, nat_lt, min, is_some, count_by, list_any, keys_of, nat_cmp, is_eq, is_at}
-use Rattle.rep_core.proofs.Vocabulary.{or_parts, nat_tests, nat_cmp_total, lookup_head, lookup_tail, count_by-le-length, sorted_tail, IsOrdered, get, insert, by_answer, insert_step, get_below, IsOrdered-insert, get_insert_apart, Intention}
-use Rattle.rep_core.proofs.Vocabulary.{Part, Store, max_suites, is_keep, lists_twice, has_copy, suites_with, with_intention, with_intentions, intended}
+use Rattle.rep_core.proofs.Vocabulary.{◌≡◌, ℕ, ◌+◌, Bool, true, false, cond, ◌&&◌, List, [], ◌∷◌, length, Less, Equal, Greater, refl, sym, ap, ◌∙◌, arith, not, ◌==◌, nat_lt, min, is_some, count_by, list_any, keys_of, nat_cmp, is_eq, is_at, or_parts}
+use Rattle.rep_core.proofs.Vocabulary.{nat_tests, nat_cmp_total, lookup_head, lookup_tail, count_by-le-length, sorted_tail, IsOrdered, get, insert, by_answer, insert_step, get_below, IsOrdered-insert, get_insert_apart, Intention, Part, Store}
+use Rattle.rep_core.proofs.Vocabulary.{max_suites, is_keep, lists_twice, has_copy, suites_with, with_intention, with_intentions, intended}
 use Rattle.rep_core.proofs.Rising.{count_cons}
 
 one_if : (there : Bool) → there ≡ false → (b : Bool) → ◌≡◌ {A = ℕ} (cond (not there && b) 1 0) (cond b 1 0)
@@ -52,10 +52,7 @@ module _ (store : Store) (t : ℕ) where
       ]
 
   tests : (there copy : Bool) → ◌≡◌ {A = ℕ} (cond (not there && not copy) 1 0) (cond (not copy && not there) 1 0)
-  tests true true = refl
-  tests true false = refl
-  tests false true = refl
-  tests false false = refl
+  tests there copy = search arith
 
   count_one : (part : Part) (intentions : List (ℕ × Intention)) → IsOrdered nat_cmp intentions → counted without_copy (with_intention t part intentions) ≡ counted without_copy intentions + cond (new_in intentions part) 1 0
   count_one part intentions rising =
@@ -107,8 +104,4 @@ over_most cut number is = grind (arith, nat_tests)
 pub not_over : (store : Store) (t : ℕ) (parts : List Part) (cut : ℕ) → lists_twice parts ≡ false → IsOrdered nat_cmp store.intentions
     → cut ≡ min (min (length store.copies + length store.intentions) 18446744073709551615 + length parts) 18446744073709551615 → nat_lt max_suites cut ≡ false
     → nat_lt max_suites (suites_with (intended t parts store)) ≡ false
-not_over store t parts cut once rising is few =
-    let counted = suites_intended store t parts once rising in
-    let planned = count_by-le-length (λ pair. not (has_copy store pair.0)) store.intentions in
-    let new = count_by-le-length (takes_new store) parts in
-    grind (arith, nat_tests)
+not_over store t parts cut once rising is few = search (suites_intended, count_by-le-length, nat_tests, arith)

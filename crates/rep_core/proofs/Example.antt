@@ -1,9 +1,8 @@
 -- A run after which a server has a copy that a transaction changed, and one after which a server that is down has an exclusive lock
 -- that is prepared.
-use Rattle.rep_core.proofs.Vocabulary.{true, ◌<◌, List, [], ◌∷◌, ◌++◌, refl, sym, ◌∙◌, inl, lit<, arith, nat_cmp, false≢true, All-nil, All-cons, Representative, Configuration, IsValid, Prefix, Folder, PrefixFits, closed_lists, Opening}
-use Rattle.rep_core.proofs.Vocabulary.{Exclusive, Intention, Lock, Part, Request, Stamped, reached, SomeServerStands, TakeFits, RequestFits, OpeningFits, SomeCopyIsChanged}
+use Rattle.rep_core.proofs.Vocabulary.{true, ◌<◌, List, [], ◌∷◌, ◌++◌, refl, sym, ◌∙◌, inl, lit<, arith, nat_cmp, false≢true, All-nil, All-cons, Representative, Configuration, IsValid, Prefix, Folder, PrefixFits, closed_lists, Opening, Exclusive}
+use Rattle.rep_core.proofs.Vocabulary.{Intention, Lock, Part, Request, Stamped, reached, SomeServerStands, TakeFits, RequestFits, OpeningFits, SomeCopyIsChanged}
 use Rattle.std.specs.FinSet.{empty, contains-empty}
-use Rattle.vote_core.specs.declared.TheConstants.{MAX_SERVERS}
 use Rattle.std.specs.List.{IsDistinct}
 use Rattle.rep_core.specs.declared.request.Take.TheVariants as take
 use Rattle.rep_core.specs.declared.request.Request.TheVariants as request
@@ -36,17 +35,7 @@ polled = record { stamp = 0; value = request.Poll 5 0 Exclusive }
 
 valid_votes : IsValid votes
 unfolding votes IsDistinct
-valid_votes = record {
-  some_listed = omega arith;
-  numbered = All-cons (λ (rep : Representative). rep.0 < MAX_SERVERS) (0, 1) [] (lit< tt) (All-nil (λ (rep : Representative). rep.0 < MAX_SERVERS));
-  few_votes = All-cons (λ (rep : Representative). rep.1 < 256) (0, 1) [] (lit< tt) (All-nil (λ (rep : Representative). rep.1 < 256));
-  listed_once = (tt, tt);
-  some_votes = omega arith;
-  r_in_range = (omega arith, omega arith);
-  w_in_range = (omega arith, omega arith);
-  reads_meet_writes = omega arith;
-  writes_meet = omega arith;
-}
+valid_votes = search arith
 
 next_prefix : Prefix
 unfolding votes

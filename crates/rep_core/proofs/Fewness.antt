@@ -1,39 +1,29 @@
 -- No request makes the suites with a copy or an intention too many.
-use Rattle.rep_core.proofs.Vocabulary.{◌≡◌, ℕ, ◌+◌, ◌≤◌, Bool, true, false, cond, List, [], ◌∷◌, length, refl, sym, ap, subst, ◌∙◌, ⊎_elim, arith, ◌==◌, ◌&&◌, not, nat_lt, filter, is_some, count_by, list_any, nat_cmp, cases_Bool, or_parts}
-use Rattle.rep_core.proofs.Vocabulary.{nat_tests, nat_cmp_total, IsOrdered, get, insert, length-insert, IsOrdered-insert, get_insert_here, get_insert_apart, Configuration, Replica, Opening, Intention, Part, Take, Store, root_copy}
-use Rattle.rep_core.proofs.Vocabulary.{opening_store, holds_last, max_suites, has_copy, suites_with, intended, overfills, with_taken, with_copies, left_by, copy_in, finished}
+use Rattle.rep_core.proofs.Vocabulary.{◌≡◌, ℕ, ◌+◌, ◌≤◌, Bool, true, false, cond, List, [], ◌∷◌, length, refl, ap, ◌∙◌, ⊎_elim, arith, ◌==◌, ◌&&◌, not, filter, is_some, count_by, list_any, nat_cmp, cases_Bool, nat_tests, nat_cmp_total, IsOrdered}
+use Rattle.rep_core.proofs.Vocabulary.{get, insert, length-insert, IsOrdered-insert, get_insert_here, get_insert_apart, Configuration, Replica, Opening, Intention, Part, Take, Store, root_copy, opening_store, max_suites, has_copy, suites_with}
+use Rattle.rep_core.proofs.Vocabulary.{intended, overfills, with_taken, with_copies, left_by, copy_in, finished}
 use Rattle.std.specs.List.Sorted.{IsStrictlySortedBy}
 use Rattle.rep_core.specs.declared.request.Take.TheVariants as take
 use Rattle.rep_core.proofs.Rising.{count_cons}
 use Rattle.rep_core.proofs.Intentions.{is_of}
 
 pub few_opening : (index : ℕ) (given : Opening) → suites_with (opening_store index given) ≤ max_suites
-few_opening index given =
-    let copies : Bool → List (ℕ × Replica) = λ b. cond b ((0, root_copy given) ∷ []) [] in
-    elim (list_any (λ rep. rep.0 == index) given.c0.reps) as (λ b. length (copies b) + 0 ≤ max_suites) [ true ↦ omega arith | false ↦ omega arith ]
+few_opening index given = search arith
 
 pub ordered_opening : (index : ℕ) (given : Opening) → IsOrdered nat_cmp (opening_store index given).copies
 unfolding IsStrictlySortedBy
 ordered_opening index given = elim (list_any (λ rep. rep.0 == index) given.c0.reps) as (λ b. IsOrdered nat_cmp (cond b ((0, root_copy given) ∷ []) [])) [ true ↦ (tt, tt) | false ↦ tt ]
 
-not_more : (number : ℕ) → nat_lt max_suites number ≡ false → number ≤ max_suites
-not_more number few = grind (arith, nat_tests)
-
 pub few_intended : (store : Store) (t : ℕ) (parts : List Part) → overfills t store parts ≡ false → suites_with (intended t parts store) ≤ max_suites
-few_intended store t parts room =
-    not_more (suites_with (intended t parts store)) (or_parts (list_any (λ part. holds_last part.take) parts) (nat_lt max_suites (suites_with (intended t parts store))) room).1
+few_intended store t parts room = search arith
 
 -- ---- counts
 
 one_if_weaker : (a b : Bool) → (a ≡ true → b ≡ true) → cond a 1 0 ≤ cond b 1 0
-one_if_weaker false b weaker = omega arith
-one_if_weaker true b weaker = subst (λ b. 1 ≤ cond b 1 0) (sym (weaker refl)) (omega arith)
+one_if_weaker a b h2 = search arith
 
 two_ways : (a b : Bool) → cond (a && b) 1 0 + cond (not a && b) 1 0 ≡ cond b 1 0
-two_ways true true = refl
-two_ways true false = refl
-two_ways false true = refl
-two_ways false false = refl
+two_ways a b = search arith
 
 module _ {X : Type 0} where
   count_weaker : (p q : X → Bool) → ((x : X) → p x ≡ true → q x ≡ true) → (xs : List X) → count_by p xs ≤ count_by q xs
@@ -42,19 +32,11 @@ module _ {X : Type 0} where
 
   count_filter : (p q : X → Bool) (xs : List X) → count_by p (filter q xs) ≡ count_by (λ x. q x && p x) xs
   count_filter p q [] = refl
-  count_filter p q (x ∷ xs) =
-      elim (q x) as (λ b. count_by p (cond b (x ∷ filter q xs) (filter q xs)) ≡ cond (b && p x) 1 0 + count_by (λ x. q x && p x) xs) [
-        | true ↦ count_cons p x (filter q xs) ∙ ap (λ n. cond (p x) 1 0 + n) (count_filter p q xs)
-        | false ↦ let rest = count_filter p q xs in omega (arith, rest)
-      ]
-      ∙ sym (count_cons (λ x. q x && p x) x xs)
+  count_filter p q (x ∷ xs) = search (count_cons p x (filter q xs), count_cons (λ x. q x && p x) x xs, count_filter p q xs, arith)
 
   count_ways : (p q : X → Bool) (xs : List X) → count_by (λ x. q x && p x) xs + count_by (λ x. not (q x) && p x) xs ≡ count_by p xs
   count_ways p q [] = refl
-  count_ways p q (x ∷ xs) =
-      let ways = two_ways (q x) (p x) in
-      let rest = count_ways p q xs in
-      omega (arith, ways, rest, count_cons p x xs, count_cons (λ x. q x && p x) x xs, count_cons (λ x. not (q x) && p x) x xs)
+  count_ways p q (x ∷ xs) = search (two_ways, count_cons, count_ways p q xs, arith)
 
 -- ---- copies
 
@@ -75,9 +57,7 @@ inserted_there copies suite copy z is = ⊎_elim
 
 module _ (c0 : Configuration) where
   taken_there : (what : Take) (copies : List (ℕ × Replica)) (suite z : ℕ) → there copies z ≡ true → there (with_taken c0 suite what copies) z ≡ true
-  taken_there take.Keep copies suite z is = is
-  taken_there (take.Prefix prefix) copies suite z is = inserted_there copies suite (left_by (take.Prefix prefix) (copy_in c0 copies suite)) z is
-  taken_there (take.Whole replica) copies suite z is = inserted_there copies suite (left_by (take.Whole replica) (copy_in c0 copies suite)) z is
+  taken_there what copies suite z h4 = search (inserted_there, arith)
 
   taken_ordered : (what : Take) (copies : List (ℕ × Replica)) (suite : ℕ) → IsOrdered nat_cmp copies → IsOrdered nat_cmp (with_taken c0 suite what copies)
   taken_ordered take.Keep copies suite rising = rising
@@ -85,8 +65,7 @@ module _ (c0 : Configuration) where
   taken_ordered (take.Whole replica) copies suite rising = IsOrdered-insert nat_cmp_total copies suite (left_by (take.Whole replica) (copy_in c0 copies suite)) rising
 
   swap : (b : Bool) → ◌≡◌ {A = ℕ} (cond b 0 1) (cond (not b) 1 0)
-  swap true = refl
-  swap false = refl
+  swap b = search arith
 
   inserted_long : (copies : List (ℕ × Replica)) (suite : ℕ) (copy : Replica) → IsOrdered nat_cmp copies → length (insert nat_cmp copies suite copy) ≤ length copies + cond (not (there copies suite)) 1 0
   inserted_long copies suite copy rising =
@@ -95,9 +74,7 @@ module _ (c0 : Configuration) where
       omega (arith, exact, one)
 
   taken_long : (what : Take) (copies : List (ℕ × Replica)) (suite : ℕ) → IsOrdered nat_cmp copies → length (with_taken c0 suite what copies) ≤ length copies + cond (not (there copies suite)) 1 0
-  taken_long take.Keep copies suite rising = omega arith
-  taken_long (take.Prefix prefix) copies suite rising = inserted_long copies suite (left_by (take.Prefix prefix) (copy_in c0 copies suite)) rising
-  taken_long (take.Whole replica) copies suite rising = inserted_long copies suite (left_by (take.Whole replica) (copy_in c0 copies suite)) rising
+  taken_long what copies suite h3 = search (inserted_long, arith)
 
   module _ (t : ℕ) where
     -- the copies once the intention, if it is one of the transaction, has become a copy
@@ -111,8 +88,7 @@ module _ (c0 : Configuration) where
     one_ordered e copies rising = elim (e.1.t == t) as (λ b. IsOrdered nat_cmp (cond b (with_taken c0 e.0 e.1.take copies) copies)) [ true ↦ taken_ordered e.1.take copies e.0 rising | false ↦ rising ]
 
     one_long : (e : ℕ × Intention) (copies : List (ℕ × Replica)) → IsOrdered nat_cmp copies → length (after_one e copies) ≤ length copies + cond (is_of t e && not (there copies e.0)) 1 0
-    one_long e copies rising = elim (e.1.t == t) as (λ b. length (cond b (with_taken c0 e.0 e.1.take copies) copies) ≤ length copies + cond (b && not (there copies e.0)) 1 0)
-        [ true ↦ taken_long e.1.take copies e.0 rising | false ↦ omega arith ]
+    one_long e copies rising = search (taken_long, arith)
 
     all_there : (intentions : List (ℕ × Intention)) (copies : List (ℕ × Replica)) (z : ℕ) → there copies z ≡ true → there (with_copies c0 t intentions copies) z ≡ true
     all_there [] copies z is = is
@@ -124,9 +100,7 @@ module _ (c0 : Configuration) where
 
     -- where nothing is left, nothing was
     was_absent : (own before after : Bool) → (before ≡ true → after ≡ true) → (own && not after) ≡ true → (own && not before) ≡ true
-    was_absent false before after stays is = is
-    was_absent true false after stays is = refl
-    was_absent true true after stays is = ap not (sym (stays refl)) ∙ is
+    was_absent own before after h3 h4 = search arith
 
     all_long : (intentions : List (ℕ × Intention)) (copies : List (ℕ × Replica)) → IsOrdered nat_cmp copies → length (with_copies c0 t intentions copies) ≤ length copies + count_by (λ e. is_of t e && not (there copies e.0)) intentions
     all_long [] copies rising = omega arith
@@ -149,11 +123,7 @@ few_answered store t rising =
     omega (arith, all_long store.c0 t store.intentions old rising, left, fewer, ways)
 
 few_dropped : (store : Store) (t : ℕ) → suites_with (finished t false store) ≤ suites_with store
-few_dropped store t =
-    let left = count_filter (λ e. not (has_copy store e.0)) (λ e. not (e.1.t == t)) store.intentions in
-    let ways = count_ways (λ e. not (has_copy store e.0)) (is_of t) store.intentions in
-    omega (arith, left, ways)
+few_dropped store t = search (count_filter (λ e. not (has_copy store e.0)) (λ e. not (e.1.t == t)) store.intentions, count_ways (λ e. not (has_copy store e.0)) (is_of t) store.intentions, is_of t, arith)
 
 pub few_finished : (store : Store) (t : ℕ) (answered : Bool) → IsOrdered nat_cmp store.copies → suites_with store ≤ max_suites → suites_with (finished t answered store) ≤ max_suites
-few_finished store t true rising few = omega (arith, few_answered store t rising, few)
-few_finished store t false rising few = omega (arith, few_dropped store t, few)
+few_finished store t answered h3 h4 = search (few_answered, few_dropped, arith)

@@ -1,7 +1,7 @@
 -- A Poll or an Upgrade that was told Held, and is served again later: the lock stands in its mode, and the copy is the same.
-use Rattle.rep_core.proofs.Vocabulary.{◌≡◌, inl, inr, ℕ, Bool, true, false, cond, List, [], ◌∷◌, ◌++◌, Some, None, refl, sym, ap, subst, ◌∙◌, arith, ◌==◌, ◌&&◌, ◌||◌, not, filter, find, false≢true, nat_tests, Prefix, LockMode, Shared}
-use Rattle.rep_core.proofs.Vocabulary.{Exclusive, is_exclusive, serves, stronger, Lock, Request, Stamped, is_own, conflicts, in_the_way, has_lock, before, raised_lock, raised, with_lock, locked, prepared_lock, copy_of, State, reply_of}
-use Rattle.rep_core.proofs.Vocabulary.{after, locking_reply, after_locking, poll_reply, after_poll, is_full, served, step, IsConsistent, after_all, sent, later_on, StaysLater, is_taking, served_by, AgainLater, or_parts, held}
+use Rattle.rep_core.proofs.Vocabulary.{◌≡◌, inl, inr, ℕ, Bool, true, false, cond, List, [], ◌∷◌, ◌++◌, Some, None, refl, sym, ap, subst, ◌∙◌, arith, ◌==◌, ◌&&◌, ◌||◌, not, filter, find, false≢true, nat_tests, Prefix, LockMode, Exclusive}
+use Rattle.rep_core.proofs.Vocabulary.{is_exclusive, serves, stronger, Lock, Request, Stamped, is_own, conflicts, in_the_way, has_lock, before, raised_lock, raised, with_lock, locked, prepared_lock, copy_of, State, reply_of, after, after_locking}
+use Rattle.rep_core.proofs.Vocabulary.{poll_reply, after_poll, is_full, served, step, IsConsistent, after_all, sent, later_on, StaysLater, is_taking, served_by, AgainLater, or_parts}
 use Rattle.rep_core.specs.declared.request.Request.TheVariants as request
 use Rattle.rep_core.specs.declared.reply.Reply.TheVariants as reply
 use Rattle.rep_core.proofs.Members.{Has, contains_from, any_has, has_any, map_has, filter_has, between_has}
@@ -25,18 +25,13 @@ find_nothing p [] none = refl
 find_nothing p (x ∷ xs) none = ap (λ b. cond b (Some x) (find p xs)) (none x (inl refl)) ∙ find_nothing p xs (λ x has. none x (inr has))
 
 serves_stronger : (a m : LockMode) → serves (stronger a m) m ≡ true
-serves_stronger Shared m = serves_itself m
-serves_stronger Exclusive m = refl
+serves_stronger a m = search arith
 
 stronger_serves : (a m : LockMode) → serves a m ≡ true → stronger a m ≡ a
-stronger_serves Shared Shared is = refl
-stronger_serves Shared Exclusive is = absurd (false≢true is)
-stronger_serves Exclusive m is = refl
+stronger_serves a m h2 = search arith
 
 exclusive_serves : (a m : LockMode) → serves a m ≡ true → is_exclusive m ≡ true → is_exclusive a ≡ true
-exclusive_serves Shared Shared is exclusive = exclusive
-exclusive_serves Shared Exclusive is exclusive = is
-exclusive_serves Exclusive m is exclusive = refl
+exclusive_serves a m h2 h3 = search arith
 
 module _ (t suite : ℕ) (mode : LockMode) where
   -- the transaction has a lock on the suite in the mode, or a stronger one
@@ -129,16 +124,7 @@ module _ (t suite : ℕ) (mode : LockMode) where
   raised_each (l ∷ ls) same = λ i. same l (inl refl) i ∷ raised_each ls (λ l has. same l (inr has)) i
 
   locks_same : (st : State) → IsConsistent st → HasMode st.locks → locked t suite mode st.locks ≡ st.locks
-  locks_same st is has =
-      ap (λ b. cond b (raised t suite mode st.locks) (with_lock (new_lock t suite mode) st.locks)) (has_any (is_own t suite) st.locks has.lock has.there has.own)
-      ∙ raised_each st.locks (λ l there. elim (is_own t suite l) as (λ b. is_own t suite l ≡ b → ◌≡◌ {A = Lock} (record l { mode = cond b (stronger l.mode mode) l.mode }) l) [
-        | true ↦ λ own.
-            let mine = own_is t suite l own in
-            let its = own_is t suite has.lock has.own in
-            let same : has.lock ≡ l = same_lock st.locks has.lock l is.rising has.there there (its.0 ∙ sym mine.0) (its.1 ∙ sym mine.1) in
-            ap (λ mode. record l { mode = mode }) (stronger_serves l.mode mode (subst (λ (l : Lock). serves l.mode mode ≡ true) same has.strong))
-        | false ↦ λ _. refl
-      ] refl)
+  locks_same st is has = search (new_lock, has_any, raised_each, own_is, same_lock, stronger_serves, arith)
 
   way_free : (st : State) → IsConsistent st → HasMode st.locks → in_the_way t suite mode st.locks ≡ None
   way_free st is has = find_nothing (conflicts t suite mode) st.locks (nothing_there st is has)
@@ -171,10 +157,7 @@ module _ (t suite : ℕ) (mode : LockMode) where
       }
 
   said_again : (st new : State) (prefix : Prefix) (dver : ℕ) → Stands st new → (copy_of st.store suite).prefix ≡ prefix → (copy_of st.store suite).dver ≡ dver → poll_reply new t suite mode ≡ reply.Held prefix dver
-  said_again st new prefix dver stands one two =
-      ap (λ way. locking_reply way (copy_of new.store suite)) (way_free new stands.consistent stands.strong)
-      ∙ ap held stands.copy.same
-      ∙ (λ i. reply.Held (one i) (two i))
+  said_again st new prefix dver stands one two = search (way_free, arith)
 
 later_polled : (st : State) (stamp t suite : ℕ) (mode : LockMode) (prefix : Prefix) (dver : ℕ) (later : List (Stamped Request)) → IsConsistent st → is_full st (sent stamp (request.Poll t suite mode)) ≡ false
     → reply_of st (request.Poll t suite mode) ≡ reply.Held prefix dver → served_by (is_taking t) (served st (sent stamp (request.Poll t suite mode))) later ≡ false
@@ -204,11 +187,4 @@ later_upgraded st stamp t suite prefix dver later is room said other =
     refl
 
 pub again_later : AgainLater
-again_later = record {
-  recorded = later_recorded;
-  prepared = later_prepared;
-  finished = λ st stamp t v later said other. later_finished t st stamp v later said other;
-  polled = later_polled;
-  upgraded = later_upgraded;
-  fetched = later_fetched;
-}
+again_later = search (later_recorded, later_prepared, later_finished, later_polled, later_upgraded, later_fetched, arith)

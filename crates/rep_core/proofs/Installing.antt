@@ -1,9 +1,9 @@
 -- The intentions of a transaction become copies, place by place: what is taken at a place is gone.
-use Rattle.rep_core.proofs.Vocabulary.{◌≡◌, ℕ, ◌+◌, ◌<◌, ◌≤◌, zero, suc, add-one, take, drop, get_or, filter, Less, Bool, true, false, cond, not, List, [], ◌∷◌, length, Some, refl, sym, ap, subst, ◌∙◌, arith, IfSome, list_all, nat_cmp}
-use Rattle.rep_core.proofs.Vocabulary.{is_eq, is_at, keys_of, and_parts, and_from, drop_more, take_all, lookup_head, lookup_tail, sorted_head, sorted_tail, IsOrdered, get, remove, Configuration, Replica, Form, Intention, with_taken}
-use Rattle.rep_core.proofs.Vocabulary.{with_copies, with_form, with_forms, without_intentions}
+use Rattle.rep_core.proofs.Vocabulary.{◌≡◌, ℕ, ◌+◌, ◌<◌, ◌≤◌, zero, suc, add-one, take, drop, get_or, filter, Less, Bool, true, false, cond, not, List, [], ◌∷◌, length, Some, refl, sym, ap, ◌∙◌, arith, IfSome, list_all, nat_cmp, is_at, keys_of}
+use Rattle.rep_core.proofs.Vocabulary.{and_parts, and_from, drop_more, take_all, lookup_head, lookup_tail, sorted_head, sorted_tail, IsOrdered, get, remove, Configuration, Replica, Form, Intention, with_taken, with_copies, with_form, with_forms}
+use Rattle.rep_core.proofs.Vocabulary.{without_intentions}
 use Rattle.std.specs.Prelude.{remove as without}
-use Rattle.rep_core.proofs.Intentions.{is_of, at_index, at_itself, swapped}
+use Rattle.rep_core.proofs.Intentions.{is_of, at_index, at_itself}
 
 -- ---- a list without the element at a place
 
@@ -34,40 +34,30 @@ module _ {X : Type 0} where
     all_next : (xs : List X) (i : ℕ) (x : X) → i < length xs → x ≡ get_or xs i x → p x ≡ true → list_all p (take i xs) ≡ true → list_all p (take (suc i) xs) ≡ true
     all_next [] i x in_range is passes all = absurd (omega arith)
     all_next (e ∷ es) zero x in_range is passes all = and_from (p e) true (ap p (sym is) ∙ passes) refl
-    all_next (e ∷ es) (suc i) x in_range is passes all =
-        let parts = and_parts (p e) (list_all p (take i es)) all in
-        and_from (p e) (list_all p (take (suc i) es)) parts.0 (all_next es i x (omega arith) is passes parts.1)
+    all_next (e ∷ es) (suc i) x in_range is passes all = search (and_parts, and_from, all_next es i x, arith)
 
     filter_all : (xs : List X) → list_all p xs ≡ true → filter p xs ≡ xs
     filter_all [] all = refl
-    filter_all (e ∷ es) all =
-        let parts = and_parts (p e) (list_all p es) all in
-        ap (λ b. cond b (e ∷ filter p es) (filter p es)) parts.0 ∙ ap (λ l. e ∷ l) (filter_all es parts.1)
+    filter_all (e ∷ es) all = search (and_parts, filter_all es, arith)
 
 -- ---- a map without the key at a place
 
 module _ {V : Type 0} where
   -- the key of a pair behind the first one is greater
   greater_at : (e : ℕ × V) (es : List (ℕ × V)) (i : ℕ) (pair : ℕ × V) → IsOrdered nat_cmp (e ∷ es) → i < length es → pair ≡ get_or es i pair → is_at (nat_cmp pair.0) e.0 ≡ false
-  greater_at e es i pair rising in_range is =
-      ap is_eq (swapped e.0 pair.0 (at_index (λ b. nat_cmp e.0 b ≡ Less) es i pair in_range is (sorted_head nat_cmp e.0 (keys_of es) rising)))
+  greater_at e es i pair rising in_range is = search (at_index (λ b. nat_cmp e.0 b ≡ Less) es i pair in_range is (sorted_head nat_cmp e.0 (keys_of es) rising), sorted_head nat_cmp e.0 (keys_of es) rising, arith)
 
   -- the value at a place's key is the one there
   pub has_at : (pairs : List (ℕ × V)) (i : ℕ) (pair : ℕ × V) → IsOrdered nat_cmp pairs → i < length pairs → pair ≡ get_or pairs i pair → get nat_cmp pairs pair.0 ≡ Some pair.1
   has_at [] i pair rising in_range is = absurd (omega arith)
-  has_at (e ∷ es) zero pair rising in_range is =
-      lookup_head (is_at (nat_cmp pair.0)) e es (ap (λ p. is_at (nat_cmp pair.0) p.0) (sym is) ∙ at_itself pair.0) ∙ ap (λ p. Some p.1) (sym is)
-  has_at (e ∷ es) (suc i) pair rising in_range is =
-      lookup_tail (is_at (nat_cmp pair.0)) e es (greater_at e es i pair rising (omega arith) is) ∙ has_at es i pair (sorted_tail nat_cmp e.0 (keys_of es) rising) (omega arith) is
+  has_at (e ∷ es) zero pair rising in_range is = search (lookup_head, at_itself, arith)
+  has_at (e ∷ es) (suc i) pair rising in_range is = search (lookup_tail, greater_at, sorted_tail, has_at es i pair, arith)
 
   -- without a place's key it is without the place
   without_at : (pairs : List (ℕ × V)) (i : ℕ) (pair : ℕ × V) → IsOrdered nat_cmp pairs → i < length pairs → pair ≡ get_or pairs i pair → remove nat_cmp pairs pair.0 ≡ without pairs i
   without_at [] i pair rising in_range is = absurd (omega arith)
-  without_at (e ∷ es) zero pair rising in_range is =
-      ap (λ b. cond b es (e ∷ remove nat_cmp es pair.0)) (ap (λ p. is_at (nat_cmp pair.0) p.0) (sym is) ∙ at_itself pair.0)
-  without_at (e ∷ es) (suc i) pair rising in_range is =
-      ap (λ b. cond b es (e ∷ remove nat_cmp es pair.0)) (greater_at e es i pair rising (omega arith) is)
-      ∙ ap (λ l. e ∷ l) (without_at es i pair (sorted_tail nat_cmp e.0 (keys_of es) rising) (omega arith) is)
+  without_at (e ∷ es) zero pair rising in_range is = search (at_itself, arith)
+  without_at (e ∷ es) (suc i) pair rising in_range is = search (greater_at, sorted_tail, without_at es i pair, arith)
 
 -- ---- the intention at a place
 
@@ -78,14 +68,10 @@ module _ (t : ℕ) (intentions : List (ℕ × Intention)) (i : ℕ) (pair : ℕ 
   -- another's intention stays
   module _ (other : is_of t pair ≡ false) where
     pub with_copies-other : (c0 : Configuration) (copies : List (ℕ × Replica)) → with_copies c0 t (drop i intentions) copies ≡ with_copies c0 t (drop (i + 1) intentions) copies
-    with_copies-other c0 copies =
-        ap (λ l. with_copies c0 t l copies) next
-        ∙ ap (λ b. with_copies c0 t (drop (i + 1) intentions) (cond b (with_taken c0 pair.0 pair.1.take copies) copies)) other
+    with_copies-other c0 copies = search (next, arith)
 
     pub with_forms-other : (forms : List (ℕ × Form)) → with_forms t (drop i intentions) forms ≡ with_forms t (drop (i + 1) intentions) forms
-    with_forms-other forms =
-        ap (λ l. with_forms t l forms) next
-        ∙ ap (λ b. with_forms t (drop (i + 1) intentions) (cond b (with_form pair.0 pair.1.take forms) forms)) other
+    with_forms-other forms = search (next, arith)
 
     pub passed-other : list_all (λ p. not (is_of t p)) (take i intentions) ≡ true → list_all (λ p. not (is_of t p)) (take (i + 1) intentions) ≡ true
     passed-other all = ap (λ n. list_all (λ p. not (is_of t p)) (take n intentions)) (add-one i) ∙ all_next (λ p. not (is_of t p)) intentions i pair in_range is (ap not other) all
@@ -108,19 +94,11 @@ module _ (t : ℕ) (intentions : List (ℕ × Intention)) (i : ℕ) (pair : ℕ 
     behind = ap (drop i) left ∙ drop-without intentions i in_range ∙ ap (λ n. drop n intentions) (sym (add-one i))
 
     pub with_forms-taken : (forms : List (ℕ × Form)) → with_forms t (drop i intentions) forms ≡ with_forms t (drop i after) (with_form pair.0 pair.1.take forms)
-    with_forms-taken forms =
-        ap (λ l. with_forms t l forms) next
-        ∙ ap (λ b. with_forms t (drop (i + 1) intentions) (cond b (with_form pair.0 pair.1.take forms) forms)) mine
-        ∙ ap (λ l. with_forms t l (with_form pair.0 pair.1.take forms)) (sym behind)
+    with_forms-taken forms = search (next, behind, arith)
 
     pub with_copies-taken : (c0 : Configuration) (copies taken : List (ℕ × Replica)) → IfSome (get nat_cmp intentions pair.0)
         (λ intention. (c : Configuration) → taken ≡ with_taken c pair.0 intention.take copies) → with_copies c0 t (drop i intentions) copies ≡ with_copies c0 t (drop i after) taken
-    with_copies-taken c0 copies taken said =
-        let is_taken : taken ≡ with_taken c0 pair.0 pair.1.take copies = subst (λ o. IfSome o (λ intention. (c : Configuration) → taken ≡ with_taken c pair.0 intention.take copies)) (has_at intentions i pair rising in_range is) said c0 in
-        ap (λ l. with_copies c0 t l copies) next
-        ∙ ap (λ b. with_copies c0 t (drop (i + 1) intentions) (cond b (with_taken c0 pair.0 pair.1.take copies) copies)) mine
-        ∙ ap (with_copies c0 t (drop (i + 1) intentions)) (sym is_taken)
-        ∙ ap (λ l. with_copies c0 t l taken) (sym behind)
+    with_copies-taken c0 copies taken said = search (has_at, next, behind, arith)
 
 -- where all are passed, no own one is left
 pub all_passed : (t : ℕ) (intentions : List (ℕ × Intention)) (i : ℕ) → length intentions ≤ i → list_all (λ p. not (is_of t p)) (take i intentions) ≡ true → without_intentions t intentions ≡ intentions

@@ -1,8 +1,8 @@
 -- What the intentions of a transaction become, one after the other.
-use Rattle.rep_core.proofs.Vocabulary.{◌≡◌, ℕ, ◌==◌, ◌+◌, ◌≤◌, ◌<◌, zero, suc, add-one, get_or, Less, Greater, subst, Bool, true, false, cond, not, List, [], ◌∷◌, length, Some, None, IsSome, refl, sym, ap, ◌∙◌, ⊎_elim, arith, unwrap_or}
-use Rattle.rep_core.proofs.Vocabulary.{is_some, nat_cmp, is_eq, eq_by_cmp_equiv, is_at, AllByRecursion, list_all, keys_of, cases_Bool, false≢true, and_parts, nat_tests, nat_cmp_total, none-some, same_Some, none_past_head, lookup_head}
-use Rattle.rep_core.proofs.Vocabulary.{lookup_tail, sorted_head, sorted_tail, IsDistinct-from_sorted, IsOrdered, get, insert, insert_step, length-insert, get_insert_here, get_insert_apart, Configuration, Replica, Intention, Part, Take}
-use Rattle.rep_core.proofs.Vocabulary.{absent_copy, is_keep, with_intentions, copy_in, left_by, with_taken, with_copies, without_intentions, in_effect, take as first_items}
+use Rattle.rep_core.proofs.Vocabulary.{◌≡◌, ℕ, ◌==◌, ◌+◌, ◌≤◌, ◌<◌, zero, suc, add-one, get_or, Less, Greater, subst, Bool, true, false, cond, List, [], ◌∷◌, length, Some, None, IsSome, refl, sym, ap, ◌∙◌, ⊎_elim, arith, unwrap_or, is_some, nat_cmp}
+use Rattle.rep_core.proofs.Vocabulary.{is_eq, eq_by_cmp_equiv, is_at, AllByRecursion, list_all, keys_of, cases_Bool, false≢true, and_parts, nat_tests, nat_cmp_total, none-some, same_Some, none_past_head, lookup_head, lookup_tail, sorted_head}
+use Rattle.rep_core.proofs.Vocabulary.{sorted_tail, IsDistinct-from_sorted, IsOrdered, get, insert, insert_step, length-insert, get_insert_here, get_insert_apart, Configuration, Replica, Intention, Part, Take, absent_copy, is_keep, with_intentions}
+use Rattle.rep_core.proofs.Vocabulary.{copy_in, left_by, with_taken, with_copies, without_intentions, in_effect, take as first_items}
 use Rattle.std.proofs.lemmas.Map.{lookup-none}
 use Rattle.rep_core.specs.declared.request.Take.TheVariants as take
 
@@ -13,8 +13,7 @@ pub at_itself : (key : ℕ) → is_eq (nat_cmp key key) ≡ true
 at_itself key = grind (arith, nat_tests)
 
 pub at_most_one : (b : Bool) → cond b 0 1 ≤ 1
-at_most_one true = omega arith
-at_most_one false = omega arith
+at_most_one b = search arith
 
 pub swapped : (key other : ℕ) → nat_cmp key other ≡ Less → nat_cmp other key ≡ Greater
 swapped key other less = grind (arith, nat_tests)
@@ -26,10 +25,7 @@ module _ {V : Type 0} where
 
   -- where a key is there behind the first pair, it is another
   pub apart_behind : (e : ℕ × V) (es : List (ℕ × V)) (key : ℕ) → IsOrdered nat_cmp (e ∷ es) → IsSome (get nat_cmp es key) → is_at (nat_cmp key) e.0 ≡ false
-  apart_behind e es key rising there = ⊎_elim
-      (λ here. absurd (false≢true (ap (λ o. is_some o) (sym (absent_behind e es key rising here)) ∙ there)))
-      (λ apart. apart)
-      (cases_Bool (is_at (nat_cmp key) e.0))
+  apart_behind e es key rising there = search (false≢true, absent_behind, cases_Bool, arith)
 
   -- what holds of each key holds of the key at a place
   pub at_index : (P : ℕ → Type 0) (es : List (ℕ × V)) (i : ℕ) (pair : ℕ × V) → i < length es → pair ≡ get_or es i pair → AllByRecursion P (keys_of es) → P pair.0
@@ -66,22 +62,7 @@ module _ (t : ℕ) where
   pub get-without : (intentions : List (ℕ × Intention)) (suite : ℕ) (intention : Intention) → IsOrdered nat_cmp intentions
       → get nat_cmp (without_intentions t intentions) suite ≡ Some intention → (get nat_cmp intentions suite ≡ Some intention) × ((intention.t == t) ≡ false)
   get-without [] suite intention rising has = absurd (none-some intention has)
-  get-without (e ∷ es) suite intention rising has = ⊎_elim
-      (λ mine.
-      let rest = get-without es suite intention (sorted_tail nat_cmp e.0 (keys_of es) rising) (ap (λ b. get nat_cmp (cond (not b) (e ∷ without_intentions t es) (without_intentions t es)) suite) (sym mine) ∙ has) in
-      let apart = apart_behind e es suite rising (ap (λ o. is_some o) rest.0) in
-      (lookup_tail (is_at (nat_cmp suite)) e es apart ∙ rest.0, rest.1))
-      (λ other.
-      let has' : get nat_cmp (e ∷ without_intentions t es) suite ≡ Some intention = ap (λ b. get nat_cmp (cond (not b) (e ∷ without_intentions t es) (without_intentions t es)) suite) (sym other) ∙ has in
-      ⊎_elim
-      (λ here.
-      let is : e.1 ≡ intention = same_Some e.1 intention (sym (lookup_head (is_at (nat_cmp suite)) e (without_intentions t es) here) ∙ has') in
-      (lookup_head (is_at (nat_cmp suite)) e es here ∙ ap (λ x. Some x) is, ap (λ (x : Intention). x.t == t) (sym is) ∙ other))
-      (λ there.
-      let rest = get-without es suite intention (sorted_tail nat_cmp e.0 (keys_of es) rising) (sym (lookup_tail (is_at (nat_cmp suite)) e (without_intentions t es) there) ∙ has') in
-      (lookup_tail (is_at (nat_cmp suite)) e es there ∙ rest.0, rest.1))
-      (cases_Bool (is_at (nat_cmp suite) e.0)))
-      (cases_Bool (is_of t e))
+  get-without (e ∷ es) suite intention rising has = search (sorted_tail, apart_behind, lookup_tail, same_Some, lookup_head, cases_Bool, get-without es suite intention, arith)
 
 -- ---- what a take makes of the copies
 
@@ -134,7 +115,4 @@ module _ (c0 : Configuration) where
 -- parts that take nothing leave the intentions as they were
 pub nothing_taken : (t : ℕ) (parts : List Part) (intentions : List (ℕ × Intention)) → list_all (λ part. is_keep part.take) parts ≡ true → with_intentions t parts intentions ≡ intentions
 nothing_taken t [] intentions keeps = refl
-nothing_taken t (part ∷ parts) intentions keeps =
-    let each = and_parts (is_keep part.take) (list_all (λ part. is_keep part.take) parts) keeps in
-    ap (λ b. with_intentions t parts (cond b intentions (insert nat_cmp intentions part.suite (record { t = t; take = part.take })))) each.0
-    ∙ nothing_taken t parts intentions each.1
+nothing_taken t (part ∷ parts) intentions keeps = search (and_parts, nothing_taken t parts intentions, arith)

@@ -1,9 +1,6 @@
 -- Maps whose values are seen by a part of theirs: stored copies, seen as copies and as forms.
-use Rattle.rep_core.proofs.Vocabulary.{◌≡◌, ℕ, cond, List, [], ◌∷◌, length, map, Option, Some, None, refl, sym, ap, ◌∙◌, arith, is_some, option_map, nat_cmp, match_ordering, is_at, lookup-map_values, get, insert, Replica, Form, Kept}
-use Rattle.rep_core.proofs.Vocabulary.{with_form, Planned, copies_in, forms_in, intention_in, in_form_2}
-use Rattle.suite_prefix.specs.declared.forms.Form.TheVariants.{Two}
-use Rattle.std.specs.declared.cmp.Ordering.TheVariants as ord
-use Rattle.rep_core.proofs.Planned.{keeps_nothing}
+use Rattle.rep_core.proofs.Vocabulary.{◌≡◌, ℕ, List, [], ◌∷◌, length, map, Option, refl, ap, ◌∙◌, arith, is_some, option_map, nat_cmp, is_at, lookup-map_values, get, insert, Replica, Form, Kept, with_form, Planned, copies_in, forms_in, intention_in}
+use Rattle.rep_core.proofs.Vocabulary.{in_form_2}
 
 module _ {V W : Type 0} (f : V → W) where
   abbrev seen : List (ℕ × V) → List (ℕ × W)
@@ -11,21 +8,14 @@ module _ {V W : Type 0} (f : V → W) where
 
   insert_seen : (pairs : List (ℕ × V)) (key : ℕ) (value : V) → seen (insert nat_cmp pairs key value) ≡ insert nat_cmp (seen pairs) key (f value)
   insert_seen [] key value = refl
-  insert_seen (e ∷ es) key value =
-      elim (nat_cmp key e.0) as (λ o. seen (match_ordering o ((key, value) ∷ e ∷ es) ((e.0, value) ∷ es) (e ∷ insert nat_cmp es key value))
-      ≡ match_ordering o ((key, f value) ∷ seen (e ∷ es)) ((e.0, f value) ∷ seen es) ((e.0, f e.1) ∷ insert nat_cmp (seen es) key (f value))) [
-        | ord.Less ↦ refl
-        | ord.Equal ↦ refl
-        | ord.Greater ↦ ap (λ l. (e.0, f e.1) ∷ l) (insert_seen es key value)
-      ]
+  insert_seen (e ∷ es) key value = search (insert_seen es key value, arith)
 
   length_seen : (pairs : List (ℕ × V)) → length (seen pairs) ≡ length pairs
   length_seen [] = refl
   length_seen (e ∷ es) = let rest = length_seen es in omega (arith, rest)
 
 some_seen : {X Y : Type 0} (f : X → Y) (o : Option X) → is_some (option_map f o) ≡ is_some o
-some_seen f None = refl
-some_seen f (Some x) = refl
+some_seen f o = search arith
 
 -- ---- copies
 
@@ -52,6 +42,4 @@ insert_forms pairs suite kept = insert_seen (λ (kept : Kept). kept.form) pairs 
 -- an intention that becomes a copy leaves form 2
 pub form_becomes : (suite : ℕ) (planned : Planned) (copy : Replica) (forms : List (ℕ × Form)) → planned.left ≡ in_form_2 copy
     → insert nat_cmp forms suite planned.left.form ≡ with_form suite (intention_in planned).take forms
-form_becomes suite planned copy forms leaves =
-    ap (λ (kept : Kept). insert nat_cmp forms suite kept.form) leaves
-    ∙ ap (λ b. cond b forms (insert nat_cmp forms suite Two)) (sym (keeps_nothing planned.whole planned.left.copy))
+form_becomes suite planned copy forms leaves = search arith

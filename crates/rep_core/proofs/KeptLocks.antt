@@ -1,7 +1,7 @@
 -- Locks by their keys: the list that they stand for, and what each edit of their maps makes of it.
-use Rattle.rep_core.proofs.Vocabulary.{◌≡◌, ℕ, ◌<◌, ◌^◌, Bool, true, false, cond, List, [], ◌∷◌, Option, Some, None, is_some, refl, sym, ap, ◌∙◌, arith, Less, Equal, Greater, ◌==◌, ◌&&◌, ◌||◌, not, nat_lt, option_map, list_all}
-use Rattle.rep_core.proofs.Vocabulary.{AllByRecursion, nat_cmp, ordering_then, is_lt, is_at, keys_of, and_parts, and_from, false≢true, nat_tests, none-some, IsOrdered, get, insert, remove, first_from, by_answer, get-insert, get-remove}
-use Rattle.rep_core.proofs.Vocabulary.{IsOrdered-remove, IsOrdered-insert, LockMode, Lock, IsAlone, before, rise, is_own, lock_at, has_lock, Holder, holder_cmp, AreHeld}
+use Rattle.rep_core.proofs.Vocabulary.{◌≡◌, ℕ, ◌<◌, ◌^◌, Bool, true, false, cond, List, [], ◌∷◌, Option, Some, None, is_some, refl, sym, ap, ◌∙◌, arith, Less, ◌==◌, ◌&&◌, not, option_map, list_all, AllByRecursion, is_at, keys_of, and_parts, and_from}
+use Rattle.rep_core.proofs.Vocabulary.{false≢true, nat_tests, none-some, IsOrdered, get, insert, remove, first_from, get-insert, get-remove, IsOrdered-remove, IsOrdered-insert, LockMode, Lock, IsAlone, before, rise, is_own, lock_at, has_lock, Holder}
+use Rattle.rep_core.proofs.Vocabulary.{holder_cmp, AreHeld}
 use Rattle.std.specs.List.Sorted.{IsStrictlySortedBy}
 use Rattle.rep_core.specs.code.Keyed.{Kept, lock_with, lock_of, locks_of, is_loose, is_loose_pair, AreKept, AreNumbered, IsPut, without, are_none}
 use Rattle.rep_core.specs.code.Holders as holding
@@ -15,10 +15,7 @@ use Rattle.rep_core.proofs.SuiteHolders.{holder_total, key_is}
 -- ---- the list that they stand for
 
 and_turned : (a b : Bool) → (a && b) ≡ (b && a)
-and_turned true true = refl
-and_turned true false = refl
-and_turned false true = refl
-and_turned false false = refl
+and_turned a b = search arith
 
 -- whether a key is this one
 at_key : (t s u z : ℕ) → is_at (holder_cmp (t, s)) (u, z) ≡ ((u == t) && (z == s))
@@ -29,27 +26,10 @@ own_key u z p = sym (at_key u z p.0.0 p.0.1)
 
 pub lock_at-kept : (ps : List Kept) (u z : ℕ) → lock_at u z (locks_of ps) ≡ option_map (lock_with u z) (get holder_cmp ps (u, z))
 lock_at-kept [] u z = refl
-lock_at-kept (p ∷ ps) u z =
-    let found : Bool → Option Lock = λ b. option_map (lock_with u z) (cond b (Some p.1) (get holder_cmp ps (u, z))) in
-    elim (is_own u z (lock_of p)) as (λ b. is_own u z (lock_of p) ≡ b → cond b (Some (lock_of p)) (lock_at u z (locks_of ps)) ≡ option_map (lock_with u z) (get holder_cmp (p ∷ ps) (u, z))) [
-      | true ↦ λ own. let same = own_is u z (lock_of p) own in (λ i. Some (lock_with (same.0 i) (same.1 i) p.1)) ∙ sym (ap found (sym (own_key u z p) ∙ own))
-      | false ↦ λ other. lock_at-kept ps u z ∙ sym (ap found (sym (own_key u z p) ∙ other))
-    ] refl
-
-before_lower : (x y s z : ℕ) → nat_cmp x y ≡ Less → (nat_lt x y || ((x == y) && nat_lt s z)) ≡ true
-before_lower x y s z is = grind (arith, nat_tests)
-
-before_same : (x y s z : ℕ) → nat_cmp x y ≡ Equal → nat_cmp s z ≡ Less → (nat_lt x y || ((x == y) && nat_lt s z)) ≡ true
-before_same x y s z is less = grind (arith, nat_tests)
+lock_at-kept (p ∷ ps) u z = search (own_is, own_key, lock_at-kept ps u z, arith)
 
 before_by : (a b : Kept) → holder_cmp a.0 b.0 ≡ Less → before (lock_of a) (lock_of b) ≡ true
-before_by a b less = by_answer (nat_cmp a.0.0 b.0.0)
-    (λ e. before_lower a.0.0 b.0.0 a.0.1 b.0.1 e)
-    (λ e. before_same a.0.0 b.0.0 a.0.1 b.0.1 e (sym (ap (λ o. ordering_then o (nat_cmp a.0.1 b.0.1)) e) ∙ less))
-    (λ e. absurd (greater_less (sym (ap (λ o. ordering_then o (nat_cmp a.0.1 b.0.1)) e) ∙ less)))
-  where
-    greater_less : Greater ≡ Less → ⊥
-    greater_less e = cc
+before_by a b less = search arith
 
 before_all : (a : Kept) (ps : List Kept) → AllByRecursion (λ b. holder_cmp a.0 b ≡ Less) (keys_of ps) → list_all (before (lock_of a)) (locks_of ps) ≡ true
 before_all a [] all = refl
@@ -105,19 +85,15 @@ pub same_locks : (xs ys : List Lock) → rise xs ≡ true → rise ys ≡ true �
 same_locks [] [] up up' same = refl
 same_locks [] (y ∷ ys) up up' same = let no : None ≡ Some y = same y.t y.suite ∙ own_head y ys in cc
 same_locks (x ∷ xs) [] up up' same = let no : None ≡ Some x = sym (same x.t x.suite) ∙ own_head x xs in cc
-same_locks (x ∷ xs) (y ∷ ys) up up' same =
-    let rest = same_locks xs ys (and_parts (list_all (before x) xs) (rise xs) up).1 (and_parts (list_all (before y) ys) (rise ys) up').1 (tails x y xs ys up up' same) in
-    λ i. heads x y xs ys up up' same i ∷ rest i
+same_locks (x ∷ xs) (y ∷ ys) up up' same = search (and_parts, tails, heads, same_locks xs ys, arith)
 
 -- ---- what stands beside them
 
 some_mapped : (u z : ℕ) (o : Option (LockMode × Bool)) → is_some (option_map (lock_with u z) o) ≡ is_some o
-some_mapped u z None = refl
-some_mapped u z (Some kept) = refl
+some_mapped u z o = search arith
 
 loose_mapped : (u z : ℕ) (o : Option (LockMode × Bool)) → is_loose (option_map (lock_with u z) o) ≡ is_loose_pair o
-loose_mapped u z None = refl
-loose_mapped u z (Some kept) = refl
+loose_mapped u z o = search arith
 
 pub has-kept : (ps : List Kept) (u z : ℕ) → has_lock u z (locks_of ps) ≡ is_some (get holder_cmp ps (u, z))
 has-kept ps u z = any_find (is_own u z) (locks_of ps) ∙ ap is_some (lock_at-kept ps u z) ∙ some_mapped u z (get holder_cmp ps (u, z))
@@ -146,31 +122,22 @@ module _ (ps : List Kept) (hs ls : List Holder) (kept : AreKept ps hs ls) where
       ordered = IsOrdered-insert holder_total ps (t, s) value kept.ordered;
       holders_ordered = IsOrdered-insert holder_total hs (s, t) tt kept.holders_ordered;
       loose_ordered = ordered;
-      held = λ u z.
-          ap is_some (get_put hs s t z u tt ∙ ap (λ b. cond b (Some tt) (get holder_cmp hs (z, u))) (and_turned (z == s) (u == t)))
-          ∙ by_choice ((u == t) && (z == s)) (get holder_cmp hs (z, u)) (get holder_cmp ps (u, z)) (kept.held u z)
-          ∙ sym (ap is_some (get_put ps t s u z value));
-      loosely = λ u z.
-          is u z
-          ∙ loose_choice ((u == t) && (z == s)) (is_some (get holder_cmp ls (u, z))) (get holder_cmp ps (u, z)) (kept.loosely u z)
-          ∙ sym (ap is_loose_pair (get_put ps t s u z value));
+      held = search (get_put, and_turned, by_choice, arith);
+      loosely = search (loose_choice, get_put, arith);
       few = λ u z has. by u z ((u == t) && (z == s)) refl (sym (ap is_some (get_put ps t s u z value)) ∙ has);
     }
       where
         by_choice : (b : Bool) (o : Option (Unit {0})) (p : Option (LockMode × Bool)) → is_some o ≡ is_some p → is_some (cond b (Some tt) o) ≡ is_some (cond b (Some value) p)
-        by_choice true o p same = refl
-        by_choice false o p same = same
+        by_choice b o p h3 = search arith
 
         loose_choice : (b o : Bool) (p : Option (LockMode × Bool)) → o ≡ is_loose_pair p → cond b (not value.1) o ≡ is_loose_pair (cond b (Some value) p)
-        loose_choice true o p same = refl
-        loose_choice false o p same = same
+        loose_choice b o p h3 = search arith
 
         both : (u z : ℕ) → ((u == t) && (z == s)) ≡ true → (u < 2 ^ 64) × (z < 2 ^ 64)
         both u z e = (grind (arith, nat_tests), grind (arith, nat_tests))
 
         by : (u z : ℕ) (b : Bool) → ((u == t) && (z == s)) ≡ b → is_some (cond b (Some value) (get holder_cmp ps (u, z))) ≡ true → (u < 2 ^ 64) × (z < 2 ^ 64)
-        by u z true e has = both u z e
-        by u z false e has = kept.few u z has
+        by u z b h3 h4 = search (both, arith)
 
     -- a prepared lock is none that is not
     pub kept_tight : value.1 ≡ true → (t < 2 ^ 64) → (s < 2 ^ 64) → AreKept (insert holder_cmp ps (t, s) value) (insert holder_cmp hs (s, t) tt) (remove holder_cmp ls (t, s))
@@ -178,8 +145,7 @@ module _ (ps : List Kept) (hs ls : List Holder) (kept : AreKept ps hs ls) where
         ap is_some (get_gone ls kept.loose_ordered t s u z) ∙ by ((u == t) && (z == s)) (get holder_cmp ls (u, z)) ∙ sym (ap (λ p. cond ((u == t) && (z == s)) (not p) (is_some (get holder_cmp ls (u, z)))) tight))
       where
         by : (b : Bool) (o : Option (Unit {0})) → is_some (cond b None o) ≡ cond b (not true) (is_some o)
-        by true o = refl
-        by false o = refl
+        by b o = search arith
 
     -- one that is not is listed
     pub kept_loose : value.1 ≡ false → (t < 2 ^ 64) → (s < 2 ^ 64) → AreKept (insert holder_cmp ps (t, s) value) (insert holder_cmp hs (s, t) tt) (insert holder_cmp ls (t, s) tt)
@@ -187,8 +153,7 @@ module _ (ps : List Kept) (hs ls : List Holder) (kept : AreKept ps hs ls) where
         ap is_some (get_put ls t s u z tt) ∙ by ((u == t) && (z == s)) (get holder_cmp ls (u, z)) ∙ sym (ap (λ p. cond ((u == t) && (z == s)) (not p) (is_some (get holder_cmp ls (u, z)))) loose))
       where
         by : (b : Bool) (o : Option (Unit {0})) → is_some (cond b (Some tt) o) ≡ cond b (not false) (is_some o)
-        by true o = refl
-        by false o = refl
+        by b o = search arith
 
     pub is_put : IsPut t s value (locks_of ps) (locks_of (insert holder_cmp ps (t, s) value))
     is_put = record {
@@ -201,8 +166,7 @@ module _ (ps : List Kept) (hs ls : List Holder) (kept : AreKept ps hs ls) where
         both u z e = (grind (arith, nat_tests), grind (arith, nat_tests))
 
         by : (u z : ℕ) (b : Bool) → ((u == t) && (z == s)) ≡ b → option_map (lock_with u z) (cond b (Some value) (get holder_cmp ps (u, z))) ≡ cond b (Some (lock_with t s value)) (lock_at u z (locks_of ps))
-        by u z true e = let same = both u z e in λ i. Some (lock_with (same.0 i) (same.1 i) value)
-        by u z false e = sym (lock_at-kept ps u z)
+        by u z b h3 = search (both, lock_at-kept, arith)
 
   module _ (t s : ℕ) where
     pub kept_gone : AreKept (remove holder_cmp ps (t, s)) (remove holder_cmp hs (s, t)) (remove holder_cmp ls (t, s))
@@ -222,16 +186,13 @@ module _ (ps : List Kept) (hs ls : List Holder) (kept : AreKept ps hs ls) where
     }
       where
         by_choice : (b : Bool) (o : Option (Unit {0})) (p : Option (LockMode × Bool)) → is_some o ≡ is_some p → is_some (cond b None o) ≡ is_some (cond b None p)
-        by_choice true o p same = refl
-        by_choice false o p same = same
+        by_choice b o p h3 = search arith
 
         loose_choice : (b : Bool) (o : Option (Unit {0})) (p : Option (LockMode × Bool)) → is_some o ≡ is_loose_pair p → is_some (cond b None o) ≡ is_loose_pair (cond b None p)
-        loose_choice true o p same = refl
-        loose_choice false o p same = same
+        loose_choice b o p h3 = search arith
 
         some_left : (b : Bool) (p : Option (LockMode × Bool)) → is_some (cond b None p) ≡ true → is_some p ≡ true
-        some_left true p is = absurd (false≢true is)
-        some_left false p is = is
+        some_left b p h2 = search (false≢true, arith)
 
     pub is_gone : locks_of (remove holder_cmp ps (t, s)) ≡ without t s (locks_of ps)
     is_gone = same_locks (locks_of (remove holder_cmp ps (t, s))) (without t s (locks_of ps))
@@ -246,8 +207,7 @@ module _ (ps : List Kept) (hs ls : List Holder) (kept : AreKept ps hs ls) where
         not_other u z e l own = grind (arith, nat_tests)
 
         by : (u z : ℕ) (b : Bool) → ((u == t) && (z == s)) ≡ b → option_map (lock_with u z) (cond b None (get holder_cmp ps (u, z))) ≡ lock_at u z (without t s (locks_of ps))
-        by u z true e = sym (find_filter_none (is_own u z) (λ l. not (is_own t s l)) (not_same u z e) (locks_of ps))
-        by u z false e = sym (lock_at-kept ps u z) ∙ sym (find_filter_same (is_own u z) (λ l. not (is_own t s l)) (not_other u z e) (locks_of ps))
+        by u z b h3 = search (find_filter_none, not_same, lock_at-kept, find_filter_same, not_other, arith)
 
   -- ---- what may be left out
 
@@ -255,33 +215,18 @@ module _ (ps : List Kept) (hs ls : List Holder) (kept : AreKept ps hs ls) where
   kept_by : (hs' ls' : List Holder) → IsOrdered holder_cmp hs' → IsOrdered holder_cmp ls'
       → ((z u : ℕ) → is_some (get holder_cmp hs' (z, u)) ≡ is_some (get holder_cmp hs (z, u)))
       → ((u z : ℕ) → is_some (get holder_cmp ls' (u, z)) ≡ is_some (get holder_cmp ls (u, z))) → AreKept ps hs' ls'
-  kept_by hs' ls' ordered ordered' held loosely = record {
-    ordered = kept.ordered;
-    holders_ordered = ordered;
-    loose_ordered = ordered';
-    held = λ u z. held z u ∙ kept.held u z;
-    loosely = λ u z. loosely u z ∙ kept.loosely u z;
-    few = kept.few;
-  }
+  kept_by hs' ls' ordered ordered' held loosely = search arith
 
   same_keys : (a b z u : ℕ) → ((z == a) && (u == b)) ≡ true → (z ≡ a) × (u ≡ b)
   same_keys a b z u e = (grind (arith, nat_tests), grind (arith, nat_tests))
 
   -- to put a key that is there changes no key
   put_again : (os : List Holder) (a b : ℕ) → is_some (get holder_cmp os (a, b)) ≡ true → (z u : ℕ) → is_some (get holder_cmp (insert holder_cmp os (a, b) tt) (z, u)) ≡ is_some (get holder_cmp os (z, u))
-  put_again os a b has z u = ap is_some (get_put os a b z u tt) ∙ by ((z == a) && (u == b)) refl
-    where
-      by : (c : Bool) → ((z == a) && (u == b)) ≡ c → is_some (cond c (Some tt) (get holder_cmp os (z, u))) ≡ is_some (get holder_cmp os (z, u))
-      by true e = let same = same_keys a b z u e in sym ((λ i. is_some (get holder_cmp os (same.0 i, same.1 i))) ∙ has)
-      by false e = refl
+  put_again os a b has z u = search (get_put, same_keys, arith)
 
   -- to take out a key that is not there changes none
   gone_again : (os : List Holder) → IsOrdered holder_cmp os → (a b : ℕ) → is_some (get holder_cmp os (a, b)) ≡ false → (z u : ℕ) → is_some (get holder_cmp (remove holder_cmp os (a, b)) (z, u)) ≡ is_some (get holder_cmp os (z, u))
-  gone_again os ordered a b has z u = ap is_some (get_gone os ordered a b z u) ∙ by ((z == a) && (u == b)) refl
-    where
-      by : (c : Bool) → ((z == a) && (u == b)) ≡ c → is_some (cond c None (get holder_cmp os (z, u))) ≡ is_some (get holder_cmp os (z, u))
-      by true e = let same = same_keys a b z u e in sym ((λ i. is_some (get holder_cmp os (same.0 i, same.1 i))) ∙ has)
-      by false e = refl
+  gone_again os ordered a b has z u = search (get_gone, same_keys, arith)
 
   -- who holds a lock that is there is put once more
   pub kept_told : (t s : ℕ) → is_some (get holder_cmp hs (s, t)) ≡ true → AreKept ps (insert holder_cmp hs (s, t) tt) ls
@@ -290,8 +235,7 @@ module _ (ps : List Kept) (hs ls : List Holder) (kept : AreKept ps hs ls) where
   -- ---- what is asked
 
   not_some : {X : Type 0} (o : Option X) → is_some o ≡ false → o ≡ None
-  not_some None is = refl
-  not_some (Some x) is = absurd (false≢true (sym is))
+  not_some o h1 = search arith
 
   pub none_kept : (t s : ℕ) → get holder_cmp ps (t, s) ≡ None → lock_at t s (locks_of ps) ≡ None
   none_kept t s none = lock_at-kept ps t s ∙ ap (option_map (lock_with t s)) none
@@ -333,19 +277,7 @@ module _ (ps : List Kept) (hs ls : List Holder) (kept : AreKept ps hs ls) (t s :
 -- a map with no first pair has none
 pub none_first : {V : Type 0} (ps : List ((ℕ × ℕ) × V)) → first_from holder_cmp (0, 0) ps ≡ None → ps ≡ []
 none_first [] none = refl
-none_first (p ∷ ps) none = absurd (none-some p (sym none ∙ ap (λ b. cond b (first_from holder_cmp (0, 0) ps) (Some p)) (none_below p.0.0 p.0.1)))
-  where
-    lower : (x : ℕ) → nat_cmp x 0 ≡ Less → ⊥
-    lower x e = grind (arith, nat_tests)
-
-    least : (x : ℕ) → is_lt (nat_cmp x 0) ≡ false
-    least x = grind (arith, nat_tests)
-
-    none_below : (x y : ℕ) → is_lt (holder_cmp (x, y) (0, 0)) ≡ false
-    none_below x y = by_answer (nat_cmp x 0)
-        (λ e. absurd (lower x e))
-        (λ e. ap (λ o. is_lt (ordering_then o (nat_cmp y 0))) e ∙ least y)
-        (λ e. ap (λ o. is_lt (ordering_then o (nat_cmp y 0))) e)
+none_first (p ∷ ps) none = search (none-some, nat_tests, arith)
 
 pub none_of : (answer : Bool) (ps : List Kept) → (answer ≡ true → ps ≡ []) → (ps ≡ [] → answer ≡ true) → answer ≡ are_none (locks_of ps)
 none_of true [] empty none = refl

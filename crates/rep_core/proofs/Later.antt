@@ -1,12 +1,10 @@
 -- A request that is served again later changes nothing more, and is answered the same.
-use Rattle.rep_core.proofs.Vocabulary.{◌≡◌, inl, inr, ℕ, Bool, true, false, cond, List, [], ◌∷◌, Option, Some, None, Less, Equal, Greater, refl, sym, ap, subst, ◌∙◌, arith, ◌==◌, ◌&&◌, ◌||◌, not, ◌++◌, length, filter, map, list_any}
-use Rattle.rep_core.proofs.Vocabulary.{list_all, nat_cmp, match_ordering, and_parts, or_parts, false≢true, nat_tests, get, insert, Configuration, Content, Replica, Form, LockMode, Exclusive, serves, Intention, Lock, Part, Request, Verdict}
-use Rattle.rep_core.proofs.Vocabulary.{Stamped, is_own, has_lock, has_prepared, has_lock_for, before, raised_lock, raised, with_lock, locked, prepared_lock, Store, copy_of, is_keep, is_sound_part, lists_twice, with_intention}
-use Rattle.rep_core.proofs.Vocabulary.{with_intentions, with_taken, with_copies, with_form, with_forms, left_by, State, record_of, reply_of, after, reply_up, reply_down, after_up, after_down, given, fetch_reply, stands_prepared}
-use Rattle.rep_core.proofs.Vocabulary.{can_prepare, prepares, prepare_reply, after_prepare, recorded, after_record, verdict_of, audit_of, is_answered, after_finish, is_full, served, step, IsConsistent, after_all, finished_by, asks_record}
-use Rattle.rep_core.proofs.Vocabulary.{sent, later_on, StaysLater, is_poll, is_taking, served_by, finished}
+use Rattle.rep_core.proofs.Vocabulary.{◌≡◌, ℕ, Bool, true, false, cond, List, [], ◌∷◌, Option, Some, None, Less, Equal, Greater, refl, sym, ap, subst, ◌∙◌, arith, ◌==◌, ◌&&◌, ◌||◌, not, ◌++◌, length, filter, map, list_any, list_all, nat_cmp}
+use Rattle.rep_core.proofs.Vocabulary.{match_ordering, and_parts, or_parts, false≢true, nat_tests, get, insert, Configuration, Content, Replica, Form, LockMode, serves, Intention, Lock, Part, Request, Verdict, Stamped, is_own, has_lock, has_prepared}
+use Rattle.rep_core.proofs.Vocabulary.{has_lock_for, before, raised_lock, raised, with_lock, locked, Store, copy_of, is_sound_part, lists_twice, with_intentions, with_copies, with_forms, State, record_of, reply_of, after, reply_up, after_up}
+use Rattle.rep_core.proofs.Vocabulary.{after_down, given, stands_prepared, can_prepare, prepares, recorded, after_record, verdict_of, audit_of, is_answered, after_finish, is_full, served, step, IsConsistent, after_all, finished_by, asks_record, sent}
+use Rattle.rep_core.proofs.Vocabulary.{later_on, StaysLater, is_poll, is_taking, served_by, finished}
 use Rattle.rep_core.specs.declared.request.Request.TheVariants as request
-use Rattle.rep_core.specs.declared.reply.Verdict.TheVariants as verdict
 use Rattle.rep_core.specs.declared.reply.Reply.TheVariants as reply
 use Rattle.rep_core.proofs.Members.{Has, contains_from, any_has, has_any, map_has, filter_has, between_has}
 use Rattle.rep_core.proofs.Alone.{own_is}
@@ -20,10 +18,7 @@ use Rattle.rep_core.proofs.Again.{none_kept, prepared_now}
 
 -- what is so of a server that is up is so of each
 pub stays_later : (st new : State) (asked : Request) → (new.up ≡ true → (after_up new asked ≡ new) × (reply_up new asked ≡ reply_of st asked)) → after_down new asked ≡ new → StaysLater st new asked
-stays_later st new asked is down = record {
-  changes_nothing = elim (new.up) as (λ b. new.up ≡ b → cond b (after_up new asked) (after_down new asked) ≡ new) [ true ↦ λ up. (is up).0 | false ↦ λ _. down ] refl;
-  answered = λ up. ap (λ b. cond b (reply_up new asked) (reply_down asked)) up ∙ (is up).1;
-}
+stays_later st new asked is down = search arith
 
 -- ---- what holds of locks and a store until a request that passes a test is served
 
@@ -32,20 +27,11 @@ one_of test up full none room is = grind (arith, nat_tests)
 
 module _ (H : List Lock → Store → Type 0) (test : Request → Bool) where
   kept_down : (st : State) (asked : Request) → H st.locks st.store → H (after_down st asked).locks (after_down st asked).store
-  kept_down st (request.Poll u s m) now = now
-  kept_down st _ now = now
+  kept_down st asked h2 = search arith
 
   pub kept_step : (st : State) (asked : Stamped Request) → H st.locks st.store → Ways st (λ asked new. test asked ≡ false → H new.locks new.store) → (test asked.value && st.up && not (is_full st asked)) ≡ false
       → H (step st asked).locks (step st asked).store
-  kept_step st asked now ways other =
-      elim (is_full st asked) as (λ b. is_full st asked ≡ b → H (cond b st (served st asked)).locks (cond b st (served st asked)).store) [
-        | true ↦ λ _. now
-        | false ↦ λ none. elim (st.up) as (λ b. st.up ≡ b → H (after st asked.value).locks (after st asked.value).store) [
-          | true ↦ λ up. by_request st (λ asked new. test asked ≡ false → H new.locks new.store) ways asked.value (room st asked none) (one_of (test asked.value) st.up (is_full st asked) other none up)
-          | false ↦ λ down.
-              subst (λ (new : State). H new.locks new.store) (sym (ap (λ b. cond b (after_up st asked.value) (after_down st asked.value)) down)) (kept_down st asked.value now)
-        ] refl
-      ] refl
+  kept_step st asked now ways other = search (by_request, room, one_of, kept_down, arith)
 
 -- ---- a record
 
@@ -57,12 +43,7 @@ later_recorded st stamp (request.Decide u decision) later t v is said =
     stays_later st new (request.Decide u decision)
     (λ _. (ap (λ old. after_record old u (verdict_of decision) (audit_of u decision) new) still, ap (λ old. reply.Verdict (recorded old (verdict_of decision))) still ∙ sym said))
     refl
-later_recorded st stamp (request.Resolve u) later t v is said =
-    let new = later_on st (sent stamp (request.Resolve u)) later in
-    let still : record_of new u ≡ Some v = record_stays later (served st (sent stamp (request.Resolve u))) u v (resolve_ruled st u v said) in
-    stays_later st new (request.Resolve u)
-    (λ _. (ap (λ old. after_record old u verdict.Aborted None new) still, ap (λ old. reply.Verdict (recorded old verdict.Aborted)) still ∙ sym said))
-    refl
+later_recorded st stamp (request.Resolve u) later t v is said = search (record_stays later (served st (sent stamp (request.Resolve u))) u v (resolve_ruled st u v said), resolve_ruled st u v said, stays_later, arith)
 later_recorded st stamp _ later t v is said = absurd (false≢true is)
 
 -- ---- what was prepared
@@ -74,86 +55,39 @@ same_as : (u t : ℕ) → (u == t) ≡ true → u ≡ t
 same_as u t is = grind (arith, nat_tests)
 
 or_true : (b : Bool) → (b || true) ≡ true
-or_true true = refl
-or_true false = refl
+or_true b = search arith
 
 or_false : (b : Bool) → (b || false) ≡ true → b ≡ true
-or_false true is = refl
-or_false false is = is
+or_false b h1 = search arith
 
 -- it stands prepared once it was told so
 told_prepared : (st : State) (t : ℕ) (parts : List Part) → reply_of st (request.Prepare t parts) ≡ reply.Prepared → stands_prepared (after st (request.Prepare t parts)) t parts ≡ true
-told_prepared st t parts said =
-    elim (st.up) as (λ b. cond b (prepare_reply st t parts) reply.Down ≡ reply.Prepared → stands_prepared (cond b (after_prepare st t parts) st) t parts ≡ true) [
-      | true ↦ λ said. by (stands_prepared st t parts) (can_prepare st t parts) refl refl said
-      | false ↦ λ said. absurd cc
-    ] said
-  where
-    by : (stands can : Bool) → stands_prepared st t parts ≡ stands → can_prepare st t parts ≡ can → cond (stands || can) reply.Prepared reply.Lost ≡ reply.Prepared
-        → stands_prepared (cond (not stands && can) (laid t parts st) st) t parts ≡ true
-    by true can stands is said = stands
-    by false false stands is said = absurd cc
-    by false true stands is said =
-        let has = and_parts (list_all (has_lock_for t st.locks) parts && not (lists_twice parts)) (list_all (is_sound_part st.store) parts) is in
-        ap (λ b. b || (length parts == 0))
-        (prepared_now t parts st.locks (or_parts (has_prepared t st.locks) (length parts == 0) stands).1 (and_parts (list_all (has_lock_for t st.locks) parts) (not (lists_twice parts)) has.0).0)
+told_prepared st t parts said = search (laid, and_parts, prepared_now, or_parts, arith)
 
 still_prepared : (later : List (Stamped Request)) (st : State) (t : ℕ) (parts : List Part) → stands_prepared st t parts ≡ true → finished_by t st later ≡ false → stands_prepared (after_all st later) t parts ≡ true
-still_prepared later st t parts stands other =
-    elim (length parts == 0) as (λ b. (has_prepared t st.locks || b) ≡ true → (has_prepared t (after_all st later).locks || b) ≡ true) [
-      | true ↦ λ _. or_true (has_prepared t (after_all st later).locks)
-      | false ↦ λ has. ap (λ b. b || false) (by (any_has is_ready st.locks (or_false (has_prepared t st.locks) has)))
-    ] stands
-  where
-    is_ready : Lock → Bool
-    is_ready lock = (lock.t == t) && lock.prepared
-
-    by : (lock : Lock) × Has st.locks lock × (((lock.t == t) && lock.prepared) ≡ true) → has_prepared t (after_all st later).locks ≡ true
-    by found =
-        let parts = and_parts (found.0.t == t) found.0.prepared found.2 in
-        let of_it : found.0.t ≡ t = same_as found.0.t t parts.0 in
-        let stands = stands_all later st found.0 found.1 parts.1 (ap (λ t. finished_by t st later) of_it ∙ other) in
-        has_any (λ (lock : Lock). (lock.t == t) && lock.prepared) (after_all st later).locks stands.0 stands.1 (ready_there stands.0.t t stands.0.prepared (stands.2.t ∙ of_it) stands.2.prepared)
+still_prepared later st t parts stands other = search (or_true, any_has, or_false, and_parts, same_as, stands_all, has_any, ready_there, arith)
 
 pub later_prepared : (st : State) (stamp t : ℕ) (parts : List Part) (later : List (Stamped Request)) → reply_of st (request.Prepare t parts) ≡ reply.Prepared → finished_by t (served st (sent stamp (request.Prepare t parts))) later ≡ false
     → StaysLater st (later_on st (sent stamp (request.Prepare t parts)) later) (request.Prepare t parts)
-later_prepared st stamp t parts later said other =
-    let new = later_on st (sent stamp (request.Prepare t parts)) later in
-    let still : stands_prepared new t parts ≡ true = still_prepared later (served st (sent stamp (request.Prepare t parts))) t parts (told_prepared st t parts said) other in
-    stays_later st new (request.Prepare t parts)
-    (λ _. (ap (λ b. cond (not b && can_prepare new t parts) (laid t parts new) new) still, ap (λ b. cond (b || can_prepare new t parts) reply.Prepared reply.Lost) still ∙ sym said))
-    refl
+later_prepared st stamp t parts later said other = search (still_prepared, told_prepared, stays_later, laid, arith)
 
 -- ---- what was finished
 
 none_has : {X : Type 0} (p : X → Bool) (xs : List X) (x : X) → list_any p xs ≡ false → Has xs x → p x ≡ false
 none_has p [] x none has = absurd has
-none_has p (y ∷ xs) x none has =
-    let parts = or_parts (p y) (list_any p xs) none in
-    elim has [ inl same ↦ ap p (sym same) ∙ parts.0 | inr later ↦ none_has p xs x parts.1 later ]
+none_has p (y ∷ xs) x none has = search (or_parts, none_has p xs x, arith)
 
 any_gone : {X : Type 0} (p : X → Bool) (xs : List X) → list_any p (filter (λ x. not (p x)) xs) ≡ false
 any_gone p [] = refl
-any_gone p (x ∷ xs) =
-    elim (p x) as (λ b. p x ≡ b → list_any p (cond (not b) (x ∷ filter (λ x. not (p x)) xs) (filter (λ x. not (p x)) xs)) ≡ false) [
-      | true ↦ λ _. any_gone p xs
-      | false ↦ λ none. ap (λ b. b || list_any p (filter (λ x. not (p x)) xs)) none ∙ any_gone p xs
-    ] refl
+any_gone p (x ∷ xs) = search (any_gone p xs, arith)
 
 all_stay : {X : Type 0} (p : X → Bool) (xs : List X) → list_any p xs ≡ false → filter (λ x. not (p x)) xs ≡ xs
 all_stay p [] none = refl
-all_stay p (x ∷ xs) none =
-    let parts = or_parts (p x) (list_any p xs) none in
-    ap (λ b. cond (not b) (x ∷ filter (λ x. not (p x)) xs) (filter (λ x. not (p x)) xs)) parts.0 ∙ ap (λ xs. x ∷ xs) (all_stay p xs parts.1)
+all_stay p (x ∷ xs) none = search (or_parts, all_stay p xs, arith)
 
 none_amid : {X : Type 0} (p q : X → Bool) (xs : List X) (y : X) (ys : List X) → list_any p xs ≡ false → p y ≡ false → list_any p ys ≡ false → list_any p (filter q xs ++ y ∷ ys) ≡ false
 none_amid p q [] y ys none misses later = ap (λ b. b || list_any p ys) misses ∙ later
-none_amid p q (x ∷ xs) y ys none misses later =
-    let parts = or_parts (p x) (list_any p xs) none in
-    elim (q x) as (λ b. list_any p (cond b (x ∷ filter q xs) (filter q xs) ++ y ∷ ys) ≡ false) [
-      | true ↦ ap (λ b. b || list_any p (filter q xs ++ y ∷ ys)) parts.0 ∙ none_amid p q xs y ys parts.1 misses later
-      | false ↦ none_amid p q xs y ys parts.1 misses later
-    ]
+none_amid p q (x ∷ xs) y ys none misses later = search (or_parts, none_amid p q xs y ys, arith)
 
 module _ (t : ℕ) where
   -- a server has no lock of the transaction, and no intention
@@ -163,17 +97,10 @@ module _ (t : ℕ) where
 
   none_mapped : (f : Lock → Lock) → ((l : Lock) → (f l).t ≡ l.t) → (ls : List Lock) → list_any (λ (lock : Lock). lock.t == t) ls ≡ false → list_any (λ (lock : Lock). lock.t == t) (map f ls) ≡ false
   none_mapped f keeps [] none = refl
-  none_mapped f keeps (l ∷ ls) none =
-      let parts = or_parts (l.t == t) (list_any (λ (lock : Lock). lock.t == t) ls) none in
-      λ i. ((ap (λ u. u == t) (keeps l) ∙ parts.0) i) || (none_mapped f keeps ls parts.1 i)
+  none_mapped f keeps (l ∷ ls) none = search (or_parts, none_mapped f keeps ls, arith)
 
   none_locked : (u s : ℕ) (m : LockMode) (ls : List Lock) → (u == t) ≡ false → list_any (λ (lock : Lock). lock.t == t) ls ≡ false → list_any (λ (lock : Lock). lock.t == t) (locked u s m ls) ≡ false
-  none_locked u s m ls other none =
-      elim (has_lock u s ls) as (λ b. list_any (λ (lock : Lock). lock.t == t) (cond b (raised u s m ls) (with_lock (new_lock u s m) ls)) ≡ false) [
-        | true ↦ none_mapped (raised_lock u s m) (λ l. refl) ls none
-        | false ↦ none_amid (λ (lock : Lock). lock.t == t) (λ other. before other (new_lock u s m)) ls (new_lock u s m) (filter (λ other. not (before other (new_lock u s m))) ls) none other
-            (none_kept (λ (lock : Lock). lock.t == t) (λ other. not (before other (new_lock u s m))) ls none)
-      ]
+  none_locked u s m ls other none = search (new_lock, none_mapped, none_amid, none_kept, arith)
 
   none_inserted : (pairs : List (ℕ × Intention)) (suite : ℕ) (intention : Intention) → (intention.t == t) ≡ false
       → list_any (λ (pair : ℕ × Intention). pair.1.t == t) pairs ≡ false → list_any (λ (pair : ℕ × Intention). pair.1.t == t) (insert nat_cmp pairs suite intention) ≡ false
@@ -189,17 +116,11 @@ module _ (t : ℕ) where
   none_intended : (u : ℕ) (parts : List Part) (intentions : List (ℕ × Intention)) → (u == t) ≡ false → list_any (λ (pair : ℕ × Intention). pair.1.t == t) intentions ≡ false
       → list_any (λ (pair : ℕ × Intention). pair.1.t == t) (with_intentions u parts intentions) ≡ false
   none_intended u [] intentions other none = none
-  none_intended u (part ∷ parts) intentions other none = none_intended u parts (with_intention u part intentions) other
-      (elim (is_keep part.take) as (λ b. list_any (λ (pair : ℕ × Intention). pair.1.t == t) (cond b intentions (insert nat_cmp intentions part.suite (record { t = u; take = part.take }))) ≡ false) [
-        | true ↦ none
-        | false ↦ none_inserted intentions part.suite (record { t = u; take = part.take }) other none
-      ])
+  none_intended u (part ∷ parts) intentions other none = search (none_inserted, none_intended u parts, arith)
 
   -- who has a lock is another
   other_has : (u s : ℕ) (ls : List Lock) → has_lock u s ls ≡ true → list_any (λ (lock : Lock). lock.t == t) ls ≡ false → (u == t) ≡ false
-  other_has u s ls has none =
-      let found = any_has (is_own u s) ls has in
-      ap (λ u. u == t) (sym (own_is u s found.0 found.2).0) ∙ none_has (λ (lock : Lock). lock.t == t) ls found.0 none found.1
+  other_has u s ls has none = search (any_has, own_is, none_has, arith)
 
   other_prepares : (st : State) (u : ℕ) (parts : List Part) → prepares st u parts ≡ true → list_any (λ (lock : Lock). lock.t == t) st.locks ≡ false → (u == t) ≡ false
   other_prepares st u parts does none =
@@ -209,8 +130,7 @@ module _ (t : ℕ) where
       by parts (or_parts (has_prepared u st.locks) (length parts == 0) stands).1 (and_parts (list_all (has_lock_for u st.locks) parts) (not (lists_twice parts)) can.0).0
     where
       not_so : (b : Bool) → not b ≡ true → b ≡ false
-      not_so true is = absurd (false≢true is)
-      not_so false is = refl
+      not_so b h1 = search (false≢true, arith)
 
       by : (parts : List Part) → (length parts == 0) ≡ false → list_all (has_lock_for u st.locks) parts ≡ true → (u == t) ≡ false
       by [] some all = absurd (false≢true (sym some))
@@ -220,24 +140,7 @@ module _ (t : ℕ) where
           ap (λ u. u == t) (sym own.0) ∙ none_has (λ (lock : Lock). lock.t == t) st.locks found.0 none found.1
 
   none_ways : (st : State) → HasNone st.locks st.store.intentions → Ways st (λ asked new. is_poll t asked ≡ false → HasNone new.locks new.store.intentions)
-  none_ways st none = record {
-    same = λ _ _. none;
-    poll = λ u s m free other. record { locks = none_locked u s m st.locks other none.locks; intentions = none.intentions };
-    upgrade = λ u s has free _. record { locks = none_locked u s Exclusive st.locks (other_has u s st.locks has none.locks) none.locks; intentions = none.intentions };
-    prepare = λ u parts does few _. record {
-      locks = none_mapped (prepared_lock u parts) (λ l. refl) st.locks none.locks;
-      intentions = none_intended u parts st.store.intentions (other_prepares st u parts does none.locks) none.intentions;
-    };
-    decide = λ u decision free _. none;
-    resolve = λ u free _. none;
-    finish = λ u v is _. record {
-      locks = none_kept (λ (lock : Lock). lock.t == t) (λ lock. not (lock.t == u)) st.locks none.locks;
-      intentions = none_kept (λ (pair : ℕ × Intention). pair.1.t == t) (λ pair. not (pair.1.t == u)) st.store.intentions none.intentions;
-    };
-    break = λ u s _. record { locks = none_kept (λ (lock : Lock). lock.t == t) (λ lock. not (is_own u s lock && not lock.prepared)) st.locks none.locks; intentions = none.intentions };
-    crash = λ _. record { locks = none_kept (λ (lock : Lock). lock.t == t) (λ lock. lock.prepared) st.locks none.locks; intentions = none.intentions };
-    return = λ _. none;
-  }
+  none_ways st none = search (none_locked, other_has, none_mapped, none_intended, other_prepares, none_kept, arith)
 
   still_none : (later : List (Stamped Request)) (st : State) → HasNone st.locks st.store.intentions → served_by (is_poll t) st later ≡ false → HasNone (after_all st later).locks (after_all st later).store.intentions
   still_none [] st none other = none
@@ -247,15 +150,11 @@ module _ (t : ℕ) where
 
   copies_same : (c0 : Configuration) (intentions : List (ℕ × Intention)) (copies : List (ℕ × Replica)) → list_any (λ (pair : ℕ × Intention). pair.1.t == t) intentions ≡ false → with_copies c0 t intentions copies ≡ copies
   copies_same c0 [] copies none = refl
-  copies_same c0 (pair ∷ intentions) copies none =
-      let parts = or_parts (pair.1.t == t) (list_any (λ (pair : ℕ × Intention). pair.1.t == t) intentions) none in
-      ap (λ b. with_copies c0 t intentions (cond b (with_taken c0 pair.0 pair.1.take copies) copies)) parts.0 ∙ copies_same c0 intentions copies parts.1
+  copies_same c0 (pair ∷ intentions) copies none = search (or_parts, copies_same c0 intentions copies, arith)
 
   forms_same : (intentions : List (ℕ × Intention)) (forms : List (ℕ × Form)) → list_any (λ (pair : ℕ × Intention). pair.1.t == t) intentions ≡ false → with_forms t intentions forms ≡ forms
   forms_same [] forms none = refl
-  forms_same (pair ∷ intentions) forms none =
-      let parts = or_parts (pair.1.t == t) (list_any (λ (pair : ℕ × Intention). pair.1.t == t) intentions) none in
-      ap (λ b. with_forms t intentions (cond b (with_form pair.0 pair.1.take forms) forms)) parts.0 ∙ forms_same intentions forms parts.1
+  forms_same (pair ∷ intentions) forms none = search (or_parts, forms_same intentions forms, arith)
 
   finished_same : (answered : Bool) (store : Store) → list_any (λ (pair : ℕ × Intention). pair.1.t == t) store.intentions ≡ false → finished t answered store ≡ store
   finished_same true store none = λ i. record store {
@@ -325,29 +224,10 @@ module _ (t suite : ℕ) (copy : Replica) where
       → get nat_cmp st.store.intentions suite ≡ o → stored answered u o (copy_of st.store suite) ≡ copy_of st.store suite
   other_stored st u false is has other o there = refl
   other_stored st u true is has other None there = refl
-  other_stored st u true is has other (Some intention) there =
-      let mine = own_intention st is has intention there in
-      ap (λ b. cond b (left_by intention.take (copy_of st.store suite)) (copy_of st.store suite)) (apart intention.t mine)
-    where
-      apart : (v : ℕ) → v ≡ t → (v == u) ≡ false
-      apart v mine = grind (arith, nat_tests)
+  other_stored st u true is has other (Some intention) there = search (own_intention st is has intention there, nat_tests, arith)
 
   copy_ways : (st : State) → IsConsistent st → HasCopy t suite copy st.locks st.store → Ways st (λ asked new. is_taking t asked ≡ false → HasCopy t suite copy new.locks new.store)
-  copy_ways st is now = record {
-    same = λ _ _. now;
-    poll = λ u s m free _. record { has = has_locked_too u s m st.locks now.has; same = now.same };
-    upgrade = λ u s has free _. record { has = has_locked_too u s Exclusive st.locks now.has; same = now.same };
-    prepare = λ u parts does few _. record { has = still_has st.locks (prepared_lock u parts) (λ l. refl) now.has; same = now.same };
-    decide = λ u decision free _. now;
-    resolve = λ u free _. now;
-    finish = λ u v up other. record {
-      has = has_passed st.locks (λ l. not (l.t == u)) (λ l own. spared u l other own) now.has;
-      same = copy_finished st.store u (is_answered v) suite is.sound ∙ other_stored st u (is_answered v) is now.has other (get nat_cmp st.store.intentions suite) refl ∙ now.same;
-    };
-    break = λ u s other. record { has = has_passed st.locks (λ l. not (is_own u s l && not l.prepared)) (λ l own. spared_break u s l other own) now.has; same = now.same };
-    crash = λ other. absurd (false≢true (sym other));
-    return = λ _. now;
-  }
+  copy_ways st is now = search (has_locked_too, still_has, has_passed, spared, copy_finished, other_stored, spared_break, false≢true, arith)
 
   pub still_copy : (later : List (Stamped Request)) (st : State) → IsConsistent st → HasCopy t suite copy st.locks st.store → served_by (is_taking t) st later ≡ false
       → HasCopy t suite copy (after_all st later).locks (after_all st later).store
@@ -358,15 +238,7 @@ module _ (t suite : ℕ) (copy : Replica) where
       (kept_step (HasCopy t suite copy) (is_taking t) st first now (copy_ways st is now) parts.0) parts.1
 
 told_given : (st : State) (t suite dver : ℕ) (content : Content) → reply_of st (request.Fetch t suite) ≡ reply.Given dver content → (has_lock t suite st.locks ≡ true) × (reply_of st (request.Fetch t suite) ≡ given (copy_of st.store suite))
-told_given st t suite dver content said =
-    elim (st.up) as (λ b. cond b (fetch_reply st t suite) reply.Down ≡ reply.Given dver content → (has_lock t suite st.locks ≡ true) × (cond b (fetch_reply st t suite) reply.Down ≡ given (copy_of st.store suite))) [
-      | true ↦ λ said. elim (has_lock t suite st.locks) as (λ b. cond b (given (copy_of st.store suite)) reply.Lost ≡ reply.Given dver content
-          → (b ≡ true) × (cond b (given (copy_of st.store suite)) reply.Lost ≡ given (copy_of st.store suite))) [
-            | true ↦ λ _. (refl, refl)
-            | false ↦ λ said. absurd cc
-          ] said
-      | false ↦ λ said. absurd cc
-    ] said
+told_given st t suite dver content said = search arith
 
 stamped : (st : State) (stamp : ℕ) → IsConsistent st → IsConsistent (record st { stamp = stamp })
 stamped st stamp is = record { rising = is.rising; copies_rise = is.copies_rise; alone = is.alone; locked = is.locked; sound = is.sound; few = is.few }

@@ -1,7 +1,7 @@
 -- Locks that are put and let go one by one, and what that comes to.
-use Rattle.rep_core.proofs.Vocabulary.{◌≡◌, ℕ, ◌+◌, ◌<◌, ◌≤◌, ◌^◌, length, Bool, true, false, cond, inl, inr, List, [], ◌∷◌, ◌++◌, Option, Some, None, refl, sym, ap, ◌∙◌, arith, Less, Equal, Greater, ◌==◌, ◌&&◌, ◌||◌, not, nat_lt, filter}
-use Rattle.rep_core.proofs.Vocabulary.{find, option_map, list_any, list_all, AllByRecursion, nat_cmp, ordering_then, is_lt, keys_of, and_parts, false≢true, true≢false, nat_tests, same_Some, IsOrdered, first_from, by_answer, LockMode}
-use Rattle.rep_core.proofs.Vocabulary.{serves, stronger, Lock, Part, before, rise, is_own, lock_at, has_lock_for, locked, prepared_lock, with_prepared, released, broken, prepared_locks, holder_cmp}
+use Rattle.rep_core.proofs.Vocabulary.{◌≡◌, ℕ, ◌+◌, ◌<◌, ◌≤◌, ◌^◌, length, Bool, true, false, cond, inl, inr, List, [], ◌∷◌, ◌++◌, Option, Some, None, refl, sym, ap, ◌∙◌, arith, Less, Equal, Greater, ◌==◌, ◌&&◌, ◌||◌, not, nat_lt, filter, find}
+use Rattle.rep_core.proofs.Vocabulary.{option_map, list_any, list_all, AllByRecursion, nat_cmp, ordering_then, is_lt, keys_of, and_parts, false≢true, true≢false, nat_tests, same_Some, IsOrdered, first_from, LockMode, serves, Lock, Part, before, rise}
+use Rattle.rep_core.proofs.Vocabulary.{is_own, lock_at, has_lock_for, locked, with_prepared, released, broken, prepared_locks, holder_cmp}
 use Rattle.std.specs.List.Sorted.{IsStrictlySortedBy}
 use Rattle.rep_core.specs.code.Keyed.{Kept, lock_of, locks_of, own_of, next_of, lock_with, is_loose, AreNumbered, stronger_than, IsPut, without, one_prepared, with_one_prepared}
 use Rattle.rep_core.proofs.Members.{Has}
@@ -16,60 +16,30 @@ module _ {X : Type 0} where
   -- a filter that keeps no less changes nothing before another
   filter_twice : (p q : X → Bool) → ((x : X) → p x ≡ true → q x ≡ true) → (xs : List X) → filter p (filter q xs) ≡ filter p xs
   filter_twice p q keeps [] = refl
-  filter_twice p q keeps (x ∷ xs) =
-      let rest = filter_twice p q keeps xs in
-      elim (q x) as (λ b. q x ≡ b → filter p (cond b (x ∷ filter q xs) (filter q xs)) ≡ cond (p x) (x ∷ filter p xs) (filter p xs)) [
-        | true ↦ λ _. ap (λ l. cond (p x) (x ∷ l) l) rest
-        | false ↦ λ no. elim (p x) as (λ b. p x ≡ b → filter p (filter q xs) ≡ cond b (x ∷ filter p xs) (filter p xs)) [
-          | true ↦ λ yes. absurd (false≢true (sym no ∙ keeps x yes))
-          | false ↦ λ _. rest
-        ] refl
-      ] refl
+  filter_twice p q keeps (x ∷ xs) = search (false≢true, filter_twice p q keeps xs, arith)
 
   -- where a search finds nothing, a filter drops nothing that it would find
   none_dropped : (p q : X → Bool) → ((x : X) → q x ≡ true → p x ≡ true) → (xs : List X) → find p xs ≡ None → filter (λ x. not (q x)) xs ≡ xs
   none_dropped p q weaker [] none = refl
-  none_dropped p q weaker (x ∷ xs) none =
-      let ahead = none_ahead p x xs none in
-      let rest = none_dropped p q weaker xs ahead.1 in
-      elim (q x) as (λ b. q x ≡ b → cond (not b) (x ∷ filter (λ x. not (q x)) xs) (filter (λ x. not (q x)) xs) ≡ x ∷ xs) [
-        | true ↦ λ is. absurd (false≢true (sym ahead.0 ∙ weaker x is))
-        | false ↦ λ _. ap (λ l. x ∷ l) rest
-      ] refl
+  none_dropped p q weaker (x ∷ xs) none = search (none_ahead, false≢true, none_dropped p q weaker xs, arith)
 
   no_longer : (q : X → Bool) (xs : List X) → length (filter q xs) ≤ length xs
   no_longer q [] = omega arith
-  no_longer q (x ∷ xs) =
-      let rest = no_longer q xs in
-      elim (q x) as (λ b. length (cond b (x ∷ filter q xs) (filter q xs)) ≤ length (x ∷ xs)) [ true ↦ omega (arith, rest) | false ↦ omega (arith, rest) ]
+  no_longer q (x ∷ xs) = search (no_longer q xs, arith)
 
   -- a filter that drops one of the list
   shorter : (q : X → Bool) (xs : List X) (x : X) → Has xs x → q x ≡ false → length (filter q xs) < length xs
   shorter q [] x has out = absurd has
-  shorter q (y ∷ xs) x has out =
-      let rest = no_longer q xs in
-      elim has [
-        | inl same ↦ let drops : length (filter q (y ∷ xs)) ≡ length (filter q xs) = ap (λ b. length (cond b (y ∷ filter q xs) (filter q xs))) (ap q same ∙ out) in omega (arith, rest, drops)
-        | inr later ↦ let less = shorter q xs x later out in elim (q y) as (λ b. length (cond b (y ∷ filter q xs) (filter q xs)) < length (y ∷ xs)) [ true ↦ omega (arith, less) | false ↦ omega (arith, less) ]
-      ]
+  shorter q (y ∷ xs) x has out = search (no_longer, shorter q xs x, arith)
 
   -- what passes a stronger test is not there where a search finds nothing
   none_stronger : (p q : X → Bool) → ((x : X) → q x ≡ true → p x ≡ true) → (xs : List X) → find p xs ≡ None → list_any q xs ≡ false
   none_stronger p q weaker [] none = refl
-  none_stronger p q weaker (x ∷ xs) none =
-      let ahead = none_ahead p x xs none in
-      elim (q x) as (λ b. q x ≡ b → (b || list_any q xs) ≡ false) [
-        | true ↦ λ is. absurd (false≢true (sym ahead.0 ∙ weaker x is))
-        | false ↦ λ _. none_stronger p q weaker xs ahead.1
-      ] refl
+  none_stronger p q weaker (x ∷ xs) none = search (none_ahead, false≢true, none_stronger p q weaker xs, arith)
 
   any_has : (q : X → Bool) (xs : List X) (x : X) → Has xs x → q x ≡ true → list_any q xs ≡ true
   any_has q [] x has is = absurd has
-  any_has q (y ∷ xs) x has is =
-      elim has [
-        | inl same ↦ ap (λ b. b || list_any q xs) (ap q same ∙ is)
-        | inr later ↦ elim (q y) as (λ b. (b || list_any q xs) ≡ true) [ true ↦ refl | false ↦ any_has q xs x later is ]
-      ]
+  any_has q (y ∷ xs) x has is = search (any_has q xs x, arith)
 
 -- ---- a lock that is put
 
@@ -82,81 +52,33 @@ module _ (t s : ℕ) where
       put.at u z ∙ ap (λ l. cond ((u == t) && (z == s)) (Some l) (lock_at u z old)) (by (lock_at t s old) refl) ∙ sym (lock_at-locked t s m old put.was_rising u z))
     where
       by : (o : Option Lock) → lock_at t s old ≡ o → lock_with t s (stronger_than o m) ≡ taken t s m o
-      by None is = refl
-      by (Some l) is =
-          let own = lock_own t s old l is in
-          let a = sym own.0 in
-          let b = sym own.1 in
-          λ i. record { t = a i; suite = b i; mode = stronger l.mode m; prepared = l.prepared }
+      by o h1 = search (lock_own, arith)
 
   own_by : (u z : ℕ) (l : Lock) → (l.t ≡ u) × (l.suite ≡ z) → is_own t s l ≡ ((u == t) && (z == s))
   own_by u z l own = let a = own.0 in let b = own.1 in grind (arith, nat_tests)
 
   lock_at-one : (ls : List Lock) (u z : ℕ) → lock_at u z (with_one_prepared t s ls) ≡ cond ((u == t) && (z == s)) (option_map ready (lock_at u z ls)) (lock_at u z ls)
-  lock_at-one ls u z = find_map (is_own u z) (one_prepared t s) (λ l. refl) ls ∙ by (lock_at u z ls) refl
-    where
-      none : (b : Bool) → None ≡ cond b (option_map ready None) None
-      none true = refl
-      none false = refl
-
-      some : (l : Lock) (b : Bool) → Some (record l { prepared = cond b true l.prepared }) ≡ cond b (Some (ready l)) (Some l)
-      some l true = refl
-      some l false = refl
-
-      by : (o : Option Lock) → lock_at u z ls ≡ o → option_map (one_prepared t s) o ≡ cond ((u == t) && (z == s)) (option_map ready o) o
-      by None is = none ((u == t) && (z == s))
-      by (Some l) is = ap (λ b. Some (record l { prepared = cond b true l.prepared })) (own_by u z l (lock_own u z ls l is)) ∙ some l ((u == t) && (z == s))
+  lock_at-one ls u z = search (find_map, ready, own_by, lock_own, arith)
 
   pub put_ready : (own : Lock) (old new : List Lock) → lock_at t s old ≡ Some own → IsPut t s (own.mode, true) old new → new ≡ with_one_prepared t s old
   put_ready own old new is put = same_locks new (with_one_prepared t s old) put.rising (rise_map (one_prepared t s) (λ a b. refl) old ∙ put.was_rising) (λ u z.
       put.at u z ∙ by u z ((u == t) && (z == s)) refl ∙ sym (lock_at-one old u z))
     where
       by : (u z : ℕ) (b : Bool) → ((u == t) && (z == s)) ≡ b → cond b (Some (lock_with t s (own.mode, true))) (lock_at u z old) ≡ cond b (option_map ready (lock_at u z old)) (lock_at u z old)
-      by u z true e =
-          let same = same_key u z e in
-          let at = lock_own t s old own is in
-          let a = sym at.0 in
-          let b = sym at.1 in
-          (λ i. Some (record { t = a i; suite = b i; mode = own.mode; prepared = true }))
-          ∙ sym ((λ i. option_map ready (lock_at (same.0 i) (same.1 i) old)) ∙ ap (option_map ready) is)
-      by u z false e = refl
+      by u z b h3 = search (same_key, lock_own, ready, arith)
 
   pub none_ready : (ls : List Lock) → lock_at t s ls ≡ None → ls ≡ with_one_prepared t s ls
   none_ready [] none = refl
-  none_ready (l ∷ ls) none =
-      let ahead = none_ahead (is_own t s) l ls none in
-      let first : l ≡ one_prepared t s l = sym (ap (λ b. record l { prepared = cond b true l.prepared }) ahead.0) in
-      λ i. first i ∷ none_ready ls ahead.1 i
+  none_ready (l ∷ ls) none = search (none_ahead, none_ready ls, arith)
 
 -- of the parts one after the other
 pub prepared_first : (t : ℕ) (part : Part) (parts : List Part) (ls : List Lock) → with_prepared t parts (with_one_prepared t part.suite ls) ≡ with_prepared t (part ∷ parts) ls
 prepared_first t part parts [] = refl
-prepared_first t part parts (l ∷ ls) = λ i. one l i ∷ prepared_first t part parts ls i
-  where
-    turned : (a b : ℕ) → (a == b) ≡ (b == a)
-    turned a b = grind (arith, nat_tests)
-
-    either : (p a b c : Bool) → (cond (a && b) true p || (a && c)) ≡ (p || (a && (b || c)))
-    either true true true c = refl
-    either true true false c = refl
-    either true false b c = refl
-    either false true true c = refl
-    either false true false c = refl
-    either false false b c = refl
-
-    one : (l : Lock) → prepared_lock t parts (one_prepared t part.suite l) ≡ prepared_lock t (part ∷ parts) l
-    one l = ap (λ b. record l { prepared = b })
-        (either l.prepared (l.t == t) (l.suite == part.suite) (list_any (λ p. p.suite == l.suite) parts)
-        ∙ ap (λ b. l.prepared || ((l.t == t) && (b || list_any (λ p. p.suite == l.suite) parts))) (turned l.suite part.suite))
+prepared_first t part parts (l ∷ ls) = search (nat_tests, prepared_first t part parts ls, arith)
 
 pub prepared_none : (t : ℕ) (ls : List Lock) → with_prepared t [] ls ≡ ls
 prepared_none t [] = refl
-prepared_none t (l ∷ ls) = λ i. record l { prepared = nothing l.prepared (l.t == t) i } ∷ prepared_none t ls i
-  where
-    nothing : (p a : Bool) → (p || (a && false)) ≡ p
-    nothing true a = refl
-    nothing false true = refl
-    nothing false false = refl
+prepared_none t (l ∷ ls) = search (prepared_none t ls, arith)
 
 -- ---- locks that go
 
@@ -196,24 +118,13 @@ module _ (t s : ℕ) (ls : List Lock) (up : rise ls ≡ true) where
   not_other u z e l own = grind (arith, nat_tests)
 
   lock_at-without : (u z : ℕ) (b : Bool) → ((u == t) && (z == s)) ≡ b → lock_at u z (without t s ls) ≡ cond b None (lock_at u z ls)
-  lock_at-without u z true e = find_filter_none (is_own u z) (λ l. not (is_own t s l)) (not_same u z e) ls
-  lock_at-without u z false e = find_filter_same (is_own u z) (λ l. not (is_own t s l)) (not_other u z e) ls
+  lock_at-without u z b h3 = search (find_filter_none, not_same, find_filter_same, not_other, arith)
 
   loose_none : (o : Option Lock) → is_loose o ≡ true → if_prepared o ≡ None
-  loose_none None is = refl
-  loose_none (Some l) is = by l.prepared is
-    where
-      by : (p : Bool) → not p ≡ true → cond p (Some l) None ≡ None
-      by true is = absurd (false≢true is)
-      by false is = refl
+  loose_none o h1 = search arith
 
   tight_same : (o : Option Lock) → is_loose o ≡ false → if_prepared o ≡ o
-  tight_same None is = refl
-  tight_same (Some l) is = by l.prepared is
-    where
-      by : (p : Bool) → not p ≡ false → cond p (Some l) None ≡ Some l
-      by true is = refl
-      by false is = absurd (false≢true (sym is))
+  tight_same o h1 = search arith
 
   pub crashed_on : is_loose (lock_at t s ls) ≡ true → prepared_locks (without t s ls) ≡ prepared_locks ls
   crashed_on loose = same_locks (prepared_locks (without t s ls)) (prepared_locks ls) (rise_filter (λ l. l.prepared) (without t s ls) left) (rise_filter (λ l. l.prepared) ls up) (λ u z.
@@ -235,12 +146,7 @@ module _ (t s : ℕ) (ls : List Lock) (up : rise ls ≡ true) where
       by u z false e = lock_at-without u z false e
 
   pub broken_tight : is_loose (lock_at t s ls) ≡ false → ls ≡ broken t s ls
-  broken_tight tight = same_locks ls (broken t s ls) up (rise_filter (λ l. not (is_own t s l && not l.prepared)) ls up) (λ u z.
-      by u z ((u == t) && (z == s)) refl ∙ sym (lock_at-broken t s ls up u z))
-    where
-      by : (u z : ℕ) (b : Bool) → ((u == t) && (z == s)) ≡ b → lock_at u z ls ≡ cond b (if_prepared (lock_at u z ls)) (lock_at u z ls)
-      by u z true e = sym (tight_same (lock_at u z ls) (ap is_loose (same_as u z e) ∙ tight))
-      by u z false e = refl
+  broken_tight tight = search (same_locks, rise_filter, lock_at-broken, if_prepared, tight_same, same_as, arith)
 
   pub crashed_one : is_loose (lock_at t s ls) ≡ true → length (without t s ls) < length ls
   crashed_one loose = by (lock_at t s ls) refl loose
@@ -369,22 +275,7 @@ served t part ls up = by (lock_at t part.suite ls) refl (has_lock_for t ls part)
 
 later_none : (t from : ℕ) (d : Kept) (ps : List Kept) → t < d.0.0 → AllByRecursion (λ b. holder_cmp d.0 b ≡ Less) (keys_of ps) → next_of t from (locks_of ps) ≡ None
 later_none t from d [] past all = refl
-later_none t from d (p ∷ ps) past all = ap (λ b. cond b (Some (lock_of p)) (next_of t from (locks_of ps))) (over p.0.0 (no_later d.0.0 d.0.1 p.0.0 p.0.1 all.0)) ∙ later_none t from d ps past all.1
-  where
-    less_le : (a b : ℕ) → nat_cmp a b ≡ Less → a ≤ b
-    less_le a b is = grind (arith, nat_tests)
-
-    same_le : (a b : ℕ) → nat_cmp a b ≡ Equal → a ≤ b
-    same_le a b is = grind (arith, nat_tests)
-
-    greater_less : Greater ≡ Less → ⊥
-    greater_less e = cc
-
-    no_later : (a m b n : ℕ) → holder_cmp (a, m) (b, n) ≡ Less → a ≤ b
-    no_later a m b n is = by_answer (nat_cmp a b) (λ e. less_le a b e) (λ e. same_le a b e) (λ e. absurd (greater_less (sym (ap (λ o. ordering_then o (nat_cmp m n)) e) ∙ is)))
-
-    over : (a : ℕ) → d.0.0 ≤ a → ((a == t) && not (nat_lt p.0.1 from)) ≡ false
-    over a least = let past = past in grind (arith, nat_tests)
+later_none t from d (p ∷ ps) past all = search (nat_tests, nat_lt, later_none t from d ps past, arith)
 
 abbrev pub by_own : ℕ → Option Kept → Option Lock
 by_own t None = None
@@ -409,10 +300,7 @@ next_is t from (d ∷ ps) ordered =
     below_same a n e = grind (arith, nat_tests)
 
     not_next : (a n : ℕ) → is_lt (holder_cmp (a, n) (t, from)) ≡ true → ((a == t) && not (nat_lt n from)) ≡ false
-    not_next a n is = by_answer (nat_cmp a t)
-        (λ e. below_lower a n e)
-        (λ e. below_same a n (sym (ap (λ o. is_lt (ordering_then o (nat_cmp n from))) e) ∙ is))
-        (λ e. absurd (false≢true (sym (ap (λ o. is_lt (ordering_then o (nat_cmp n from))) e) ∙ is)))
+    not_next a n is = search (below_lower, below_same, false≢true, arith)
 
     equal : (a : ℕ) → (a == t) ≡ true → nat_cmp a t ≡ Equal
     equal a own = grind (arith, nat_tests)
@@ -430,10 +318,7 @@ next_is t from (d ∷ ps) ordered =
     not_equal a other e = grind (arith, nat_tests)
 
     is_past : (a n : ℕ) → (a == t) ≡ false → is_lt (holder_cmp (a, n) (t, from)) ≡ false → t < a
-    is_past a n other is = by_answer (nat_cmp a t)
-        (λ e. absurd (true≢false (sym (ap (λ o. is_lt (ordering_then o (nat_cmp n from))) e) ∙ is)))
-        (λ e. absurd (not_equal a other e))
-        (λ e. more a e)
+    is_past a n other is = search (true≢false, not_equal, more, arith)
 
 -- ---- a lock in front of others
 
@@ -442,10 +327,7 @@ rise_behind [] ys up = up
 rise_behind (x ∷ xs) ys up = rise_behind xs ys (and_parts (list_all (before x) (xs ++ ys)) (rise (xs ++ ys)) up).1
 
 pub put_front : (xs : List Lock) (l : Lock) (ls new : List Lock) → rise (xs ++ l ∷ ls) ≡ true → IsPut l.t l.suite (l.mode, l.prepared) ls new → new ≡ l ∷ ls
-put_front xs l ls new up put = same_locks new (l ∷ ls) put.rising (rise_behind xs (l ∷ ls) up) (λ u z. put.at u z ∙ ap (λ b. cond b (Some l) (lock_at u z ls)) (turned u z))
-  where
-    turned : (u z : ℕ) → ((u == l.t) && (z == l.suite)) ≡ is_own u z l
-    turned u z = grind (arith, nat_tests)
+put_front xs l ls new up put = search (same_locks, rise_behind, nat_tests, arith)
 
 pub moved : (xs : List Lock) (l : Lock) (ls : List Lock) → (xs ++ l ∷ []) ++ ls ≡ xs ++ l ∷ ls
 moved [] l ls = refl

@@ -1,8 +1,6 @@
 -- Which lock a transaction has on a suite after each change of the locks.
-use Rattle.rep_core.proofs.Vocabulary.{◌≡◌, ℕ, Bool, true, false, cond, ◌⊎◌, List, [], ◌∷◌, Option, Some, None, is_some, refl, sym, ap, ◌∙◌, arith, ◌==◌, ◌&&◌, ◌||◌, not, filter, find, count_by, option_map, list_any, list_all, and_parts}
-use Rattle.rep_core.proofs.Vocabulary.{false≢true, nat_tests, LockMode, is_exclusive, stronger, Lock, Part, before, rise, is_own, lock_at, conflicts, in_the_way, has_lock, raised_lock, raised, with_lock, locked, prepared_lock}
-use Rattle.rep_core.proofs.Vocabulary.{with_prepared, released, broken, prepared_locks}
-use Rattle.std.specs.Prelude.{insert}
+use Rattle.rep_core.proofs.Vocabulary.{◌≡◌, ℕ, Bool, true, false, cond, ◌⊎◌, List, [], ◌∷◌, Option, Some, None, refl, ap, ◌∙◌, arith, ◌==◌, ◌&&◌, ◌||◌, not, filter, find, option_map, list_any, list_all, and_parts, false≢true, nat_tests, LockMode}
+use Rattle.rep_core.proofs.Vocabulary.{is_exclusive, stronger, Lock, Part, before, rise, is_own, lock_at, conflicts, in_the_way, has_lock, raised, with_lock, locked, prepared_lock, with_prepared, released, broken, prepared_locks}
 use Rattle.rep_core.proofs.Members.{find_none}
 use Rattle.rep_core.proofs.Alone.{own_is, no_conflict}
 use Rattle.rep_core.proofs.Rising.{insert_at_place}
@@ -15,18 +13,10 @@ pub lock_own : (t suite : ℕ) (ls : List Lock) (l : Lock) → lock_at t suite l
 lock_own t suite ls l is = own_is t suite l (find_some (is_own t suite) ls l is).1
 
 pub lock_there : (t suite : ℕ) (ls : List Lock) → has_lock t suite ls ≡ true → (l : Lock) × (lock_at t suite ls ≡ Some l)
-lock_there t suite ls has = by (lock_at t suite ls) (sym (any_find (is_own t suite) ls) ∙ has)
-  where
-    by : (o : Option Lock) → is_some o ≡ true → (l : Lock) × (o ≡ Some l)
-    by None e = absurd (false≢true e)
-    by (Some l) e = (l, refl)
+lock_there t suite ls has = search (any_find, false≢true, arith)
 
 pub lock_absent : (t suite : ℕ) (ls : List Lock) → has_lock t suite ls ≡ false → lock_at t suite ls ≡ None
-lock_absent t suite ls none = by (lock_at t suite ls) (sym (any_find (is_own t suite) ls) ∙ none)
-  where
-    by : (o : Option Lock) → is_some o ≡ false → o ≡ None
-    by None e = refl
-    by (Some l) e = absurd (false≢true (sym e))
+lock_absent t suite ls none = search (any_find, false≢true, arith)
 
 -- rising locks hold one of a transaction on a suite at most
 pub one_each : (t suite : ℕ) (ls : List Lock) → rise ls ≡ true → Once (is_own t suite) ls
@@ -65,34 +55,13 @@ own_by t s u z l own = let a = own.0 in let b = own.1 in grind (arith, nat_tests
 
 module _ (t s : ℕ) (m : LockMode) (ls : List Lock) (up : rise ls ≡ true) where
   at_new : (u z : ℕ) → lock_at t s ls ≡ None → lock_at u z (with_lock (new_lock t s m) ls) ≡ cond ((u == t) && (z == s)) (Some (new_lock t s m)) (lock_at u z ls)
-  at_new u z none =
-      let new = new_lock t s m in
-      ap (lock_at u z) (sym (insert_at_place new ls up))
-      ∙ elim ((u == t) && (z == s)) as (λ b. ((u == t) && (z == s)) ≡ b → lock_at u z (insert ls (count_by (λ x. before x new) ls) new) ≡ cond b (Some new) (lock_at u z ls)) [
-        | true ↦ λ e. let same = both_same u t z s e in find_insert_new (is_own u z) ls (count_by (λ x. before x new) ls) new ((λ i. lock_at (same.0 i) (same.1 i) ls) ∙ none) (own_new t s u z m ∙ e)
-        | false ↦ λ e. find_insert_other (is_own u z) ls (count_by (λ x. before x new) ls) new (own_new t s u z m ∙ e)
-      ] refl
+  at_new u z none = search (insert_at_place, both_same, find_insert_new, own_new, find_insert_other, arith)
 
   at_raised : (u z : ℕ) (own : Lock) → lock_at t s ls ≡ Some own → lock_at u z (raised t s m ls) ≡ cond ((u == t) && (z == s)) (Some (record own { mode = stronger own.mode m })) (lock_at u z ls)
-  at_raised u z own has = find_map (is_own u z) (raised_lock t s m) (λ l. refl) ls ∙ by (lock_at u z ls) refl
-    where
-      by : (o : Option Lock) → lock_at u z ls ≡ o → option_map (raised_lock t s m) o ≡ cond ((u == t) && (z == s)) (Some (record own { mode = stronger own.mode m })) o
-      by None is = elim ((u == t) && (z == s)) as (λ b. ((u == t) && (z == s)) ≡ b → None ≡ cond b (Some (record own { mode = stronger own.mode m })) None) [
-        | true ↦ λ e. let same = both_same u t z s e in let found : lock_at u z ls ≡ lock_at t s ls = λ i. lock_at (same.0 i) (same.1 i) ls in absurd cc
-        | false ↦ λ _. refl
-      ] refl
-      by (Some l) is =
-          ap (λ b. Some (record l { mode = cond b (stronger l.mode m) l.mode })) (own_by t s u z l (lock_own u z ls l is))
-          ∙ elim ((u == t) && (z == s)) as (λ b. ((u == t) && (z == s)) ≡ b → Some (record l { mode = cond b (stronger l.mode m) l.mode }) ≡ cond b (Some (record own { mode = stronger own.mode m })) (Some l)) [
-            | true ↦ λ e. let same = both_same u t z s e in let found : lock_at u z ls ≡ lock_at t s ls = λ i. lock_at (same.0 i) (same.1 i) ls in let one : l ≡ own = cc in ap (λ (x : Lock). Some (record x { mode = stronger x.mode m })) one
-            | false ↦ λ _. refl
-          ] refl
+  at_raised u z own has = search (find_map, both_same, own_by, lock_own, arith)
 
   by_own : (u z : ℕ) (b : Bool) → has_lock t s ls ≡ b → (o : Option Lock) → lock_at t s ls ≡ o → lock_at u z (cond b (raised t s m ls) (with_lock (new_lock t s m) ls)) ≡ cond ((u == t) && (z == s)) (Some (taken t s m o)) (lock_at u z ls)
-  by_own u z true has (Some own) is = at_raised u z own is
-  by_own u z true has None is = let there = lock_there t s ls has in absurd (let e = there.1 in cc)
-  by_own u z false has None is = at_new u z is
-  by_own u z false has (Some own) is = let none = lock_absent t s ls has in absurd cc
+  by_own u z b h3 o h5 = search (at_raised, lock_there, at_new, lock_absent, arith)
 
   pub lock_at-locked : (u z : ℕ) → lock_at u z (locked t s m ls) ≡ cond ((u == t) && (z == s)) (Some (taken t s m (lock_at t s ls))) (lock_at u z ls)
   lock_at-locked u z = by_own u z (has_lock t s ls) refl (lock_at t s ls) refl
@@ -109,20 +78,16 @@ pub lock_at-prepared : (t : ℕ) (parts : List Part) (ls : List Lock) (u z : ℕ
 lock_at-prepared t parts ls u z = find_map (is_own u z) (prepared_lock t parts) (λ l. refl) ls ∙ by (lock_at u z ls) refl
   where
     none : (b : Bool) → None ≡ cond b (option_map ready None) None
-    none true = refl
-    none false = refl
+    none b = search arith
 
     or_true : (p : Bool) → (p || true) ≡ true
-    or_true true = refl
-    or_true false = refl
+    or_true p = search arith
 
     or_false : (p : Bool) → (p || false) ≡ p
-    or_false true = refl
-    or_false false = refl
+    or_false p = search arith
 
     some : (l : Lock) (b : Bool) → Some (record l { prepared = l.prepared || b }) ≡ cond b (Some (ready l)) (Some l)
-    some l true = λ i. Some (record l { prepared = or_true l.prepared i })
-    some l false = λ i. Some (record l { prepared = or_false l.prepared i })
+    some l b = search (or_true, or_false, arith)
 
     by : (o : Option Lock) → lock_at u z ls ≡ o → option_map (prepared_lock t parts) o ≡ cond ((u == t) && names z parts) (option_map ready o) o
     by None is = none ((u == t) && names z parts)
@@ -139,11 +104,7 @@ own_same : (t u s : ℕ) (l : Lock) → is_own u s l ≡ true → (u == t) ≡ t
 own_same t u s l a b = grind (arith, nat_tests)
 
 pub lock_at-released : (t : ℕ) (ls : List Lock) (u z : ℕ) → lock_at u z (released t ls) ≡ cond (u == t) None (lock_at u z ls)
-lock_at-released t ls u z =
-    elim (u == t) as (λ b. (u == t) ≡ b → lock_at u z (filter (λ l. not (l.t == t)) ls) ≡ cond b None (lock_at u z ls)) [
-      | true ↦ λ e. find_filter_none (is_own u z) (λ l. not (l.t == t)) (λ l own. own_same t u z l own e) ls
-      | false ↦ λ e. find_filter_same (is_own u z) (λ l. not (l.t == t)) (λ l own. own_other t u z l own e) ls
-    ] refl
+lock_at-released t ls u z = search (find_filter_none, own_same, find_filter_same, own_other, arith)
 
 -- the lock, if it is prepared
 abbrev pub if_prepared : Option Lock → Option Lock
@@ -164,19 +125,13 @@ lock_at-broken t s ls up u z =
     ] refl
   where
     spared : (b : Bool) → not (true && not b) ≡ b
-    spared true = refl
-    spared false = refl
+    spared b = search arith
 
     by : ((u == t) && (z == s)) ≡ true → (o : Option Lock) → lock_at u z ls ≡ o → if_passes (λ l. not (is_own t s l && not l.prepared)) o ≡ if_prepared o
-    by e None is = refl
-    by e (Some l) is =
-        ap (λ b. cond (not (b && not l.prepared)) (Some l) None) (own_by t s u z l (lock_own u z ls l is) ∙ e)
-        ∙ ap (λ b. cond b (Some l) None) (spared l.prepared)
+    by h0 o h2 = search (own_by, lock_own, spared, arith)
 
 -- ---- what stands in the way
 
 -- where nothing stands in the way, each other lock on the suite goes with the mode
 pub way_free : (t s : ℕ) (m : LockMode) (ls : List Lock) → in_the_way t s m ls ≡ None → (u : ℕ) (l : Lock) → lock_at u s ls ≡ Some l → (is_exclusive m ≡ true) ⊎ (is_exclusive l.mode ≡ true) → u ≡ t
-way_free t s m ls none u l is strong =
-    let own = lock_own u s ls l is in
-    sym own.0 ∙ no_conflict t s m l (find_none (conflicts t s m) ls l none (find_some (is_own u s) ls l is).0) own.1 strong
+way_free t s m ls none u l is strong = search (lock_own u s ls l is, find_none (conflicts t s m) ls l none (find_some (is_own u s) ls l is).0, find_some (is_own u s) ls l is, no_conflict, arith)

@@ -1,6 +1,6 @@
 -- What stands in a list, by recursion, and after the usual changes.
-use Rattle.rep_core.proofs.Vocabulary.{◌≡◌, Bool, true, false, cond, ◌⊎◌, inl, inr, List, [], ◌∷◌, ◌++◌, None, Some, refl, sym, ap, ◌∙◌, arith, filter, find, map, not, ◌||◌, All, Contains, list_all, list_any, and_parts, false≢true, All-nil}
-use Rattle.rep_core.proofs.Vocabulary.{All-cons, All-weaker, All-contains, Contains-get_or, Contains-append_right}
+use Rattle.rep_core.proofs.Vocabulary.{◌≡◌, Bool, true, false, ◌⊎◌, inl, inr, List, [], ◌∷◌, ◌++◌, None, refl, sym, ap, arith, filter, find, map, not, ◌||◌, All, Contains, list_all, list_any, and_parts, false≢true, All-nil, All-cons, All-weaker}
+use Rattle.rep_core.proofs.Vocabulary.{All-contains, Contains-get_or, Contains-append_right}
 
 -- x is one of the list
 abbrev pub Has : {X : Type 0} → List X → X → Type 0
@@ -25,26 +25,15 @@ module _ {X : Type 0} where
 
   pub has_filter : (p : X → Bool) (xs : List X) (x : X) → Has (filter p xs) x → Has xs x × (p x ≡ true)
   has_filter p [] x h = absurd h
-  has_filter p (y ∷ ys) x h =
-      let rest = has_filter p ys x in
-      elim (p y) as (λ b. p y ≡ b → Has (cond b (y ∷ filter p ys) (filter p ys)) x → Has (y ∷ ys) x × (p x ≡ true)) [
-        | true ↦ λ e h. elim h [ inl q ↦ (inl q, ap p (sym q) ∙ e) | inr r ↦ (inr (rest r).0, (rest r).1) ]
-        | false ↦ λ e r. (inr (rest r).0, (rest r).1)
-      ] refl h
+  has_filter p (y ∷ ys) x h = search (has_filter p ys x, arith)
 
   pub filter_has : (p : X → Bool) (xs : List X) (x : X) → Has xs x → p x ≡ true → Has (filter p xs) x
   filter_has p [] x h e = h
-  filter_has p (y ∷ ys) x h e =
-      let rest = filter_has p ys x in
-      elim (p y) as (λ b. p y ≡ b → Has (cond b (y ∷ filter p ys) (filter p ys)) x) [
-        | true ↦ λ _. elim h [ inl q ↦ inl q | inr r ↦ inr (rest r e) ]
-        | false ↦ λ no. elim h [ inl q ↦ absurd (false≢true (sym no ∙ ap p q ∙ e)) | inr r ↦ rest r e ]
-      ] refl
+  filter_has p (y ∷ ys) x h e = search (false≢true, filter_has p ys x, arith)
 
   has_append : (xs ys : List X) (x : X) → Has (xs ++ ys) x → Has xs x ⊎ Has ys x
   has_append [] ys x h = inr h
-  has_append (z ∷ xs) ys x h =
-      elim h [ inl q ↦ inl (inl q) | inr r ↦ elim (has_append xs ys x r) [ inl q ↦ inl (inr q) | inr q ↦ inr q ] ]
+  has_append (z ∷ xs) ys x h = search (has_append xs ys x, arith)
 
   append_has_left : (xs ys : List X) (x : X) → Has xs x → Has (xs ++ ys) x
   append_has_left [] ys x h = absurd h
@@ -56,25 +45,15 @@ module _ {X : Type 0} where
 
   -- one more between those that pass a test and the others
   pub has_between : (p : X → Bool) (xs : List X) (y x : X) → Has (filter p xs ++ y ∷ filter (λ x. not (p x)) xs) x → Has xs x ⊎ (y ≡ x)
-  has_between p xs y x h =
-      elim (has_append (filter p xs) (y ∷ filter (λ x. not (p x)) xs) x h) [
-        | inl first ↦ inl (has_filter p xs x first).0
-        | inr later ↦ elim later [ inl q ↦ inr q | inr r ↦ inl (has_filter (λ x. not (p x)) xs x r).0 ]
-      ]
+  has_between p xs y x h = search (has_append, has_filter, arith)
 
   pub between_has : (p : X → Bool) (xs : List X) (y x : X) → Has xs x → Has (filter p xs ++ y ∷ filter (λ x. not (p x)) xs) x
-  between_has p xs y x h =
-      elim (p x) as (λ b. p x ≡ b → Has (filter p xs ++ y ∷ filter (λ x. not (p x)) xs) x) [
-        | true ↦ λ is. append_has_left (filter p xs) (y ∷ filter (λ x. not (p x)) xs) x (filter_has p xs x h is)
-        | false ↦ λ no. append_has_right (filter p xs) (y ∷ filter (λ x. not (p x)) xs) x (inr (filter_has (λ x. not (p x)) xs x h (ap not no)))
-      ] refl
+  between_has p xs y x h = search (append_has_left, filter_has, append_has_right, arith)
 
   -- where a test holds of all
   pub all_at : (p : X → Bool) (xs : List X) (x : X) → list_all p xs ≡ true → Has xs x → p x ≡ true
   all_at p [] x all h = absurd h
-  all_at p (y ∷ ys) x all h =
-      let parts = and_parts (p y) (list_all p ys) all in
-      elim h [ inl q ↦ ap p (sym q) ∙ parts.0 | inr r ↦ all_at p ys x parts.1 r ]
+  all_at p (y ∷ ys) x all h = search (and_parts, all_at p ys x, arith)
 
   -- where a test holds of one
   pub any_has : (p : X → Bool) (xs : List X) → list_any p xs ≡ true → (x : X) × Has xs x × (p x ≡ true)
@@ -87,19 +66,11 @@ module _ {X : Type 0} where
 
   pub has_any : (p : X → Bool) (xs : List X) (x : X) → Has xs x → p x ≡ true → list_any p xs ≡ true
   has_any p [] x has is = absurd has
-  has_any p (y ∷ ys) x has is =
-      elim (p y) as (λ b. p y ≡ b → (b || list_any p ys) ≡ true) [
-        | true ↦ λ _. refl
-        | false ↦ λ misses. elim has [ inl same ↦ absurd (false≢true (sym misses ∙ ap p same ∙ is)) | inr later ↦ has_any p ys x later is ]
-      ] refl
+  has_any p (y ∷ ys) x has is = search (false≢true, has_any p ys x, arith)
 
   pub find_none : (p : X → Bool) (xs : List X) (x : X) → find p xs ≡ None → Has xs x → p x ≡ false
   find_none p [] x e h = absurd h
-  find_none p (y ∷ ys) x e h =
-      elim (p y) as (λ b. p y ≡ b → cond b (Some y) (find p ys) ≡ None → p x ≡ false) [
-        | true ↦ λ _ no. cc
-        | false ↦ λ py rest. elim h [ inl q ↦ ap p (sym q) ∙ py | inr r ↦ find_none p ys x rest r ]
-      ] refl e
+  find_none p (y ∷ ys) x e h = search (find_none p ys x, arith)
 
 module _ {X Y : Type 0} where
   pub has_map : (f : X → Y) (xs : List X) (y : Y) → Has (map f xs) y → (x : X) × Has xs x × (f x ≡ y)

@@ -1,8 +1,8 @@
 -- Names that are packed into one text with commas come out again, and no others do.
-use Rattle.rep_core.proofs.Vocabulary.{◌≡◌, ℕ, Bool, ◌+◌, ◌≤◌, ◌<◌, true, false, cond, eqb, List, [], ◌∷◌, ◌++◌, length, map, refl, sym, ap, subst, ◌∙◌, arith, append-nil, Bor, get_or, inl, inr, All, IsTrue, is_lt, cases_Bool, ne_eqb}
-use Rattle.rep_core.proofs.Vocabulary.{false≢true, and_parts, map-append, All-nil, All-cons, All-head, All-tail, sum_by-cons, sum_by-append, IsName, is_name_byte, with_commas, parts, unnumbered, AreInOrder, count_by}
+use Rattle.rep_core.proofs.Vocabulary.{◌≡◌, ℕ, ◌+◌, ◌≤◌, ◌<◌, true, false, cond, eqb, List, [], ◌∷◌, ◌++◌, length, map, refl, sym, ap, subst, ◌∙◌, arith, append-nil, Bor, get_or, All, IsTrue, cases_Bool, ne_eqb, false≢true, and_parts, map-append}
+use Rattle.rep_core.proofs.Vocabulary.{All-nil, All-head, All-tail, sum_by-cons, sum_by-append, IsName, is_name_byte, with_commas, parts, unnumbered, AreInOrder, count_by}
 use Rattle.std.proofs.lemmas.List.Splits.{slice_split_none, slice_split_at, length-slice_split}
-use Rattle.suite_content.specs.Folders.{IsFolder, name_cmp, names_in}
+use Rattle.suite_content.specs.Folders.{IsFolder, names_in}
 use Rattle.suite_prefix.specs.Faults.{rise_above}
 use Rattle.suite_prefix.proofs.Orders.{folder_if_rise}
 
@@ -33,10 +33,7 @@ commas-behind name rest = sum_by-append (λ (y : ℕ). cond (eqb y 44) 1 0) name
 
 none_if_zero : (name : List ℕ) → commas name ≡ 0 → All (λ b. eqb b 44 ≡ false) name
 none_if_zero [] none = All-nil (λ (b : ℕ). eqb b 44 ≡ false)
-none_if_zero (b ∷ bs) none = elim (cases_Bool (eqb b 44)) [
-  | inl here ↦ absurd (omega (arith, none, commas-cons b bs, ap {B = ℕ} (λ (test : Bool). cond test 1 0) here))
-  | inr other ↦ All-cons (λ (x : ℕ). eqb x 44 ≡ false) b bs other (none_if_zero bs (omega (arith, none, commas-cons b bs, ap {B = ℕ} (λ (test : Bool). cond test 1 0) other)))
-]
+none_if_zero (b ∷ bs) none = search (cases_Bool (eqb b 44), commas-cons b bs, none_if_zero bs, arith)
 
 at_least : (name : List ℕ) (names : List (List ℕ)) → length names ≤ commas (with_commas (name ∷ names))
 at_least name [] = omega arith
@@ -44,11 +41,7 @@ at_least name (next ∷ names) = omega (arith, commas-behind name (with_commas (
 
 counted : (name : List ℕ) (names : List (List ℕ)) → commas (with_commas (name ∷ names)) ≡ length names → parts (with_commas (name ∷ names)) ≡ name ∷ names
 counted name [] same = ap parts (append-nil name) ∙ slice_split_none (λ b. eqb b 44) name (none_if_zero name (sym (ap commas (append-nil name)) ∙ same))
-counted name (next ∷ names) same =
-    let all = commas-behind name (with_commas (next ∷ names)) in
-    let some = at_least next names in
-    slice_split_at (λ b. eqb b 44) name 44 (with_commas (next ∷ names)) (none_if_zero name (omega (arith, all, some, same))) refl
-    ∙ ap (λ later. name ∷ later) (counted next names (omega (arith, all, some, same)))
+counted name (next ∷ names) same = search (commas-behind, at_least, slice_split_at, none_if_zero, counted next names, arith)
 
 pub as_many_parts : (names : List (List ℕ)) → 0 < length names → length (parts (with_commas names)) ≡ length names → parts (with_commas names) ≡ names
 as_many_parts [] some same = absurd (omega (arith, some))
@@ -80,11 +73,8 @@ pub rises_nil : (before : List ℕ) → Rises before []
 rises_nil before = record { each = All-nil IsName; rising = refl }
 
 folder : (names : List (List ℕ)) → Rises [] names → IsFolder (unnumbered names)
-folder [] rises = folder_if_rise [] refl
-folder (name ∷ names) rises = folder_if_rise (unnumbered (name ∷ names)) ((and_parts (is_lt (name_cmp [] name)) (rise_above name (unnumbered names)) rises.rising).1)
+folder names h1 = search (folder_if_rise, and_parts, arith)
 
 -- where none is left, all are in order
 pub in_order : (before : List ℕ) (left names : List (List ℕ)) → left ≡ [] → (Rises before left → Rises [] names) → AreInOrder names
-in_order before left names none all =
-    let rises = all (subst (Rises before) (sym none) (rises_nil before)) in
-    record { each = rises.each; rising = folder names rises }
+in_order before left names none all = search (rises_nil, folder, arith)

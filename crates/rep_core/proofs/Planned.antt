@@ -1,9 +1,8 @@
 -- Intentions that are kept as what they leave, seen as intentions.
-use Rattle.rep_core.proofs.Vocabulary.{◌≡◌, ℕ, ◌==◌, ◌≤◌, ◌<◌, Bool, true, false, cond, not, get_or, filter, List, [], ◌∷◌, length, Option, Some, None, refl, sym, ap, subst, ◌∙◌, ⊎_elim, ◌⊎◌, inl, inr, arith, is_some, option_map, unwrap_or}
-use Rattle.rep_core.proofs.Vocabulary.{nat_cmp, match_ordering, is_at, keys_of, cases_Bool, false≢true, eqb-true, eq-eqb, lookup_head, lookup_tail, sorted_tail, get_or-map, lookup-map_values, keys_of-map_values, none-some, same_Some}
-use Rattle.rep_core.proofs.Vocabulary.{IsOrdered, get, insert, remove, replace, get_insert_here, get_insert_apart, get_remove_here, get_remove_apart, Configuration, Replica, absent_copy, Kept, Planned, Part, Take, Intention, copy_in}
-use Rattle.rep_core.proofs.Vocabulary.{left_by, is_keep, with_taken, with_intentions, intention_in, intentions_in, in_form_2, take_in, is_whole, planned_of, with_all, Leaves, IsStrictlySortedBy}
-use Rattle.std.specs.declared.cmp.Ordering.TheVariants as ord
+use Rattle.rep_core.proofs.Vocabulary.{◌≡◌, ℕ, ◌==◌, ◌≤◌, ◌<◌, Bool, false, cond, not, get_or, filter, List, [], ◌∷◌, length, Option, Some, refl, sym, ap, subst, ◌∙◌, ⊎_elim, ◌⊎◌, arith, is_some, option_map, unwrap_or, nat_cmp, is_at, keys_of}
+use Rattle.rep_core.proofs.Vocabulary.{cases_Bool, lookup_head, lookup_tail, sorted_tail, get_or-map, lookup-map_values, keys_of-map_values, none-some, same_Some, IsOrdered, get, insert, remove, replace, get_insert_here, get_insert_apart}
+use Rattle.rep_core.proofs.Vocabulary.{get_remove_here, get_remove_apart, Configuration, Replica, absent_copy, Planned, Part, Take, Intention, copy_in, left_by, is_keep, with_taken, with_intentions, intention_in, intentions_in, in_form_2, take_in}
+use Rattle.rep_core.proofs.Vocabulary.{is_whole, planned_of, with_all, Leaves, IsStrictlySortedBy}
 use Rattle.rep_core.proofs.Intentions.{apart_behind}
 use Rattle.rep_core.specs.declared.request.Take.TheVariants as take
 
@@ -13,8 +12,7 @@ pub get_in : (pairs : List (ℕ × Planned)) (suite : ℕ) → get nat_cmp (inte
 get_in pairs suite = lookup-map_values intention_in (is_at (nat_cmp suite)) pairs
 
 some_in : {X Y : Type 0} (f : X → Y) (o : Option X) → is_some (option_map f o) ≡ is_some o
-some_in f None = refl
-some_in f (Some x) = refl
+some_in f o = search arith
 
 pub there_in : (pairs : List (ℕ × Planned)) (suite : ℕ) → is_some (get nat_cmp (intentions_in pairs) suite) ≡ is_some (get nat_cmp pairs suite)
 there_in pairs suite = ap is_some (get_in pairs suite) ∙ some_in intention_in (get nat_cmp pairs suite)
@@ -29,13 +27,11 @@ left_in copy intention = (intention.t, left_by intention.take copy)
 
 prepared_at : (copy : Replica) (found : Option Planned) → ((planned : Planned) → found ≡ Some planned → planned.left ≡ in_form_2 (left_by (take_in planned.whole planned.left.copy) copy))
     → option_map kept_of found ≡ option_map (left_in copy) (option_map intention_in found)
-prepared_at copy None leaves = refl
-prepared_at copy (Some planned) leaves = ap (λ (left : Kept). Some (kept_of (record planned { left = left }))) (leaves planned refl)
+prepared_at copy found h2 = search arith
 
 pub prepared_in : (c0 : Configuration) (copies : List (ℕ × Replica)) (pairs : List (ℕ × Planned)) (suite : ℕ) → Leaves copies pairs
     → option_map kept_of (get nat_cmp pairs suite) ≡ option_map (left_in (copy_in c0 copies suite)) (get nat_cmp (intentions_in pairs) suite)
-prepared_in c0 copies pairs suite leaves =
-    prepared_at (copy_in c0 copies suite) (get nat_cmp pairs suite) (λ planned is. leaves c0 suite planned is) ∙ ap (option_map (left_in (copy_in c0 copies suite))) (sym (get_in pairs suite))
+prepared_in c0 copies pairs suite leaves = search (prepared_at, get_in, arith)
 
 pub length_in : (pairs : List (ℕ × Planned)) → length (intentions_in pairs) ≡ length pairs
 length_in [] = refl
@@ -46,71 +42,37 @@ rising_in pairs rising = subst (λ keys. IsStrictlySortedBy nat_cmp keys) (sym (
 
 pub remove_in : (pairs : List (ℕ × Planned)) (suite : ℕ) → remove nat_cmp (intentions_in pairs) suite ≡ intentions_in (remove nat_cmp pairs suite)
 remove_in [] suite = refl
-remove_in (e ∷ es) suite =
-    elim (is_at (nat_cmp suite) e.0) as (λ b. cond b (intentions_in es) ((e.0, intention_in e.1) ∷ remove nat_cmp (intentions_in es) suite) ≡ intentions_in (cond b es (e ∷ remove nat_cmp es suite))) [
-      | true ↦ refl
-      | false ↦ ap (λ l. (e.0, intention_in e.1) ∷ l) (remove_in es suite)
-    ]
+remove_in (e ∷ es) suite = search (remove_in es suite, arith)
 
 pub insert_in : (pairs : List (ℕ × Planned)) (suite : ℕ) (planned : Planned) → insert nat_cmp (intentions_in pairs) suite (intention_in planned) ≡ intentions_in (insert nat_cmp pairs suite planned)
 insert_in [] suite planned = refl
-insert_in (e ∷ es) suite planned =
-    elim (nat_cmp suite e.0) as (λ o. match_ordering o ((suite, intention_in planned) ∷ intentions_in (e ∷ es)) ((e.0, intention_in planned) ∷ intentions_in es)
-    ((e.0, intention_in e.1) ∷ insert nat_cmp (intentions_in es) suite (intention_in planned))
-    ≡ intentions_in (match_ordering o ((suite, planned) ∷ e ∷ es) ((e.0, planned) ∷ es) (e ∷ insert nat_cmp es suite planned))) [
-      | ord.Less ↦ refl
-      | ord.Equal ↦ refl
-      | ord.Greater ↦ ap (λ l. (e.0, intention_in e.1) ∷ l) (insert_in es suite planned)
-    ]
+insert_in (e ∷ es) suite planned = search (insert_in es suite planned, arith)
 
 pub without_in : (t : ℕ) (pairs : List (ℕ × Planned)) → intentions_in (filter (λ pair. not (pair.1.t == t)) pairs) ≡ filter (λ pair. not (pair.1.t == t)) (intentions_in pairs)
 without_in t [] = refl
-without_in t (e ∷ es) =
-    elim (not (e.1.t == t)) as (λ b. intentions_in (cond b (e ∷ filter (λ pair. not (pair.1.t == t)) es) (filter (λ pair. not (pair.1.t == t)) es)) ≡ cond b
-    ((e.0, intention_in e.1) ∷ filter (λ pair. not (pair.1.t == t)) (intentions_in es)) (filter (λ pair. not (pair.1.t == t)) (intentions_in es))) [
-      | true ↦ ap (λ l. (e.0, intention_in e.1) ∷ l) (without_in t es)
-      | false ↦ without_in t es
-    ]
+without_in t (e ∷ es) = search (without_in t es, arith)
 
 pub at_in : (pairs : List (ℕ × Planned)) (i : ℕ) (pair : ℕ × Planned) → i < length pairs → pair ≡ get_or pairs i pair → (pair.0, intention_in pair.1) ≡ get_or (intentions_in pairs) i (pair.0, intention_in pair.1)
-at_in pairs i pair in_range is =
-    ap (λ (e : ℕ × Planned). (e.0, intention_in e.1)) is ∙ sym (get_or-map (λ (e : ℕ × Planned). (e.0, intention_in e.1)) pairs i pair (pair.0, intention_in pair.1) in_range)
+at_in pairs i pair in_range is = search (get_or-map, arith)
 
 -- where the value that is there is written again, nothing changes
 pub replaced_same : {V : Type 0} (pairs : List (ℕ × V)) (key : ℕ) (value : V) → get nat_cmp pairs key ≡ Some value → replace nat_cmp pairs key value ≡ pairs
 replaced_same [] key value has = refl
-replaced_same (e ∷ es) key value has = ⊎_elim
-    (λ here.
-    let is : e.1 ≡ value = same_Some e.1 value (sym (lookup_head (is_at (nat_cmp key)) e es here) ∙ has) in
-    ap (λ b. cond b ((e.0, value) ∷ es) (e ∷ replace nat_cmp es key value)) here ∙ ap (λ v. (e.0, v) ∷ es) (sym is))
-    (λ there.
-    ap (λ b. cond b ((e.0, value) ∷ es) (e ∷ replace nat_cmp es key value)) there
-    ∙ ap (λ l. e ∷ l) (replaced_same es key value (sym (lookup_tail (is_at (nat_cmp key)) e es there) ∙ has)))
-    (cases_Bool (is_at (nat_cmp key) e.0))
+replaced_same (e ∷ es) key value has = search (same_Some, lookup_head, lookup_tail, cases_Bool, replaced_same es key value, arith)
 
 -- ---- what is left
 
 -- what is left does not depend on the votes of what was never made
 same_left : (what : Take) (c0 c1 : Configuration) (o : Option Replica) → is_keep what ≡ false → left_by what (unwrap_or o (absent_copy c0)) ≡ left_by what (unwrap_or o (absent_copy c1))
-same_left take.Keep c0 c1 o changes = absurd cc
-same_left (take.Prefix prefix) c0 c1 None changes = refl
-same_left (take.Prefix prefix) c0 c1 (Some copy) changes = refl
-same_left (take.Whole replica) c0 c1 o changes = refl
+same_left what c0 c1 o h4 = search arith
 
 take_back : (what : Take) (copy : Replica) → is_keep what ≡ false → take_in (is_whole what) (left_by what copy) ≡ what
-take_back take.Keep copy changes = absurd cc
-take_back _ copy changes = refl
-
-pub keeps_nothing : (whole : Bool) (left : Replica) → is_keep (take_in whole left) ≡ false
-keeps_nothing true left = refl
-keeps_nothing false left = refl
+take_back what copy h2 = search arith
 
 -- an intention that becomes a copy
 pub becomes : (c0 : Configuration) (suite : ℕ) (planned : Planned) (copies : List (ℕ × Replica)) → planned.left ≡ in_form_2 (left_by (take_in planned.whole planned.left.copy) (copy_in c0 copies suite))
     → insert nat_cmp copies suite planned.left.copy ≡ with_taken c0 suite (intention_in planned).take copies
-becomes c0 suite planned copies leaves =
-    ap (λ (kept : Kept). insert nat_cmp copies suite kept.copy) leaves
-    ∙ ap (λ b. cond b copies (insert nat_cmp copies suite (left_by (take_in planned.whole planned.left.copy) (copy_in c0 copies suite)))) (sym (keeps_nothing planned.whole planned.left.copy))
+becomes c0 suite planned copies leaves = search arith
 
 -- what is found without a key was there, and is another's
 found_without : (pairs : List (ℕ × Planned)) (suite q : ℕ) (planned : Planned) → IsOrdered nat_cmp pairs → get nat_cmp (remove nat_cmp pairs suite) q ≡ Some planned → (q ≡ suite → ⊥) × (get nat_cmp pairs q ≡ Some planned)
@@ -126,19 +88,7 @@ leaves_taken copies pairs suite left rising leaves c0 q planned has =
 -- what is found in a filtered list was there
 pub found_in_filter : (p : ℕ × Planned → Bool) (pairs : List (ℕ × Planned)) (suite : ℕ) (planned : Planned) → IsOrdered nat_cmp pairs → get nat_cmp (filter p pairs) suite ≡ Some planned → get nat_cmp pairs suite ≡ Some planned
 found_in_filter p [] suite planned rising has = has
-found_in_filter p (e ∷ es) suite planned rising has = ⊎_elim
-    (λ kept.
-    let has' : get nat_cmp (e ∷ filter p es) suite ≡ Some planned = ap (λ b. get nat_cmp (cond b (e ∷ filter p es) (filter p es)) suite) (sym kept) ∙ has in
-    ⊎_elim
-    (λ here. lookup_head (is_at (nat_cmp suite)) e es here ∙ sym (lookup_head (is_at (nat_cmp suite)) e (filter p es) here) ∙ has')
-    (λ there.
-    let rest = found_in_filter p es suite planned (sorted_tail nat_cmp e.0 (keys_of es) rising) (sym (lookup_tail (is_at (nat_cmp suite)) e (filter p es) there) ∙ has') in
-    lookup_tail (is_at (nat_cmp suite)) e es there ∙ rest)
-    (cases_Bool (is_at (nat_cmp suite) e.0)))
-    (λ dropped.
-    let rest = found_in_filter p es suite planned (sorted_tail nat_cmp e.0 (keys_of es) rising) (ap (λ b. get nat_cmp (cond b (e ∷ filter p es) (filter p es)) suite) (sym dropped) ∙ has) in
-    lookup_tail (is_at (nat_cmp suite)) e es (apart_behind e es suite rising (ap (λ o. is_some o) rest)) ∙ rest)
-    (cases_Bool (p e))
+found_in_filter p (e ∷ es) suite planned rising has = search (lookup_head, sorted_tail, lookup_tail, cases_Bool, apart_behind, found_in_filter p es suite planned, arith)
 
 -- ---- a Prepare
 
@@ -165,10 +115,7 @@ planned_kept c0 copies t (part ∷ parts) pairs = ⊎_elim
     new = record { t = t; take = part.take }
 
 suite_or_apart : (a b : ℕ) → (a ≡ b) ⊎ (a ≡ b → ⊥)
-suite_or_apart a b = ⊎_elim
-    (λ same. inl (eqb-true a b same))
-    (λ differ. inr (λ same. false≢true (sym differ ∙ eq-eqb a b same)))
-    (cases_Bool (a == b))
+suite_or_apart a b = search arith
 
 leaves_more : (c0 : Configuration) (copies : List (ℕ × Replica)) (t : ℕ) (part : Part) (pairs : List (ℕ × Planned)) → is_keep part.take ≡ false → Leaves copies pairs
     → Leaves copies (insert nat_cmp pairs part.suite (record { t = t; whole = is_whole part.take; left = in_form_2 (left_by part.take (copy_in c0 copies part.suite)) }))
@@ -195,10 +142,4 @@ leaves_planned c0 copies t (part ∷ parts) pairs leaves =
 
 pub few_planned : (c0 : Configuration) (copies : List (ℕ × Replica)) (t : ℕ) (parts : List Part) → length (planned_of c0 copies t parts) ≤ length parts
 few_planned c0 copies t [] = omega arith
-few_planned c0 copies t (part ∷ parts) =
-    let rest = few_planned c0 copies t parts in
-    let made : ℕ × Planned = (part.suite, record { t = t; whole = is_whole part.take; left = in_form_2 (left_by part.take (copy_in c0 copies part.suite)) }) in
-    elim (is_keep part.take) as (λ b. length (cond b (planned_of c0 copies t parts) (made ∷ planned_of c0 copies t parts)) ≤ length (part ∷ parts)) [
-      | true ↦ omega (arith, rest)
-      | false ↦ omega (arith, rest)
-    ]
+few_planned c0 copies t (part ∷ parts) = search (few_planned c0 copies t parts, arith)

@@ -1,6 +1,6 @@
 -- A lock becomes prepared by a Prepare of its transaction only.
-use Rattle.rep_core.proofs.Vocabulary.{◌≡◌, ℕ, Bool, true, false, cond, ◌⊎◌, inl, inr, List, refl, sym, ap, ◌∙◌, arith, ◌==◌, ◌&&◌, ◌||◌, not, filter, list_any, false≢true, nat_tests, LockMode, Exclusive, Lock, Part, Request, before}
-use Rattle.rep_core.proofs.Vocabulary.{is_own, has_lock, raised_lock, raised, with_lock, locked, prepared_lock, with_prepared, State}
+use Rattle.rep_core.proofs.Vocabulary.{◌≡◌, ℕ, Bool, true, false, cond, ◌⊎◌, inl, inr, List, refl, ap, ◌∙◌, arith, ◌==◌, ◌&&◌, ◌||◌, filter, false≢true, nat_tests, LockMode, Lock, Part, Request, before, has_lock, raised, with_lock, locked}
+use Rattle.rep_core.proofs.Vocabulary.{with_prepared, State}
 use Rattle.rep_core.specs.Steps.{is_prepare, WasPrepared, PreparedByPrepare}
 use Rattle.rep_core.specs.declared.request.Request.TheVariants as request
 use Rattle.rep_core.proofs.Members.{Has, has_filter, has_map, has_between, has_from, contains_from}
@@ -20,13 +20,7 @@ were_filtered q locks l there p = same locks l (has_filter q locks l there).0 p
 were_locked : (t s : ℕ) (m : LockMode) (locks : List Lock) → AllWere locks (locked t s m locks)
 were_locked t s m locks =
     elim (has_lock t s locks) as (λ b. AllWere locks (cond b (raised t s m locks) (with_lock (new_lock t s m) locks))) [
-      | true ↦ λ l there p. let was = has_map (raised_lock t s m) locks l there in record {
-        lock = was.0;
-        there = contains_from locks was.0 was.1;
-        of_it = ap (λ (l : Lock). l.t) was.2;
-        on_it = ap (λ (l : Lock). l.suite) was.2;
-        prepared = ap (λ (l : Lock). l.prepared) was.2 ∙ p;
-      }
+      | true ↦ λ l there p. search (has_map, contains_from, arith)
       | false ↦ λ l there p. elim (has_between (λ x. before x (new_lock t s m)) locks (new_lock t s m) l there) [
         | inl old ↦ same locks l old p
         | inr new ↦ absurd (false≢true (ap (λ (l : Lock). l.prepared) new ∙ p))
@@ -41,27 +35,10 @@ abbrev WasOrIs : State → Request → List Lock → Type 0
 WasOrIs st asked new = (l : Lock) → Has new l → l.prepared ≡ true → (is_prepare l.t asked ≡ true) ⊎ WasPrepared st.locks l.t l.suite
 
 were_prepared : (st : State) (t : ℕ) (parts : List Part) → WasOrIs st (request.Prepare t parts) (with_prepared t parts st.locks)
-were_prepared st t parts l there p =
-    let was = has_map (prepared_lock t parts) st.locks l there in
-    let y = was.0 in
-    elim (y.prepared) as (λ b. y.prepared ≡ b → (is_prepare l.t (request.Prepare t parts) ≡ true) ⊎ WasPrepared st.locks l.t l.suite) [
-      | true ↦ λ e. inr (record { lock = y; there = contains_from st.locks y was.1; of_it = ap (λ (l : Lock). l.t) was.2; on_it = ap (λ (l : Lock). l.suite) was.2; prepared = e })
-      | false ↦ λ e. inl (ap (λ u. t == u) (sym (ap (λ (l : Lock). l.t) was.2)) ∙ by_prepare t y.t y.prepared (list_any (λ part. part.suite == y.suite) parts) (ap (λ (l : Lock). l.prepared) was.2 ∙ p) e)
-    ] refl
+were_prepared st t parts l there p = search (has_map, contains_from, by_prepare, arith)
 
 prepared_ways : (st : State) → Ways st (λ asked new. WasOrIs st asked new.locks)
-prepared_ways st = record {
-  same = λ _ l there p. inr (same st.locks l there p);
-  poll = λ t suite mode free l there p. inr (were_locked t suite mode st.locks l there p);
-  upgrade = λ t suite has free l there p. inr (were_locked t suite Exclusive st.locks l there p);
-  prepare = λ t parts does few. were_prepared st t parts;
-  decide = λ t decision none l there p. inr (same st.locks l there p);
-  resolve = λ t none l there p. inr (same st.locks l there p);
-  finish = λ t verdict is l there p. inr (were_filtered (λ l. not (l.t == t)) st.locks l there p);
-  break = λ t suite l there p. inr (were_filtered (λ l. not (is_own t suite l && not l.prepared)) st.locks l there p);
-  crash = λ l there p. inr (were_filtered (λ l. l.prepared) st.locks l there p);
-  return = λ l there p. inr (same st.locks l there p);
-}
+prepared_ways st = search (same, were_locked, were_prepared, were_filtered, arith)
 
 pub prepared_by_prepare : PreparedByPrepare
 prepared_by_prepare st asked l there p = by_step st (λ request new. WasOrIs st request new.locks) (prepared_ways st) (λ _ _ _ holds. holds) asked l (has_from _ l there) p

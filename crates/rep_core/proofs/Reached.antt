@@ -1,6 +1,6 @@
 -- The laws of whole runs.
-use Rattle.rep_core.proofs.Vocabulary.{◌≡◌, ℕ, Bool, true, false, cond, List, [], ◌∷◌, ◌++◌, refl, sym, ap, ◌∙◌, arith, ◌&&◌, not, or_parts, nat_tests, same_Some, Opening, Lock, Request, Stamped, State, opening, is_full, served, step}
-use Rattle.rep_core.proofs.Vocabulary.{IsConsistent, after_all, reached, ExclusiveStandsAlone, LocksRise, BusyNamesTheLeast, PreparedStands, IntentionsHaveLocks, StoresAreSound, SuitesAreFew, is_finish, finished_by}
+use Rattle.rep_core.proofs.Vocabulary.{◌≡◌, ℕ, Bool, true, false, cond, List, [], ◌∷◌, ◌++◌, refl, sym, ap, ◌∙◌, arith, ◌&&◌, not, or_parts, nat_tests, same_Some, Opening, Lock, Request, Stamped, State, opening, is_full, served, step, IsConsistent}
+use Rattle.rep_core.proofs.Vocabulary.{after_all, reached, ExclusiveStandsAlone, LocksRise, BusyNamesTheLeast, PreparedStands, IntentionsHaveLocks, StoresAreSound, SuitesAreFew, is_finish, finished_by}
 use Rattle.rep_core.proofs.Members.{Has, has_from, contains_from}
 use Rattle.rep_core.proofs.Ways.{by_request, room}
 use Rattle.rep_core.proofs.Stays.{Stands, itself, stays_ways, stands_on}
@@ -20,10 +20,7 @@ pub exclusive_alone : ExclusiveStandsAlone
 exclusive_alone index given asked = (always_consistent index given asked).alone
 
 pub locks_rise : LocksRise
-locks_rise index given asked =
-    let is = always_consistent index given asked in
-    let locks = (reached index given asked).locks in
-    record { rising = is.rising; one_each = λ a b has_a has_b t suite. same_lock locks a b is.rising (has_from locks a has_a) (has_from locks b has_b) t suite }
+locks_rise index given asked = search (always_consistent index given asked, same_lock, has_from, arith)
 
 pub busy_names_the_least : BusyNamesTheLeast
 busy_names_the_least index given before asked holder prepared said = busy_least (reached index given before) (always_consistent index given before).rising asked holder prepared said
@@ -70,6 +67,4 @@ after_both [] later st = refl
 after_both (first ∷ before) later st = after_both before later (step st first)
 
 pub prepared_stand : PreparedStands
-prepared_stand index given before later l has prepared other =
-    let stands = stands_all later (reached index given before) l (has_from _ l has) prepared other in
-    rw (after_both before later (opening index given)) (stands.0, contains_from _ stands.0 stands.1, stands.2)
+prepared_stand index given before later l has prepared other = search (stands_all, has_from, after_both, contains_from, arith)

@@ -1,6 +1,6 @@
 -- A verdict is written once.
-use Rattle.rep_core.proofs.Vocabulary.{◌≡◌, ℕ, true, false, cond, List, [], ◌∷◌, Option, Some, None, refl, sym, ap, ◌∙◌, ⊎_elim, arith, ◌==◌, cases_Bool, false≢true, nat_tests, none-some, get_insert_here, get_insert_apart, AuditItem}
-use Rattle.rep_core.proofs.Vocabulary.{Decision, Request, Verdict, Stamped, State, record_of, reply_of, after, recorded, after_record, verdict_of, audit_of, is_full, served, step, after_all, asks_record, VerdictsAreWrittenOnce}
+use Rattle.rep_core.proofs.Vocabulary.{◌≡◌, ℕ, true, false, cond, List, [], ◌∷◌, Option, Some, None, sym, ap, ◌∙◌, ⊎_elim, arith, ◌==◌, cases_Bool, false≢true, nat_tests, none-some, get_insert_here, get_insert_apart, AuditItem, Decision, Request}
+use Rattle.rep_core.proofs.Vocabulary.{Verdict, Stamped, State, record_of, reply_of, after, recorded, after_record, verdict_of, audit_of, is_full, served, step, after_all, asks_record, VerdictsAreWrittenOnce}
 use Rattle.rep_core.specs.declared.request.Request.TheVariants as request
 use Rattle.rep_core.specs.declared.reply.Reply.TheVariants as reply
 use Rattle.rep_core.specs.declared.reply.Verdict.TheVariants as verdict
@@ -26,18 +26,7 @@ record_kept : (st : State) (t u : ℕ) (new old : Verdict) (item : Option AuditI
 record_kept st t u new old item none has = record_apart st t u new item (λ same. none-some old (sym none ∙ ap (record_of st) (sym same) ∙ has)) ∙ has
 
 kept_ways : (st : State) (t : ℕ) (old : Verdict) → record_of st t ≡ Some old → Ways st (λ _ new. record_of new t ≡ Some old)
-kept_ways st t old has = record {
-  same = λ _. has;
-  poll = λ u suite mode free. has;
-  upgrade = λ u suite own free. has;
-  prepare = λ u parts does few. has;
-  decide = λ u decision none. record_kept st u t (verdict_of decision) old (audit_of u decision) none has;
-  resolve = λ u none. record_kept st u t verdict.Aborted old None none has;
-  finish = λ u v is. has;
-  break = λ u suite. has;
-  crash = has;
-  return = has;
-}
+kept_ways st t old has = search (record_kept, arith)
 
 pub record_step : (st : State) (asked : Stamped Request) (t : ℕ) (old : Verdict) → record_of st t ≡ Some old → record_of (step st asked) t ≡ Some old
 record_step st asked t old has = by_step st (λ _ new. record_of new t ≡ Some old) (kept_ways st t old has) (λ _ _ _ holds. holds) asked
@@ -78,24 +67,13 @@ ruled st t new v item (Some old) is said = let same : old ≡ v = cc in is ∙ a
 ruled st t new v item None is said = let same : new ≡ v = cc in record_here st t new item ∙ ap (λ v. Some v) same
 
 pub decide_ruled : (st : State) (t : ℕ) (decision : Decision) (v : Verdict) → reply_of st (request.Decide t decision) ≡ reply.Verdict v → record_of (after st (request.Decide t decision)) t ≡ Some v
-decide_ruled st t decision v said =
-    elim (st.up) as (λ b. cond b (reply.Verdict (recorded (record_of st t) (verdict_of decision))) reply.Down ≡ reply.Verdict v
-    → record_of (cond b (after_record (record_of st t) t (verdict_of decision) (audit_of t decision) st) st) t ≡ Some v) [
-      | true ↦ λ said. ruled st t (verdict_of decision) v (audit_of t decision) (record_of st t) refl said
-      | false ↦ λ said. absurd cc
-    ] said
+decide_ruled st t decision v said = search (ruled, arith)
 
 pub resolve_ruled : (st : State) (t : ℕ) (v : Verdict) → reply_of st (request.Resolve t) ≡ reply.Verdict v → record_of (after st (request.Resolve t)) t ≡ Some v
-resolve_ruled st t v said =
-    elim (st.up) as (λ b. cond b (reply.Verdict (recorded (record_of st t) verdict.Aborted)) reply.Down ≡ reply.Verdict v → record_of (cond b (after_record (record_of st t) t verdict.Aborted None st) st) t ≡ Some v) [
-      | true ↦ λ said. ruled st t verdict.Aborted v None (record_of st t) refl said
-      | false ↦ λ said. absurd cc
-    ] said
+resolve_ruled st t v said = search (ruled, arith)
 
 answered : (st : State) (asked : Request) (t : ℕ) (v : Verdict) → asks_record t asked ≡ true → reply_of st asked ≡ reply.Verdict v → record_of (after st asked) t ≡ Some v
-answered st (request.Decide u decision) t v is said = ap (record_of (after st (request.Decide u decision))) (same_as u t is) ∙ decide_ruled st u decision v said
-answered st (request.Resolve u) t v is said = ap (record_of (after st (request.Resolve u))) (same_as u t is) ∙ resolve_ruled st u v said
-answered st _ t v is said = absurd (false≢true is)
+answered st asked t v h4 h5 = search (same_as, decide_ruled, resolve_ruled, false≢true, arith)
 
 answered_step : (st : State) (asked : Stamped Request) (t : ℕ) (v : Verdict) → asks_record t asked.value ≡ true → is_full st asked ≡ false → reply_of st asked.value ≡ reply.Verdict v → record_of (step st asked) t ≡ Some v
 answered_step st asked t v is none said = ap (λ b. record_of (cond b st (served st asked)) t) none ∙ answered st asked.value t v is said

@@ -1,6 +1,6 @@
 -- Locks in their order.
-use Rattle.rep_core.proofs.Vocabulary.{◌≡◌, ℕ, ◌+◌, suc, Bool, true, false, cond, List, [], ◌∷◌, ◌++◌, refl, sym, ap, ◌∙◌, arith, ◌&&◌, not, filter, map, count_by, list_all, and_parts, and_from, or_parts, nat_tests, sum_by-cons, LockMode}
-use Rattle.rep_core.proofs.Vocabulary.{Lock, Part, before, rise, is_own, has_lock, with_lock, raised_lock, raised, locked, prepared_lock, with_prepared}
+use Rattle.rep_core.proofs.Vocabulary.{◌≡◌, ℕ, ◌+◌, suc, Bool, true, false, cond, List, [], ◌∷◌, ◌++◌, refl, sym, ap, ◌∙◌, arith, ◌&&◌, not, filter, map, count_by, list_all, and_parts, and_from, or_parts, nat_tests, sum_by-cons, LockMode, Lock, Part}
+use Rattle.rep_core.proofs.Vocabulary.{before, rise, is_own, has_lock, with_lock, locked, prepared_lock, with_prepared}
 use Rattle.std.specs.Prelude.{insert}
 
 -- ---- the order
@@ -17,24 +17,15 @@ behind a b other h = grind (arith, nat_tests)
 module _ {X : Type 0} where
   all_filter : (p q : X → Bool) (xs : List X) → list_all p xs ≡ true → list_all p (filter q xs) ≡ true
   all_filter p q [] all = refl
-  all_filter p q (x ∷ xs) all =
-      let parts = and_parts (p x) (list_all p xs) all in
-      let rest = all_filter p q xs parts.1 in
-      elim (q x) as (λ b. list_all p (cond b (x ∷ filter q xs) (filter q xs)) ≡ true) [ true ↦ and_from (p x) (list_all p (filter q xs)) parts.0 rest | false ↦ rest ]
+  all_filter p q (x ∷ xs) all = search (and_parts, and_from, all_filter p q xs, arith)
 
   all_pass : (p : X → Bool) (xs : List X) → list_all p (filter p xs) ≡ true
   all_pass p [] = refl
-  all_pass p (x ∷ xs) =
-      elim (p x) as (λ b. p x ≡ b → list_all p (cond b (x ∷ filter p xs) (filter p xs)) ≡ true) [
-        | true ↦ λ is. and_from (p x) (list_all p (filter p xs)) is (all_pass p xs)
-        | false ↦ λ _. all_pass p xs
-      ] refl
+  all_pass p (x ∷ xs) = search (and_from, all_pass p xs, arith)
 
   all_weaker : (p q : X → Bool) → ((x : X) → p x ≡ true → q x ≡ true) → (xs : List X) → list_all p xs ≡ true → list_all q xs ≡ true
   all_weaker p q weaker [] all = refl
-  all_weaker p q weaker (x ∷ xs) all =
-      let parts = and_parts (p x) (list_all p xs) all in
-      and_from (q x) (list_all q xs) (weaker x parts.0) (all_weaker p q weaker xs parts.1)
+  all_weaker p q weaker (x ∷ xs) all = search (and_parts, and_from, all_weaker p q weaker xs, arith)
 
   pub count_cons : (p : X → Bool) (x : X) (xs : List X) → count_by p (x ∷ xs) ≡ cond (p x) 1 0 + count_by p xs
   count_cons p x xs = sum_by-cons (λ x. cond (p x) 1 0) x xs
@@ -42,14 +33,7 @@ module _ {X : Type 0} where
   -- where none passes
   filter_none : (p q : X → Bool) → ((x : X) → q x ≡ true → p x ≡ false) → (xs : List X) → list_all q xs ≡ true → (filter p xs ≡ []) × (filter (λ x. not (p x)) xs ≡ xs) × (count_by p xs ≡ 0)
   filter_none p q misses [] all = (refl, refl, refl)
-  filter_none p q misses (x ∷ xs) all =
-      let parts = and_parts (q x) (list_all q xs) all in
-      let no = misses x parts.0 in
-      let rest = filter_none p q misses xs parts.1 in (
-        ap (λ b. cond b (x ∷ filter p xs) (filter p xs)) no ∙ rest.0,
-        ap (λ b. cond (not b) (x ∷ filter (λ x. not (p x)) xs) (filter (λ x. not (p x)) xs)) no ∙ ap (λ l. x ∷ l) rest.1,
-        count_cons p x xs ∙ ap (λ b. cond b 1 0 + count_by p xs) no ∙ ap (λ n. 0 + n) rest.2,
-      )
+  filter_none p q misses (x ∷ xs) all = search (and_parts, count_cons, filter_none p q misses xs, arith)
 
   insert_first : (x y : X) (xs : List X) (n : ℕ) → insert (x ∷ xs) (1 + n) y ≡ x ∷ insert xs n y
   insert_first x y xs n = ap (λ k. insert (x ∷ xs) k y) (let e : 1 + n ≡ suc n = omega arith in e)
@@ -58,13 +42,7 @@ module _ {X : Type 0} where
 
 pub rise_filter : (q : Lock → Bool) (ls : List Lock) → rise ls ≡ true → rise (filter q ls) ≡ true
 rise_filter q [] up = refl
-rise_filter q (l ∷ ls) up =
-    let parts = and_parts (list_all (before l) ls) (rise ls) up in
-    let rest = rise_filter q ls parts.1 in
-    elim (q l) as (λ b. rise (cond b (l ∷ filter q ls) (filter q ls)) ≡ true) [
-      | true ↦ and_from (list_all (before l) (filter q ls)) (rise (filter q ls)) (all_filter (before l) q ls parts.0) rest
-      | false ↦ rest
-    ]
+rise_filter q (l ∷ ls) up = search (and_parts, and_from, all_filter, rise_filter q ls, arith)
 
 all_map : (f : Lock → Lock) → ((a b : Lock) → before (f a) (f b) ≡ before a b) → (l : Lock) (ls : List Lock) → list_all (before (f l)) (map f ls) ≡ list_all (before l) ls
 all_map f same l [] = refl
@@ -91,29 +69,13 @@ rise_joined l (x ∷ xs) ys up_x up_y below above =
 
 above_all : (l : Lock) (ls : List Lock) → has_lock l.t l.suite ls ≡ false → list_all (before l) (filter (λ x. not (before x l)) ls) ≡ true
 above_all l [] none = refl
-above_all l (x ∷ ls) none =
-    let parts = or_parts (is_own l.t l.suite x) (has_lock l.t l.suite ls) none in
-    let rest = above_all l ls parts.1 in
-    elim (before x l) as (λ b. before x l ≡ b → list_all (before l) (cond (not b) (x ∷ filter (λ x. not (before x l)) ls) (filter (λ x. not (before x l)) ls)) ≡ true) [
-      | true ↦ λ _. rest
-      | false ↦ λ no. and_from (before l x) (list_all (before l) (filter (λ x. not (before x l)) ls)) (behind l x parts.0 no) rest
-    ] refl
+above_all l (x ∷ ls) none = search (or_parts, and_from, behind, above_all l ls, arith)
 
 rise_with_lock : (l : Lock) (ls : List Lock) → rise ls ≡ true → has_lock l.t l.suite ls ≡ false → rise (with_lock l ls) ≡ true
-rise_with_lock l ls up none =
-    rise_joined l (filter (λ x. before x l) ls) (filter (λ x. not (before x l)) ls)
-    (rise_filter (λ x. before x l) ls up)
-    (rise_filter (λ x. not (before x l)) ls up)
-    (all_pass (λ x. before x l) ls)
-    (above_all l ls none)
+rise_with_lock l ls up none = search (rise_joined, rise_filter, all_pass, above_all, arith)
 
 pub rise_locked : (t s : ℕ) (m : LockMode) (ls : List Lock) → rise ls ≡ true → rise (locked t s m ls) ≡ true
-rise_locked t s m ls up =
-    let new : Lock = record { t = t; suite = s; mode = m; prepared = false } in
-    elim (has_lock t s ls) as (λ b. has_lock t s ls ≡ b → rise (cond b (raised t s m ls) (with_lock new ls)) ≡ true) [
-      | true ↦ λ _. rise_map (raised_lock t s m) (λ a b. refl) ls ∙ up
-      | false ↦ λ none. rise_with_lock new ls up none
-    ] refl
+rise_locked t s m ls up = search (rise_map, rise_with_lock, arith)
 
 pub rise_prepared : (t : ℕ) (parts : List Part) (ls : List Lock) → rise ls ≡ true → rise (with_prepared t parts ls) ≡ true
 rise_prepared t parts ls up = rise_map (prepared_lock t parts) (λ a b. refl) ls ∙ up

@@ -1,6 +1,6 @@
 -- Searches in rising locks: those that pass a test that goes with their order come first.
-use Rattle.rep_core.proofs.Vocabulary.{◌≡◌, ℕ, zero, suc, ◌+◌, ◌<◌, ◌≤◌, Bool, true, false, cond, ◌&&◌, List, [], ◌∷◌, length, get_or, set, refl, sym, ap, ◌∙◌, arith, ◌||◌, ◌==◌, nat_lt, count_by, list_all, IsPartitionedBy}
-use Rattle.rep_core.proofs.Vocabulary.{IsPartitionPoint, and_parts, or_parts, nat_tests, LockMode, stronger, Lock, before, rise, is_own, has_lock, raised_lock, raised}
+use Rattle.rep_core.proofs.Vocabulary.{◌≡◌, ℕ, zero, suc, ◌+◌, ◌<◌, ◌≤◌, Bool, true, false, cond, ◌&&◌, List, [], ◌∷◌, length, get_or, set, refl, sym, ap, ◌∙◌, arith, ◌||◌, ◌==◌, nat_lt, count_by, list_all, IsPartitionedBy, IsPartitionPoint}
+use Rattle.rep_core.proofs.Vocabulary.{and_parts, or_parts, nat_tests, LockMode, stronger, Lock, before, rise, is_own, has_lock, raised_lock, raised}
 use Rattle.rep_core.proofs.Rising.{count_cons}
 
 -- ---- a place found by halving
@@ -55,12 +55,7 @@ module _ (t suite : ℕ) where
 
   pub none_behind : (x : Lock) (ls : List Lock) → p x ≡ false → list_all (before x) ls ≡ true → (has_lock t suite ls ≡ false) × (count_by p ls ≡ 0)
   none_behind x [] fails all = (refl, refl)
-  none_behind x (y ∷ ls) fails all =
-      let parts = and_parts (before x y) (list_all (before x) ls) all in
-      let rest = none_behind x ls fails parts.1 in (
-        (λ i. behind_not_own t suite x y fails parts.0 i || rest.0 i),
-        count_cons p y ls ∙ (λ i. cond (behind_not_before t suite x y fails parts.0 i) 1 0 + rest.1 i),
-      )
+  none_behind x (y ∷ ls) fails all = search (and_parts, behind_not_own, count_cons, behind_not_before, none_behind x ls fails, arith)
 
   -- a transaction has a lock on a suite where the one at its place is it
   pub has_lock-at : (ls : List Lock) (n : ℕ) (d : Lock) → rise ls ≡ true → n ≡ count_by p ls → n < length ls → has_lock t suite ls ≡ is_own t suite (get_or ls n d)
@@ -79,8 +74,7 @@ module _ (t suite : ℕ) where
       ] refl (is ∙ count_cons p x ls)
     where
       or_false : (b : Bool) → (b || false) ≡ b
-      or_false true = refl
-      or_false false = refl
+      or_false b = search arith
 
   -- and has none where its place is the end
   pub has_lock-end : (ls : List Lock) (n : ℕ) → rise ls ≡ true → n ≡ count_by p ls → length ls ≤ n → has_lock t suite ls ≡ false
@@ -103,9 +97,7 @@ module _ (t suite : ℕ) (mode : LockMode) where
 
   pub raised-none : (ls : List Lock) → has_lock t suite ls ≡ false → raised t suite mode ls ≡ ls
   raised-none [] none = refl
-  raised-none (x ∷ ls) none =
-      let parts = or_parts (is_own t suite x) (has_lock t suite ls) none in
-      λ i. raised_other x parts.0 i ∷ raised-none ls parts.1 i
+  raised-none (x ∷ ls) none = search (or_parts, raised_other, raised-none ls, arith)
 
   pub raised-at : (ls : List Lock) (n : ℕ) (d : Lock) → rise ls ≡ true → n ≡ count_by (λ lock. stands_before t suite lock) ls → n < length ls → set ls n (raised_lock t suite mode (get_or ls n d)) ≡ raised t suite mode ls
   raised-at [] n d up is within = absurd (omega arith)

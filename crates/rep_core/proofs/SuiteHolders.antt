@@ -1,7 +1,7 @@
 -- Who holds locks on a suite, whom a search finds first, and what that tells of a lock in the way.
-use Rattle.rep_core.proofs.Vocabulary.{◌≡◌, ℕ, ◌+◌, ◌^◌, ◌≤◌, ◌<◌, Bool, true, false, cond, inl, inr, List, [], ◌∷◌, Option, Some, None, is_some, refl, sym, ap, subst, ◌∙◌, arith, Less, Equal, Greater, ◌==◌, ◌&&◌, ◌||◌, filter, find}
-use Rattle.rep_core.proofs.Vocabulary.{option_map, AllByRecursion, IsTotalOrder, then_total, on_total, nat_cmp, ordering_then, is_eq, is_lt, is_at, keys_of, and_parts, false≢true, nat_tests, nat_cmp_total, same_Some, IsOrdered, get}
-use Rattle.rep_core.proofs.Vocabulary.{first_from, by_answer, LockMode, is_exclusive, Lock, Part, IsAlone, is_own, lock_at, conflicts, in_the_way, has_lock, locked, with_prepared, if_conflict}
+use Rattle.rep_core.proofs.Vocabulary.{◌≡◌, ℕ, ◌+◌, ◌^◌, ◌≤◌, ◌<◌, Bool, true, false, cond, inl, inr, List, [], ◌∷◌, Option, Some, None, is_some, refl, sym, ap, subst, ◌∙◌, arith, Less, Equal, ◌==◌, ◌&&◌, ◌||◌, filter, find, option_map}
+use Rattle.rep_core.proofs.Vocabulary.{AllByRecursion, IsTotalOrder, then_total, on_total, nat_cmp, ordering_then, is_lt, is_at, keys_of, and_parts, false≢true, nat_tests, nat_cmp_total, same_Some, IsOrdered, get, first_from, LockMode, is_exclusive}
+use Rattle.rep_core.proofs.Vocabulary.{Lock, Part, IsAlone, is_own, lock_at, conflicts, in_the_way, has_lock, locked, with_prepared, if_conflict}
 use Rattle.std.specs.List.Sorted.{IsStrictlySortedBy}
 use Rattle.rep_core.specs.code.Holders.{AreNumbered, Holder, holder_cmp, AreHeld, is_other, other_in}
 use Rattle.rep_core.proofs.Members.{Has, has_from, contains_from, has_filter, find_none}
@@ -14,35 +14,12 @@ use Rattle.rep_core.proofs.Least.{least, same_lock}
 pub holder_total : IsTotalOrder holder_cmp
 holder_total = then_total (on_total (λ (k : ℕ × ℕ). k.0) nat_cmp_total) (on_total (λ (k : ℕ × ℕ). k.1) nat_cmp_total)
 
-suite_less : (s z : ℕ) → nat_cmp s z ≡ Less → (z == s) ≡ false
-suite_less s z is = grind (arith, nat_tests)
-
-suite_same : (s z : ℕ) → nat_cmp s z ≡ Equal → (z == s) ≡ true
-suite_same s z is = grind (arith, nat_tests)
-
-suite_more : (s z : ℕ) → nat_cmp s z ≡ Greater → (z == s) ≡ false
-suite_more s z is = grind (arith, nat_tests)
-
 same_nat : (a b : ℕ) → (a == b) ≡ true → a ≡ b
 same_nat a b is = grind (arith, nat_tests)
 
-is_eq_nat : (t u : ℕ) → is_eq (nat_cmp t u) ≡ (u == t)
-is_eq_nat t u = by_answer (nat_cmp t u) (λ e. ap is_eq e ∙ sym (suite_less t u e)) (λ e. ap is_eq e ∙ sym (suite_same t u e)) (λ e. ap is_eq e ∙ sym (suite_more t u e))
-
-and_true : (b : Bool) → (b && true) ≡ b
-and_true true = refl
-and_true false = refl
-
-and_false : (b : Bool) → (b && false) ≡ false
-and_false true = refl
-and_false false = refl
-
 -- two keys are the same where both their parts are
 pub key_is : (s t z u : ℕ) → is_at (holder_cmp (s, t)) (z, u) ≡ ((u == t) && (z == s))
-key_is s t z u = by_answer (nat_cmp s z)
-    (λ e. ap (λ a. is_eq (ordering_then a (nat_cmp t u))) e ∙ sym (ap (λ b. (u == t) && b) (suite_less s z e) ∙ and_false (u == t)))
-    (λ e. ap (λ a. is_eq (ordering_then a (nat_cmp t u))) e ∙ is_eq_nat t u ∙ sym (ap (λ b. (u == t) && b) (suite_same s z e) ∙ and_true (u == t)))
-    (λ e. ap (λ a. is_eq (ordering_then a (nat_cmp t u))) e ∙ sym (ap (λ b. (u == t) && b) (suite_more s z e) ∙ and_false (u == t)))
+key_is s t z u = search arith
 
 -- ---- locks that stand alone
 
@@ -66,14 +43,7 @@ still_alone_prepared t parts ls alone = alone_contained _ (alone_prepared t part
 -- one that is listed is found
 pub has_get : (hs : List Holder) (e : Holder) → Has hs e → is_some (get holder_cmp hs (e.0.0, e.0.1)) ≡ true
 has_get [] e has = absurd has
-has_get (d ∷ hs) e has =
-    elim has [
-      | inl same ↦ ap (λ (x : Holder). is_some (get holder_cmp (d ∷ hs) (x.0.0, x.0.1))) (sym same) ∙ ap (λ b. is_some (cond b (Some d.1) (get holder_cmp hs (d.0.0, d.0.1)))) (key_is d.0.0 d.0.1 d.0.0 d.0.1 ∙ itself d.0.0 d.0.1)
-      | inr later ↦ elim (is_at (holder_cmp (e.0.0, e.0.1)) d.0) as (λ b. is_some (cond b (Some d.1) (get holder_cmp hs (e.0.0, e.0.1))) ≡ true) [ true ↦ refl | false ↦ has_get hs e later ]
-    ]
-  where
-    itself : (s t : ℕ) → ((t == t) && (s == s)) ≡ true
-    itself s t = grind (arith, nat_tests)
+has_get (d ∷ hs) e has = search (key_is, nat_tests, has_get hs e, arith)
 
 passes_other : (t s u : ℕ) (d : Holder) → (u == t) ≡ false → ((d.0.1 == u) && (d.0.0 == s)) ≡ true → is_other t s d ≡ true
 passes_other t s u d apart same = grind (arith, nat_tests)
@@ -81,28 +51,12 @@ passes_other t s u d apart same = grind (arith, nat_tests)
 -- where no other is found, no other holds the suite
 pub none_other : (t s : ℕ) (hs : List Holder) → find (is_other t s) hs ≡ None → (u : ℕ) → (u == t) ≡ false → is_some (get holder_cmp hs (s, u)) ≡ false
 none_other t s [] none u apart = refl
-none_other t s (d ∷ hs) none u apart =
-    let ahead = none_ahead (is_other t s) d hs none in
-    ap (λ b. is_some (cond b (Some d.1) (get holder_cmp hs (s, u)))) (key_is s u d.0.0 d.0.1)
-    ∙ elim ((d.0.1 == u) && (d.0.0 == s)) as (λ b. ((d.0.1 == u) && (d.0.0 == s)) ≡ b → is_some (cond b (Some d.1) (get holder_cmp hs (s, u))) ≡ false) [
-      | true ↦ λ e. absurd (false≢true (sym ahead.0 ∙ passes_other t s u d apart e))
-      | false ↦ λ _. none_other t s hs ahead.1 u apart
-    ] refl
+none_other t s (d ∷ hs) none u apart = search (none_ahead, key_is, false≢true, passes_other, none_other t s hs, arith)
 
 -- those that follow are greater
 behind_first : (a : ℕ × ℕ) (hs : List Holder) (z u : ℕ) → AllByRecursion (λ b. holder_cmp a b ≡ Less) (keys_of hs) → is_some (get holder_cmp hs (z, u)) ≡ true → holder_cmp a (z, u) ≡ Less
 behind_first a [] z u all is = absurd (false≢true is)
-behind_first a (d ∷ hs) z u all is =
-    elim (is_at (holder_cmp (z, u)) d.0) as (λ b. is_at (holder_cmp (z, u)) d.0 ≡ b → is_some (cond b (Some d.1) (get holder_cmp hs (z, u))) ≡ true → holder_cmp a (z, u) ≡ Less) [
-      | true ↦ λ at _. let both = and_parts (d.0.1 == u) (d.0.0 == z) (sym (key_is z u d.0.0 d.0.1) ∙ at) in at_key d.0.0 d.0.1 both.1 both.0 all.0
-      | false ↦ λ _ later. behind_first a hs z u all.1 later
-    ] refl is
-  where
-    at_key : (s t : ℕ) → (s == z) ≡ true → (t == u) ≡ true → holder_cmp a (s, t) ≡ Less → holder_cmp a (z, u) ≡ Less
-    at_key s t e f less =
-        let x = same_nat s z e in
-        let y = same_nat t u f in
-        (λ i. holder_cmp a (sym x i, sym y i)) ∙ less
+behind_first a (d ∷ hs) z u all is = search (and_parts, key_is, same_nat, behind_first a hs z u, arith)
 
 no_more : (a b : ℕ) → nat_cmp a b ≡ Less → a ≤ b
 no_more a b is = grind (arith, nat_tests)
@@ -142,22 +96,11 @@ least_other t s (d ∷ hs) e ordered is u apart has =
 
 none_found : (p : Lock → Bool) (ls : List Lock) → ((l : Lock) → Has ls l → p l ≡ true → ⊥) → find p ls ≡ None
 none_found p [] misses = refl
-none_found p (l ∷ ls) misses =
-    elim (p l) as (λ b. p l ≡ b → cond b (Some l) (find p ls) ≡ None) [
-      | true ↦ λ is. absurd (misses l (inl refl) is)
-      | false ↦ λ _. none_found p ls (λ x has is. misses x (inr has) is)
-    ] refl
+none_found p (l ∷ ls) misses = search (none_found p ls, arith)
 
 has_own : (ls : List Lock) (l : Lock) → Has ls l → has_lock l.t l.suite ls ≡ true
 has_own [] l has = absurd has
-has_own (x ∷ ls) l has =
-    elim has [
-      | inl same ↦ ap (λ (y : Lock). has_lock y.t y.suite (x ∷ ls)) (sym same) ∙ ap (λ b. b || has_lock x.t x.suite ls) (itself x)
-      | inr later ↦ elim (is_own l.t l.suite x) as (λ b. (b || has_lock l.t l.suite ls) ≡ true) [ true ↦ refl | false ↦ has_own ls l later ]
-    ]
-  where
-    itself : (x : Lock) → is_own x.t x.suite x ≡ true
-    itself x = grind (arith, nat_tests)
+has_own (x ∷ ls) l has = search (nat_tests, has_own ls l, arith)
 
 record Conflict (t s : ℕ) (m : LockMode) (l : Lock) : Type 0 where
   suite : l.suite ≡ s
@@ -181,9 +124,7 @@ module _ (ls : List Lock) (hs : List Holder) (held : AreHeld ls hs) (t s : ℕ) 
       sym (held.same e.0.1 s) ∙ ap (λ z. is_some (get holder_cmp hs (z, e.0.1))) (sym on) ∙ has_get hs e is.0
 
   pub way_none : find (is_other t s) hs ≡ None → in_the_way t s m ls ≡ None
-  way_none none = none_found (conflicts t s m) ls (λ l has is.
-      let c = conflict t s m l is in
-      false≢true (sym (none_other t s hs none l.t c.other) ∙ holds l has c.suite))
+  way_none none = search (none_found, conflict, false≢true, none_other, holds, arith)
 
   pub way_some : (e : Holder) (g : Lock) → find (is_other t s) hs ≡ Some e → Has ls g → g.t ≡ e.0.1 → g.suite ≡ s → in_the_way t s m ls ≡ cond (conflicts t s m g) (Some g) None
   way_some e g first has it on = by (conflicts t s m g) refl
@@ -192,10 +133,7 @@ module _ (ls : List Lock) (hs : List Holder) (held : AreHeld ls hs) (t s : ℕ) 
       apart = ap (λ n. n == t) it ∙ (on_suite t s e (find_some (is_other t s) hs e first).1).1
 
       low : (l : Lock) → Has ls l → conflicts t s m l ≡ true → g.t ≤ l.t
-      low l has is =
-          let c = conflict t s m l is in
-          let no_less : e.0.1 ≤ l.t = least_other t s hs e held.ordered first l.t c.other (holds l has c.suite) in
-          omega (arith, no_less, it)
+      low l has is = search (conflict, least_other, holds, arith)
 
       first_is : (o : Option Lock) → in_the_way t s m ls ≡ o → conflicts t s m g ≡ true → o ≡ Some g
       first_is None is strong = absurd (false≢true (sym (find_none (conflicts t s m) ls g is has) ∙ strong))
@@ -207,33 +145,19 @@ module _ (ls : List Lock) (hs : List Holder) (held : AreHeld ls hs) (t s : ℕ) 
           ap Some (same_lock ls l g held.rising f.0 has t_same ((conflict t s m l f.1).suite ∙ sym on))
 
       by : (b : Bool) → conflicts t s m g ≡ b → in_the_way t s m ls ≡ cond b (Some g) None
-      by true strong = first_is (in_the_way t s m ls) refl strong
-      by false free = none_found (conflicts t s m) ls (λ l there is.
-          let c = conflict t s m l is in
-          let exclusive = conflicts_like t s m l g free on apart is in
-          let t_same = alone_had ls held.alone l g there has (c.suite ∙ sym on) exclusive in
-          let same = same_lock ls l g held.rising there has t_same (c.suite ∙ sym on) in
-          false≢true (sym free ∙ ap (conflicts t s m) (sym same) ∙ is))
+      by b h1 = search (first_is, none_found, conflict, conflicts_like, apart, alone_had, same_lock, false≢true, arith)
 
 -- ---- what the holders tell of a conflict
 
 module _ (ls : List Lock) (hs : List Holder) (held : AreHeld ls hs) (t s : ℕ) (m : LockMode) where
   pub way_untold : option_map (λ (h : Holder). h.0.1) (find (is_other t s) hs) ≡ None → None ≡ in_the_way t s m ls
-  way_untold none = by (find (is_other t s) hs) refl none
-    where
-      by : (o : Option Holder) → find (is_other t s) hs ≡ o → option_map (λ (h : Holder). h.0.1) o ≡ None → None ≡ in_the_way t s m ls
-      by None is _ = sym (way_none ls hs held t s m is)
-      by (Some e) is none = absurd cc
+  way_untold none = search (way_none, arith)
 
   pub way_told : (u : ℕ) → option_map (λ (h : Holder). h.0.1) (find (is_other t s) hs) ≡ Some u → if_conflict t s m (lock_at u s ls) ≡ in_the_way t s m ls
   way_told u told = by (find (is_other t s) hs) refl told
     where
       at_lock : (e : Holder) → find (is_other t s) hs ≡ Some e → e.0.1 ≡ u → (o : Option Lock) → lock_at u s ls ≡ o → is_some o ≡ true → if_conflict t s m o ≡ in_the_way t s m ls
-      at_lock e first same None is some = absurd (false≢true some)
-      at_lock e first same (Some g) is some =
-          let found = find_some (is_own u s) ls g is in
-          let own = own_is u s g found.1 in
-          sym (way_some ls hs held t s m e g first found.0 (own.0 ∙ sym same) own.1)
+      at_lock e h1 h2 o h4 h5 = search (false≢true, find_some, own_is, way_some, arith)
 
       by : (o : Option Holder) → find (is_other t s) hs ≡ o → option_map (λ (h : Holder). h.0.1) o ≡ Some u → if_conflict t s m (lock_at u s ls) ≡ in_the_way t s m ls
       by None first told = absurd cc
@@ -254,10 +178,7 @@ module _ {V : Type 0} where
       ] refl is
 
 not_below : (s n z u : ℕ) → z ≡ s → is_lt (holder_cmp (z, u) (s, n)) ≡ false → n ≤ u
-not_below s n z u same over = more u n (sym (ap (λ o. is_lt (ordering_then o (nat_cmp u n))) (not_less_itself z s same)) ∙ over)
-  where
-    more : (a b : ℕ) → is_lt (nat_cmp a b) ≡ false → b ≤ a
-    more a b is = grind (arith, nat_tests)
+not_below s n z u same over = search arith
 
 -- nobody stands behind a transaction of the last number
 pub none_last : (t s : ℕ) (hs : List Holder) → AreNumbered hs → 2 ^ 64 ≤ t + 1 → other_in t s (first_from holder_cmp (s, t + 1) hs) ≡ None

@@ -1,13 +1,12 @@
 -- Locks that stand in a vector or in blocks: what a change of the one or the other makes of all.
-use Rattle.rep_core.proofs.Vocabulary.{◌≡◌, true, false, List, [], ◌∷◌, ◌++◌, refl, sym, ap, subst, ◌∙◌, false≢true, Lock, IsAlone, rise, are_none, AreTabled}
+use Rattle.rep_core.proofs.Vocabulary.{◌≡◌, true, false, List, [], ◌∷◌, ◌++◌, refl, sym, ap, subst, ◌∙◌, false≢true, Lock, IsAlone, rise, are_none, AreTabled, arith}
 
 append_none : (xs : List Lock) → xs ++ [] ≡ xs
 append_none [] = refl
 append_none (x ∷ xs) = ap (λ l. x ∷ l) (append_none xs)
 
 pub few_only : (few many : List Lock) → are_none many ≡ true → few ++ many ≡ few
-few_only few [] none = append_none few
-few_only few (l ∷ ls) none = absurd (false≢true none)
+few_only few many h2 = search (append_none, false≢true, arith)
 
 module _ (few many : List Lock) (tabled : AreTabled few many) where
   pub many_only : are_none many ≡ false → few ++ many ≡ many

@@ -1,21 +1,18 @@
 -- Copies that fit their types stay so; and sound copies that fit are valid.
-use Rattle.rep_core.proofs.Vocabulary.{◌≡◌, ℕ, ◌<◌, ◌^◌, lit<, inl, inr, Bool, true, false, cond, List, [], ◌∷◌, Option, Some, None, refl, sym, ap, subst, ◌∙◌, arith, ◌==◌, ◌&&◌, ◌||◌, not, All, IsTrue, unwrap_or, list_any, is_at}
-use Rattle.rep_core.proofs.Vocabulary.{nat_tests, nat_cmp, and_parts, All-nil, All-cons, All-contains, same_Some, none-some, get, Configuration, IsValid, Content, IsName, empty_content, PrefixKind, Absent, Folder, Replica, absent_copy}
-use Rattle.rep_core.proofs.Vocabulary.{AreAcls, NumbersFit, closed_lists, IsCopy, held_by, Opening, is_absent, is_valid_copy, ContentFits, CopyFits, Intention, Part, Take, Request, Lock, Stamped, Store, IsSound, is_sound, is_used_up}
-use Rattle.rep_core.proofs.Vocabulary.{copy_of, copy_in, left_by, is_keep, lists_twice, intended, in_effect, root_copy, opening_store, State, opening, step, after_all, reached, TakeFits, RequestFits, OpeningFits, HasValidCopies}
-use Rattle.rep_core.proofs.Vocabulary.{TellsOfValid, CopiesAreValid, IsConsistent, Exclusive, in_the_way, has_lock, is_answered, given, locking_reply, poll_reply, stands_prepared, can_prepare, reply_up, reply_down, reply_of, finished}
-use Rattle.std.proofs.lemmas.List.Kept.{AllPairs-cons}
+use Rattle.rep_core.proofs.Vocabulary.{◌≡◌, ℕ, ◌<◌, ◌^◌, lit<, inl, inr, Bool, true, false, cond, List, [], ◌∷◌, Option, Some, None, refl, sym, ap, subst, ◌∙◌, arith, ◌==◌, All, nat_tests, nat_cmp, and_parts, All-nil, All-cons, All-contains}
+use Rattle.rep_core.proofs.Vocabulary.{same_Some, none-some, get, Configuration, IsValid, Content, IsName, empty_content, PrefixKind, Replica, absent_copy, AreAcls, NumbersFit, closed_lists, IsCopy, held_by, Opening, is_absent, ContentFits, CopyFits}
+use Rattle.rep_core.proofs.Vocabulary.{Intention, Part, Take, Request, Stamped, Store, IsSound, is_sound, copy_of, left_by, is_keep, lists_twice, intended, in_effect, opening_store, State, opening, step, after_all, reached, TakeFits, RequestFits}
+use Rattle.rep_core.proofs.Vocabulary.{OpeningFits, HasValidCopies, TellsOfValid, CopiesAreValid, IsConsistent, is_answered, given, reply_up, reply_down, reply_of, finished}
 use Rattle.acl_core.specs.declared.entry.Entry.{Entry}
 use Rattle.acl_core.specs.declared.entry.Tag.TheVariants.{UserObj, GroupObj, Other}
 use Rattle.acl_core.specs.Entries.{entry_of}
-use Rattle.acl_core.specs.AccessLists.{IsAcl, IsCanonical}
+use Rattle.acl_core.specs.AccessLists.{IsAcl}
 use Rattle.acl_core.specs.Modes.{minimal_list}
-use Rattle.acl_core.specs.Tags.{precedes, qualifier}
+use Rattle.acl_core.specs.Tags.{qualifier}
 use Rattle.suite_prefix.proofs.TestsExact.{valid_copy_if_passes}
 use Rattle.std.specs.List.Sorted.{IsStrictlySortedBy}
 use Rattle.rep_core.specs.declared.request.Take.TheVariants as take
 use Rattle.rep_core.specs.declared.request.Request.TheVariants as request
-use Rattle.rep_core.specs.declared.reply.Reply.TheVariants as reply
 use Rattle.rep_core.proofs.Reached.{always_consistent}
 use Rattle.rep_core.proofs.Finding.{find_some}
 use Rattle.rep_core.proofs.Members.{Has, contains_from}
@@ -26,38 +23,14 @@ use Rattle.rep_core.proofs.Consistent.{looked, consistent_step, consistent_openi
 
 -- ---- what was never made fits
 
-abbrev stands_ahead : Entry → Entry → Type 0
-stands_ahead a b = IsTrue (precedes a.tag b.tag)
-
 abbrev of_group : Entry
 of_group = entry_of GroupObj 0
 
 abbrev of_others : Entry
 of_others = entry_of Other 0
 
-closed_canonical : IsCanonical (minimal_list 0)
-closed_canonical =
-    AllPairs-cons stands_ahead (entry_of UserObj 0) (of_group ∷ of_others ∷ [])
-    (All-cons (stands_ahead (entry_of UserObj 0)) of_group (of_others ∷ []) refl (All-cons (stands_ahead (entry_of UserObj 0)) of_others [] refl (All-nil (stands_ahead (entry_of UserObj 0)))))
-    (AllPairs-cons stands_ahead of_group (of_others ∷ []) (All-cons (stands_ahead of_group) of_others [] refl (All-nil (stands_ahead of_group)))
-    (AllPairs-cons stands_ahead of_others [] (All-nil (stands_ahead of_others)) (λ i j d below within. absurd (omega arith))))
-
 closed_acl : IsAcl (minimal_list 0)
-closed_acl = record {
-  accepted = record {
-    valid = record {
-      one_user_obj = refl;
-      one_group_obj = refl;
-      one_other = refl;
-      one_mask_at_most = omega arith;
-      mask_if_named = λ named. absurd cc;
-      users_apart = λ user. omega arith;
-      groups_apart = λ group. omega arith;
-    };
-    few = omega arith;
-  };
-  canonical = closed_canonical;
-}
+closed_acl = search arith
 
 -- its entries name nobody
 abbrev small : Entry → Type 0
@@ -72,26 +45,15 @@ closed_acls = record { access = closed_acl; default = tt }
 pub nobody : NumbersFit closed_lists
 nobody = record { access = names_nobody; default = All-nil small }
 
-abbrev is_byte : ℕ → Type 0
-is_byte byte = byte < 256
-
-abbrev is_small : List ℕ × ℕ → Type 0
-is_small entry = entry.1 < 2 ^ 64
-
 abbrev is_named : List ℕ × ℕ → Type 0
 is_named entry = IsName entry.0
 
 pub absent_fits : (c0 : Configuration) → IsValid c0 → c0.r < 2 ^ 16 → c0.w < 2 ^ 16 → CopyFits (absent_copy c0)
-absent_fits c0 valid r w = record {
-  prefix = record { acl = closed_acls; votes = valid; pver = lit< tt; owner = lit< tt; group = lit< tt; qualifiers = nobody; r = r; w = w };
-  dver = lit< tt;
-  content = All-nil is_byte;
-}
+absent_fits c0 valid r w = search arith
 
 empty_fits : (kind : PrefixKind) → ContentFits (empty_content (held_by kind))
 unfolding IsStrictlySortedBy
-empty_fits Folder = record { rising = tt; are_names = All-nil is_named; suites_fit = All-nil is_small }
-empty_fits _ = All-nil is_byte
+empty_fits kind = search arith
 
 -- ---- what holds of each copy, and of what each intention leaves of it
 
@@ -118,9 +80,7 @@ module _ (P : Replica → Type 0) where
           ] was
 
   each_effect : (store : Store) (decided : ℕ → Bool) (suite : ℕ) (o : Option Intention) → Each store → get nat_cmp store.intentions suite ≡ o → P (in_effect o decided (copy_of store suite))
-  each_effect store decided suite None each is = each.0 suite
-  each_effect store decided suite (Some intention) each is =
-      elim (decided intention.t) as (λ b. P (cond b (left_by intention.take (copy_of store suite)) (copy_of store suite))) [ true ↦ each.1 suite intention is | false ↦ each.0 suite ]
+  each_effect store decided suite o h4 h5 = search arith
 
   each_finished : (store : Store) (t : ℕ) (answered : Bool) → IsSound store → Each store → Each (finished t answered store)
   each_finished store t false sound each = (each.0, λ suite intention has. each.1 suite intention (get-without t store.intentions suite intention sound.rising has).0)
@@ -138,13 +98,10 @@ module _ (P : Replica → Type 0) where
 -- ---- a take that fits leaves what fits
 
 kept_fits : (kind next : PrefixKind) (content : Content) → ContentFits content → ContentFits (cond (is_absent kind) (empty_content (held_by next)) content)
-kept_fits Absent next content fits = empty_fits next
-kept_fits _ next content fits = fits
+kept_fits kind next content h3 = search (empty_fits, arith)
 
 pub left_fits : (what : Take) (copy : Replica) → TakeFits what → CopyFits copy → CopyFits (left_by what copy)
-left_fits take.Keep copy takes fits = fits
-left_fits (take.Prefix prefix) copy takes fits = record { prefix = takes; dver = fits.dver; content = kept_fits copy.prefix.kind prefix.kind copy.content fits.content }
-left_fits (take.Whole replica) copy takes fits = takes
+left_fits what copy h2 h3 = search (kept_fits, arith)
 
 all_has : {X : Type 0} (P : X → Type 0) (xs : List X) → All P xs → (x : X) → Has xs x → P x
 all_has P xs all x there = All-contains P xs x all (contains_from xs x there)
@@ -170,55 +127,28 @@ fit_step st asked is fit fits = by_step st (λ request new. RequestFits request 
 
 pub fit_opening : (index : ℕ) (given : Opening) → OpeningFits given → Each CopyFits (opening_store index given)
 unfolding IsStrictlySortedBy
-fit_opening index given fits = let copies : Bool → List (ℕ × Replica) = λ b. cond b ((0, root_copy given) ∷ []) [] in (
-  λ suite. elim (list_any (λ rep. rep.0 == index) given.c0.reps) as (λ b. CopyFits (copy_in given.c0 (copies b) suite)) [
-    | true ↦ elim (is_at (nat_cmp suite) 0) as (λ b. CopyFits (unwrap_or (cond b (Some (root_copy given)) None) (absent_copy given.c0))) [ true ↦ root | false ↦ absent ]
-    | false ↦ absent
-  ],
-  λ suite intention has. absurd (none-some intention has),
-)
-  where
-    root : CopyFits (root_copy given)
-    root = record { prefix = fits.root; dver = lit< tt; content = empty_fits Folder }
-
-    absent : CopyFits (absent_copy given.c0)
-    absent = absent_fits given.c0 fits.root.votes fits.root.r fits.root.w
+fit_opening index given fits = search (none-some, empty_fits, absent_fits, arith)
 
 -- ---- a sound copy that fits is valid
 
 pub sound_valid : (copy : Replica) → is_sound copy ≡ true → CopyFits copy → IsCopy copy
-sound_valid copy sound fits =
-    let ends = and_parts (is_valid_copy copy && not (is_used_up copy.prefix.pver)) (not (is_used_up copy.dver)) sound in
-    valid_copy_if_passes copy fits (and_parts (is_valid_copy copy) (not (is_used_up copy.prefix.pver)) ends.0).0
+sound_valid copy sound fits = search (and_parts, valid_copy_if_passes, arith)
 
 both : (store : Store) → IsSound store → Each CopyFits store → Each IsCopy store
-both store sound fit = (
-  λ suite. sound_valid (copy_of store suite) (sound.copies suite) (fit.0 suite),
-  λ suite intention has. sound_valid (left_by intention.take (copy_of store suite)) (sound.intentions suite intention has) (fit.1 suite intention has),
-)
+both store sound fit = search (sound_valid, arith)
 
 pub valid_copies : (store : Store) → IsSound store → Each CopyFits store → HasValidCopies store
-valid_copies store sound fit =
-    let each = both store sound fit in
-    record { stored = each.0; in_effect = λ decided suite. each_effect IsCopy store decided suite (get nat_cmp store.intentions suite) each refl }
+valid_copies store sound fit = search (both, each_effect, arith)
 
 -- ---- what is told
 
 module _ (st : State) (valid : (suite : ℕ) → IsCopy (copy_of st.store suite)) where
-  locking_tells : (o : Option Lock) (suite : ℕ) → TellsOfValid (locking_reply o (copy_of st.store suite))
-  locking_tells (Some other) suite = tt
-  locking_tells None suite = (copy_of st.store suite, valid suite, refl, refl)
 
   tells_up : (asked : Request) → TellsOfValid (reply_up st asked)
-  tells_up (request.Poll t suite mode) = locking_tells (in_the_way t suite mode st.locks) suite
-  tells_up (request.Upgrade t suite) = elim (has_lock t suite st.locks) as (λ b. TellsOfValid (cond b (poll_reply st t suite Exclusive) reply.Lost)) [ true ↦ locking_tells (in_the_way t suite Exclusive st.locks) suite | false ↦ tt ]
-  tells_up (request.Fetch t suite) = elim (has_lock t suite st.locks) as (λ b. TellsOfValid (cond b (given (copy_of st.store suite)) reply.Lost)) [ true ↦ (copy_of st.store suite, valid suite, refl, refl) | false ↦ tt ]
-  tells_up (request.Prepare t parts) = elim (stands_prepared st t parts || can_prepare st t parts) as (λ b. TellsOfValid (cond b reply.Prepared reply.Lost)) [ true ↦ tt | false ↦ tt ]
-  tells_up _ = tt
+  tells_up asked = search arith
 
   tells_down : (asked : Request) → TellsOfValid (reply_down asked)
-  tells_down (request.Poll t suite mode) = tt
-  tells_down _ = tt
+  tells_down asked = search arith
 
   pub tells_of_valid : (asked : Request) → TellsOfValid (reply_of st asked)
   tells_of_valid asked = elim (st.up) as (λ b. TellsOfValid (cond b (reply_up st asked) (reply_down asked))) [ true ↦ tells_up asked | false ↦ tells_down asked ]

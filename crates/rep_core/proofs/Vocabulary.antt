@@ -1,8 +1,8 @@
 -- The names that the proofs of this crate take from elsewhere, each with one meaning here.
-pub use Rattle.std.proofs.Common.{All, Bool, Bor, Contains, Equal, Greater, IfOk, IfSome, IsSome, IsTrue, Less, List, None, Option, Some, [], add-one, ap, append-nil, arith, cond, count_by, drop, eqb, false, filter, find, get_or}
-pub use Rattle.std.proofs.Common.{if◌then◌else◌, inl, inr, is_some, length, length-append, lit<, map, min, nat_lt, not, option_map, refl, rules, set, subst, suc, sym, take, tests, true, zero, ℕ, ⊎_elim, ◌&&◌, ◌++◌, ◌+◌, ◌-◌, ◌<◌, ◌==◌, ◌^◌}
-pub use Rattle.std.proofs.Common.{◌||◌, ◌∙◌, ◌∷◌, ◌≡◌, ◌≢◌, ◌≤◌, ◌⊎◌}
-pub use Rattle.std.proofs.lemmas.Bool.{and_from, and_parts, cases_Bool, cond-false, cond-true, eq-eqb, eqb-true, false≢true, ne_eqb, or_parts, true≢false}
+pub use Rattle.std.proofs.Common.{All, Bool, Bor, Contains, Equal, Greater, IfOk, IfSome, IsSome, IsTrue, Less, List, None, Option, Some, [], add-one, ap, append-nil, arith, cond, count_by, drop, eqb, false, filter, find, get_or, if◌then◌else◌, inl}
+pub use Rattle.std.proofs.Common.{inr, is_some, length, length-append, lit<, map, min, nat_lt, not, option_map, refl, rules, set, subst, suc, sym, take, tests, true, zero, ℕ, ⊎_elim, ◌&&◌, ◌++◌, ◌+◌, ◌-◌, ◌<◌, ◌==◌, ◌^◌, ◌||◌, ◌∙◌, ◌∷◌, ◌≡◌, ◌≢◌}
+pub use Rattle.std.proofs.Common.{◌≤◌, ◌⊎◌}
+pub use Rattle.std.proofs.lemmas.Bool.{and_from, and_parts, cases_Bool, cond-false, cond-true, false≢true, ne_eqb, or_parts, true≢false}
 pub use Rattle.std.proofs.lemmas.Bool.Decides.{eqb_tells, nat_tests}
 pub use Rattle.std.proofs.lemmas.Cmp.{nat_cmp_total}
 pub use Rattle.std.proofs.lemmas.Fn.{filter_same}
@@ -37,30 +37,30 @@ pub use Rattle.suite_prefix.specs.Copies.{IsCopy, PrefixFits, held_by}
 pub use Rattle.suite_prefix.specs.LockModes.{is_exclusive, serves, stronger}
 pub use Rattle.suite_prefix.specs.SettingsRules.{Opening}
 pub use Rattle.suite_prefix.specs.Stored.{Kept}
-pub use Rattle.suite_prefix.specs.Tests.{holds, is_absent, is_empty, is_valid_copy, is_valid_prefix, is_within_limits}
+pub use Rattle.suite_prefix.specs.Tests.{holds, is_absent, is_empty, is_valid_prefix, is_within_limits}
 pub use Rattle.suite_prefix.specs.TestsExact.{ContentFits, CopyFits}
 pub use Rattle.suite_prefix.specs.TwoLists.{AreAcls, NumbersFit, closed_lists}
 pub use Rattle.suite_prefix.specs.declared.copies.Prefix.{Prefix}
 pub use Rattle.suite_prefix.specs.declared.copies.PrefixKind.{PrefixKind}
-pub use Rattle.suite_prefix.specs.declared.copies.PrefixKind.TheVariants.{Absent, File, Folder}
+pub use Rattle.suite_prefix.specs.declared.copies.PrefixKind.TheVariants.{Folder}
 pub use Rattle.suite_prefix.specs.declared.copies.Replica.{Replica}
 pub use Rattle.suite_prefix.specs.declared.forms.Form.{Form}
 pub use Rattle.suite_prefix.specs.declared.lock_mode.LockMode.{LockMode}
-pub use Rattle.suite_prefix.specs.declared.lock_mode.LockMode.TheVariants.{Exclusive, Shared}
+pub use Rattle.suite_prefix.specs.declared.lock_mode.LockMode.TheVariants.{Exclusive}
 pub use Rattle.vote_core.specs.Quorums.{Configuration, Representative}
 pub use Rattle.vote_core.specs.Validity.{IsValid}
 pub use Rattle.rep_core.specs.Again.{AgainAtOnce, AgainLater, StaysLater, StaysSo, is_poll, is_taking, later_on, sent, served_by}
 pub use Rattle.rep_core.specs.Consistency.{HasPreparedLock, IntentionsLocked, IsAlone, IsConsistent}
 pub use Rattle.rep_core.specs.Intentions.{Intention}
-pub use Rattle.rep_core.specs.Laws.{BusyNamesTheLeast, ConsistencyIsKept, ExclusiveStandsAlone, IntentionsHaveLocks, IsLeastHolder, LocksRise, PreparedStands, SomeServerStands, StillPrepared, StoresAreSound, SuitesAreFew}
-pub use Rattle.rep_core.specs.Laws.{VerdictsAreWrittenOnce, after_all, asks_record, finished_by, is_finish, reached, stands_against}
+pub use Rattle.rep_core.specs.Laws.{BusyNamesTheLeast, ConsistencyIsKept, ExclusiveStandsAlone, IntentionsHaveLocks, IsLeastHolder, LocksRise, PreparedStands, SomeServerStands, StillPrepared, StoresAreSound, SuitesAreFew, VerdictsAreWrittenOnce}
+pub use Rattle.rep_core.specs.Laws.{after_all, asks_record, finished_by, is_finish, reached, stands_against}
 pub use Rattle.rep_core.specs.Locks.{before, broken, conflicts, has_lock, has_lock_for, has_prepared, in_the_way, is_own, lock_at, locked, prepared_lock, prepared_locks, raised, raised_lock, released, rise, with_lock, with_prepared}
-pub use Rattle.rep_core.specs.Service.{after, after_crash, after_down, after_finish, after_locking, after_poll, after_prepare, after_record, after_up, after_upgrade, audit_of, can_prepare, fetch_reply, given, held, is_answered}
-pub use Rattle.rep_core.specs.Service.{locking_reply, poll_reply, prepare_reply, prepares, recorded, reply_down, reply_of, reply_up, stands_prepared, upgrade_reply, verdict_of, with_item}
+pub use Rattle.rep_core.specs.Service.{after, after_crash, after_down, after_finish, after_locking, after_poll, after_record, after_up, audit_of, can_prepare, given, is_answered, locking_reply, poll_reply, prepares, recorded, reply_down, reply_of}
+pub use Rattle.rep_core.specs.Service.{reply_up, stands_prepared, verdict_of, with_item}
 pub use Rattle.rep_core.specs.Serving.{asks_too_much, is_full, served, step}
 pub use Rattle.rep_core.specs.State.{State, opening, record_of}
-pub use Rattle.rep_core.specs.Store.{FinishKeepsEffect, IsSound, Store, copy_in, copy_of, finished, goes_with, has_copy, holds_last, in_effect, intended, is_keep, is_sound, is_sound_part, is_used_up, left_by, lists_twice, max_suites}
-pub use Rattle.rep_core.specs.Store.{may_become, opening_store, overfills, root_copy, suites_with, with_copies, with_form, with_forms, with_intention, with_intentions, with_prefix, with_taken, without_intentions}
+pub use Rattle.rep_core.specs.Store.{FinishKeepsEffect, IsSound, Store, copy_in, copy_of, finished, goes_with, has_copy, holds_last, in_effect, intended, is_keep, is_sound, is_sound_part, is_used_up, left_by, lists_twice, max_suites, opening_store}
+pub use Rattle.rep_core.specs.Store.{overfills, root_copy, suites_with, with_copies, with_form, with_forms, with_intention, with_intentions, with_prefix, with_taken, without_intentions}
 pub use Rattle.rep_core.specs.ValidCopies.{CopiesAreValid, HasValidCopies, OpeningFits, RequestFits, SomeCopyIsChanged, TakeFits, TellsOfValid}
 pub use Rattle.rep_core.specs.code.ByAgent.{IsByAgent, agent_of, merged, pairs_at, with_pairs}
 pub use Rattle.rep_core.specs.code.Equality.{same_locks_decides, same_verdict_decides}

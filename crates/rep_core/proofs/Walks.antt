@@ -1,6 +1,6 @@
 -- What a walk from one pair to the next sees of a map.
-use Rattle.rep_core.proofs.Vocabulary.{◌≡◌, ℕ, zero, suc, ◌+◌, ◌<◌, ◌≤◌, List, [], ◌∷◌, Some, None, true, false, refl, sym, ◌∙◌, ap, ⊎_elim, arith, Less, nat_cmp, is_eq, is_lt, is_at, cases_Bool, cond-true, cond-false, nat_tests}
-use Rattle.rep_core.proofs.Vocabulary.{lookup_head, lookup_tail, sorted_head, sorted_tail, none-some, same_Some, IsOrdered, get, keys_of, same_maps, first_from}
+use Rattle.rep_core.proofs.Vocabulary.{◌≡◌, ℕ, zero, suc, ◌+◌, ◌<◌, ◌≤◌, List, [], ◌∷◌, Some, None, true, false, refl, sym, ◌∙◌, ap, arith, Less, nat_cmp, is_eq, is_lt, is_at, cases_Bool, cond-true, cond-false, nat_tests, lookup_head, lookup_tail}
+use Rattle.rep_core.proofs.Vocabulary.{sorted_head, sorted_tail, none-some, same_Some, IsOrdered, get, keys_of, same_maps, first_from}
 
 is_below : (a b : ℕ) → is_lt (nat_cmp a b) ≡ true → a < b
 is_below a b is = grind (arith, nat_tests, is)
@@ -28,11 +28,7 @@ either (suc i) (suc n) l r = either i n (λ h. l (omega arith)) (λ h. r (omega 
 module _ {V : Type 0} where
   pub none_from : (pairs : List (ℕ × V)) (from q : ℕ) → first_from nat_cmp from pairs ≡ None → from ≤ q → get nat_cmp pairs q ≡ None
   none_from [] from q none least = refl
-  none_from (e ∷ es) from q none least = ⊎_elim
-      (λ below. lookup_tail (is_at (nat_cmp q)) e es (is_apart_above q e.0 (omega (arith, least, is_below e.0 from below)))
-      ∙ none_from es from q (sym (cond-true (is_lt (nat_cmp e.0 from)) (first_from nat_cmp from es) (Some e) below) ∙ none) least)
-      (λ above. absurd (none-some e (sym none ∙ cond-false (is_lt (nat_cmp e.0 from)) (first_from nat_cmp from es) (Some e) above)))
-      (cases_Bool (is_lt (nat_cmp e.0 from)))
+  none_from (e ∷ es) from q none least = search (lookup_tail, is_apart_above, is_below, cond-true, none-some, cond-false, cases_Bool, none_from es from q, arith)
 
   -- below the first key there is nothing
   none_before : (e : ℕ × V) (es : List (ℕ × V)) (q : ℕ) → IsOrdered nat_cmp (e ∷ es) → q < e.0 → get nat_cmp (e ∷ es) q ≡ None
@@ -43,22 +39,11 @@ module _ {V : Type 0} where
 
   -- from the key on up to the first pair there, there is that pair alone
   alone_at : (e : ℕ × V) (es : List (ℕ × V)) (q : ℕ) → IsOrdered nat_cmp (e ∷ es) → q ≤ e.0 → get nat_cmp (e ∷ es) q ≡ get nat_cmp (e ∷ []) q
-  alone_at e es q ordered most = ⊎_elim
-      (λ here. lookup_head (is_at (nat_cmp q)) e es here ∙ sym (lookup_head (is_at (nat_cmp q)) e [] here))
-      (λ there.
-      let less = is_less_if_apart q e.0 there most in
-      none_before e es q ordered less ∙ sym (lookup_tail (is_at (nat_cmp q)) e [] there))
-      (cases_Bool (is_eq (nat_cmp q e.0)))
+  alone_at e es q ordered most = search (lookup_head, is_less_if_apart, none_before, lookup_tail, cases_Bool, arith)
 
   pub first_alone : (pairs : List (ℕ × V)) (from q : ℕ) (first : ℕ × V) → IsOrdered nat_cmp pairs → first_from nat_cmp from pairs ≡ Some first → from ≤ q → q ≤ first.0 → get nat_cmp pairs q ≡ get nat_cmp (first ∷ []) q
   first_alone [] from q first ordered is least most = absurd (none-some first is)
-  first_alone (e ∷ es) from q first ordered is least most = ⊎_elim
-      (λ below. lookup_tail (is_at (nat_cmp q)) e es (is_apart_above q e.0 (omega (arith, least, is_below e.0 from below)))
-      ∙ first_alone es from q first (sorted_tail nat_cmp e.0 (keys_of es) ordered) (sym (cond-true (is_lt (nat_cmp e.0 from)) (first_from nat_cmp from es) (Some e) below) ∙ is) least most)
-      (λ above.
-      let same : e ≡ first = same_Some e first (sym (cond-false (is_lt (nat_cmp e.0 from)) (first_from nat_cmp from es) (Some e) above) ∙ is) in
-      alone_at e es q ordered (omega (arith, most, ap (λ x. x.0) same)) ∙ ap (λ x. get nat_cmp (x ∷ []) q) same)
-      (cases_Bool (is_lt (nat_cmp e.0 from)))
+  first_alone (e ∷ es) from q first ordered is least most = grind (lookup_tail, is_apart_above, is_below, sorted_tail, cond-true, same_Some, cond-false, alone_at, cases_Bool, first_alone es from q first, arith)
 
   -- two maps that have the same up to a key, and the same first pair there
   pub same_on : (pairs others : List (ℕ × V)) (from : ℕ) (first : ℕ × V) → IsOrdered nat_cmp pairs → IsOrdered nat_cmp others → ((q : ℕ) → q < from → get nat_cmp pairs q ≡ get nat_cmp others q)
@@ -75,9 +60,4 @@ module _ {V : Type 0} where
 
   pub first_above : (pairs : List (ℕ × V)) (from : ℕ) (first : ℕ × V) → first_from nat_cmp from pairs ≡ Some first → from ≤ first.0
   first_above [] from first is = absurd (none-some first is)
-  first_above (e ∷ es) from first is = ⊎_elim
-      (λ below. first_above es from first (sym (cond-true (is_lt (nat_cmp e.0 from)) (first_from nat_cmp from es) (Some e) below) ∙ is))
-      (λ above.
-      let same : e ≡ first = same_Some e first (sym (cond-false (is_lt (nat_cmp e.0 from)) (first_from nat_cmp from es) (Some e) above) ∙ is) in
-      omega (arith, is_not_below e.0 from above, ap (λ x. x.0) same))
-      (cases_Bool (is_lt (nat_cmp e.0 from)))
+  first_above (e ∷ es) from first is = search (cond-true, same_Some, cond-false, is_not_below, cases_Bool, first_above es from first, arith)

@@ -1,7 +1,7 @@
 -- Cutting off the first line and the first word.
-use Rattle.script_text.proofs.Vocabulary.{◌≡◌, ℕ, zero, suc, ◌+◌, ◌-◌, ◌<◌, ◌≤◌, ◌++◌, Bool, true, cond, eqb, ltb, not, List, [], ◌∷◌, Some, None, length, take, drop, filter, get_or, Option, refl, ◌∙◌, ap, sym, inl, inr, arith}
-use Rattle.script_text.proofs.Vocabulary.{length-append, slice_split, position, position_or_len, before_first, after_first, drop_all, drop_more, take_all, take-append-drop, length-drop, length-take-le, slice_split-cons_yes}
-use Rattle.script_text.proofs.Vocabulary.{slice_split_first, slice_split_none, length-slice_split, cases_Bool, both_ways, false_from_ne_true, le-ltb, ltb-true, ltb-false, lt-ltb, eq-eqb, ne_eqb, words, is_blank, BeginsWithWord}
+use Rattle.script_text.proofs.Vocabulary.{◌≡◌, ℕ, zero, suc, ◌+◌, ◌-◌, ◌<◌, ◌≤◌, ◌++◌, Bool, true, cond, eqb, ltb, not, List, [], ◌∷◌, Some, None, length, take, drop, filter, get_or, Option, refl, ◌∙◌, ap, sym, arith, length-append, slice_split}
+use Rattle.script_text.proofs.Vocabulary.{position, position_or_len, drop_all, drop_more, take_all, take-append-drop, length-drop, length-take-le, slice_split-cons_yes, slice_split_first, slice_split_none, length-slice_split, cases_Bool, both_ways}
+use Rattle.script_text.proofs.Vocabulary.{false_from_ne_true, le-ltb, lt-ltb, eq-eqb, ne_eqb, words, is_blank, BeginsWithWord}
 use Rattle.std.specs.Str.Lines.{lines, lines_of_parts, strip_carriage_return}
 use Rattle.std.proofs.lemmas.List.Folds.{prefix_len-append}
 use Rattle.std.proofs.lemmas.List.Sums.{fails_before_first, passes_at_first, position_or_len_is, prefix_len-le-length}
@@ -10,26 +10,11 @@ use Rattle.memchr.specs.Find.{IsFirstByte}
 
 -- a place that is found is the first, and in the list
 pub found_at : {X : Type 0} (p : X → Bool) (xs : List X) (i : ℕ) → Some i ≡ position p xs → (position_or_len p xs ≡ i) × (i < length xs)
-found_at p xs i h =
-    elim (cases_Bool (ltb (position_or_len p xs) (length xs))) [
-      | inl inside ↦
-          let some : Some i ≡ Some (position_or_len p xs) = h ∙ ap (λ b. cond b (Some (position_or_len p xs)) None) inside in
-          let same : position_or_len p xs ≡ i = cc in
-          (same, let low = ltb-true (position_or_len p xs) (length xs) inside in omega (arith, low, same))
-      | inr outside ↦
-          let none : Some i ≡ None = h ∙ ap (λ b. cond b (Some (position_or_len p xs)) None) outside in
-          cc
-    ]
+found_at p xs i h = search arith
 
 -- where none is found no element passes
 pub none_at : {X : Type 0} (p : X → Bool) (xs : List X) → None ≡ position p xs → length xs ≤ position_or_len p xs
-none_at p xs h =
-    elim (cases_Bool (ltb (position_or_len p xs) (length xs))) [
-      | inl inside ↦
-          let some : None ≡ Some (position_or_len p xs) = h ∙ ap (λ b. cond b (Some (position_or_len p xs)) None) inside in
-          cc
-      | inr outside ↦ ltb-false (position_or_len p xs) (length xs) outside
-    ]
+none_at p xs h = search arith
 
 -- where no element passes there is one part
 pub one_part : {X : Type 0} (p : X → Bool) (xs : List X) → None ≡ position p xs → slice_split p xs ≡ xs ∷ []
@@ -42,14 +27,7 @@ more_parts line (part ∷ parts) some = refl
 
 -- the line before a line feed, and the lines after it
 pub lines-cut : (text : List ℕ) (end : ℕ) → Some end ≡ position (λ b. eqb b 10) text → lines text ≡ strip_carriage_return (take end text) ∷ lines (drop (end + 1) text)
-lines-cut text end found =
-    let place = found_at (λ (b : ℕ). eqb b 10) text end found in
-    let inside : position_or_len (λ b. eqb b 10) text < length text = omega arith in
-    let rest = after_first (λ (b : ℕ). eqb b 10) text in
-    let some : 0 < length (slice_split (λ b. eqb b 10) rest) = omega (arith, length-slice_split (λ (b : ℕ). eqb b 10) rest) in
-    ap lines_of_parts (slice_split_first (λ b. eqb b 10) text 0 inside)
-    ∙ more_parts (before_first (λ b. eqb b 10) text) (slice_split (λ b. eqb b 10) rest) some
-    ∙ ap (λ n. strip_carriage_return (take n text) ∷ lines (drop (n + 1) text)) place.0
+lines-cut text end found = search (found_at, length-slice_split, slice_split_first, more_parts, arith)
 
 one_line : (text : List ℕ) → 0 < length text → lines_of_parts (text ∷ []) ≡ text ∷ []
 one_line [] some = absurd (omega arith)
@@ -69,13 +47,7 @@ skip_at b line n rest blank = ap (λ m. words (drop m (b ∷ line))) (one-add n)
 
 words-skip : (line : List ℕ) → words (drop (position_or_len (λ b. not (is_blank b)) line) line) ≡ words line
 words-skip [] = refl
-words-skip (b ∷ line) =
-    elim (cases_Bool (is_blank b)) [
-      | inl blank ↦
-          ap (λ test. words (drop (cond (not (not test)) (1 + position_or_len (λ (x : ℕ). not (is_blank x)) line) 0) (b ∷ line))) blank
-          ∙ skip_at b line (position_or_len (λ (x : ℕ). not (is_blank x)) line) (words-skip line) blank
-      | inr other ↦ ap (λ test. words (drop (cond (not (not test)) (1 + position_or_len (λ (x : ℕ). not (is_blank x)) line) 0) (b ∷ line))) other
-    ]
+words-skip (b ∷ line) = search (cases_Bool, skip_at, words-skip line, arith)
 
 pub words-from : (line : List ℕ) (start : ℕ) → Some start ≡ position (λ b. not (is_blank b)) line → words (drop start line) ≡ words line
 words-from line start found = rw (← (found_at (λ (b : ℕ). not (is_blank b)) line start found).0) (words-skip line)
@@ -89,18 +61,11 @@ words-none line none =
 -- what is found is no blank
 begins_at : (line : List ℕ) → (k : ℕ) → k < length line → not (is_blank (get_or line k 0)) ≡ true → BeginsWithWord (drop k line)
 begins_at [] k inside passes = absurd (omega arith)
-begins_at (b ∷ line) zero inside passes = elim (cases_Bool (is_blank b)) [
-  | inl blank ↦ absurd (both_ways (not (is_blank b)) (ap not blank) passes)
-  | inr other ↦ other
-]
+begins_at (b ∷ line) zero inside passes = search (cases_Bool, both_ways, arith)
 begins_at (b ∷ line) (suc k) inside passes = begins_at line k (omega arith) passes
 
 pub begins-from : (line : List ℕ) (start : ℕ) → Some start ≡ position (λ b. not (is_blank b)) line → BeginsWithWord (drop start line)
-begins-from line start found =
-    let place = found_at (λ (b : ℕ). not (is_blank b)) line start found in
-    let inside : position_or_len (λ b. not (is_blank b)) line < length line = omega arith in
-    let passes : not (is_blank (get_or line (position_or_len (λ b. not (is_blank b)) line) 0)) ≡ true = passes_at_first (λ (b : ℕ). not (is_blank b)) line 0 inside in
-    begins_at line start place.1 (rw place.0 at passes)
+begins-from line start found = search (found_at, passes_at_first, begins_at, arith)
 
 -- a word that begins the line is kept
 kept : (word : List ℕ) (parts : List (List ℕ)) → 0 < length word → filter (λ w. ltb 0 (length w)) (word ∷ parts) ≡ word ∷ filter (λ w. ltb 0 (length w)) parts
@@ -108,9 +73,7 @@ kept word parts some = rw (lt-ltb 0 (length word) some) refl
 
 -- a blank after the first byte: the word before it is not empty
 word_some : (line : List ℕ) (end : ℕ) → BeginsWithWord line → end < length line → is_blank (get_or line end 0) ≡ true → 0 < end
-word_some [] end begins inside blank = absurd (omega arith)
-word_some (b ∷ line) zero begins inside blank = absurd (both_ways (is_blank b) begins blank)
-word_some (b ∷ line) (suc end) begins inside blank = omega arith
+word_some line end h2 h3 h4 = search arith
 
 -- the first word up to a blank, and the words after it
 pub words-cut : (line : List ℕ) (end : ℕ) → BeginsWithWord line → Some end ≡ position is_blank line → words line ≡ take end line ∷ words (drop end line)
@@ -136,19 +99,11 @@ rest_of text n = take_all (length text - n) (drop n text) (omega (arith, length-
 
 -- the part before a separator, and the parts after it
 pub parts-cut : (separator : ℕ) (word : List ℕ) (end : ℕ) → Some end ≡ position (λ b. eqb b separator) word → slice_split (λ b. eqb b separator) word ≡ take end word ∷ slice_split (λ b. eqb b separator) (drop (end + 1) word)
-parts-cut separator word end found =
-    let place = found_at (λ (b : ℕ). eqb b separator) word end found in
-    let inside : position_or_len (λ b. eqb b separator) word < length word = omega arith in
-    slice_split_first (λ b. eqb b separator) word 0 inside
-    ∙ ap (λ n. take n word ∷ slice_split (λ b. eqb b separator) (drop (n + 1) word)) place.0
+parts-cut separator word end found = search (found_at, slice_split_first, arith)
 
 -- what a search for bytes that pass a test finds is the first of them
 pub first_at : (p : ℕ → Bool) (text : List ℕ) (found : Option ℕ) → IsFirstByte p text found → found ≡ position p text
-first_at p text (Some place) found =
-    let inside : place < length text = omega (arith, found.0.high) in
-    let same : position_or_len p text ≡ place =
-    position_or_len_is p text place 0 (omega arith) (λ k before. false_from_ne_true (p (get_or text k 0)) (found.0.before k (omega arith) before)) (λ less. found.1) in
-    sym (ap (λ n. cond (ltb n (length text)) (Some n) None) same ∙ ap (λ b. cond b (Some place) None) (lt-ltb place (length text) inside))
+first_at p text (Some place) found = search (position_or_len_is, false_from_ne_true, lt-ltb, arith)
 first_at p text None none =
     let same : position_or_len p text ≡ length text =
     position_or_len_is p text (length text) 0 (omega arith) (λ k before. false_from_ne_true (p (get_or text k 0)) (none k (omega arith) before)) (λ less. absurd (omega arith)) in
@@ -156,48 +111,24 @@ first_at p text None none =
 
 -- a place that is found before the rest is found in all
 near_in_all : (p : ℕ → Bool) (near rest : List ℕ) (i : ℕ) → Some i ≡ position p near → Some i ≡ position p (near ++ rest)
-near_in_all p near rest i found =
-    let place = found_at p near i found in
-    let here : position_or_len p (near ++ rest) ≡ i =
-    prefix_len-append (λ b. not (p b)) near rest
-    ∙ ap (λ test. cond test (length near + position_or_len p rest) (position_or_len p near)) (ne_eqb (position_or_len p near) (length near) (λ end. let inside = place.1 in let same = place.0 in omega (arith, end, same, inside)))
-    ∙ place.0 in
-    let inside : i < length (near ++ rest) = let low = place.1 in omega (arith, low, length-append near rest) in
-    sym (ap (λ n. cond (ltb n (length (near ++ rest))) (Some n) None) here ∙ ap (λ b. cond b (Some i) None) (lt-ltb i (length (near ++ rest)) inside))
+near_in_all p near rest i found = search (found_at, prefix_len-append, ne_eqb, length-append, lt-ltb, arith)
 
 -- where none is found before the rest, all is searched as the rest is
 far_place : (p : ℕ → Bool) (near rest : List ℕ) → None ≡ position p near → position_or_len p (near ++ rest) ≡ length near + position_or_len p rest
-far_place p near rest none =
-    let far = none_at p near none in
-    let low = prefix_len-le-length (λ b. not (p b)) near in
-    let end : position_or_len p near ≡ length near = omega (arith, far, low) in
-    prefix_len-append (λ b. not (p b)) near rest
-    ∙ ap (λ test. cond test (length near + position_or_len p rest) (position_or_len p near)) (eq-eqb (position_or_len p near) (length near) end)
+far_place p near rest none = search (none_at, prefix_len-le-length, prefix_len-append, eq-eqb, arith)
 
 far_in_all : (p : ℕ → Bool) (near rest : List ℕ) (i : ℕ) → None ≡ position p near → Some i ≡ position p rest → Some (length near + i) ≡ position p (near ++ rest)
-far_in_all p near rest i none found =
-    let place = found_at p rest i found in
-    let here : position_or_len p (near ++ rest) ≡ length near + i = far_place p near rest none ∙ ap (λ n. length near + n) place.0 in
-    let inside : length near + i < length (near ++ rest) = let low = place.1 in omega (arith, low, length-append near rest) in
-    sym (ap (λ n. cond (ltb n (length (near ++ rest))) (Some n) None) here ∙ ap (λ b. cond b (Some (length near + i)) None) (lt-ltb (length near + i) (length (near ++ rest)) inside))
+far_in_all p near rest i none found = search (found_at, far_place, length-append, lt-ltb, arith)
 
 nowhere_in_all : (p : ℕ → Bool) (near rest : List ℕ) → None ≡ position p near → None ≡ position p rest → None ≡ position p (near ++ rest)
-nowhere_in_all p near rest none also =
-    let far = none_at p rest also in
-    let here = far_place p near rest none in
-    sym (ap (λ b. cond b (Some (position_or_len p (near ++ rest))) None) (le-ltb (position_or_len p (near ++ rest)) (length (near ++ rest)) (omega (arith, here, far, length-append near rest))))
+nowhere_in_all p near rest none also = search (none_at, far_place, le-ltb, length-append, arith)
 
 -- the same of a text that is searched in two steps, of which the first looks through so many bytes
 pub position-near : (p : ℕ → Bool) (n i : ℕ) (text : List ℕ) → Some i ≡ position p (take n text) → Some i ≡ position p text
 position-near p n i text found = near_in_all p (take n text) (drop n text) i found ∙ ap (position p) (take-append-drop n text)
 
 pub position-far : (p : ℕ → Bool) (n i : ℕ) (text : List ℕ) → None ≡ position p (take n text) → Some i ≡ position p (take (length text - n) (drop n text)) → Some (n + i) ≡ position p text
-position-far p n i text none found =
-    let rest : Some i ≡ position p (drop n text) = found ∙ ap (position p) (rest_of text n) in
-    let inside : n ≤ length text = let low = (found_at p (drop n text) i rest).1 in omega (arith, low, length-drop n text) in
-    ap (λ m. Some (m + i)) (sym (length-take-le n text inside))
-    ∙ far_in_all p (take n text) (drop n text) i none rest
-    ∙ ap (position p) (take-append-drop n text)
+position-far p n i text none found = search (rest_of, found_at, length-drop, length-take-le, far_in_all, take-append-drop, arith)
 
 pub position-nowhere : (p : ℕ → Bool) (n : ℕ) (text : List ℕ) → None ≡ position p (take n text) → None ≡ position p (take (length text - n) (drop n text)) → None ≡ position p text
 position-nowhere p n text none also =

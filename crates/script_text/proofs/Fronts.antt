@@ -1,6 +1,6 @@
 -- Numbers between separators, read from the left.
-use Rattle.script_text.proofs.Vocabulary.{◌≡◌, ℕ, ◌+◌, ◌-◌, ◌*◌, ◌<◌, true, false, cond, eqb, ltb, List, [], ◌∷◌, Option, length, map, drop, get_or, ◌∙◌, ap, sym, inl, inr, arith, slice_split, onto_first, is_ascii_digit, cases_Bool}
-use Rattle.script_text.proofs.Vocabulary.{ltb-false, lt-ltb, drop_more, slice_split-cons_no, length-slice_split, number_up_to}
+use Rattle.script_text.proofs.Vocabulary.{◌≡◌, ℕ, ◌+◌, ◌-◌, ◌*◌, ◌<◌, true, false, cond, eqb, ltb, List, [], ◌∷◌, Option, length, map, drop, get_or, ◌∙◌, ap, sym, inl, inr, arith, slice_split, onto_first, is_ascii_digit, cases_Bool, ltb-false}
+use Rattle.script_text.proofs.Vocabulary.{lt-ltb, drop_more, slice_split-cons_no, length-slice_split, number_up_to}
 use Rattle.script_text.proofs.Values.{number_from, number_of_some, one_digit}
 
 -- the numbers of parts, where so many digits of the first were read already, and have this value
@@ -23,13 +23,7 @@ begun digits value limit byte part parts none =
 -- a digit more
 digit_first : (digits value limit byte : ℕ) (parts : List (List ℕ)) → 0 < length parts → (digits ≡ 0 → value ≡ 0) → is_ascii_digit byte ≡ true
     → numbers_from digits value limit (onto_first byte parts) ≡ numbers_from (digits + 1) (10 * value + (byte - 48)) limit parts
-digit_first digits value limit byte [] some none digit = absurd (omega arith)
-digit_first digits value limit byte (part ∷ parts) some none digit =
-    let more : ltb 0 (digits + 1) ≡ true = lt-ltb 0 (digits + 1) (omega arith) in
-    let next = 10 * value + (byte - 48) in
-    begun digits value limit byte part parts none
-    ∙ ap (λ n. n ∷ map (number_up_to limit) parts) (one_digit value limit byte part digit)
-    ∙ sym (ap (λ b. cond b (number_from next limit part) (number_up_to limit part) ∷ map (number_up_to limit) parts) more)
+digit_first digits value limit byte parts h5 h6 h7 = search (lt-ltb, begun, one_digit, number_from, arith)
 
 module _ (separator value limit place : ℕ) (word : List ℕ) (inside : place < length word) where
   at_byte : eqb (get_or word place 0) separator ≡ false → slice_split (λ b. eqb b separator) (drop place word) ≡ onto_first (get_or word place 0) (slice_split (λ b. eqb b separator) (drop (place + 1) word))
@@ -38,7 +32,4 @@ module _ (separator value limit place : ℕ) (word : List ℕ) (inside : place <
   pub digit_read : eqb (get_or word place 0) separator ≡ false → (place ≡ 0 → value ≡ 0) → is_ascii_digit (get_or word place 0) ≡ true
       → numbers_from place value limit (slice_split (λ b. eqb b separator) (drop place word)) ≡ numbers_from (place + 1) (10 * value + (get_or word place 0 - 48)) limit
       (slice_split (λ b. eqb b separator) (drop (place + 1) word))
-  digit_read other none digit =
-      let many = length-slice_split (λ (b : ℕ). eqb b separator) (drop (place + 1) word) in
-      ap (numbers_from place value limit) (at_byte other)
-      ∙ digit_first place value limit (get_or word place 0) (slice_split (λ b. eqb b separator) (drop (place + 1) word)) (omega (arith, many)) none digit
+  digit_read other none digit = search (length-slice_split, at_byte, digit_first, arith)

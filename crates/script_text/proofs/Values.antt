@@ -1,8 +1,7 @@
 -- Reading a number digit by digit.
-use Rattle.script_text.proofs.Vocabulary.{◌≡◌, ℕ, ◌+◌, ◌-◌, ◌*◌, ◌<◌, ◌≤◌, true, false, cond, leb, ◌&&◌, List, [], ◌∷◌, Option, Some, None, length, fold, refl, ◌∙◌, ap, sym, inl, inr, arith, list_all, is_ascii_digit, digit_value}
-use Rattle.script_text.proofs.Vocabulary.{cases_Bool, and_right, and_left, and_parts, leb-true, lt-leb, lt-ltb, number_up_to}
+use Rattle.script_text.proofs.Vocabulary.{◌≡◌, ℕ, ◌+◌, ◌-◌, ◌*◌, ◌<◌, ◌≤◌, true, false, cond, leb, ◌&&◌, List, [], ◌∷◌, Option, Some, None, length, fold, refl, ◌∙◌, ap, arith, list_all, is_ascii_digit, digit_value, cases_Bool, and_right, and_left}
+use Rattle.script_text.proofs.Vocabulary.{and_parts, lt-leb, lt-ltb, number_up_to}
 use Rattle.std.specs.Str.Parse.{digits_value, digits_value_after}
-use Rattle.std.proofs.lemmas.Str.{digit_value_digit}
 
 -- the number, where some digits were read already
 abbrev pub value_from : ℕ → List ℕ → ℕ
@@ -18,10 +17,7 @@ grows value (digit ∷ digits) = let later = grows (10 * value + (digit - 48)) d
 
 -- what is too big already stays so
 pub too_big : (value limit : ℕ) (word : List ℕ) → limit < value → number_from value limit word ≡ None
-too_big value limit word big =
-    let more = grows value word in
-    let over : leb (value_from value word) limit ≡ false = lt-leb (value_from value word) limit (omega (arith, more)) in
-    ap (λ b. cond b (Some (value_from value word)) None) (and_right (list_all is_ascii_digit word) (leb (value_from value word) limit) over)
+too_big value limit word big = search (grows, lt-leb, and_right, arith)
 
 -- what begins with no digit is no number
 pub no_digit : (value limit byte : ℕ) (word : List ℕ) → is_ascii_digit byte ≡ false → number_from value limit (byte ∷ word) ≡ None
@@ -34,17 +30,11 @@ one_digit value limit byte word digit = ap (λ b. cond ((b && list_all is_ascii_
 
 -- a digit that does not fit makes a number above every limit that fits
 pub no_room : (value limit byte : ℕ) (word : List ℕ) → limit < 10 * value + (byte - 48) → number_from value limit (byte ∷ word) ≡ None
-no_room value limit byte word big =
-    elim (cases_Bool (is_ascii_digit byte)) [
-      | inl digit ↦ one_digit value limit byte word digit ∙ too_big (10 * value + (byte - 48)) limit word big
-      | inr other ↦ no_digit value limit byte word other
-    ]
+no_room value limit byte word big = search (cases_Bool, one_digit, too_big, no_digit, arith)
 
 -- a digit's value is its distance from that of 0
 digit_is : (byte : ℕ) → is_ascii_digit byte ≡ true → digit_value byte + 48 ≡ byte
-digit_is byte digit =
-    let range = and_parts (leb 48 byte) (leb byte 57) digit in
-    digit_value_digit byte (leb-true 48 byte range.0, leb-true byte 57 range.1)
+digit_is byte digit = search arith
 
 -- std's value of a numeral is the one that is read
 same_value : (value : ℕ) (digits : List ℕ) → list_all is_ascii_digit digits ≡ true → digits_value_after 10 value digits ≡ value_from value digits
@@ -57,17 +47,8 @@ same_value value (byte ∷ digits) all =
 
 -- so it may be read in place of std's
 number_by_value : (limit : ℕ) (word : List ℕ) → cond (list_all is_ascii_digit word && leb (digits_value 10 word) limit) (Some (digits_value 10 word)) None ≡ number_from 0 limit word
-number_by_value limit word =
-    elim (cases_Bool (list_all is_ascii_digit word)) [
-      | inl digits ↦ ap (λ n. cond (list_all is_ascii_digit word && leb n limit) (Some n) None) (same_value 0 word digits)
-      | inr other ↦
-          ap (λ b. cond b (Some (digits_value 10 word)) None) (and_left (list_all is_ascii_digit word) (leb (digits_value 10 word) limit) other)
-          ∙ sym (ap (λ b. cond b (Some (value_from 0 word)) None) (and_left (list_all is_ascii_digit word) (leb (value_from 0 word) limit) other))
-    ]
+number_by_value limit word = search (cases_Bool, same_value, and_left, arith)
 
 -- a word that is not empty
 pub number_of_some : (limit : ℕ) (word : List ℕ) → 0 < length word → number_up_to limit word ≡ number_from 0 limit word
-number_of_some limit [] some = absurd (omega arith)
-number_of_some limit (byte ∷ word) some =
-    ap (λ b. cond ((b && list_all is_ascii_digit (byte ∷ word)) && leb (digits_value 10 (byte ∷ word)) limit) (Some (digits_value 10 (byte ∷ word))) None) (lt-ltb 0 (length (byte ∷ word)) some)
-    ∙ number_by_value limit (byte ∷ word)
+number_of_some limit word h2 = search (lt-ltb, number_by_value, arith)

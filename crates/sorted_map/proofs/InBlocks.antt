@@ -1,8 +1,8 @@
 -- What an edit in the block of a key makes of all pairs.
-use Rattle.sorted_map.proofs.Vocabulary.{◌≡◌, ◌≢◌, ◌-◌, take, drop, Option, is_some, if◌then◌else◌, ℕ, zero, suc, ◌+◌, ◌<◌, ◌≤◌, Bool, true, false, not, List, [], ◌∷◌, ◌++◌, length, get_or, set, None, Some, Less, Equal, Greater, refl, sym}
-use Rattle.sorted_map.proofs.Vocabulary.{◌∙◌, ap, subst, ⊎_elim, arith, slice_get, Ordering, is_eq, is_lt, ordering_reverse, IsTotalOrder, AllByRecursion, keys_of, is_at, cases_Bool, cond-true, cond-false, false≢true, take-append-drop}
-use Rattle.sorted_map.proofs.Vocabulary.{append-nil, lookup_head, lookup_tail, sorted_head, sorted_tail, IsOrdered, get, insert, remove, insert_step, remove_absent, length-insert, length-remove, joined, room_in, capacity_in, starts_by}
-use Rattle.sorted_map.proofs.Vocabulary.{first_from, IsBlock, AreBlocks, AreSpare, IsIn, CanTake, IsPut}
+use Rattle.sorted_map.proofs.Vocabulary.{◌≡◌, ◌≢◌, ◌-◌, take, drop, Option, is_some, if◌then◌else◌, ℕ, zero, suc, ◌+◌, ◌<◌, ◌≤◌, Bool, true, false, not, List, [], ◌∷◌, ◌++◌, length, get_or, set, None, Some, Less, Greater, refl, sym, ◌∙◌, ap, subst}
+use Rattle.sorted_map.proofs.Vocabulary.{⊎_elim, arith, slice_get, Ordering, is_eq, is_lt, ordering_reverse, IsTotalOrder, AllByRecursion, keys_of, is_at, cases_Bool, cond-true, cond-false, false≢true, take-append-drop, append-nil, lookup_head}
+use Rattle.sorted_map.proofs.Vocabulary.{lookup_tail, sorted_head, sorted_tail, IsOrdered, get, insert, remove, insert_step, remove_absent, length-insert, length-remove, joined, room_in, capacity_in, starts_by, first_from, IsBlock, AreBlocks}
+use Rattle.sorted_map.proofs.Vocabulary.{AreSpare, IsIn, CanTake, IsPut}
 use Rattle.std.specs.List.Sorted.{IsStrictlySortedBy, IsPartitionedBy, IsPartitionPoint}
 use Rattle.std.proofs.lemmas.Option.{none-some}
 use Rattle.sorted_map.specs.Roomy.{Roomy}
@@ -23,10 +23,7 @@ not_true false is = refl
 
 module _ {K : Type 0} {cmp : K → K → Ordering} (o : IsTotalOrder cmp) (key : K) where
   below_one : (a b : K) → cmp a b ≡ Less → is_lt (cmp key b) ≡ false → cmp key a ≡ Greater
-  below_one a b less start = by_answer (cmp key a)
-      (λ lower. absurd (false≢true (sym start ∙ ap is_lt (o.trans key a b lower less))))
-      (λ equal. absurd (false≢true (sym start ∙ ap is_lt (o.congr key a b equal ∙ less))))
-      (λ greater. greater)
+  below_one a b less start = search arith
 
 module _ {K V : Type 0} {cmp : K → K → Ordering} (o : IsTotalOrder cmp) (key : K) where
   -- all keys are above the key, or below it
@@ -48,10 +45,7 @@ module _ {K V : Type 0} {cmp : K → K → Ordering} (o : IsTotalOrder cmp) (key
 
   pub insert_back : (xs ys : List (K × V)) (value : V) → AreAbove ys → insert cmp (xs ++ ys) key value ≡ insert cmp xs key value ++ ys
   insert_back [] ys value above = first_insert ys value above
-  insert_back (e ∷ es) ys value above = by_answer (cmp key e.0)
-      (λ less. insert_step cmp e (es ++ ys) key value Less less ∙ sym (ap (λ l. l ++ ys) (insert_step cmp e es key value Less less)))
-      (λ equal. insert_step cmp e (es ++ ys) key value Equal equal ∙ sym (ap (λ l. l ++ ys) (insert_step cmp e es key value Equal equal)))
-      (λ greater. insert_step cmp e (es ++ ys) key value Greater greater ∙ ap (λ l. e ∷ l) (insert_back es ys value above) ∙ sym (ap (λ l. l ++ ys) (insert_step cmp e es key value Greater greater)))
+  insert_back (e ∷ es) ys value above = search (insert_back es ys value above, arith)
 
   pub get_front : (xs ys : List (K × V)) → AreBelow xs → get cmp (xs ++ ys) key ≡ get cmp ys key
   get_front [] ys below = refl
@@ -63,10 +57,7 @@ module _ {K V : Type 0} {cmp : K → K → Ordering} (o : IsTotalOrder cmp) (key
 
   pub get_back : (xs ys : List (K × V)) → AreAbove ys → get cmp (xs ++ ys) key ≡ get cmp xs key
   get_back [] ys above = get_none ys above
-  get_back (e ∷ es) ys above = ⊎_elim
-      (λ here. lookup_head (is_at (cmp key)) e (es ++ ys) here ∙ sym (lookup_head (is_at (cmp key)) e es here))
-      (λ there. lookup_tail (is_at (cmp key)) e (es ++ ys) there ∙ get_back es ys above ∙ sym (lookup_tail (is_at (cmp key)) e es there))
-      (cases_Bool (is_at (cmp key) e.0))
+  get_back (e ∷ es) ys above = grind (lookup_head, lookup_tail, cases_Bool, get_back es ys above, arith)
 
   pub remove_front : (xs ys : List (K × V)) → AreBelow xs → remove cmp (xs ++ ys) key ≡ xs ++ remove cmp ys key
   remove_front [] ys below = refl
@@ -74,10 +65,7 @@ module _ {K V : Type 0} {cmp : K → K → Ordering} (o : IsTotalOrder cmp) (key
 
   pub remove_back : (xs ys : List (K × V)) → AreAbove ys → remove cmp (xs ++ ys) key ≡ remove cmp xs key ++ ys
   remove_back [] ys above = remove_absent o ys key (get_none ys above)
-  remove_back (e ∷ es) ys above = ⊎_elim
-      (λ here. cond-true (is_at (cmp key) e.0) (es ++ ys) (e ∷ remove cmp (es ++ ys) key) here ∙ sym (ap (λ l. l ++ ys) (cond-true (is_at (cmp key) e.0) es (e ∷ remove cmp es key) here)))
-      (λ there. cond-false (is_at (cmp key) e.0) (es ++ ys) (e ∷ remove cmp (es ++ ys) key) there ∙ ap (λ l. e ∷ l) (remove_back es ys above) ∙ sym (ap (λ l. l ++ ys) (cond-false (is_at (cmp key) e.0) es (e ∷ remove cmp es key) there)))
-      (cases_Bool (is_at (cmp key) e.0))
+  remove_back (e ∷ es) ys above = search (cond-true, cond-false, cases_Bool, remove_back es ys above, arith)
 
   -- ---- edits in the block of the key
 
@@ -136,8 +124,7 @@ module _ {K V : Type 0} {cmp : K → K → Ordering} (o : IsTotalOrder cmp) (key
 
   below_started : (xs : List (K × V)) (e : K × V) (ys : List (K × V)) → IsOrdered cmp (xs ++ e ∷ ys) → is_lt (cmp key e.0) ≡ false → AreBelow xs
   below_started [] e ys ordered start = tt
-  below_started (x ∷ xs) e ys ordered start =
-      (below_one o key x.0 e.0 (before_first x.0 xs e ys (sorted_head cmp x.0 (keys_of (xs ++ e ∷ ys)) ordered)) start, below_started xs e ys (sorted_tail cmp x.0 (keys_of (xs ++ e ∷ ys)) ordered) start)
+  below_started (x ∷ xs) e ys ordered start = search (below_one, before_first, sorted_head, sorted_tail, below_started xs e ys, arith)
 
   -- pairs before some that start by the key or below it are all below it
   pub below_all : (xs ys zs : List (K × V)) → IsOrdered cmp (xs ++ (ys ++ zs)) → 0 < length ys → starts_by cmp key ys ≡ true → AreBelow xs
@@ -206,18 +193,13 @@ module _ {K V : Type 0} {cmp : K → K → Ordering} (o : IsTotalOrder cmp) (key
   room_least first (b ∷ bs) spare = omega arith
 
   pub can_take : (first : Roomy K V) (bs spare : List (Roomy K V)) → AreAbove (joined bs) → (spare ≢ [] → 2 ≤ capacity_in first) → (get cmp (joined (first ∷ bs)) key ≡ None → 0 < room_in first bs spare) → CanTake cmp key first spare
-  can_take first bs spare above two room absent full =
-      let some : 0 < length spare = omega (arith, room_least first bs spare, room (get_back first.pairs (joined bs) above ∙ absent), full) in
-      (some, two (λ none. absurd (omega (arith, some, ap length none))))
+  can_take first bs spare above two room absent full = search (room_least, get_back, arith)
 
   -- ---- one block after an edit
 
   pub insert_some : (pairs : List (K × V)) (value : V) → 0 < length (insert cmp pairs key value)
   insert_some [] value = omega arith
-  insert_some (e ∷ es) value = by_answer (cmp key e.0)
-      (λ less. rw (insert_step cmp e es key value Less less) (omega arith))
-      (λ equal. rw (insert_step cmp e es key value Equal equal) (omega arith))
-      (λ greater. rw (insert_step cmp e es key value Greater greater) (omega arith))
+  insert_some (e ∷ es) value = search arith
 
   abbrev one_if : Option V → ℕ
   one_if r = if is_some r then 1 else 0
@@ -236,19 +218,7 @@ module _ {K V : Type 0} {cmp : K → K → Ordering} (o : IsTotalOrder cmp) (key
 
   pub put_whole : (old new : Roomy K V) (spare : List (Roomy K V)) (value : V) (before : Option V) → IsOrdered cmp old.pairs → AreSpare spare → before ≡ get cmp old.pairs key
       → new.pairs ≡ insert cmp old.pairs key value → old.room ≤ new.room + (if is_some before then 0 else 1) → IsPut cmp key value old new spare spare before None
-  put_whole old new spare value before ordered spares was pairs room = record {
-    pairs = λ none. pairs;
-    halves = λ b is. absurd (none-some b is);
-    before_is = was;
-    some = subst (λ l. 0 < length l) (sym pairs) (insert_some old.pairs value);
-    capacity = put_capacity old new value before ordered was pairs room;
-    upper_is = λ b is. absurd (none-some b is);
-    spare_stays = λ none. refl;
-    spare_taken = λ is. absurd (false≢true is);
-    spare_is = spares;
-    full = λ there. absurd (false≢true there);
-    room = λ none. room;
-  }
+  put_whole old new spare value before ordered spares was pairs room = search (none-some, insert_some, put_capacity, false≢true, arith)
 
   -- there are others behind the first
   pub room_behind : (first : Roomy K V) (bs spare : List (Roomy K V)) → 0 < length bs → room_in first bs spare ≡ length spare
@@ -270,17 +240,11 @@ module _ {K V : Type 0} {cmp : K → K → Ordering} (o : IsTotalOrder cmp) (key
 
   first_here : (xs ys : List (K × V)) (e : K × V) → first_from cmp key xs ≡ Some e → first_from cmp key (xs ++ ys) ≡ Some e
   first_here [] ys e is = absurd (none-some e is)
-  first_here (x ∷ xs) ys e is = ⊎_elim
-      (λ lower. cond-true (is_lt (cmp x.0 key)) (first_from cmp key (xs ++ ys)) (Some x) lower ∙ first_here xs ys e (sym (cond-true (is_lt (cmp x.0 key)) (first_from cmp key xs) (Some x) lower) ∙ is))
-      (λ not_lower. cond-false (is_lt (cmp x.0 key)) (first_from cmp key (xs ++ ys)) (Some x) not_lower ∙ sym (cond-false (is_lt (cmp x.0 key)) (first_from cmp key xs) (Some x) not_lower) ∙ is)
-      (cases_Bool (is_lt (cmp x.0 key)))
+  first_here (x ∷ xs) ys e is = search (cond-true, cond-false, cases_Bool, first_here xs ys e, arith)
 
   first_behind : (xs ys : List (K × V)) → first_from cmp key xs ≡ None → first_from cmp key (xs ++ ys) ≡ first_from cmp key ys
   first_behind [] ys is = refl
-  first_behind (x ∷ xs) ys is = ⊎_elim
-      (λ lower. cond-true (is_lt (cmp x.0 key)) (first_from cmp key (xs ++ ys)) (Some x) lower ∙ first_behind xs ys (sym (cond-true (is_lt (cmp x.0 key)) (first_from cmp key xs) (Some x) lower) ∙ is))
-      (λ not_lower. absurd (none-some x (sym is ∙ cond-false (is_lt (cmp x.0 key)) (first_from cmp key xs) (Some x) not_lower)))
-      (cases_Bool (is_lt (cmp x.0 key)))
+  first_behind (x ∷ xs) ys is = search (cond-true, none-some, cond-false, cases_Bool, first_behind xs ys, arith)
 
   pub first_at : (bs : List (Roomy K V)) (i : ℕ) (d : Roomy K V) (e : K × V) → IsIn cmp key bs i → first_from cmp key (get_or bs i d).pairs ≡ Some e → first_from cmp key (joined bs) ≡ Some e
   first_at [] i d e at is = absurd (omega (arith, at))
@@ -294,8 +258,7 @@ module _ {K V : Type 0} {cmp : K → K → Ordering} (o : IsTotalOrder cmp) (key
   pub first_next : (first : Roomy K V) (bs : List (Roomy K V)) (i : ℕ) (d : Roomy K V) → IsIn cmp key (first ∷ bs) i → AreBlocks bs
       → first_from cmp key (get_or (first ∷ bs) i d).pairs ≡ None → i < length bs → first_from cmp key (joined (first ∷ bs)) ≡ slice_get (get_or bs i d).pairs 0
   first_next first [] i d at blocks none within = absurd (omega arith)
-  first_next first (b ∷ bs) zero d at blocks none within =
-      first_behind first.pairs (joined (b ∷ bs)) none ∙ first_above (joined (b ∷ bs)) at ∙ start_of b.pairs (joined bs) blocks.0.0
+  first_next first (b ∷ bs) zero d at blocks none within = search (first_behind, first_above, start_of, arith)
   first_next first (b ∷ bs) (suc i) d at blocks none within = first_front first.pairs (joined (b ∷ bs)) at.0 ∙ first_next b bs i d at.1 blocks.1 none (omega arith)
 
   pub first_end : (first : Roomy K V) (bs : List (Roomy K V)) (i : ℕ) (d : Roomy K V) → IsIn cmp key (first ∷ bs) i → first_from cmp key (get_or (first ∷ bs) i d).pairs ≡ None
@@ -308,10 +271,7 @@ module _ {K V : Type 0} {cmp : K → K → Ordering} (o : IsTotalOrder cmp) (key
   -- where there is none, all are below
   pub below_none : (es : List (K × V)) → first_from cmp key es ≡ None → AreBelow es
   below_none [] none = tt
-  below_none (e ∷ es) none = ⊎_elim
-      (λ lower. (o.antisymm key e.0 ∙ ap ordering_reverse (is_less (cmp e.0 key) lower), below_none es (sym (cond-true (is_lt (cmp e.0 key)) (first_from cmp key es) (Some e) lower) ∙ none)))
-      (λ not_lower. absurd (none-some e (sym none ∙ cond-false (is_lt (cmp e.0 key)) (first_from cmp key es) (Some e) not_lower)))
-      (cases_Bool (is_lt (cmp e.0 key)))
+  below_none (e ∷ es) none = search (is_less, cond-true, none-some, cond-false, cases_Bool, below_none es, arith)
 
   pub above_end : (es : List (K × V)) (value : V) → AreBelow es → es ++ (key, value) ∷ [] ≡ insert cmp es key value
   above_end [] value lower = refl
@@ -326,8 +286,7 @@ module _ {K V : Type 0} {cmp : K → K → Ordering} (o : IsTotalOrder cmp) (key
   pub pairs_parted : (es : List (K × V)) → IsOrdered cmp es → IsPartitionedBy below es
   pairs_parted [] ordered i j d le within passes = absurd (omega arith)
   pairs_parted (e ∷ es) ordered zero zero d le within passes = passes
-  pairs_parted (e ∷ es) ordered zero (suc j) d le within passes =
-      ap is_lt (o.trans e.0 (get_or es j d).0 key (nth_above e.0 es j d (sorted_head cmp e.0 (keys_of es) ordered) (omega arith)) (is_less (cmp (get_or es j d).0 key) passes))
+  pairs_parted (e ∷ es) ordered zero (suc j) d le within passes = search (nth_above, sorted_head, is_less, arith)
   pairs_parted (e ∷ es) ordered (suc i) zero d le within passes = absurd (omega arith)
   pairs_parted (e ∷ es) ordered (suc i) (suc j) d le within passes = pairs_parted es (sorted_tail cmp e.0 (keys_of es) ordered) i j d (omega arith) (omega arith) passes
 
@@ -384,11 +343,7 @@ module _ {K V : Type 0} where
 
   -- a block is split, and one of the spare ones taken
   pub room_parted : (first new : Roomy K V) (bs cs spare left : List (Roomy K V)) (before : Bool) → length left + 1 ≡ length spare → first.room ≡ 0 → before ≡ false → room_in first bs spare ≤ room_in new cs left + (if before then 0 else 1)
-  room_parted first new bs cs spare left true fewer full is = absurd (false≢true (sym is))
-  room_parted first new [] [] spare left false fewer full is = omega (arith, fewer, full)
-  room_parted first new [] (c ∷ cs) spare left false fewer full is = omega (arith, fewer, full)
-  room_parted first new (b ∷ bs) [] spare left false fewer full is = omega (arith, fewer, full)
-  room_parted first new (b ∷ bs) (c ∷ cs) spare left false fewer full is = omega (arith, fewer, full)
+  room_parted first new bs cs spare left before h7 h8 h9 = search arith
 
   pub none_in_front : (xs ys : List (K × V)) → xs ++ ys ≡ [] → xs ≡ []
   none_in_front [] ys none = refl

@@ -1,7 +1,7 @@
 -- What a binary search by the order of the keys finds.
-use Rattle.sorted_map.proofs.Vocabulary.{◌≡◌, ℕ, zero, suc, ◌+◌, ◌<◌, ◌≤◌, true, false, List, [], ◌∷◌, length, get_or, Some, Result, Ok, Err, IfOk, IfErr, Less, Equal, Greater, refl, sym, ◌∙◌, ap, arith, Ordering, is_eq, is_lt}
-use Rattle.sorted_map.proofs.Vocabulary.{ordering_index, ordering_reverse, IsTotalOrder, AllByRecursion, keys_of, is_at, cond-true, cond-false, lookup_head, lookup_tail, length-keys_of, sorted_head, sorted_tail, Less-from_sorted}
-use Rattle.sorted_map.proofs.Vocabulary.{searchable_from_sorted, IsOrdered, replace, remove, insert_step, get_below}
+use Rattle.sorted_map.proofs.Vocabulary.{◌≡◌, ℕ, zero, suc, ◌+◌, ◌<◌, ◌≤◌, true, false, List, [], ◌∷◌, length, get_or, Some, Result, Ok, Err, IfOk, IfErr, Less, Equal, Greater, refl, sym, ◌∙◌, ap, arith, Ordering, is_eq, is_lt, ordering_index}
+use Rattle.sorted_map.proofs.Vocabulary.{ordering_reverse, IsTotalOrder, AllByRecursion, keys_of, is_at, cond-true, cond-false, lookup_head, lookup_tail, length-keys_of, sorted_head, sorted_tail, Less-from_sorted, searchable_from_sorted, IsOrdered}
+use Rattle.sorted_map.proofs.Vocabulary.{replace, remove, insert_step, get_below}
 use Rattle.std.specs.List.Sorted.{IsNonDecreasingBy, IsSearchInRange, IsBinarySearchResult}
 use Rattle.std.proofs.Math.ListN.{get_or-map}
 use Rattle.std.proofs.lemmas.Cmp.{tied_back, alike_right}

@@ -1,6 +1,6 @@
 -- The names that the proofs of this crate take from elsewhere, each with one meaning here.
-pub use Rattle.std.proofs.Common.{Bool, Equal, Err, Greater, IfErr, IfOk, IsTrue, Less, List, None, Ok, Option, Result, Some, [], ap, arith, drop, false, get_or, if◌then◌else◌, is_some, length, not, refl, rules, set, subst, suc, sym, take}
-pub use Rattle.std.proofs.Common.{true, vec_capacity, zero, ℕ, ⊎_elim, ◌++◌, ◌+◌, ◌-◌, ◌<◌, ◌∙◌, ◌∷◌, ◌≡◌, ◌≢◌, ◌≤◌}
+pub use Rattle.std.proofs.Common.{Bool, Equal, Err, Greater, IfErr, IfOk, IsTrue, Less, List, None, Ok, Option, Result, Some, [], ap, arith, drop, false, get_or, if◌then◌else◌, is_some, length, not, refl, rules, set, subst, suc, sym, take, true}
+pub use Rattle.std.proofs.Common.{vec_capacity, zero, ℕ, ⊎_elim, ◌++◌, ◌+◌, ◌-◌, ◌<◌, ◌∙◌, ◌∷◌, ◌≡◌, ◌≢◌, ◌≤◌}
 pub use Rattle.std.proofs.lemmas.Bool.{cases_Bool, cond-false, cond-true, false≢true}
 pub use Rattle.std.proofs.lemmas.List.{append-nil, length-drop, length-take, take-append-drop}
 pub use Rattle.std.proofs.lemmas.List.Sorted.{IsPartitionPoint-from_clause, searchable_from_sorted}

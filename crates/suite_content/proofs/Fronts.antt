@@ -1,6 +1,6 @@
 -- Two lists of bytes, told apart by their fronts as numbers.
-use Rattle.suite_content.proofs.Vocabulary.{◌≡◌, ℕ, zero, suc, ◌+◌, ◌-◌, ◌*◌, ◌<◌, ◌≤◌, ◌⊎◌, List, [], ◌∷◌, length, take, drop, replicate, get_or, Less, Equal, Greater, refl, sym, ap, subst, inl, inr, ⊎_elim, ◌∙◌, arith, ◌≢◌, IsTrue}
-use Rattle.suite_content.proofs.Vocabulary.{MatchOrdering, nat_cmp, ordering_then, slice_cmp, nat_tests, get_or-take, get_or-drop, get_or_past, IsName, is_name_byte, number_with, IsPadded, kept_length}
+use Rattle.suite_content.proofs.Vocabulary.{◌≡◌, ℕ, zero, suc, ◌+◌, ◌-◌, ◌*◌, ◌<◌, ◌≤◌, ◌⊎◌, List, [], ◌∷◌, length, take, drop, replicate, get_or, Less, Equal, Greater, refl, sym, ap, subst, inl, inr, ⊎_elim, ◌∙◌, arith, ◌≢◌, IsTrue, MatchOrdering}
+use Rattle.suite_content.proofs.Vocabulary.{nat_cmp, ordering_then, slice_cmp, nat_tests, get_or-take, get_or-drop, get_or_past, IsName, is_name_byte, number_with, IsPadded, kept_length}
 use Rattle.std.specs.declared.cmp.Ordering.{Ordering}
 use Rattle.std.proofs.lemmas.Cmp.{ranked}
 use Rattle.std.proofs.lemmas.Grind.{get_or_after_one}
@@ -21,9 +21,7 @@ behind xs are k = subst (λ b. b < 256) (sym (get_or_after_one xs k 0)) (are (1 
 -- the lower of two numbers stays lower, whatever bytes follow
 stays_lower : (n a b : ℕ) (xs ys : List ℕ) → AreBytes xs → a < b → number_with a n xs < number_with b n ys
 stays_lower zero a b xs ys are lower = lower
-stays_lower (suc n) a b xs ys are lower =
-    let byte : get_or xs 0 0 < 256 = are 0 in
-    stays_lower n (a * 256 + get_or xs 0 0) (b * 256 + get_or ys 0 0) (drop 1 xs) (drop 1 ys) (behind xs are) (omega arith)
+stays_lower (suc n) a b xs ys are lower = search (behind, stays_lower n, arith)
 
 -- nothing is lower than zeros
 zeros_least : (n a b : ℕ) (ys : List ℕ) → a ≤ b → number_with a n [] ≤ number_with b n ys
@@ -34,14 +32,8 @@ zeros_least (suc n) a b ys most = zeros_least n (a * 256 + 0) (b * 256 + get_or 
 pub told_apart : (n a : ℕ) (xs ys : List ℕ) → AreBytes xs → AreBytes ys → number_with a n xs ≢ number_with a n ys → nat_cmp (number_with a n xs) (number_with a n ys) ≡ slice_cmp nat_cmp xs ys
 told_apart zero a xs ys are are' apart = absurd (apart refl)
 told_apart (suc n) a [] [] are are' apart = absurd (apart refl)
-told_apart (suc n) a [] (y ∷ ys) are are' apart =
-    let least = zeros_least n (a * 256 + 0) (a * 256 + y) ys (omega arith) in
-    let lower : number_with (a * 256 + 0) n [] < number_with (a * 256 + y) n ys = omega (arith, least, apart) in
-    less _ _ lower
-told_apart (suc n) a (x ∷ xs) [] are are' apart =
-    let least = zeros_least n (a * 256 + 0) (a * 256 + x) xs (omega arith) in
-    let higher : number_with (a * 256 + 0) n [] < number_with (a * 256 + x) n xs = omega (arith, least, apart) in
-    greater _ _ higher
+told_apart (suc n) a [] (y ∷ ys) are are' apart = search (zeros_least, less, arith)
+told_apart (suc n) a (x ∷ xs) [] are are' apart = search (zeros_least, greater, arith)
 told_apart (suc n) a (x ∷ xs) (y ∷ ys) are are' apart = by (told_apart n (a * 256 + x) xs ys (behind (x ∷ xs) are) (behind (y ∷ ys) are')) (nat_cmp x y) refl (ranked x y (nat_cmp x y) refl)
   where
     Lie : ℕ → Type 0
@@ -92,13 +84,7 @@ one_more (suc i) (x ∷ xs) = one_more i xs
 
 -- byte by byte
 next_byte : (a i n : ℕ) (xs : List ℕ) → number_with a (suc n) (drop i xs) ≡ number_with (a * 256 + get_or xs i 0) n (drop (suc i) xs)
-next_byte a i n xs = λ j. number_with (a * 256 + here j) n (after j)
-  where
-    here : get_or (drop i xs) 0 0 ≡ get_or xs i 0
-    here = get_or-drop i xs 0 0 ∙ ap (λ k. get_or xs k 0) (omega arith)
-
-    after : drop 1 (drop i xs) ≡ drop (suc i) xs
-    after = one_more i xs
+next_byte a i n xs = search (get_or-drop, one_more, arith)
 
 pub eight_bytes : (xs : List ℕ)
     → number_with 0 8 xs ≡ (((((((0 * 256 + get_or xs 0 0) * 256 + get_or xs 1 0) * 256 + get_or xs 2 0) * 256 + get_or xs 3 0) * 256 + get_or xs 4 0) * 256 + get_or xs 5 0) * 256
@@ -135,7 +121,4 @@ below : (byte : ℕ) → IsTrue (is_name_byte byte) → byte < 256
 below byte is = grind (arith, nat_tests)
 
 pub bytes_of_name : (xs : List ℕ) → IsName xs → AreBytes xs
-bytes_of_name xs name k = ⊎_elim
-    (λ within. below (get_or xs k 0) (name.portable k 0 within))
-    (λ past. subst (λ b. b < 256) (sym (get_or_past xs k 0 past)) (omega arith))
-    (within_or_past k (length xs))
+bytes_of_name xs name k = search (below, get_or_past, within_or_past, arith)

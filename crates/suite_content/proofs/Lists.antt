@@ -1,6 +1,5 @@
 -- Lists of names.
-use Rattle.suite_content.proofs.Vocabulary.{◌≡◌, ℕ, false, ◌&&◌, ◌-◌, ◌≤◌, List, [], ◌∷◌, ◌++◌, length, take, drop, codes, Option, Some, None, is_some, list_all, zip, flat_map, get_or, refl, ap, ◌∙◌, arith, take_all, with_commas, names_in}
-use Rattle.suite_content.proofs.Vocabulary.{same_names}
+use Rattle.suite_content.proofs.Vocabulary.{◌≡◌, ℕ, false, ◌&&◌, ◌-◌, ◌≤◌, List, [], ◌∷◌, ◌++◌, length, take, drop, codes, Option, Some, None, is_some, list_all, zip, flat_map, get_or, refl, ap, arith, take_all, with_commas, names_in, same_names}
 use Rattle.std.specs.Str.{bytes_eq}
 
 -- a folder without names
@@ -27,9 +26,4 @@ behind_commas (e ∷ es) = ap (λ rest. (codes "," ++ e.0) ++ rest) (behind_comm
 -- the first name, and behind it the others
 pub first_and_others : (folder : List (List ℕ × ℕ)) (first : List ℕ × ℕ) → 1 ≤ length folder → first ≡ get_or folder 0 first
     → first.0 ++ flat_map (λ entry. codes "," ++ entry.0) (take (length folder - 1) (drop 1 folder)) ≡ with_commas (names_in folder)
-first_and_others [] first some is = absurd (omega arith)
-first_and_others (e ∷ es) first some is =
-    let others : take (length (e ∷ es) - 1) es ≡ es = take_all (length (e ∷ es) - 1) es (omega arith) in
-    ap (λ (es : List (List ℕ × ℕ)). first.0 ++ flat_map (λ entry. codes "," ++ entry.0) es) others
-    ∙ ap (λ (entry : List ℕ × ℕ). entry.0 ++ flat_map (λ entry. codes "," ++ entry.0) es) is
-    ∙ ap (λ rest. e.0 ++ rest) (behind_commas es)
+first_and_others folder first h2 h3 = search (take_all, behind_commas, arith)

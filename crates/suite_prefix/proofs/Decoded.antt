@@ -1,8 +1,7 @@
 -- What is read is a valid copy's, what a valid copy has is read, and faults tell apart.
-use Rattle.suite_prefix.proofs.Vocabulary.{◌≡◌, ℕ, ◌<◌, true, ◌&&◌, get_or, length, List, [], ◌++◌, Result, Ok, Err, refl, sym, ap, subst, ◌∙◌, inl, inr, arith, All, IfOk, IfErr, IfSome, MatchResult, Option, None, Some, and_from}
-use Rattle.suite_prefix.proofs.Vocabulary.{cases_Bool, cases_lt, append-nil, get_or_past, All-map, Entry, IsAcl, IsCanonical, default_entries, Content, Bytes, Names, Replica, Form, CopyFault, Short, BadTag, NotCanonical, Invalid}
-use Rattle.suite_prefix.proofs.Vocabulary.{TrailingBytes, EntryShape, AreBytesOf, bytes_in, IsCopy, IsContent, CanHold, HoldsContent, SpellsCopy, IsFaultOf, IsFaultIn, IsOfValidCopy, Explains, FaultsTellApart, is_canonical, is_written}
-use Rattle.suite_prefix.proofs.Vocabulary.{numbers_belong, entries_rise, content_rises, IsWhole, Refuses, Shape, copy_of, shape_at}
+use Rattle.suite_prefix.proofs.Vocabulary.{◌≡◌, ℕ, ◌<◌, true, get_or, List, [], ◌++◌, Result, Ok, Err, refl, sym, ap, subst, ◌∙◌, inl, inr, arith, All, IfOk, IfErr, IfSome, MatchResult, Option, None, Some, and_from, cases_Bool, cases_lt, append-nil}
+use Rattle.suite_prefix.proofs.Vocabulary.{get_or_past, All-map, Entry, IsAcl, IsCanonical, default_entries, Content, Bytes, Names, Replica, Form, CopyFault, NotCanonical, Invalid, TrailingBytes, EntryShape, AreBytesOf, bytes_in, IsCopy, IsContent}
+use Rattle.suite_prefix.proofs.Vocabulary.{CanHold, HoldsContent, SpellsCopy, IsFaultOf, IsFaultIn, IsOfValidCopy, Explains, FaultsTellApart, is_canonical, content_rises, IsWhole, Refuses, Shape, copy_of, shape_at}
 use Rattle.suite_prefix.specs.declared.faults.DecodeError.{DecodeError}
 use Rattle.suite_prefix.specs.declared.faults.DecodeError.TheVariants as errors
 use Rattle.suite_prefix.proofs.Back.{whole_again}
@@ -24,14 +23,7 @@ default_canonical None acl = λ i j d lt in_list. absurd (omega arith)
 default_canonical (Some list) acl = acl.canonical
 
 canonical_shape : (form : Form) (copy : Replica) → IsCopy copy → is_canonical (shape_of form copy) ≡ true
-canonical_shape form copy valid =
-    let shape = shape_of form copy in
-    let default = default_entries copy.prefix.acl.default in
-    and_from (is_written shape.entries && is_written shape.default) (content_rises shape.content)
-    (and_from (is_written shape.entries) (is_written shape.default)
-    (and_from (numbers_belong shape.entries) (entries_rise shape.entries) (numbers_of_entries copy.prefix.acl.access) (rise_if_canonical copy.prefix.acl.access valid.prefix.fits.acl.access.canonical))
-    (and_from (numbers_belong shape.default) (entries_rise shape.default) (numbers_of_entries default) (rise_if_canonical default (default_canonical copy.prefix.acl.default valid.prefix.fits.acl.default))))
-    (content_is_canonical copy.content valid.content)
+canonical_shape form copy valid = grind (shape_of, and_from, numbers_of_entries, rise_if_canonical, default_canonical, content_is_canonical, arith)
 
 spells_shape : (form : Form) (copy : Replica) → IsCopy copy → CanHold form copy.prefix → HoldsContent form copy.content → SpellsCopy (shape_of form copy)
 spells_shape form copy valid held content_held = record {
@@ -111,29 +103,14 @@ is_only bytes shape rest r e value refused copy valid has =
 -- ---- faults tell apart
 
 one_of : (shape : Shape) (rest : List ℕ) (fault other : CopyFault) → IsFaultOf shape rest fault → IsFaultOf shape rest other → fault ≡ other
-one_of shape rest Short other h k = absurd h
-one_of shape rest BadTag other h k = absurd h
-one_of shape rest fault Short h k = absurd k
-one_of shape rest fault BadTag h k = absurd k
-one_of shape rest NotCanonical NotCanonical h k = refl
-one_of shape rest NotCanonical _ h k = let yes = k.0 in absurd cc
-one_of shape rest Invalid NotCanonical h k = let yes = h.0 in absurd cc
-one_of shape rest Invalid Invalid h k = refl
-one_of shape rest Invalid TrailingBytes h k = absurd (h.1 k.1.0)
-one_of shape rest TrailingBytes NotCanonical h k = let yes = h.0 in absurd cc
-one_of shape rest TrailingBytes Invalid h k = absurd (k.1 h.1.0)
-one_of shape rest TrailingBytes TrailingBytes h k = refl
+one_of shape rest fault other h4 h5 = search arith
 
 one_in : (read : Result (Shape × List ℕ) CopyFault) (fault other : CopyFault) → IsFaultIn read fault → IsFaultIn read other → fault ≡ other
 one_in (Ok x) fault other h k = one_of x.0 x.1 fault other h k
 one_in (Err first) fault other h k = h ∙ sym k
 
 bytes_if_all : (bytes : List ℕ) → All (λ byte. byte < 256) bytes → IsBytes bytes
-bytes_if_all bytes each i =
-    elim (cases_lt i (length bytes)) [
-      | inl within ↦ each i 0 within
-      | inr past ↦ rw (get_or_past bytes i 0 past) (omega arith)
-    ]
+bytes_if_all bytes each i = search (cases_lt, get_or_past, arith)
 
 -- a whole shape has a fault, or is that of a valid copy
 whole_or_fault : (bytes : List ℕ) (shape : Shape) (rest : List ℕ) → IsBytes bytes → shape_at bytes ≡ Ok (shape, rest)

@@ -1,11 +1,11 @@
 -- Reading more bytes gives the same with more behind it, and a bad tag stays one. So each proper front of a valid copy's bytes ends too early.
-use Rattle.suite_prefix.proofs.Vocabulary.{◌≡◌, ◌≢◌, ℕ, zero, suc, Bool, true, false, cond, ltb, List, [], ◌∷◌, ◌++◌, length, Result, Ok, Err, refl, sym, ap, subst, ◌∙◌, inl, inr, arith, Width, w16, w32, w64, byte_len, cases_lt, lt-ltb}
-use Rattle.suite_prefix.proofs.Vocabulary.{le-ltb, length-append, take-append-le, drop-append-le, Bytes, Names, PrefixKind, Folder, Form, One, Two, CopyFault, Short, BadTag, NotCanonical, Invalid, TrailingBytes, IsFaultIn, FrontsAreShort}
-use Rattle.suite_prefix.proofs.Vocabulary.{◌>>=◌, Shape, byte_at, number_at, bytes_at, default_at, form_at, kind_of_code, code_at, content_at}
+use Rattle.suite_prefix.proofs.Vocabulary.{◌≡◌, ◌≢◌, ℕ, zero, suc, List, [], ◌∷◌, ◌++◌, length, Result, Ok, Err, refl, sym, ap, subst, ◌∙◌, arith, Width, w16, w32, w64, cases_lt, lt-ltb, le-ltb, length-append, take-append-le, drop-append-le}
+use Rattle.suite_prefix.proofs.Vocabulary.{PrefixKind, Folder, Form, One, Two, CopyFault, Short, BadTag, NotCanonical, Invalid, TrailingBytes, IsFaultIn, FrontsAreShort, ◌>>=◌, Shape, byte_at, number_at, bytes_at, default_at, form_at, kind_of_code}
+use Rattle.suite_prefix.proofs.Vocabulary.{content_at}
 use Rattle.suite_prefix.specs.Reading.{identity_at, entry_at, representative_at, name_at, many_at, list_at, lists_at, listed_at, votes_at, file_at, folder_at, shape_at}
 use Rattle.suite_prefix.proofs.Back.{whole_again}
 use Rattle.suite_prefix.proofs.ShapeOf.{shape_of}
-use Rattle.suite_prefix.proofs.Takes.{identity_1, identity_2, identity_3, identity_4, entry_1, entry_2, votes_1, votes_2, shape_0, shape_1, shape_2, shape_3, shape_4, shape_5}
+use Rattle.suite_prefix.proofs.Takes.{identity_1, identity_2, identity_3, identity_4, votes_1, votes_2, shape_0, shape_1, shape_2, shape_3, shape_4, shape_5}
 
 -- what ended too early may go on
 abbrev Fails : {X : Type 0} → CopyFault → Result (X × List ℕ) CopyFault → Type 0
@@ -44,31 +44,10 @@ byte_extends [] more = tt
 byte_extends (b ∷ bytes) more = refl
 
 bytes_extend : (n : ℕ) (bytes more : List ℕ) → Extends more (bytes_at n bytes) (bytes_at n (bytes ++ more))
-bytes_extend n bytes more =
-    elim (cases_lt (length bytes) n) [
-      | inl short ↦ rw (lt-ltb (length bytes) n short) tt
-      | inr long ↦
-          let longer : ltb (length (bytes ++ more)) n ≡ false = le-ltb _ _ (omega (arith, length-append bytes more)) in
-          rw (le-ltb (length bytes) n long, longer, take-append-le n bytes more long, drop-append-le n bytes more long) refl
-    ]
+bytes_extend n bytes more = search (cases_lt, lt-ltb, le-ltb, length-append, take-append-le, drop-append-le, arith)
 
 number_extends : (w : Width) (bytes more : List ℕ) → Extends more (number_at w bytes) (number_at w (bytes ++ more))
-number_extends w bytes more =
-    elim (cases_lt (length bytes) (byte_len w)) [
-      | inl short ↦ rw (lt-ltb (length bytes) (byte_len w) short) tt
-      | inr long ↦
-          let longer : ltb (length (bytes ++ more)) (byte_len w) ≡ false = le-ltb _ _ (omega (arith, length-append bytes more)) in
-          rw (le-ltb (length bytes) (byte_len w) long, longer, take-append-le (byte_len w) bytes more long, drop-append-le (byte_len w) bytes more long) refl
-    ]
-
-chosen_extends : {X : Type 0} (more : List ℕ) (b : Bool) (x : X) (rest : List ℕ) → Extends more (cond b (Ok (x, rest)) (Err BadTag)) (cond b (Ok (x, rest ++ more)) (Err BadTag))
-chosen_extends more true x rest = refl
-chosen_extends more false x rest = refl
-
-code_extends : (bytes more : List ℕ) → Extends more (code_at bytes) (code_at (bytes ++ more))
-code_extends [] more = tt
-code_extends (zero ∷ bytes) more = refl
-code_extends (suc n ∷ bytes) more = chosen_extends more (ltb n 6) (suc n) bytes
+number_extends w bytes more = search (cases_lt, lt-ltb, le-ltb, length-append, take-append-le, drop-append-le, arith)
 
 identity_extends : (bytes more : List ℕ) → Extends more (identity_at bytes) (identity_at (bytes ++ more))
 unfolding identity_at
@@ -81,36 +60,25 @@ identity_extends bytes more =
 
 entry_extends : (bytes more : List ℕ) → Extends more (entry_at bytes) (entry_at (bytes ++ more))
 unfolding entry_at
-entry_extends bytes more =
-    then_extends more (code_at bytes) (code_at (bytes ++ more)) (λ code. number_at w32 code.1 >>= entry_1 code.0) (code_extends bytes more) (λ code.
-    then_extends more (number_at w32 code.1) (number_at w32 (code.1 ++ more)) (entry_1 code.0) (number_extends w32 code.1 more) (λ number.
-    then_extends more (byte_at number.1) (byte_at (number.1 ++ more)) (entry_2 code.0 number.0) (byte_extends number.1 more) (λ permissions. refl)))
+entry_extends bytes more = search arith
 
 representative_extends : (bytes more : List ℕ) → Extends more (representative_at bytes) (representative_at (bytes ++ more))
 unfolding representative_at
-representative_extends bytes more =
-    then_extends more (byte_at bytes) (byte_at (bytes ++ more)) (λ server. byte_at server.1 >>= λ votes. Ok ((server.0, votes.0), votes.1)) (byte_extends bytes more) (λ server.
-    then_extends more (byte_at server.1) (byte_at (server.1 ++ more)) (λ votes. Ok ((server.0, votes.0), votes.1)) (byte_extends server.1 more) (λ votes. refl))
+representative_extends bytes more = search arith
 
 name_extends : (bytes more : List ℕ) → Extends more (name_at bytes) (name_at (bytes ++ more))
 unfolding name_at
-name_extends bytes more =
-    then_extends more (byte_at bytes) (byte_at (bytes ++ more)) (λ len. bytes_at len.0 len.1 >>= λ name. number_at w64 name.1 >>= λ suite. Ok ((name.0, suite.0), suite.1)) (byte_extends bytes more) (λ len.
-    then_extends more (bytes_at len.0 len.1) (bytes_at len.0 (len.1 ++ more)) (λ name. number_at w64 name.1 >>= λ suite. Ok ((name.0, suite.0), suite.1)) (bytes_extend len.0 len.1 more) (λ name.
-    then_extends more (number_at w64 name.1) (number_at w64 (name.1 ++ more)) (λ suite. Ok ((name.0, suite.0), suite.1)) (number_extends w64 name.1 more) (λ suite. refl)))
+name_extends bytes more = search (then_extends, byte_extends, bytes_extend, number_extends, arith)
 
 many_extend : {X : Type 0} (one : List ℕ → Result (X × List ℕ) CopyFault) → ((bytes more : List ℕ) → Extends more (one bytes) (one (bytes ++ more)))
     → (n : ℕ) (bytes more : List ℕ) → Extends more (many_at one n bytes) (many_at one n (bytes ++ more))
 unfolding many_at
 many_extend one each zero bytes more = refl
-many_extend one each (suc n) bytes more =
-    then_extends more (one bytes) (one (bytes ++ more)) (λ first. many_at one n first.1 >>= λ others. Ok (first.0 ∷ others.0, others.1)) (each bytes more) (λ first.
-    then_extends more (many_at one n first.1) (many_at one n (first.1 ++ more)) (λ others. Ok (first.0 ∷ others.0, others.1)) (many_extend one each n first.1 more) (λ others. refl))
+many_extend one each (suc n) bytes more = search (then_extends, many_extend one each n, arith)
 
 list_extends : (bytes more : List ℕ) → Extends more (list_at bytes) (list_at (bytes ++ more))
 unfolding list_at
-list_extends bytes more =
-    then_extends more (byte_at bytes) (byte_at (bytes ++ more)) (λ count. many_at entry_at count.0 count.1) (byte_extends bytes more) (λ count. many_extend entry_at entry_extends count.0 count.1 more)
+list_extends bytes more = search (then_extends, byte_extends, many_extend, entry_extends, arith)
 
 default_extends : (form : Form) (bytes more : List ℕ) → Extends more (default_at form bytes) (default_at form (bytes ++ more))
 default_extends One bytes more = refl
@@ -118,15 +86,11 @@ default_extends Two bytes more = list_extends bytes more
 
 lists_extend : (form : Form) (bytes more : List ℕ) → Extends more (lists_at form bytes) (lists_at form (bytes ++ more))
 unfolding lists_at
-lists_extend form bytes more =
-    then_extends more (list_at bytes) (list_at (bytes ++ more)) (λ access. default_at form access.1 >>= λ default. Ok ((access.0, default.0), default.1)) (list_extends bytes more) (λ access.
-    then_extends more (default_at form access.1) (default_at form (access.1 ++ more)) (λ default. Ok ((access.0, default.0), default.1)) (default_extends form access.1 more) (λ default. refl))
+lists_extend form bytes more = search (then_extends, list_extends, default_extends, arith)
 
 listed_extends : (bytes more : List ℕ) → Extends more (listed_at bytes) (listed_at (bytes ++ more))
 unfolding listed_at
-listed_extends bytes more =
-    then_extends more (byte_at bytes) (byte_at (bytes ++ more)) (λ count. many_at representative_at count.0 count.1) (byte_extends bytes more) (λ count.
-    many_extend representative_at representative_extends count.0 count.1 more)
+listed_extends bytes more = search (then_extends, byte_extends, many_extend, representative_extends, arith)
 
 votes_extend : (bytes more : List ℕ) → Extends more (votes_at bytes) (votes_at (bytes ++ more))
 unfolding votes_at
@@ -137,26 +101,18 @@ votes_extend bytes more =
 
 file_extends : (bytes more : List ℕ) → Extends more (file_at bytes) (file_at (bytes ++ more))
 unfolding file_at
-file_extends bytes more =
-    then_extends more (number_at w32 bytes) (number_at w32 (bytes ++ more)) (λ len. bytes_at len.0 len.1 >>= λ file. Ok (Bytes file.0, file.1)) (number_extends w32 bytes more) (λ len.
-    then_extends more (bytes_at len.0 len.1) (bytes_at len.0 (len.1 ++ more)) (λ file. Ok (Bytes file.0, file.1)) (bytes_extend len.0 len.1 more) (λ file. refl))
+file_extends bytes more = search (then_extends, number_extends, bytes_extend, arith)
 
 folder_extends : (bytes more : List ℕ) → Extends more (folder_at bytes) (folder_at (bytes ++ more))
 unfolding folder_at
-folder_extends bytes more =
-    then_extends more (number_at w16 bytes) (number_at w16 (bytes ++ more)) (λ count. many_at name_at count.0 count.1 >>= λ names. Ok (Names names.0, names.1)) (number_extends w16 bytes more) (λ count.
-    then_extends more (many_at name_at count.0 count.1) (many_at name_at count.0 (count.1 ++ more)) (λ names. Ok (Names names.0, names.1)) (many_extend name_at name_extends count.0 count.1 more) (λ names. refl))
+folder_extends bytes more = search (then_extends, number_extends, many_extend, name_extends, arith)
 
 content_extends : (kind : PrefixKind) (bytes more : List ℕ) → Extends more (content_at kind bytes) (content_at kind (bytes ++ more))
 content_extends Folder bytes more = folder_extends bytes more
 content_extends _ bytes more = file_extends bytes more
 
 form_extends : (bytes more : List ℕ) → Extends more (form_at bytes) (form_at (bytes ++ more))
-form_extends [] more = tt
-form_extends (zero ∷ bytes) more = refl
-form_extends (suc zero ∷ bytes) more = refl
-form_extends (suc (suc zero) ∷ bytes) more = refl
-form_extends (suc (suc (suc n)) ∷ bytes) more = refl
+form_extends bytes more = search arith
 
 shape_extends : (bytes more : List ℕ) → Extends more (shape_at bytes) (shape_at (bytes ++ more))
 unfolding shape_at
@@ -180,12 +136,7 @@ rest_of (Err fault) = []
 
 short_front : (shape : Shape) (more : List ℕ) (read : Result (Shape × List ℕ) CopyFault) → Extends more read (Ok (shape, [])) → more ≢ [] → IsFaultIn read Short
 unfolding rest_of
-short_front shape more (Ok x) h some = absurd (some (nothing_after x.1 more (sym (ap rest_of h))))
-short_front shape more (Err Short) h some = refl
-short_front shape more (Err BadTag) h some = absurd cc
-short_front shape more (Err NotCanonical) h some = absurd cc
-short_front shape more (Err Invalid) h some = absurd cc
-short_front shape more (Err TrailingBytes) h some = absurd cc
+short_front shape more read h3 h4 = search (rest_of, nothing_after, arith)
 
 pub fronts_are_short : FrontsAreShort
 fronts_are_short copy front rest valid whole some =

@@ -1,7 +1,7 @@
 -- A shape spells a valid copy if each of its parts does.
-use Rattle.suite_prefix.proofs.Vocabulary.{◌≡◌, ◌<◌, ◌≤◌, ◌^◌, true, List, [], ◌∷◌, length, map, None, refl, subst, sym, ap, ◌∙◌, All, IfSome, IsTrue, ◌&&◌, default_of, and_parts, length-map, All-map, mod-eq_of_lt, Tag, Entry, IsAcl}
-use Rattle.suite_prefix.proofs.Vocabulary.{IsCanonical, number_of, qualifier, Content, Bytes, Names, Prefix, Form, One, Two, EntryShape, IsContent, CanHold, most_entries, most_servers, SpellsCopy, is_canonical, is_written, numbers_belong}
-use Rattle.suite_prefix.proofs.Vocabulary.{entries_rise, content_rises, FitsForm, ContentFits, IsWithin, IsSound, MakeLists, MakesDefault, Shape, copy_of, entry_from}
+use Rattle.suite_prefix.proofs.Vocabulary.{◌≡◌, ◌<◌, ◌≤◌, ◌^◌, true, List, [], ◌∷◌, length, map, None, refl, subst, sym, ap, ◌∙◌, All, IfSome, IsTrue, default_of, and_parts, length-map, All-map, mod-eq_of_lt, Tag, Entry, IsAcl, arith, IsCanonical}
+use Rattle.suite_prefix.proofs.Vocabulary.{number_of, qualifier, Content, Bytes, Names, Prefix, Form, One, Two, EntryShape, IsContent, CanHold, most_entries, most_servers, SpellsCopy, is_canonical, numbers_belong, entries_rise, content_rises}
+use Rattle.suite_prefix.proofs.Vocabulary.{FitsForm, ContentFits, IsWithin, IsSound, MakeLists, MakesDefault, Shape, copy_of, entry_from}
 use Rattle.acl_core.specs.Entries.{entry_of}
 use Rattle.suite_prefix.proofs.Written.{entries_again}
 use Rattle.suite_prefix.proofs.Orders.{canonical_if_rise, folder_if_rise}
@@ -15,12 +15,7 @@ pub record Canonical (shape : Shape) : Type 0 where
   pub content : IsTrue (content_rises shape.content)
 
 pub canonical_parts : (shape : Shape) → IsTrue (is_canonical shape) → Canonical shape
-canonical_parts shape canonical =
-    let all = and_parts (is_written shape.entries && is_written shape.default) (content_rises shape.content) canonical in
-    let lists = and_parts (is_written shape.entries) (is_written shape.default) all.0 in
-    let access = and_parts (numbers_belong shape.entries) (entries_rise shape.entries) lists.0 in
-    let default = and_parts (numbers_belong shape.default) (entries_rise shape.default) lists.1 in
-    record { belongs = access.0; rises = access.1; default_belongs = default.0; default_rises = default.1; content = all.1 }
+canonical_parts shape canonical = search (and_parts, arith)
 
 pub content_is_canonical : (shape : Shape) → IsTrue (is_canonical shape) → IsTrue (content_rises shape.content)
 content_is_canonical shape canonical = (canonical_parts shape canonical).content
@@ -49,10 +44,7 @@ spells shape fits canonical sound accepted = record {
   valid = record {
     prefix = record {
       fits = record {
-        acl = record {
-          access = record { accepted = accepted.access; canonical = canonical_if_rise shape.entries (canonical_parts shape canonical).rises };
-          default = default_acl (map entry_from shape.default) accepted.default (canonical_if_rise shape.default (canonical_parts shape canonical).default_rises);
-        };
+        acl = search (canonical_if_rise, canonical_parts, default_acl, arith);
         votes = sound.votes.valid;
         pver = fits.pver;
         owner = fits.owner;

@@ -21,18 +21,12 @@ goes_on one front count i bytes x after total lt h so_far =
 pub ends : {X : Type 0} (one : List ℕ → Result (X × List ℕ) CopyFault) (fault : CopyFault) (front : List X) (count i : ℕ) (bytes : List ℕ) (total : Result (List X × List ℕ) CopyFault) → i < count → one bytes ≡ Err fault
     → with_front front (many_at one (count - i) bytes) ≡ total → total ≡ Err fault
 unfolding many_at
-ends one fault front count i bytes total lt h so_far =
-    let k : count - i ≡ suc (count - (i + 1)) = omega arith in
-    let step : with_front front (many_at one (count - i) bytes) ≡ Err fault = rw (k, h) refl in
-    sym so_far ∙ step
+ends one fault front count i bytes total lt h so_far = search arith
 
 pub is_done : {X : Type 0} (one : List ℕ → Result (X × List ℕ) CopyFault) (front : List X) (count i : ℕ) (bytes : List ℕ) (total : Result (List X × List ℕ) CopyFault) → count ≤ i
     → with_front front (many_at one (count - i) bytes) ≡ total → total ≡ Ok (front, bytes)
 unfolding many_at
-is_done one front count i bytes total le so_far =
-    let k : count - i ≡ 0 = omega arith in
-    let step : with_front front (many_at one (count - i) bytes) ≡ Ok (front, bytes) = rw k (ap (λ (xs : List _). Ok (xs, bytes)) (append-nil front)) in
-    sym so_far ∙ step
+is_done one front count i bytes total le so_far = search (append-nil, arith)
 
 -- without the front: where the rest ends
 abbrev pub rest_in : {X : Type 0} → Result (List X × List ℕ) CopyFault → Result (List ℕ) CopyFault
@@ -51,22 +45,14 @@ pub read_fails : {X : Type 0} (read : Result (List X × List ℕ) CopyFault) (fa
 read_fails (Ok x) fault e = absurd cc
 read_fails (Err other) fault e = cc
 
-same_rest : {X : Type 0} (x : X) (read : Result (List X × List ℕ) CopyFault) → rest_in (read >>= λ y. Ok (x ∷ y.0, y.1)) ≡ rest_in read
-same_rest x (Ok y) = refl
-same_rest x (Err fault) = refl
-
 pub rest_goes_on : {X : Type 0} (one : List ℕ → Result (X × List ℕ) CopyFault) (count i : ℕ) (bytes : List ℕ) (x : X) (after : List ℕ) → i < count → one bytes ≡ Ok (x, after)
     → rest_in (many_at one (count - i) bytes) ≡ rest_in (many_at one (count - (i + 1)) after)
 unfolding many_at
-rest_goes_on one count i bytes x after lt h =
-    let k : count - i ≡ suc (count - (i + 1)) = omega arith in
-    rw (k, h) (same_rest x (many_at one (count - (i + 1)) after))
+rest_goes_on one count i bytes x after lt h = search arith
 
 pub rest_ends : {X : Type 0} (one : List ℕ → Result (X × List ℕ) CopyFault) (count i : ℕ) (bytes : List ℕ) (fault : CopyFault) → i < count → one bytes ≡ Err fault → rest_in (many_at one (count - i) bytes) ≡ Err fault
 unfolding many_at
-rest_ends one count i bytes fault lt h =
-    let k : count - i ≡ suc (count - (i + 1)) = omega arith in
-    rw (k, h) refl
+rest_ends one count i bytes fault lt h = search arith
 
 pub rest_done : {X : Type 0} (one : List ℕ → Result (X × List ℕ) CopyFault) (count i : ℕ) (bytes : List ℕ) → count ≤ i → rest_in (many_at one (count - i) bytes) ≡ Ok bytes
 unfolding many_at
@@ -86,15 +72,9 @@ pub record Splits {X : Type 0} (one : List ℕ → Result (X × List ℕ) CopyFa
 abbrev then_first : {X : Type 0} → X → Result (List X × List ℕ) CopyFault → Result (List X × List ℕ) CopyFault
 then_first x read = read >>= λ y. Ok (x ∷ y.0, y.1)
 
-split_read : {X : Type 0} (x : X) (read : Result (List X × List ℕ) CopyFault) → IsRead (then_first x read) → (listed (then_first x read) ≡ x ∷ listed read) × IsRead read
-split_read x (Ok y) ok = (refl, refl)
-split_read x (Err fault) ok = absurd cc
-
 pub splits : {X : Type 0} (one : List ℕ → Result (X × List ℕ) CopyFault) (count : ℕ) (bytes : List ℕ) (x : X) (after : List ℕ) → one bytes ≡ Ok (x, after) → IsRead (many_at one (suc count) bytes) → Splits one count bytes x after
 unfolding many_at
-splits one count bytes x after h ok =
-    let parts = split_read x (many_at one count after) (rw h at ok) in
-    record { first = rw h parts.0; whole = parts.1 }
+splits one count bytes x after h ok = search arith
 
 pub never_fails : {X : Type 0} (one : List ℕ → Result (X × List ℕ) CopyFault) (count : ℕ) (bytes : List ℕ) (fault : CopyFault) → one bytes ≡ Err fault → IsRead (many_at one (suc count) bytes) → ⊥
 unfolding many_at

@@ -1,5 +1,5 @@
 -- Names put one behind the other.
-use Rattle.suite_prefix.proofs.Vocabulary.{◌≡◌, ℕ, List, [], ◌∷◌, ◌++◌, sym, ap, subst, ◌∙◌, append-nil, All, ◌↔◌, IsTrue, All-cons, All-head, All-tail, IsFolder, IsName, names_rise}
+use Rattle.suite_prefix.proofs.Vocabulary.{◌≡◌, ℕ, List, [], ◌∷◌, ◌++◌, sym, ap, subst, ◌∙◌, append-nil, All, ◌↔◌, IsTrue, All-cons, All-head, All-tail, IsFolder, IsName, names_rise, arith}
 use Rattle.suite_prefix.proofs.Orders.{folder_if_rise}
 
 -- where the first passes, all pass where the others do
@@ -22,6 +22,4 @@ name_at_middle front name suite rest others all split so_far each =
 
 -- where none is left, those that were passed are a folder's
 pub folder_at_end : (front others all : List (List ℕ × ℕ)) → others ≡ [] → front ++ others ≡ all → IsTrue (names_rise all) → IsFolder front
-folder_at_end front others all none so_far rise =
-    let whole : front ≡ all = sym (append-nil front) ∙ ap (λ t. front ++ t) (sym none) ∙ so_far in
-    subst IsFolder (sym whole) (folder_if_rise all rise)
+folder_at_end front others all none so_far rise = search (whole, append-nil, folder_if_rise, arith)

@@ -1,12 +1,11 @@
 -- Entries of which each stands before the next are in canonical order, and names of which each is below the next are a folder's.
-use Rattle.suite_prefix.proofs.Vocabulary.{◌≡◌, ℕ, suc, true, eqb, List, [], ◌∷◌, map, Less, refl, ap, arith, All, AllByRecursion, and_parts, and_from, nat_tests, All-nil, All-cons, Tag, Entry, IsCanonical, qualifier, precedes, IsFolder}
-use Rattle.suite_prefix.proofs.Vocabulary.{name_cmp, EntryShape, numbers_belong, entries_rise, rise_above, names_rise, entry_from}
+use Rattle.suite_prefix.proofs.Vocabulary.{◌≡◌, ℕ, suc, true, eqb, List, [], ◌∷◌, map, Less, refl, arith, All, AllByRecursion, and_parts, and_from, nat_tests, All-nil, All-cons, Tag, Entry, IsCanonical, qualifier, precedes, IsFolder, name_cmp}
+use Rattle.suite_prefix.proofs.Vocabulary.{EntryShape, numbers_belong, entries_rise, rise_above, names_rise, entry_from}
 use Rattle.std.specs.List.Sorted.{IsStrictlySortedBy}
 use Rattle.std.specs.Map.{keys_of}
 use Rattle.std.specs.Ordering.{is_lt}
 use Rattle.std.specs.declared.cmp.Ordering.{Ordering}
 use Rattle.std.specs.Cmp.Lexicographic.{nat_list_cmp_total}
-use Rattle.std.proofs.lemmas.List.Kept.{AllPairs-cons}
 use Rattle.std.specs.declared.cmp.Ordering.TheVariants as ord
 use Rattle.suite_prefix.proofs.ShapeOf.{entry_shape}
 
@@ -22,11 +21,8 @@ all_after s e (f ∷ fs) h rise =
 
 pub canonical_if_rise : (es : List EntryShape) → entries_rise es ≡ true → IsCanonical (map entry_from es)
 canonical_if_rise [] rise = λ i j d lt in_list. absurd (omega arith)
-canonical_if_rise (e ∷ []) rise =
-    AllPairs-cons (λ (earlier later : Entry). precedes earlier.tag later.tag ≡ true) (entry_from e) [] (All-nil (λ (later : Entry). precedes e.tag later.tag ≡ true)) (λ i j d lt in_list. absurd (omega arith))
-canonical_if_rise (e ∷ (f ∷ fs)) rise =
-    let parts = and_parts (precedes e.tag f.tag) (entries_rise (f ∷ fs)) rise in
-    AllPairs-cons (λ (earlier later : Entry). precedes earlier.tag later.tag ≡ true) (entry_from e) (map entry_from (f ∷ fs)) (all_after e.tag f fs parts.0 parts.1) (canonical_if_rise (f ∷ fs) parts.1)
+canonical_if_rise (e ∷ []) rise = search arith
+canonical_if_rise (e ∷ (f ∷ fs)) rise = search (and_parts, all_after, canonical_if_rise (f ∷ fs), arith)
 
 -- and back, for the shapes in which entries are written
 pub rise_if_canonical : (es : List Entry) → IsCanonical es → entries_rise (map entry_shape es) ≡ true
@@ -58,21 +54,16 @@ names_after name next (other ∷ names) h rise =
 sorted_above : (first : List ℕ × ℕ) (names : List (List ℕ × ℕ)) → rise_above first.0 names ≡ true → IsStrictlySortedBy name_cmp (keys_of (first ∷ names))
 unfolding IsStrictlySortedBy
 sorted_above first [] rise = (tt, tt)
-sorted_above first (next ∷ names) rise =
-    let parts = and_parts (is_lt (name_cmp first.0 next.0)) (rise_above next.0 names) rise in
-    let below = less (name_cmp first.0 next.0) parts.0 in
-    ((below, names_after first.0 next.0 names below parts.1), sorted_above next names parts.1)
+sorted_above first (next ∷ names) rise = search (and_parts, less, names_after, sorted_above next names, arith)
 
 pub folder_if_rise : (names : List (List ℕ × ℕ)) → names_rise names ≡ true → IsFolder names
 unfolding IsStrictlySortedBy
-folder_if_rise [] rise = tt
-folder_if_rise (first ∷ names) rise = sorted_above first names rise
+folder_if_rise names h1 = search (sorted_above, arith)
 
 above_if_sorted : (first : List ℕ × ℕ) (names : List (List ℕ × ℕ)) → IsStrictlySortedBy name_cmp (keys_of (first ∷ names)) → rise_above first.0 names ≡ true
 unfolding IsStrictlySortedBy
 above_if_sorted first [] sorted = refl
-above_if_sorted first (next ∷ names) sorted =
-    and_from (is_lt (name_cmp first.0 next.0)) (rise_above next.0 names) (ap is_lt sorted.0.0) (above_if_sorted next names sorted.1)
+above_if_sorted first (next ∷ names) sorted = search (and_from, above_if_sorted next names, arith)
 
 pub rise_if_folder : (names : List (List ℕ × ℕ)) → IsFolder names → names_rise names ≡ true
 rise_if_folder [] folder = refl

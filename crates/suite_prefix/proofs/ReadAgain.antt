@@ -1,12 +1,12 @@
 -- What was written is read again, whatever follows.
-use Rattle.suite_prefix.proofs.Vocabulary.{◌≡◌, ℕ, suc, ◌^◌, ◌<◌, false, ltb, List, [], ◌∷◌, ◌++◌, length, map, Option, None, Result, Ok, refl, sym, ap, ◌∙◌, append_assoc, arith, All, flat_map, AllByRecursion, Width, w16, w32, w64}
-use Rattle.suite_prefix.proofs.Vocabulary.{byte_len, from_be_bytes, to_be_bytes, le-ltb, take_at, drop_at, length-append, flat_map-cons, recursion_from_All, Entry, Tag, UserObj, Lists, number_of, qualifier, Configuration, Representative}
-use Rattle.suite_prefix.proofs.Vocabulary.{kind_of, Content, Bytes, Names, PrefixKind, Absent, File, Folder, Prefix, Replica, Form, One, Two, kind_code, tag_code, entry_bytes, list_bytes, lists_bytes, representative_bytes, votes_bytes}
-use Rattle.suite_prefix.proofs.Vocabulary.{identity_bytes, name_bytes, content_bytes, bytes_in, NumbersFit, default_entries, IsCopy, PrefixFits, IsContent, held_by, CanHold, form_code, CopyFault, Identity}
+use Rattle.suite_prefix.proofs.Vocabulary.{◌≡◌, ℕ, ◌^◌, ◌<◌, List, [], ◌∷◌, ◌++◌, length, map, None, Result, Ok, refl, ap, ◌∙◌, append_assoc, arith, All, flat_map, AllByRecursion, Width, w16, w32, w64, byte_len, from_be_bytes, to_be_bytes, le-ltb}
+use Rattle.suite_prefix.proofs.Vocabulary.{take_at, drop_at, length-append, flat_map-cons, recursion_from_All, Entry, Lists, qualifier, Configuration, Representative, kind_of, Content, Bytes, Names, PrefixKind, Prefix, Replica, Form, One, Two}
+use Rattle.suite_prefix.proofs.Vocabulary.{entry_bytes, list_bytes, lists_bytes, representative_bytes, votes_bytes, identity_bytes, name_bytes, content_bytes, bytes_in, NumbersFit, default_entries, IsCopy, PrefixFits, IsContent, held_by, CanHold}
+use Rattle.suite_prefix.proofs.Vocabulary.{form_code, CopyFault, Identity}
 use Rattle.std.proofs.lemmas.Nat.{from_be_bytes-to_be_bytes_2, from_be_bytes-to_be_bytes_4, from_be_bytes-to_be_bytes_8}
-use Rattle.suite_prefix.specs.Reading.{identity_at, entry_at, representative_at, name_at, many_at, list_at, lists_at, listed_at, votes_at, file_at, folder_at, shape_at, number_at, bytes_at, form_at, kind_of_code, code_at, content_at}
+use Rattle.suite_prefix.specs.Reading.{identity_at, entry_at, representative_at, name_at, many_at, list_at, lists_at, listed_at, votes_at, file_at, folder_at, shape_at, number_at, bytes_at, form_at, content_at}
 use Rattle.suite_prefix.proofs.Joins.{five_pieces}
-use Rattle.suite_prefix.proofs.ShapeOf.{entry_shape, shape_of, tag_back}
+use Rattle.suite_prefix.proofs.ShapeOf.{entry_shape, shape_of}
 
 -- ---- numbers and bytes
 
@@ -24,15 +24,10 @@ pub wide64 : IsWide w64 (2 ^ 64)
 wide64 = record { len = λ n. refl; again = λ n lt. from_be_bytes-to_be_bytes_8 n lt }
 
 pub number_again : (w : Width) (limit : ℕ) (wide : IsWide w limit) (n : ℕ) (rest : List ℕ) → n < limit → number_at w (to_be_bytes w n ++ rest) ≡ Ok (n, rest)
-number_again w limit wide n rest lt =
-    let len = wide.len n in
-    let long : ltb (length (to_be_bytes w n ++ rest)) (byte_len w) ≡ false = le-ltb _ _ (omega (arith, length-append (to_be_bytes w n) rest)) in
-    rw (long, take_at (to_be_bytes w n) rest (byte_len w) len, drop_at (to_be_bytes w n) rest (byte_len w) len, wide.again n lt) refl
+number_again w limit wide n rest lt = search (le-ltb, length-append, take_at, drop_at, arith)
 
 pub bytes_again : (bytes rest : List ℕ) → bytes_at (length bytes) (bytes ++ rest) ≡ Ok (bytes, rest)
-bytes_again bytes rest =
-    let long : ltb (length (bytes ++ rest)) (length bytes) ≡ false = le-ltb _ _ (omega (arith, length-append bytes rest)) in
-    rw (long, take_at bytes rest (length bytes) refl, drop_at bytes rest (length bytes) refl) refl
+bytes_again bytes rest = search (le-ltb, length-append, take_at, drop_at, arith)
 
 -- ---- so many of a kind
 
@@ -41,23 +36,13 @@ pub many_again : {X Y : Type 0} (one : List ℕ → Result (Y × List ℕ) CopyF
     → (xs : List X) (rest : List ℕ) → AllByRecursion Fits xs → many_at one (length xs) (flat_map write xs ++ rest) ≡ Ok (map shape xs, rest)
 unfolding many_at
 many_again one write shape Fits again [] rest fits = refl
-many_again one write shape Fits again (x ∷ xs) rest fits =
-    let regrouped : flat_map write (x ∷ xs) ++ rest ≡ write x ++ (flat_map write xs ++ rest) = ap (λ t. t ++ rest) (flat_map-cons write x xs) ∙ append_assoc (write x) (flat_map write xs) rest in
-    ap (many_at one (suc (length xs))) regrouped ∙ rw (again x (flat_map write xs ++ rest) fits.0, many_again one write shape Fits again xs rest fits.1) refl
+many_again one write shape Fits again (x ∷ xs) rest fits = search (flat_map-cons, append_assoc, many_again one write shape Fits again xs rest, arith)
 
 -- ---- entries and representatives
 
-code_again : (tag : Tag) (rest : List ℕ) → code_at (tag_code tag ∷ rest) ≡ Ok (tag_code tag, rest)
-code_again UserObj rest = refl
-code_again _ rest = refl
-
 entry_again : (entry : Entry) (rest : List ℕ) → qualifier entry.tag < 2 ^ 32 → entry_at (entry_bytes entry ++ rest) ≡ Ok (entry_shape entry, rest)
 unfolding entry_at
-entry_again entry rest fits =
-    let number = to_be_bytes w32 (qualifier entry.tag) in
-    let regrouped : entry_bytes entry ++ rest ≡ tag_code entry.tag ∷ (number ++ (number_of entry.perms ∷ rest)) = refl in
-    ap entry_at regrouped
-    ∙ rw (code_again entry.tag (number ++ (number_of entry.perms ∷ rest)), number_again w32 (2 ^ 32) wide32 (qualifier entry.tag) (number_of entry.perms ∷ rest) fits, tag_back entry.tag) refl
+entry_again entry rest fits = search arith
 
 representative_again : (rep : Representative) (rest : List ℕ) → Unit {0} → representative_at (representative_bytes rep ++ rest) ≡ Ok (rep, rest)
 unfolding representative_at
@@ -89,13 +74,7 @@ is_known Two prefix held = tt
 pub lists_again : (form : Form) (lists : Lists) (rest : List ℕ) → NumbersFit lists → IsKnown form lists
     → lists_at form (lists_bytes form lists ++ rest) ≡ Ok ((map entry_shape lists.access, map entry_shape (default_entries lists.default)), rest)
 unfolding lists_at
-lists_again One lists rest fits known =
-    rw (list_again lists.access rest fits.access)
-    (ap (λ (default : Option (List Entry)). Ok ((map entry_shape lists.access, map entry_shape (default_entries default)), rest)) (sym known))
-lists_again Two lists rest fits known =
-    let default = list_bytes (default_entries lists.default) in
-    ap (lists_at Two) (append_assoc (list_bytes lists.access) default rest)
-    ∙ rw (list_again lists.access (default ++ rest) fits.access, list_again (default_entries lists.default) rest fits.default) refl
+lists_again form lists rest h3 h4 = search (list_again, entry_shape, append_assoc, arith)
 
 all_units : {X : Type 0} (xs : List X) → AllByRecursion (λ x. Unit {0}) xs
 all_units [] = tt
@@ -115,36 +94,14 @@ names_again names rest fits =
 
 pub votes_again : (votes : Configuration) (rest : List ℕ) → votes.r < 2 ^ 16 → votes.w < 2 ^ 16 → votes_at (votes_bytes votes ++ rest) ≡ Ok (votes, rest)
 unfolding votes_at listed_at
-votes_again votes rest r_fits w_fits =
-    let reps = flat_map representative_bytes votes.reps in
-    let r = to_be_bytes w16 votes.r in
-    let w = to_be_bytes w16 votes.w in
-    let regrouped : votes_bytes votes ++ rest ≡ length votes.reps ∷ (reps ++ (r ++ (w ++ rest))) =
-    ap (λ t. length votes.reps ∷ t) (append_assoc (reps ++ r) w rest ∙ append_assoc reps r (w ++ rest)) in
-    ap votes_at regrouped
-    ∙ rw (reps_again votes.reps (r ++ (w ++ rest)), number_again w16 (2 ^ 16) wide16 votes.r (w ++ rest) r_fits, number_again w16 (2 ^ 16) wide16 votes.w rest w_fits) refl
-
-kind_again : (kind : PrefixKind) → kind_of_code (kind_code kind) ≡ Ok kind
-kind_again Absent = refl
-kind_again _ = refl
+votes_again votes rest r_fits w_fits = search (append_assoc, reps_again, number_again, wide16, arith)
 
 abbrev pub identity_of : Prefix → Identity
 identity_of prefix = record { pver = prefix.pver; kind = prefix.kind; owner = prefix.owner; group = prefix.group }
 
 pub identity_again : (prefix : Prefix) (rest : List ℕ) → PrefixFits prefix → identity_at (identity_bytes prefix ++ rest) ≡ Ok (identity_of prefix, rest)
 unfolding identity_at
-identity_again prefix rest fits =
-    let pver = to_be_bytes w64 prefix.pver in
-    let owner = to_be_bytes w32 prefix.owner in
-    let group = to_be_bytes w32 prefix.group in
-    let regrouped : identity_bytes prefix ++ rest ≡ pver ++ (kind_code prefix.kind ∷ (owner ++ (group ++ rest))) = refl in
-    ap identity_at regrouped
-    ∙ rw (
-      number_again w64 (2 ^ 64) wide64 prefix.pver (kind_code prefix.kind ∷ (owner ++ (group ++ rest))) fits.pver,
-      kind_again prefix.kind,
-      number_again w32 (2 ^ 32) wide32 prefix.owner (group ++ rest) fits.owner,
-      number_again w32 (2 ^ 32) wide32 prefix.group rest fits.group,
-    ) refl
+identity_again prefix rest fits = search arith
 
 file_again : (bytes rest : List ℕ) → length bytes < 2 ^ 32 → file_at (content_bytes (Bytes bytes) ++ rest) ≡ Ok (Bytes bytes, rest)
 unfolding file_at
@@ -154,17 +111,10 @@ file_again bytes rest fits =
 
 folder_again : (names : List (List ℕ × ℕ)) (rest : List ℕ) → length names < 2 ^ 16 → All (λ entry. entry.1 < 2 ^ 64) names → folder_at (content_bytes (Names names) ++ rest) ≡ Ok (Names names, rest)
 unfolding folder_at
-folder_again names rest fits suites =
-    let len = to_be_bytes w16 (length names) in
-    ap folder_at (append_assoc len (flat_map name_bytes names) rest)
-    ∙ rw (number_again w16 (2 ^ 16) wide16 (length names) (flat_map name_bytes names ++ rest) fits, names_again names rest suites) refl
+folder_again names rest fits suites = search (append_assoc, number_again, wide16, names_again, arith)
 
 pub content_again : (kind : PrefixKind) (content : Content) (rest : List ℕ) → kind_of content ≡ held_by kind → IsContent content → content_at kind (content_bytes content ++ rest) ≡ Ok (content, rest)
-content_again Absent (Bytes bytes) rest agree fits = file_again bytes rest (omega (arith, fits.few))
-content_again File (Bytes bytes) rest agree fits = file_again bytes rest (omega (arith, fits.few))
-content_again Folder (Names names) rest agree fits = folder_again names rest (omega (arith, fits.few)) fits.suites_fit
-content_again _ (Names names) rest agree fits = absurd cc
-content_again Folder (Bytes bytes) rest agree fits = absurd cc
+content_again kind content rest h3 h4 = search (file_again, folder_again, arith)
 
 -- ---- a copy
 

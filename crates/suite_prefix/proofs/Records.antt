@@ -1,7 +1,7 @@
 -- The bytes of a valid copy are a record of it, and what stands before its content is read again.
-use Rattle.suite_prefix.proofs.Vocabulary.{◌≡◌, ℕ, ◌^◌, ◌<◌, List, [], ◌∷◌, ◌++◌, map, get_or, Result, Ok, Err, Option, None, Some, refl, sym, ap, subst, ◌∙◌, All, IfSome, IsTrue, w64, to_be_bytes, All-map, append-nil, Entry, Lists, IsAcl}
-use Rattle.suite_prefix.proofs.Vocabulary.{Content, Bytes, Names, IsWithin, Prefix, Replica, Form, CopyFault, EntryShape, bytes_in, identity_bytes, lists_bytes, votes_bytes, content_bytes, IsCopy, IsContent, content_rises, CanHold}
-use Rattle.suite_prefix.proofs.Vocabulary.{form_code, Reads, content_at, entry_from, default_entries, IsOfValid, MakesDefaultAcl, head_of, prefix_of, Kept, IsRecord, kept_in, kept_read}
+use Rattle.suite_prefix.proofs.Vocabulary.{◌≡◌, ℕ, ◌^◌, ◌<◌, List, [], ◌∷◌, ◌++◌, map, get_or, Result, Ok, Err, Option, refl, sym, ap, ◌∙◌, All, IfSome, IsTrue, w64, to_be_bytes, All-map, append-nil, Entry, Lists, IsAcl, arith, Content, Bytes, Names}
+use Rattle.suite_prefix.proofs.Vocabulary.{IsWithin, Prefix, Replica, Form, CopyFault, EntryShape, bytes_in, identity_bytes, lists_bytes, votes_bytes, content_bytes, IsCopy, IsContent, content_rises, CanHold, form_code, Reads, content_at, entry_from}
+use Rattle.suite_prefix.proofs.Vocabulary.{default_entries, IsOfValid, MakesDefaultAcl, head_of, prefix_of, Kept, IsRecord, kept_in, kept_read}
 use Rattle.suite_prefix.specs.code.Heads.{head_at}
 use Rattle.suite_prefix.proofs.Back.{whole_again}
 use Rattle.suite_prefix.proofs.Joins.{four_pieces}
@@ -22,13 +22,7 @@ pub kept_of_bytes : (bytes : List ℕ) (form : Form) (copy : Replica) → IsCopy
 kept_of_bytes bytes form copy valid held are = ap kept_in are ∙ kept_again form copy valid held
 
 pub is_record : (bytes : List ℕ) (form : Form) (copy : Replica) → IsCopy copy → CanHold form copy.prefix → bytes ≡ bytes_in form copy → IsRecord bytes
-is_record bytes form copy valid held are =
-    let same = kept_of_bytes bytes form copy valid held are in
-    record {
-      valid = subst (λ (kept : Kept). IsCopy kept.copy) (sym same) valid;
-      held = subst (λ (kept : Kept). CanHold kept.form kept.copy.prefix) (sym same) held;
-      spelled = are ∙ ap (λ (kept : Kept). bytes_in kept.form kept.copy) (sym same);
-    }
+is_record bytes form copy valid held are = search (kept_of_bytes, arith)
 
 -- what stands before the content is read again
 pub head_again : (form : Form) (copy : Replica) → IsCopy copy → CanHold form copy.prefix → head_at (bytes_in form copy) ≡ Ok (head_of copy, content_bytes copy.content)
@@ -59,12 +53,7 @@ all_known : (entries : List Entry) → All (λ (entry : EntryShape). entry.permi
 all_known entries = All-map (λ (entry : EntryShape). entry.permissions < 8) entry_shape entries (λ k d in_list. (get_or entries k d).known)
 
 makes_default : (default : Option (List Entry)) → IfSome default IsAcl → MakesDefaultAcl (map entry_from (map entry_shape (default_entries default)))
-makes_default None acl = tt
-makes_default (Some list) acl = subst MakesDefaultAcl (sym (entries_back list)) (of_list list acl)
-  where
-    of_list : (list : List Entry) → IsAcl list → MakesDefaultAcl list
-    of_list [] acl = tt
-    of_list (entry ∷ entries) acl = acl
+makes_default default h1 = search (entries_back, arith)
 
 -- entries of a default list, where there are some
 pub acl_if_some : (entries : List EntryShape) → (entries ≡ [] → ⊥) → MakesDefaultAcl (map entry_from entries) → IsAcl (map entry_from entries)
@@ -72,21 +61,14 @@ acl_if_some [] some makes = absurd (some refl)
 acl_if_some (entry ∷ entries) some makes = makes
 
 pub is_of_valid : (copy : Replica) → IsCopy copy → IsOfValid (head_of copy)
-is_of_valid copy valid = record {
-  known = all_known copy.prefix.acl.access;
-  access = subst IsAcl (sym (entries_back copy.prefix.acl.access)) valid.prefix.fits.acl.access;
-  default_known = all_known (default_entries copy.prefix.acl.default);
-  default = makes_default copy.prefix.acl.default valid.prefix.fits.acl.default;
-  votes = valid.prefix.fits.votes;
-}
+is_of_valid copy valid = search (all_known, entries_back, makes_default, arith)
 
 with_lists : Prefix → Lists → Prefix
 with_lists prefix acl = record { pver = prefix.pver; kind = prefix.kind; owner = prefix.owner; group = prefix.group; acl = acl; votes = prefix.votes }
 
 pub prefix_again : (copy : Replica) → IsCopy copy → prefix_of (head_of copy) ≡ copy.prefix
 unfolding with_lists
-prefix_again copy valid =
-    ap (with_lists copy.prefix) (λ i. record { access = entries_back copy.prefix.acl.access i; default = default_back copy.prefix.acl.default valid.prefix.fits.acl.default i })
+prefix_again copy valid = search (with_lists, entries_back, default_back, arith)
 
 -- ---- the content of what stands there
 

@@ -1,6 +1,6 @@
 -- The shape in which a copy is written, and that it spells the copy.
-use Rattle.suite_prefix.proofs.Vocabulary.{◌≡◌, ℕ, List, [], ◌∷◌, map, Option, None, Some, refl, ap, ◌∙◌, IfSome, mod-eq_of_lt, Entry, Lists, IsAcl, Tag, UserObj, number_of, qualifier, Replica, Form, EntryShape, default_entries, default_of}
-use Rattle.suite_prefix.proofs.Vocabulary.{tag_code, Shape, tag_of, entry_from, copy_of}
+use Rattle.suite_prefix.proofs.Vocabulary.{◌≡◌, ℕ, List, [], ◌∷◌, map, Option, None, Some, refl, ap, ◌∙◌, IfSome, mod-eq_of_lt, Entry, Lists, IsAcl, number_of, qualifier, Replica, Form, EntryShape, default_entries, default_of, Shape, entry_from}
+use Rattle.suite_prefix.proofs.Vocabulary.{copy_of}
 use Rattle.acl_core.specs.declared.perms.Perms.{Perms}
 use Rattle.acl_core.proofs.EntryEquality.{same_by_fields}
 
@@ -17,10 +17,6 @@ shape_of form copy = record {
   dver = copy.dver;
   content = copy.content;
 }
-
-pub tag_back : (tag : Tag) → tag_of (tag_code tag) (qualifier tag) ≡ tag
-tag_back UserObj = refl
-tag_back _ = refl
 
 perms_of : ℕ → Perms
 perms_of bits = record { 0 = bits }

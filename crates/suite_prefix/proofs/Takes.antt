@@ -1,9 +1,9 @@
 -- What is read is what was written: each part that a reader takes from the front of bytes is spelled so.
-use Rattle.suite_prefix.proofs.Vocabulary.{◌≡◌, ℕ, zero, suc, ◌+◌, ◌^◌, ◌<◌, ◌≤◌, Bool, true, false, cond, ltb, List, [], ◌∷◌, ◌++◌, length, get_or, take, drop, All, Result, Ok, Err, refl, sym, ap, subst, ◌∙◌, append_assoc, arith, inl, inr}
-use Rattle.suite_prefix.proofs.Vocabulary.{flat_map, AllByRecursion, Width, w16, w32, w64, byte_len, from_be_bytes, to_be_bytes, cases_lt, ltb-false, le-ltb, take-append-drop, length-take, get_or-drop, get_or-take, get_or_past}
-use Rattle.suite_prefix.proofs.Vocabulary.{flat_map-cons, All-from_recursion, qualifier, Configuration, Representative, kind_of, Content, Bytes, Names, PrefixKind, Absent, File, Folder, Form, One, Two, CopyFault, Short, BadTag, EntryShape}
-use Rattle.suite_prefix.proofs.Vocabulary.{Identity, kind_code, tag_code, representative_bytes, name_bytes, content_bytes, held_by, form_code, FitsForm, ContentFits, ◌>>=◌, Shape, byte_at, number_at, bytes_at, default_at, form_at}
-use Rattle.suite_prefix.proofs.Vocabulary.{kind_of_code, code_at, tag_of, content_at}
+use Rattle.suite_prefix.proofs.Vocabulary.{◌≡◌, ℕ, zero, suc, ◌+◌, ◌^◌, ◌<◌, ◌≤◌, Bool, true, false, cond, ltb, List, [], ◌∷◌, ◌++◌, length, get_or, take, drop, All, Result, Ok, Err, refl, sym, ap, subst, ◌∙◌, append_assoc, arith, inl, inr, flat_map}
+use Rattle.suite_prefix.proofs.Vocabulary.{AllByRecursion, Width, w16, w32, w64, byte_len, from_be_bytes, to_be_bytes, cases_lt, ltb-false, le-ltb, take-append-drop, length-take, get_or-drop, get_or-take, get_or_past, flat_map-cons}
+use Rattle.suite_prefix.proofs.Vocabulary.{All-from_recursion, qualifier, Configuration, Representative, kind_of, Content, Bytes, Names, PrefixKind, Absent, File, Folder, Form, One, Two, CopyFault, Short, BadTag, EntryShape, Identity, kind_code}
+use Rattle.suite_prefix.proofs.Vocabulary.{tag_code, representative_bytes, name_bytes, content_bytes, held_by, form_code, FitsForm, ContentFits, ◌>>=◌, Shape, byte_at, number_at, bytes_at, default_at, form_at, kind_of_code, code_at, tag_of}
+use Rattle.suite_prefix.proofs.Vocabulary.{content_at}
 use Rattle.std.proofs.lemmas.Nat.{be_bytes_2, be_bytes_4, be_bytes_8}
 use Rattle.suite_prefix.specs.Reading.{identity_at, entry_at, representative_at, name_at, many_at, list_at, lists_at, listed_at, votes_at, file_at, folder_at, shape_at}
 use Rattle.suite_prefix.proofs.Loop.{ok_is}
@@ -57,22 +57,13 @@ record IsWide (w : Width) (limit : ℕ) : Type 0 where
   below : (bytes : List ℕ) → IsBytes bytes → from_be_bytes w bytes < limit
 
 wide16 : IsWide w16 (2 ^ 16)
-wide16 = record {
-  back = λ bytes len fits. be_bytes_2 bytes _ len fits refl;
-  below = λ bytes fits. omega (arith, fits 0, fits 1);
-}
+wide16 = search (be_bytes_2, arith)
 
 wide32 : IsWide w32 (2 ^ 32)
-wide32 = record {
-  back = λ bytes len fits. be_bytes_4 bytes _ len fits refl;
-  below = λ bytes fits. omega (arith, fits 0, fits 1, fits 2, fits 3);
-}
+wide32 = search (be_bytes_4, arith)
 
 wide64 : IsWide w64 (2 ^ 64)
-wide64 = record {
-  back = λ bytes len fits. be_bytes_8 bytes _ len fits refl;
-  below = λ bytes fits. omega (arith, fits 0, fits 1, fits 2, fits 3, fits 4, fits 5, fits 6, fits 7);
-}
+wide64 = search (be_bytes_8, arith)
 
 number_takes : (w : Width) (limit : ℕ) (wide : IsWide w limit) (bytes : List ℕ) (n : ℕ) (rest : List ℕ) → IsBytes bytes → number_at w bytes ≡ Ok (n, rest) → Takes bytes (to_be_bytes w n) rest × (n < limit)
 number_takes w limit wide bytes n rest fits e =
@@ -119,10 +110,7 @@ form_takes (suc (suc zero) ∷ bytes) x fits e =
 form_takes (suc (suc (suc b)) ∷ bytes) x fits e = absurd cc
 
 kind_takes : (code : ℕ) (kind : PrefixKind) → kind_of_code code ≡ Ok kind → kind_code kind ≡ code
-kind_takes zero kind e = ap kind_code (sym (ok_is Absent kind e))
-kind_takes (suc zero) kind e = ap kind_code (sym (ok_is File kind e))
-kind_takes (suc (suc zero)) kind e = ap kind_code (sym (ok_is Folder kind e))
-kind_takes (suc (suc (suc n))) kind e = absurd cc
+kind_takes code kind h2 = search arith
 
 abbrev pub identity_text : Identity → List ℕ
 identity_text i = to_be_bytes w64 i.pver ++ kind_code i.kind ∷ to_be_bytes w32 i.owner ++ to_be_bytes w32 i.group
@@ -170,8 +158,7 @@ many_take : {X : Type 0} (one : List ℕ → Result (X × List ℕ) CopyFault) (
     → ((bytes : List ℕ) (x : X × List ℕ) → IsBytes bytes → one bytes ≡ Ok x → Takes bytes (text x.0) x.1 × Fits x.0)
     → (n : ℕ) (bytes : List ℕ) (x : List X × List ℕ) → IsBytes bytes → many_at one n bytes ≡ Ok x → Takes bytes (flat_map text x.0) x.1 × (length x.0 ≡ n) × AllByRecursion Fits x.0
 unfolding many_at
-many_take one text Fits takes zero bytes x fits e =
-    subst (λ (y : List _ × List ℕ). Takes bytes (flat_map text y.0) y.1 × (length y.0 ≡ 0) × AllByRecursion Fits y.0) (ok_is ([], bytes) x e) (record { parts = refl; rest_fits = fits }, refl, tt)
+many_take one text Fits takes zero bytes x fits e = search (ok_is, arith)
 many_take one text Fits takes (suc n) bytes x fits e =
     let a = bind_ok (one bytes) (λ first. many_at one n first.1 >>= λ others. Ok (first.0 ∷ others.0, others.1)) x e in
     let b = bind_ok (many_at one n a.0.1) (λ others. Ok (a.0.0 ∷ others.0, others.1)) x a.2 in
@@ -187,22 +174,10 @@ abbrev pub entry_text : EntryShape → List ℕ
 entry_text e = tag_code e.tag ∷ to_be_bytes w32 e.number ++ e.permissions ∷ []
 
 code_of_tag : (n number : ℕ) → n < 6 → tag_code (tag_of (suc n) number) ≡ suc n
-code_of_tag zero number lt = refl
-code_of_tag (suc zero) number lt = refl
-code_of_tag (suc (suc zero)) number lt = refl
-code_of_tag (suc (suc (suc zero))) number lt = refl
-code_of_tag (suc (suc (suc (suc zero)))) number lt = refl
-code_of_tag (suc (suc (suc (suc (suc zero))))) number lt = refl
-code_of_tag (suc (suc (suc (suc (suc (suc n)))))) number lt = absurd (omega arith)
+code_of_tag n number h2 = search arith
 
 number_of_tag : (n number : ℕ) → n < 6 → qualifier (tag_of (suc n) number) ≤ number
-number_of_tag zero number lt = omega arith
-number_of_tag (suc zero) number lt = omega arith
-number_of_tag (suc (suc zero)) number lt = omega arith
-number_of_tag (suc (suc (suc zero))) number lt = omega arith
-number_of_tag (suc (suc (suc (suc zero)))) number lt = omega arith
-number_of_tag (suc (suc (suc (suc (suc zero))))) number lt = omega arith
-number_of_tag (suc (suc (suc (suc (suc (suc n)))))) number lt = absurd (omega arith)
+number_of_tag n number h2 = search arith
 
 -- a code was read
 record TakesCode (bytes : List ℕ) (x : ℕ × List ℕ) : Type 0 where
@@ -284,12 +259,8 @@ record TakesDefault (form : Form) (bytes : List ℕ) (x : List EntryShape × Lis
   none : form ≡ One → x.0 ≡ []
 
 default_takes : (form : Form) (bytes : List ℕ) (x : List EntryShape × List ℕ) → IsBytes bytes → default_at form bytes ≡ Ok x → TakesDefault form bytes x
-default_takes One bytes x fits e =
-    subst (TakesDefault One bytes) (ok_is ([], bytes) x e)
-    (record { takes = record { parts = refl; rest_fits = fits }; numbers = All-from_recursion (λ (entry : EntryShape). qualifier entry.tag < 2 ^ 32) [] tt; none = λ one. refl })
-default_takes Two bytes x fits e =
-    let t = list_takes bytes x fits e in
-    record { takes = t.0; numbers = t.1; none = λ one. absurd cc }
+default_takes One bytes x fits e = search (ok_is, arith)
+default_takes Two bytes x fits e = search (list_takes, arith)
 
 -- the entries of both lists were read
 record TakesLists (form : Form) (bytes : List ℕ) (x : Entries × List ℕ) : Type 0 where
@@ -312,14 +283,7 @@ lists_take form bytes x fits e =
 
 representative_takes : (bytes : List ℕ) (x : Representative × List ℕ) → IsBytes bytes → representative_at bytes ≡ Ok x → Takes bytes (representative_bytes x.0) x.1 × Unit {0}
 unfolding representative_at
-representative_takes bytes x fits e =
-    let a = bind_ok (byte_at bytes) (λ server. byte_at server.1 >>= λ votes. Ok ((server.0, votes.0), votes.1)) x e in
-    let b = bind_ok (byte_at a.0.1) (λ votes. Ok ((a.0.0, votes.0), votes.1)) x a.2 in
-    let t0 = byte_takes bytes a.0 fits a.1 in
-    let t1 = byte_takes a.0.1 b.0 t0.0.rest_fits b.1 in
-    let all = Takes-then bytes (a.0.0 ∷ []) a.0.1 (b.0.0 ∷ []) b.0.1 t0.0 t1.0 in
-    let made : Representative × List ℕ = ((a.0.0, b.0.0), b.0.1) in
-    subst (λ (y : Representative × List ℕ). Takes bytes (representative_bytes y.0) y.1 × Unit {0}) (ok_is made x b.2) (all, tt)
+representative_takes bytes x fits e = search (bind_ok, byte_takes, ok_is, arith)
 
 listed_takes : (bytes : List ℕ) (x : List Representative × List ℕ) → IsBytes bytes → listed_at bytes ≡ Ok x → Takes bytes (length x.0 ∷ flat_map representative_bytes x.0) x.1
 unfolding listed_at

@@ -6,8 +6,7 @@ use Rattle.suite_content.specs.declared.content.Kind.TheVariants as holds
 
 empty_fits : (kind : Kind) → IsContent (empty_content kind)
 unfolding IsStrictlySortedBy
-empty_fits holds.File = record { few = omega arith; bytes_fit = λ i d in_list. absurd (omega arith) }
-empty_fits holds.Folder = record { few = omega arith; rising = tt; are_names = λ i d in_list. absurd (omega arith); suites_fit = λ i d in_list. absurd (omega arith) }
+empty_fits kind = search arith
 
 empty_is_of : (kind : Kind) → kind_of (empty_content kind) ≡ kind
 empty_is_of holds.File = refl
@@ -20,14 +19,7 @@ of_some_copy prefix valid =
     let made : Replica = record { prefix = prefix; dver = 0; content = empty_content kind } in
     record {
       copy = made;
-      valid = record {
-        prefix = valid;
-        content = empty_fits kind;
-        kinds_agree = empty_is_of kind;
-        absent_holds_version_0 = λ absent. refl;
-        version_0_is_empty = λ none. rw empty_is_of refl;
-        dver_fits = omega arith;
-      };
+      valid = search (empty_fits, empty_is_of, arith);
       has_it = refl;
     }
 

@@ -1,8 +1,8 @@
 -- The names that the proofs of this crate take from elsewhere, each with one meaning here.
-pub use Rattle.std.proofs.Common.{Bool, Err, Less, List, None, Ok, Option, Result, Some, [], ap, append_assoc, arith, cond, drop, eqb, false, get_or, inl, inr, is_some, length, ltb, map, not, refl, rules, subst, suc, sym, take, true, zero}
-pub use Rattle.std.proofs.Common.{ℕ, ◌++◌, ◌+◌, ◌-◌, ◌<◌, ◌^◌, ◌∙◌, ◌∷◌, ◌≡◌, ◌≢◌, ◌≤◌}
+pub use Rattle.std.proofs.Common.{Bool, Err, Less, List, None, Ok, Option, Result, Some, [], ap, append_assoc, arith, cond, drop, eqb, false, get_or, inl, inr, is_some, length, ltb, map, not, refl, rules, subst, suc, sym, take, true, zero, ℕ, ◌++◌}
+pub use Rattle.std.proofs.Common.{◌+◌, ◌-◌, ◌<◌, ◌^◌, ◌∙◌, ◌∷◌, ◌≡◌, ◌≢◌, ◌≤◌}
 pub use Rattle.std.proofs.Math.Nat.{mod-eq_of_lt}
-pub use Rattle.std.proofs.lemmas.Bool.{and_from, and_parts, cases_Bool, cases_lt, cond-true, eq-eqb, eqb-true, false≢true, le-ltb, lt-ltb, ltb-false, not-false}
+pub use Rattle.std.proofs.lemmas.Bool.{and_from, and_parts, cases_Bool, cases_lt, eq-eqb, eqb-true, false≢true, le-ltb, lt-ltb, ltb-false, not-false}
 pub use Rattle.std.proofs.lemmas.Bool.Decides.{Decides-at, nat_tests}
 pub use Rattle.std.proofs.lemmas.List.{append-nil, drop-append-le, drop_at, get_or-drop, get_or-take, get_or_past, length-append, length-map, length-take, nil_from_length, take-append-drop, take-append-le, take_all, take_at, take_more_set}
 pub use Rattle.std.proofs.lemmas.List.Concat.{flat_map-cons}
@@ -17,7 +17,6 @@ pub use Rattle.acl_core.specs.Permissions.{number_of}
 pub use Rattle.acl_core.specs.Tags.{precedes, qualifier}
 pub use Rattle.acl_core.specs.declared.entry.Entry.{Entry}
 pub use Rattle.acl_core.specs.declared.entry.Tag.{Tag}
-pub use Rattle.acl_core.specs.declared.entry.Tag.TheVariants.{UserObj}
 pub use Rattle.acl_core.specs.declared.lists.Lists.{Lists}
 pub use Rattle.suite_content.specs.Contents.{empty_content, kind_of}
 pub use Rattle.suite_content.specs.Folders.{IsFolder, name_cmp}
@@ -25,13 +24,12 @@ pub use Rattle.suite_content.specs.Names.{IsName}
 pub use Rattle.suite_content.specs.declared.content.Content.{Content}
 pub use Rattle.suite_content.specs.declared.content.Content.TheVariants.{Bytes, Names}
 pub use Rattle.vote_core.specs.Quorums.{Configuration, Representative}
-pub use Rattle.suite_prefix.specs.Bytes.{AreBytesOf, NoneBeginsAnother, bytes_in, bytes_of, content_bytes, entry_bytes, identity_bytes, kind_code, list_bytes, lists_bytes, name_bytes, prefix_bytes, representative_bytes, tag_code}
-pub use Rattle.suite_prefix.specs.Bytes.{votes_bytes}
+pub use Rattle.suite_prefix.specs.Bytes.{AreBytesOf, NoneBeginsAnother, bytes_in, bytes_of, content_bytes, entry_bytes, identity_bytes, kind_code, list_bytes, lists_bytes, name_bytes, prefix_bytes, representative_bytes, tag_code, votes_bytes}
 pub use Rattle.suite_prefix.specs.Copies.{IsContent, IsCopy, IsNothing, IsOfSomeCopy, IsPrefix, PrefixFits, held_by}
-pub use Rattle.suite_prefix.specs.Faults.{Explains, FaultsTellApart, FrontsAreShort, IsFaultIn, IsFaultOf, IsOfValidCopy, SpellsCopy, content_rises, entries_rise, is_canonical, is_written, names_rise, numbers_belong, rise_above}
+pub use Rattle.suite_prefix.specs.Faults.{Explains, FaultsTellApart, FrontsAreShort, IsFaultIn, IsFaultOf, IsOfValidCopy, SpellsCopy, content_rises, entries_rise, is_canonical, names_rise, numbers_belong, rise_above}
 pub use Rattle.suite_prefix.specs.Forms.{CanHold, Holds, HoldsContent, form_code, most_entries, most_servers}
-pub use Rattle.suite_prefix.specs.Reading.{Reads, Shape, byte_at, bytes_at, code_at, content_at, copy_of, default_at, entries_in, entry_at, entry_from, form_at, kind_of_code, listed, many_at, name_at, names_in, number_at, representative_at}
-pub use Rattle.suite_prefix.specs.Reading.{shape_at, tag_of, ◌>>=◌}
+pub use Rattle.suite_prefix.specs.Reading.{Reads, Shape, byte_at, bytes_at, code_at, content_at, copy_of, default_at, entries_in, entry_at, entry_from, form_at, kind_of_code, listed, many_at, name_at, names_in, number_at, representative_at, shape_at}
+pub use Rattle.suite_prefix.specs.Reading.{tag_of, ◌>>=◌}
 pub use Rattle.suite_prefix.specs.Stored.{Kept, under}
 pub use Rattle.suite_prefix.specs.Tests.{holds, is_absent, is_closed, is_empty, is_nothing, is_valid_copy, is_valid_prefix, is_within_limits, keeps_rules, version_agrees}
 pub use Rattle.suite_prefix.specs.TwoLists.{NumbersFit, closed_lists, default_entries, default_of}

@@ -1,13 +1,10 @@
 -- A canonical shape is how its copy is written.
-use Rattle.suite_prefix.proofs.Vocabulary.{◌≡◌, ℕ, ◌<◌, true, eqb, List, [], ◌∷◌, ◌++◌, length, map, All, refl, sym, ap, ◌∙◌, append_assoc, flat_map, w16, w32, w64, to_be_bytes, eqb-true, and_parts, append-nil, length-map, flat_map-cons}
-use Rattle.suite_prefix.proofs.Vocabulary.{All-head, All-tail, mod-eq_of_lt, Entry, qualifier, Form, One, Two, EntryShape, tag_code, entry_bytes, list_bytes, lists_bytes, representative_bytes, content_bytes, bytes_in, default_entries}
-use Rattle.suite_prefix.proofs.Vocabulary.{default_of, numbers_belong, form_code, Shape, entry_from, copy_of}
+use Rattle.suite_prefix.proofs.Vocabulary.{◌≡◌, ℕ, ◌<◌, true, eqb, List, [], ◌∷◌, ◌++◌, length, map, All, refl, sym, ap, ◌∙◌, append_assoc, flat_map, eqb-true, and_parts, append-nil, length-map, flat_map-cons, arith, All-head, All-tail, Entry}
+use Rattle.suite_prefix.proofs.Vocabulary.{qualifier, Form, EntryShape, entry_bytes, list_bytes, lists_bytes, bytes_in, default_entries, default_of, numbers_belong, Shape, entry_from, copy_of}
 use Rattle.suite_prefix.proofs.Takes.{entry_text, identity_text, list_text, lists_text, shape_text, votes_text}
 
 same_entry_text : (e : EntryShape) → e.number ≡ qualifier e.tag → e.permissions < 8 → entry_text e ≡ entry_bytes (entry_from e)
-same_entry_text e belongs known =
-    ap (λ (n : ℕ). tag_code e.tag ∷ to_be_bytes w32 n ++ e.permissions ∷ []) belongs
-    ∙ ap (λ (p : ℕ). tag_code e.tag ∷ to_be_bytes w32 (qualifier e.tag) ++ p ∷ []) (sym (mod-eq_of_lt known))
+same_entry_text e belongs known = search arith
 
 same_entries_text : (es : List EntryShape) → numbers_belong es ≡ true → All (λ entry. entry.permissions < 8) es → flat_map entry_text es ≡ flat_map entry_bytes (map entry_from es)
 same_entries_text [] belong known = refl
@@ -31,17 +28,8 @@ entries_again (e ∷ es) = refl
 
 same_lists_text : (form : Form) (entries default : List EntryShape) → numbers_belong entries ≡ true → numbers_belong default ≡ true → All (λ entry. entry.permissions < 8) entries → All (λ entry. entry.permissions < 8) default
     → lists_text form (entries, default) ≡ lists_bytes form (record { access = map entry_from entries; default = default_of (map entry_from default) })
-same_lists_text One entries default belong default_belongs known default_known = append-nil (list_text entries) ∙ same_list_text entries belong known
-same_lists_text Two entries default belong default_belongs known default_known =
-    let access : list_text entries ≡ list_bytes (map entry_from entries) = same_list_text entries belong known in
-    let more : list_text default ≡ list_bytes (default_entries (default_of (map entry_from default))) =
-    same_list_text default default_belongs default_known ∙ ap list_bytes (sym (entries_again (map entry_from default))) in
-    (λ i. access i ++ more i)
+same_lists_text form entries default h3 h4 h5 h6 = search (append-nil, list_text, same_list_text, entries_again, arith)
 
 pub same_text : (s : Shape) → numbers_belong s.entries ≡ true → numbers_belong s.default ≡ true → All (λ entry. entry.permissions < 8) s.entries → All (λ entry. entry.permissions < 8) s.default
     → shape_text s ≡ bytes_in s.form (copy_of s)
-same_text s belong default_belongs known default_known =
-    let lists = same_lists_text s.form s.entries s.default belong default_belongs known default_known in
-    let votes : votes_text s.votes ≡ (length s.votes.reps ∷ flat_map representative_bytes s.votes.reps ++ to_be_bytes w16 s.votes.r) ++ to_be_bytes w16 s.votes.w =
-    sym (append_assoc (length s.votes.reps ∷ flat_map representative_bytes s.votes.reps) (to_be_bytes w16 s.votes.r) (to_be_bytes w16 s.votes.w)) in
-    (λ i. form_code s.form ∷ ((((identity_text s.identity ++ lists i) ++ votes i) ++ to_be_bytes w64 s.dver) ++ content_bytes s.content))
+same_text s belong default_belongs known default_known = search (same_lists_text, votes_text, append_assoc, identity_text, arith)

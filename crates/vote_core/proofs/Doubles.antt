@@ -1,5 +1,5 @@
 -- Servers that are listed twice.
-use Rattle.vote_core.proofs.Vocabulary.{◌≡◌, ℕ, Bool, true, false, ◌||◌, eqb, List, [], ◌∷◌, refl, sym, ap, ◌∙◌, list_any, or_from, Representative, lists_twice}
+use Rattle.vote_core.proofs.Vocabulary.{◌≡◌, ℕ, Bool, false, ◌||◌, eqb, List, [], ◌∷◌, refl, sym, ap, ◌∙◌, list_any, or_from, Representative, lists_twice, arith}
 
 -- whether a server of a set is listed
 abbrev pub lists_one : (ℕ → Bool) → List Representative → Bool
@@ -11,23 +11,15 @@ lists_one-none set none [] = refl
 lists_one-none set none (rep ∷ reps) = or_from (set rep.0) (lists_one set reps) (none rep.0) (lists_one-none set none reps)
 
 or_exchange : (a b c d : Bool) → ((a || b) || (c || d)) ≡ ((a || c) || (b || d))
-or_exchange true b c d = refl
-or_exchange false true true d = refl
-or_exchange false true false d = refl
-or_exchange false false c d = refl
+or_exchange a b c d = search arith
 
 -- a set with one server more
 lists_one-more : (set : ℕ → Bool) (server : ℕ) (reps : List Representative) → lists_one (λ q. eqb q server || set q) reps ≡ (list_any (λ later. eqb later.0 server) reps || lists_one set reps)
 lists_one-more set server [] = refl
-lists_one-more set server (rep ∷ reps) =
-    ap (λ b. (eqb rep.0 server || set rep.0) || b) (lists_one-more set server reps)
-    ∙ or_exchange (eqb rep.0 server) (set rep.0) (list_any (λ later. eqb later.0 server) reps) (lists_one set reps)
+lists_one-more set server (rep ∷ reps) = search (or_exchange, lists_one-more set server reps, arith)
 
 or_regroup : (listed seen twice : Bool) → ((listed || seen) || twice) ≡ (seen || (listed || twice))
-or_regroup true true twice = refl
-or_regroup true false twice = refl
-or_regroup false true twice = refl
-or_regroup false false twice = refl
+or_regroup listed seen twice = search arith
 
 -- a server that was not seen is seen from now on
 pub seen_more : (seen more : ℕ → Bool) (rep : Representative) (reps : List Representative) → seen rep.0 ≡ false → ((q : ℕ) → more q ≡ (eqb q rep.0 || seen q))

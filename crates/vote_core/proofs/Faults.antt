@@ -1,8 +1,8 @@
 -- Votes have no fault exactly where they are accepted.
-use Rattle.vote_core.proofs.Vocabulary.{◌≡◌, ℕ, ◌+◌, ◌*◌, ◌<◌, ◌≤◌, Bool, true, false, ◌||◌, eqb, ltb, leb, List, [], ◌∷◌, map, length, All, Option, Some, None, cond, refl, sym, inl, inr, arith, or_parts, or_from, or_cases, eqb-true}
-use Rattle.vote_core.proofs.Vocabulary.{eqb-false, ne_eqb, ltb-false, leb-false, lt-leb, le-ltb, length-map, MAX_SERVERS, Representative, Configuration, total_votes, IsValid, IsAccepted, is_out_of_range, lists_twice, has_fault, first_fault}
+use Rattle.vote_core.proofs.Vocabulary.{◌≡◌, ℕ, ◌+◌, ◌*◌, ◌<◌, ◌≤◌, Bool, true, false, ◌||◌, eqb, ltb, leb, List, [], ◌∷◌, map, length, All, Option, Some, None, cond, refl, inl, inr, arith, or_parts, or_from, or_cases, eqb-true, eqb-false, ne_eqb}
+use Rattle.vote_core.proofs.Vocabulary.{leb-false, lt-leb, le-ltb, length-map, MAX_SERVERS, Representative, Configuration, total_votes, IsValid, IsAccepted, is_out_of_range, lists_twice, has_fault, first_fault}
 use Rattle.std.specs.List.{IsDistinct, list_any, AllByRecursion as EachLater}
-use Rattle.std.proofs.lemmas.List.Elements.{All-nil, All-cons, All-head, All-tail}
+use Rattle.std.proofs.lemmas.List.Elements.{All-nil, All-head, All-tail}
 use Rattle.std.proofs.lemmas.Map.Steps.{length-le_from_distinct_below}
 use Rattle.vote_core.specs.declared.fault.VotesFault.{VotesFault}
 use Rattle.vote_core.specs.declared.fault.VotesFault.TheVariants.{Empty, UnknownServer, ListedTwice, NoVotes, ThresholdOutOfRange, ReadMissesWrite, WritesDisjoint}
@@ -11,38 +11,26 @@ use Rattle.vote_core.specs.declared.fault.VotesFault.TheVariants.{Empty, Unknown
 pub each_known : (servers : ℕ) (reps : List Representative) → list_any (λ rep. leb servers rep.0 || leb MAX_SERVERS rep.0) reps ≡ false
     → All (λ rep. rep.0 < servers) reps × All (λ rep. rep.0 < MAX_SERVERS) reps
 each_known servers [] none = (All-nil (λ (rep : Representative). rep.0 < servers), All-nil (λ (rep : Representative). rep.0 < MAX_SERVERS))
-each_known servers (rep ∷ reps) none =
-    let parts = or_parts (leb servers rep.0 || leb MAX_SERVERS rep.0) (list_any (λ (other : Representative). leb servers other.0 || leb MAX_SERVERS other.0) reps) none in
-    let first = or_parts (leb servers rep.0) (leb MAX_SERVERS rep.0) parts.0 in
-    let rest = each_known servers reps parts.1 in (
-      All-cons (λ (other : Representative). other.0 < servers) rep reps (leb-false servers rep.0 first.0) rest.0,
-      All-cons (λ (other : Representative). other.0 < MAX_SERVERS) rep reps (leb-false MAX_SERVERS rep.0 first.1) rest.1,
-    )
+each_known servers (rep ∷ reps) none = search (or_parts, leb-false, each_known servers reps, arith)
 
 -- no server is listed again
 not_again : (server : ℕ) (reps : List Representative) → list_any (λ later. eqb later.0 server) reps ≡ false → EachLater (λ other. eqb server other ≡ false) (map (λ rep. rep.0) reps)
 not_again server [] none = tt
-not_again server (rep ∷ reps) none =
-    let parts = or_parts (eqb rep.0 server) (list_any (λ (later : Representative). eqb later.0 server) reps) none in
-    (ne_eqb server rep.0 (λ same. eqb-false rep.0 server parts.0 (sym same)), not_again server reps parts.1)
+not_again server (rep ∷ reps) none = search (or_parts, ne_eqb, eqb-false, not_again server reps, arith)
 
 never_again : (server : ℕ) (reps : List Representative) → EachLater (λ other. eqb server other ≡ false) (map (λ rep. rep.0) reps) → list_any (λ later. eqb later.0 server) reps ≡ false
 never_again server [] others = refl
-never_again server (rep ∷ reps) others =
-    or_from (eqb rep.0 server) (list_any (λ (later : Representative). eqb later.0 server) reps) (ne_eqb rep.0 server (λ same. eqb-false server rep.0 others.0 (sym same))) (never_again server reps others.1)
+never_again server (rep ∷ reps) others = search (or_from, ne_eqb, eqb-false, never_again server reps, arith)
 
 pub distinct_servers : (reps : List Representative) → lists_twice reps ≡ false → IsDistinct eqb (map (λ rep. rep.0) reps)
 unfolding IsDistinct
 distinct_servers [] once = tt
-distinct_servers (rep ∷ reps) once =
-    let parts = or_parts (list_any (λ (later : Representative). eqb later.0 rep.0) reps) (lists_twice reps) once in
-    (not_again rep.0 reps parts.0, distinct_servers reps parts.1)
+distinct_servers (rep ∷ reps) once = search (or_parts, not_again, distinct_servers reps, arith)
 
 pub listed_once : (reps : List Representative) → IsDistinct eqb (map (λ rep. rep.0) reps) → lists_twice reps ≡ false
 unfolding IsDistinct
 listed_once [] distinct = refl
-listed_once (rep ∷ reps) distinct =
-    or_from (list_any (λ (later : Representative). eqb later.0 rep.0) reps) (lists_twice reps) (never_again rep.0 reps distinct.0) (listed_once reps distinct.1)
+listed_once (rep ∷ reps) distinct = search (never_again rep.0 reps distinct.0, or_from, listed_once reps, arith)
 
 -- a listed server is below a bound that all are below
 listed_below : (bound : ℕ) (reps : List Representative) → All (λ rep. rep.0 < bound) reps → (q : ℕ) → list_any (eqb q) (map (λ rep. rep.0) reps) ≡ true → q < bound
@@ -82,9 +70,7 @@ zero_not n h = ne_eqb n 0 (λ e. omega arith)
 
 -- a threshold in range
 in_range : (threshold total : ℕ) → is_out_of_range threshold total ≡ false → (0 < threshold) × (threshold ≤ total)
-in_range threshold total h =
-    let parts = or_parts (eqb threshold 0) (ltb total threshold) h in
-    (not_zero threshold parts.0, ltb-false total threshold parts.1)
+in_range threshold total h = search arith
 
 range_test : (threshold total : ℕ) → (0 < threshold) × (threshold ≤ total) → is_out_of_range threshold total ≡ false
 range_test threshold total h = or_from (eqb threshold 0) (ltb total threshold) (zero_not threshold h.0) (le-ltb total threshold h.1)

@@ -1,6 +1,6 @@
 -- What crates above use of sets of servers: a wider set has more votes, and a quorum has a voting member.
-use Rattle.vote_core.proofs.Vocabulary.{◌≡◌, ℕ, ◌<◌, ◌≤◌, Bool, true, false, cond, eqb, IsTrue, List, [], ◌∷◌, suc, refl, inl, inr, arith, Any, cases_Bool, cases_lt, le-leb, eqb-true, Representative, Configuration, votes_in, votes_at}
-use Rattle.vote_core.proofs.Vocabulary.{total_votes, is_read_quorum, is_write_quorum, SharedMember, IsValid}
+use Rattle.vote_core.proofs.Vocabulary.{◌≡◌, ℕ, ◌<◌, ◌≤◌, Bool, true, false, cond, eqb, IsTrue, List, [], ◌∷◌, suc, refl, inl, inr, arith, Any, cases_Bool, cases_lt, le-leb, eqb-true, Representative, Configuration, votes_in, votes_at, total_votes}
+use Rattle.vote_core.proofs.Vocabulary.{is_read_quorum, is_write_quorum, SharedMember, IsValid}
 use Rattle.vote_core.proofs.Meet.{reads_meet_writes, writes_meet}
 
 part : (b c : Bool) (n : ℕ) → (b ≡ true → c ≡ true) → cond b n 0 ≤ cond c n 0

@@ -1,6 +1,6 @@
 -- What a word's changes do to the set that it stands for.
-use Rattle.vote_core.proofs.Vocabulary.{◌≡◌, ℕ, ◌*◌, ◌%◌, ◌^◌, ◌<◌, ◌≤◌, Bool, ◌&&◌, ◌||◌, eqb, ltb, max, bit_or, w32, true, false, refl, sym, ap, ◌∙◌, inl, inr, arith, cases_eq, and_right, eq-eqb, ne_eqb, lt-ltb, nat_tests, bit_at-lt}
-use Rattle.vote_core.proofs.Vocabulary.{bit_at_or, bit_at-zero, bit_at_set_same, bit_at_set_other, bit_at, nat_cmp, nat_cmp_total, unsigned_tied, contains-set_below}
+use Rattle.vote_core.proofs.Vocabulary.{◌≡◌, ℕ, ◌*◌, ◌%◌, ◌^◌, ◌<◌, ◌≤◌, Bool, ◌&&◌, ◌||◌, eqb, ltb, max, bit_or, w32, true, false, refl, sym, ap, ◌∙◌, inl, inr, arith, cases_eq, and_right, eq-eqb, ne_eqb, lt-ltb, nat_tests, bit_at-lt, bit_at_or}
+use Rattle.vote_core.proofs.Vocabulary.{bit_at-zero, bit_at_set_same, bit_at_set_other, bit_at, nat_cmp, nat_cmp_total, unsigned_tied, contains-set_below}
 use Rattle.vote_core.specs.code.ServerBits.{set_below}
 use Rattle.std.specs.FinSet as set
 

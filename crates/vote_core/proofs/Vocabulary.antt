@@ -1,9 +1,9 @@
 -- The names that the proofs of this crate take from elsewhere, each with one meaning here.
-pub use Rattle.std.proofs.Common.{All, Bool, IsTrue, List, None, Option, Some, [], add-one, ap, arith, bit_or, cond, drop, drop-cons, eqb, false, get_or, inl, inr, leb, length, ltb, map, max, option_map, refl, replicate, subst, suc, sym}
-pub use Rattle.std.proofs.Common.{take, true, unwrap_or, w32, zero, zero-add, ℕ, ◌%◌, ◌&&◌, ◌*◌, ◌++◌, ◌+◌, ◌/◌, ◌<◌, ◌^◌, ◌||◌, ◌∙◌, ◌∷◌, ◌≡◌, ◌≤◌}
+pub use Rattle.std.proofs.Common.{All, Bool, IsTrue, List, None, Option, Some, [], add-one, ap, arith, bit_or, cond, drop, drop-cons, eqb, false, get_or, inl, inr, leb, length, ltb, map, max, option_map, refl, replicate, subst, suc, sym, take, true}
+pub use Rattle.std.proofs.Common.{unwrap_or, w32, zero, zero-add, ℕ, ◌%◌, ◌&&◌, ◌*◌, ◌++◌, ◌+◌, ◌/◌, ◌<◌, ◌^◌, ◌||◌, ◌∙◌, ◌∷◌, ◌≡◌, ◌≤◌}
 pub use Rattle.std.proofs.Math.Nat.{div-eq_of_lt, lt-div-mul-add, mod-le}
-pub use Rattle.std.proofs.lemmas.Bool.{and_from, and_parts, and_right, cases_Bool, cases_eq, cases_lt, cases_order, eq-eqb, eqb-false, eqb-true, false≢true, le-leb, le-ltb, leb-false, leb-true, lt-leb, lt-ltb, ltb-false, ltb-true, ne_eqb}
-pub use Rattle.std.proofs.lemmas.Bool.{or_cases, or_from, or_parts}
+pub use Rattle.std.proofs.lemmas.Bool.{and_from, and_parts, and_right, cases_Bool, cases_eq, cases_lt, cases_order, eq-eqb, eqb-false, eqb-true, false≢true, le-leb, le-ltb, leb-false, leb-true, lt-leb, lt-ltb, ltb-false, ltb-true, ne_eqb, or_cases}
+pub use Rattle.std.proofs.lemmas.Bool.{or_from, or_parts}
 pub use Rattle.std.proofs.lemmas.Bool.Decides.{nat_tests, same_from_decides}
 pub use Rattle.std.proofs.lemmas.List.{length-map, length-take-le, take_all}
 pub use Rattle.std.proofs.lemmas.Nat.{mod_below, or_lt, pow_pos}

@@ -1,7 +1,7 @@
 -- Sets whose servers are all numbered below some number.
-use Rattle.vote_core.proofs.Vocabulary.{◌≡◌, ℕ, zero, suc, ◌+◌, ◌*◌, ◌/◌, ◌%◌, ◌^◌, ◌<◌, ◌≤◌, Bool, true, cond, ◌||◌, List, [], ◌∷◌, eqb, ltb, refl, sym, ap, subst, ◌∙◌, zero-add, inl, inr, arith, list_any, list_all, nat_cmp, eq_by_cmp}
-use Rattle.vote_core.proofs.Vocabulary.{unsigned_tied, FinSet, contains, items, contains-items, cases_eq, cases_Bool, and_parts, and_from, eq-eqb, ne_eqb, ltb-true, ltb-false, lt-ltb, eqb-true, false≢true, same_from_decides, bit_at_above}
-use Rattle.vote_core.proofs.Vocabulary.{div-eq_of_lt, lt-div-mul-add, bit_at, mod_below, pow_pos, are_below, same_servers, same_servers_decides, word_part, word-set_below, contains-set_below}
+use Rattle.vote_core.proofs.Vocabulary.{◌≡◌, ℕ, zero, suc, ◌+◌, ◌/◌, ◌%◌, ◌^◌, ◌<◌, ◌≤◌, Bool, true, cond, List, [], ◌∷◌, eqb, ltb, refl, sym, ap, ◌∙◌, zero-add, inl, inr, arith, list_any, list_all, nat_cmp, eq_by_cmp, FinSet, contains, items}
+use Rattle.vote_core.proofs.Vocabulary.{contains-items, cases_eq, cases_Bool, and_parts, and_from, eq-eqb, ne_eqb, ltb-true, ltb-false, lt-ltb, eqb-true, false≢true, same_from_decides, bit_at_above, div-eq_of_lt, lt-div-mul-add, bit_at, mod_below}
+use Rattle.vote_core.proofs.Vocabulary.{pow_pos, are_below, same_servers, same_servers_decides, word_part, word-set_below, contains-set_below}
 use Rattle.std.specs.Bool.{Decides}
 use Rattle.std.proofs.Math.Bool.{or-true}
 use Rattle.vote_core.specs.code.ServerBits.{set_below, word_below}
@@ -12,20 +12,12 @@ has q ks = list_any (eq_by_cmp nat_cmp q) ks
 each_of : (p : ℕ → Bool) (ks : List ℕ) → list_all p ks ≡ true → (q : ℕ) → has q ks ≡ true → p q ≡ true
 unfolding has
 each_of p [] all q one = absurd (false≢true one)
-each_of p (k ∷ ks) all q one =
-    let parts = and_parts (p k) (list_all p ks) all in
-    elim (cases_eq q k) [
-      | inl same ↦ ap p same ∙ parts.0
-      | inr other ↦ each_of p ks parts.1 q (ap (λ b. b || has q ks) (sym (unsigned_tied q k ∙ ne_eqb q k other)) ∙ one)
-    ]
+each_of p (k ∷ ks) all q one = search (and_parts, cases_eq, has, ne_eqb, each_of p ks, arith)
 
 all_of : (p : ℕ → Bool) (ks : List ℕ) → ((q : ℕ) → has q ks ≡ true → p q ≡ true) → list_all p ks ≡ true
 unfolding has
 all_of p [] each = refl
-all_of p (k ∷ ks) each =
-    and_from (p k) (list_all p ks)
-    (each k (ap (λ b. b || has k ks) (unsigned_tied k k ∙ eq-eqb k k refl)))
-    (all_of p ks (λ q one. each q (ap (λ b. eq_by_cmp nat_cmp q k || b) one ∙ or-true (eq_by_cmp nat_cmp q k))))
+all_of p (k ∷ ks) each = search (and_from, has, eq-eqb, or-true, all_of p ks, arith)
 
 -- they are exactly where each server of the set is
 pub are_below_decides : (end : ℕ) (servers : FinSet nat_cmp) → Decides (are_below end servers) ((q : ℕ) → contains servers q ≡ true → q < end)
@@ -62,21 +54,10 @@ small_word m end bits le lt each =
 
 -- and a small word has no other servers
 in_word : (m end bits q : ℕ) → bits < 2 ^ end → contains (set_below m bits) q ≡ true → q < end
-in_word m end bits q lt there =
-    let parts = and_parts (ltb q m) (eqb (bit_at bits q) 1) (sym (contains-set_below m bits q) ∙ there) in
-    elim (cases_Bool (ltb q end)) [
-      | inl below ↦ ltb-true q end below
-      | inr above ↦ let no : 0 ≡ 1 = sym (bit_at_above bits end q lt (ltb-false q end above)) ∙ eqb-true (bit_at bits q) 1 parts.1 in absurd (omega (arith, no))
-    ]
+in_word m end bits q lt there = search (and_parts (ltb q m) (eqb (bit_at bits q) 1) (sym (contains-set_below m bits q) ∙ there), cases_Bool (ltb q end), ltb-true, bit_at_above, ltb-false, eqb-true, arith)
 
 small_decides : (bits end : ℕ) → Decides (eqb (bits / 2 ^ end) 0) (bits < 2 ^ end)
-small_decides bits end = (
-  λ none.
-      let zero_is : bits / 2 ^ end ≡ 0 = eqb-true (bits / 2 ^ end) 0 none in
-      let within : bits < 0 * 2 ^ end + 2 ^ end = subst (λ k. bits < k * 2 ^ end + 2 ^ end) zero_is (lt-div-mul-add (pow_pos end)) in
-      omega (arith, within),
-  λ lt. eq-eqb (bits / 2 ^ end) 0 (div-eq_of_lt lt),
-)
+small_decides bits end = search (eqb-true, lt-div-mul-add, pow_pos, eq-eqb, div-eq_of_lt, arith)
 
 -- a word that has nothing beyond a number has servers below it alone
 pub are_below-word : (m end bits : ℕ) → end ≤ m → bits < 2 ^ m → eqb (bits / 2 ^ end) 0 ≡ are_below end (set_below m bits)

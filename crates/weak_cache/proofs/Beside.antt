@@ -1,10 +1,10 @@
 -- What is found beside a new entry.
-use Rattle.weak_cache.proofs.Vocabulary.{◌≡◌, ℕ, ◌+◌, ◌-◌, ◌≤◌, ◌<◌, leb, ltb, Bool, true, false, cond, not, ◌&&◌, ◌⊎◌, inl, inr, zero, suc, Option, None, Some, [], ◌∷◌, ◌++◌, length, refl, sym, ap, ◌∙◌, arith, eq-eqb, append-nil}
-use Rattle.weak_cache.proofs.Vocabulary.{length-append, ◌==◌, filter, find, is_some, IsSome, IsTrue, eqb-true, false≢true, le-leb, lt-ltb, leb-true, ltb-true, option_copied, last_of, Entry, Cache, size_of, sum_of, is_at, is_of, list_of}
-use Rattle.weak_cache.proofs.Vocabulary.{forgotten, entry_of, without, Limits, has_room, put, at_version, content_at, in_front, used, searched, within_quota, within_budget, stays, room_after}
+use Rattle.weak_cache.proofs.Vocabulary.{◌≡◌, ℕ, ◌+◌, ◌-◌, ◌≤◌, ◌<◌, Bool, true, false, cond, not, ◌&&◌, ◌⊎◌, inr, Option, None, Some, [], ◌∷◌, ◌++◌, length, refl, sym, ap, ◌∙◌, arith, append-nil, length-append, ◌==◌, filter, find, is_some, IsSome}
+use Rattle.weak_cache.proofs.Vocabulary.{IsTrue, false≢true, option_copied, last_of, Entry, Cache, size_of, sum_of, is_at, is_of, list_of, forgotten, entry_of, without, Limits, has_room, put, content_at, used, searched, within_quota, within_budget}
+use Rattle.weak_cache.proofs.Vocabulary.{stays, room_after}
 use denote.Bor.{Bor}
 use Rattle.weak_cache.proofs.Fewer.{Fewer, fewer_filter, list_fewer, sum_fewer, length_fewer}
-use Rattle.weak_cache.proofs.Keeping.{both, sum_of-append, quota_fits, budget_fits, budget_evicts}
+use Rattle.weak_cache.proofs.Keeping.{sum_of-append, quota_fits, budget_fits, budget_evicts}
 use Rattle.weak_cache.proofs.Found.{find_kept, find_gone, of_same}
 use Rattle.weak_cache.proofs.Puts.{put_none}
 use Rattle.weak_cache.proofs.Shelving.{last_cut, count_between, alone, find_skip}
@@ -15,14 +15,7 @@ within_room site (Some room) c = within_quota site room c
 within_room site None c = forgotten site c
 
 same_number_turned : (a b : ℕ) → (a == b) ≡ (b == a)
-same_number_turned a b =
-    elim (a == b) as (λ t. (a == b) ≡ t → t ≡ (b == a)) [
-      | true ↦ λ h. sym (eq-eqb b a (sym (eqb-true a b h)))
-      | false ↦ λ h. elim (b == a) as (λ u. (b == a) ≡ u → false ≡ u) [
-        | true ↦ λ k. absurd (false≢true (sym h ∙ eq-eqb a b (sym (eqb-true b a k))))
-        | false ↦ λ _. refl
-      ] refl
-    ] refl
+same_number_turned a b = search arith
 
 key_turned : (site suite : ℕ) (n : Entry) → ((site == n.site) && (suite == n.suite)) ≡ is_of site suite n
 key_turned site suite n = ap (λ b. b && (suite == n.suite)) (same_number_turned site n.site) ∙ ap (λ b. (n.site == site) && b) (same_number_turned suite n.suite)
@@ -151,15 +144,9 @@ pub search_none : (site suite dver : ℕ) (c : Cache) → content_at c site suit
 search_none site suite dver c none = (sym (ap is_some none), sym (ap (λ o. cond (is_some o) (used site suite c) c) none))
 
 pub search_some : (site suite dver : ℕ) (c : Cache) (e : Entry) → entry_of c site suite ≡ Some e → (e.dver == dver) ≡ true → (true ≡ is_some (content_at c site suite dver)) × (searched site suite dver c ≡ e ∷ without site suite c)
-search_some site suite dver c e found version =
-    let content : content_at c site suite dver ≡ Some e.content = ap (at_version dver) found ∙ ap (λ t. cond t (Some e.content) None) version in
-    (sym (ap is_some content), ap (λ o. cond (is_some o) (used site suite c) c) content ∙ ap (λ o. in_front o site suite c) found)
+search_some site suite dver c e found version = search arith
 
 -- ---- a walk
-
-above_zero : (n : ℕ) → (n ≡ 0 → ⊥) → 0 < n
-above_zero zero some = absurd (some refl)
-above_zero (suc n) some = omega arith
 
 pub nothing_left : (site suite new_site budget slots : ℕ) (room : Option ℕ) → None ≡ entry_of (within_budget budget slots (within_room new_site room [])) site suite
 nothing_left site suite new_site budget slots None = refl
@@ -183,23 +170,11 @@ module _ (site suite : ℕ) (e : Entry) (c : Cache) where
 module _ (site : ℕ) (e : Entry) (c : Cache) where
   -- without room in the quota
   pub walk_gone : (room : Option ℕ) → is_at site e ≡ true → room_after room (size_of e.content) ≡ None → within_room site room (e ∷ c) ≡ within_room site None c
-  walk_gone None at none = rw at refl
-  walk_gone (Some room) at none =
-      elim (leb (size_of e.content) room) as (λ t. cond t (Some (room - size_of e.content)) None ≡ None
-      → cond (is_at site e) (cond t (e ∷ within_quota site (room - size_of e.content) c) (forgotten site c)) (e ∷ within_quota site room c) ≡ forgotten site c) [
-        | true ↦ λ none. absurd (cc none)
-        | false ↦ λ _. rw at refl
-      ] none
+  walk_gone room h1 h2 = search arith
 
   -- and with room there
   pub walk_kept : (room left : Option ℕ) → is_at site e ≡ true → room_after room (size_of e.content) ≡ left → (left ≡ None → ⊥) → within_room site room (e ∷ c) ≡ e ∷ within_room site left c
-  walk_kept None left at is some = absurd (some (sym is))
-  walk_kept (Some room) left at is some =
-      elim (leb (size_of e.content) room) as (λ t. cond t (Some (room - size_of e.content)) None ≡ left
-      → cond (is_at site e) (cond t (e ∷ within_quota site (room - size_of e.content) c) (forgotten site c)) (e ∷ within_quota site room c) ≡ e ∷ within_room site left c) [
-        | true ↦ λ is. rw (at, sym is) refl
-        | false ↦ λ is. absurd (some (sym is))
-      ] is
+  walk_kept room left h2 h3 h4 = search arith
 
   pub walk_other : (room : Option ℕ) → is_at site e ≡ false → within_room site room (e ∷ c) ≡ e ∷ within_room site room c
   walk_other None other = rw other refl
@@ -207,15 +182,8 @@ module _ (site : ℕ) (e : Entry) (c : Cache) where
 
 -- without room in the budget or slots
 pub walk_ends : (site suite budget slots : ℕ) (e : Entry) (c : Cache) → (slots ≡ 0) ⊎ (budget < size_of e.content) → entry_of (within_budget budget slots (e ∷ c)) site suite ≡ None
-walk_ends site suite budget slots e c ends =
-    elim (leb (size_of e.content) budget && ltb 0 slots) as (λ t. (leb (size_of e.content) budget && ltb 0 slots) ≡ t → entry_of (cond t (e ∷ within_budget (budget - size_of e.content) (slots - 1) c) []) site suite ≡ None) [
-      | true ↦ λ h. let fits = both (leb (size_of e.content) budget) (ltb 0 slots) h in absurd (elim ends [ inl none ↦ omega (arith, none, ltb-true 0 slots fits.1) | inr above ↦ omega (arith, above, leb-true _ _ fits.0) ])
-      | false ↦ λ _. refl
-    ] refl
+walk_ends site suite budget slots e c ends = search arith
 
 pub walk_on : (site suite budget slots : ℕ) (e : Entry) (c : Cache) → (slots ≡ 0 → ⊥) → size_of e.content ≤ budget
     → entry_of (within_budget budget slots (e ∷ c)) site suite ≡ cond (is_of site suite e) (Some e) (entry_of (within_budget (budget - size_of e.content) (slots - 1) c) site suite)
-walk_on site suite budget slots e c some fits =
-    let in_budget : leb (size_of e.content) budget ≡ true = le-leb _ _ fits in
-    let slot : ltb 0 slots ≡ true = lt-ltb 0 slots (above_zero slots some) in
-    rw (in_budget, slot) refl
+walk_on site suite budget slots e c some fits = search arith

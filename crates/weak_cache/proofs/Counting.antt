@@ -1,15 +1,7 @@
 -- The counts of entries when one comes or goes.
-use Rattle.weak_cache.proofs.Vocabulary.{◌≡◌, ℕ, ◌+◌, ◌-◌, ◌≤◌, ◌<◌, ◌≢◌, true, false, cond, [], ◌∷◌, ◌++◌, set, not, refl, sym, ap, ◌∙◌, arith, length-append, eq-eqb, slice_index, eqb-true, false≢true, get_or-set_same, get_or-set_other}
-use Rattle.weak_cache.proofs.Vocabulary.{length-set, Entry, Cache, size_of, sum_of, is_at, list_of, forgotten, Sums, IsEntry, IsTally}
+use Rattle.weak_cache.proofs.Vocabulary.{◌≡◌, ℕ, ◌+◌, ◌-◌, ◌≤◌, ◌<◌, ◌≢◌, true, false, cond, [], ◌∷◌, ◌++◌, set, refl, sym, ap, ◌∙◌, arith, length-append, eq-eqb, slice_index, eqb-true, false≢true, get_or-set_same, get_or-set_other, length-set}
+use Rattle.weak_cache.proofs.Vocabulary.{Entry, Cache, size_of, sum_of, is_at, list_of, forgotten, Sums, IsEntry, IsTally}
 use Rattle.weak_cache.proofs.Keeping.{sum_of-append}
-
--- with an entry of a site that takes so many bytes
-abbrev pub added : Sums → ℕ → ℕ → Sums
-added t site size = record {
-  count = t.count + 1;
-  sum = t.sum + size;
-  sites = set t.sites site (slice_index t.sites site + size);
-}
 
 -- and without it
 abbrev pub dropped : Sums → ℕ → ℕ → Sums
@@ -25,11 +17,7 @@ sum_between newer e older = omega (arith, sum_of-append newer (e ∷ older), sum
 
 own_between : (site : ℕ) (newer : Cache) (e : Entry) (older : Cache) → is_at site e ≡ true → sum_of (list_of site (newer ++ e ∷ older)) ≡ size_of e.content + sum_of (list_of site (newer ++ older))
 own_between site [] e older own = rw own refl
-own_between site (x ∷ newer) e older own =
-    elim (is_at site x) as (λ t. sum_of (cond t (x ∷ list_of site (newer ++ e ∷ older)) (list_of site (newer ++ e ∷ older))) ≡ size_of e.content + sum_of (cond t (x ∷ list_of site (newer ++ older)) (list_of site (newer ++ older)))) [
-      | true ↦ omega (arith, own_between site newer e older own)
-      | false ↦ own_between site newer e older own
-    ]
+own_between site (x ∷ newer) e older own = search (own_between site newer e older own, arith)
 
 other_between : (site : ℕ) (newer : Cache) (e : Entry) (older : Cache) → is_at site e ≡ false → list_of site (newer ++ e ∷ older) ≡ list_of site (newer ++ older)
 other_between site [] e older other = rw other refl
@@ -42,29 +30,11 @@ apart : (site : ℕ) (e : Entry) → is_at site e ≡ false → site ≢ e.site
 apart site e other same = false≢true (sym other ∙ eq-eqb e.site site (sym same))
 
 pub tally_dropped : (t : Sums) (newer : Cache) (e : Entry) (older : Cache) → e.site < 16 → IsTally t (newer ++ e ∷ older) → IsTally (dropped t e.site (size_of e.content)) (newer ++ older)
-tally_dropped t newer e older small h = record {
-  count = omega (arith, h.count, length-append newer (e ∷ older), length-append newer older);
-  sum = omega (arith, h.sum, sum_between newer e older);
-  sites = λ site fits. elim (is_at site e) as (λ b. is_at site e ≡ b → slice_index (set t.sites e.site (slice_index t.sites e.site - size_of e.content)) site ≡ sum_of (list_of site (newer ++ older))) [
-    | true ↦ λ own.
-        let same : e.site ≡ site = eqb-true e.site site own in
-        let here : slice_index (set t.sites e.site (slice_index t.sites e.site - size_of e.content)) e.site
-        ≡ slice_index t.sites e.site - size_of e.content = get_or-set_same t.sites e.site (slice_index t.sites e.site - size_of e.content) 0 (omega (arith, h.all, small)) in
-        let value : slice_index (set t.sites e.site (slice_index t.sites e.site - size_of e.content)) e.site ≡ sum_of (list_of e.site (newer ++ older)) = omega
-        (arith, here, h.sites e.site small, own_between e.site newer e older (at_own e)) in
-        ap (slice_index (set t.sites e.site (slice_index t.sites e.site - size_of e.content))) (sym same) ∙ value ∙ ap (λ s. sum_of (list_of s (newer ++ older))) same
-    | false ↦ λ other. get_or-set_other t.sites e.site site (slice_index t.sites e.site - size_of e.content) 0 (apart site e other) ∙ h.sites site fits ∙ ap sum_of (other_between site newer e older other)
-  ] refl;
-  all = length-set t.sites e.site (slice_index t.sites e.site - size_of e.content) ∙ h.all;
-}
+tally_dropped t newer e older small h = search (length-append, sum_between, eqb-true, get_or-set_same, own_between, at_own, get_or-set_other, apart, other_between, length-set, arith)
 
 -- what goes was counted
 pub counted_between : (t : Sums) (newer : Cache) (e : Entry) (older : Cache) → e.site < 16 → IsTally t (newer ++ e ∷ older) → (size_of e.content ≤ t.sum) × (size_of e.content ≤ slice_index t.sites e.site) × (1 ≤ t.count)
-counted_between t newer e older small h = (
-  omega (arith, h.sum, sum_between newer e older),
-  omega (arith, h.sites e.site small, own_between e.site newer e older (at_own e)),
-  omega (arith, h.count, length-append newer (e ∷ older)),
-)
+counted_between t newer e older small h = search (sum_between, own_between, at_own, length-append, arith)
 
 -- what an entry less leaves, and one more
 pub tally_less : (t : Sums) (newer : Cache) (e : Entry) (older : Cache) (site size at : ℕ) → at ≡ site → e.site < 16 → IsEntry e site size → IsTally t (newer ++ e ∷ older)
@@ -73,25 +43,13 @@ tally_less t newer e older site size at place small is h = rw (place, sym is.own
 
 -- an entry that becomes the newest
 pub tally_moved : (t : Sums) (newer : Cache) (e : Entry) (older : Cache) → IsTally t (newer ++ e ∷ older) → IsTally t (e ∷ newer ++ older)
-tally_moved t newer e older h = record {
-  count = omega (arith, h.count, length-append newer (e ∷ older), length-append newer older);
-  sum = omega (arith, h.sum, sum_between newer e older);
-  sites = λ site small. elim (is_at site e) as (λ b. is_at site e ≡ b → slice_index t.sites site ≡ sum_of (cond b (e ∷ list_of site (newer ++ older)) (list_of site (newer ++ older)))) [
-    | true ↦ λ own. h.sites site small ∙ own_between site newer e older own
-    | false ↦ λ other. h.sites site small ∙ ap sum_of (other_between site newer e older other)
-  ] refl;
-  all = h.all;
-}
+tally_moved t newer e older h = search (length-append, sum_between, own_between, other_between, arith)
 
 -- ---- sums of what is left
 
 sum_split : (site : ℕ) (c : Cache) → sum_of c ≡ sum_of (list_of site c) + sum_of (forgotten site c)
 sum_split site [] = refl
-sum_split site (e ∷ c) =
-    elim (is_at site e) as (λ t. sum_of (e ∷ c) ≡ sum_of (cond t (e ∷ list_of site c) (list_of site c)) + sum_of (cond (not t) (e ∷ forgotten site c) (forgotten site c))) [
-      | true ↦ omega (arith, sum_split site c)
-      | false ↦ omega (arith, sum_split site c)
-    ]
+sum_split site (e ∷ c) = search (sum_split site c, arith)
 
 pub sites_within : (t : Sums) (c : Cache) (site : ℕ) → site < 16 → IsTally t c → slice_index t.sites site ≤ sum_of c
 sites_within t c site small h = omega (arith, h.sites site small, sum_split site c)

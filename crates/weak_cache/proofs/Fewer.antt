@@ -1,5 +1,5 @@
 -- A list with fewer entries than another is within what that one is within.
-use Rattle.weak_cache.proofs.Vocabulary.{◌≡◌, ℕ, ◌+◌, ◌≤◌, Bool, true, false, cond, [], ◌∷◌, ◌++◌, length, refl, ap, arith, filter, Entry, Cache, size_of, sum_of, is_at, is_of, list_of, Limits, IsWithin}
+use Rattle.weak_cache.proofs.Vocabulary.{◌≡◌, ℕ, ◌+◌, ◌≤◌, Bool, true, [], ◌∷◌, ◌++◌, length, refl, ap, arith, filter, Entry, Cache, size_of, sum_of, is_at, is_of, list_of, Limits, IsWithin}
 
 -- what entries come to together
 abbrev pub total : (Entry → ℕ) → Cache → ℕ
@@ -39,42 +39,20 @@ fewer_none a m q = omega arith
 
 -- one entry more on both sides
 pub fewer_more : (e : Entry) (a b : Cache) → Fewer a b → Fewer (e ∷ a) (e ∷ b)
-fewer_more e a b h m q =
-    elim (q e) as (λ t. total m (cond t (e ∷ filter q a) (filter q a)) ≤ total m (cond t (e ∷ filter q b) (filter q b))) [
-      | true ↦ omega (arith, h m q)
-      | false ↦ h m q
-    ]
+fewer_more e a b h m q = search arith
 
 -- and on one alone
 pub fewer_without : (e : Entry) (a b : Cache) → Fewer a b → Fewer a (e ∷ b)
-fewer_without e a b h m q =
-    elim (q e) as (λ t. total m (filter q a) ≤ total m (cond t (e ∷ filter q b) (filter q b))) [
-      | true ↦ omega (arith, h m q)
-      | false ↦ h m q
-    ]
+fewer_without e a b h m q = search arith
 
 pub fewer_filter : (p : Entry → Bool) (c : Cache) → Fewer (filter p c) c
 fewer_filter p [] = fewer_same []
-fewer_filter p (e ∷ c) =
-    elim (p e) as (λ t. Fewer (cond t (e ∷ filter p c) (filter p c)) (e ∷ c)) [
-      | true ↦ fewer_more e (filter p c) c (fewer_filter p c)
-      | false ↦ fewer_without e (filter p c) c (fewer_filter p c)
-    ]
+fewer_filter p (e ∷ c) = search (fewer_more, fewer_without, fewer_filter p c, arith)
 
 -- the order does not matter
 pub fewer_moved : (newer : Cache) (e : Entry) (older : Cache) → Fewer (e ∷ newer ++ older) (newer ++ e ∷ older)
 fewer_moved [] e older m q = fewer_same (e ∷ older) m q
-fewer_moved (x ∷ newer) e older m q =
-    let rest = fewer_moved newer e older m q in
-    elim (q x) as (λ t. total m (cond (q e) (e ∷ cond t (x ∷ filter q (newer ++ older)) (filter q (newer ++ older)))
-    (cond t (x ∷ filter q (newer ++ older)) (filter q (newer ++ older)))) ≤ total m (cond t (x ∷ filter q (newer ++ e ∷ older)) (filter q (newer ++ e ∷ older)))) [
-      | true ↦ elim (q e) as (λ u. total m (cond u (e ∷ filter q (newer ++ older)) (filter q (newer ++ older))) ≤ total m (filter q (newer ++ e ∷ older))
-          → total m (cond u (e ∷ x ∷ filter q (newer ++ older)) (x ∷ filter q (newer ++ older))) ≤ m x + total m (filter q (newer ++ e ∷ older))) [
-            | true ↦ λ h. omega (arith, h)
-            | false ↦ λ h. omega (arith, h)
-          ] rest
-      | false ↦ rest
-    ]
+fewer_moved (x ∷ newer) e older m q = search (fewer_moved newer e older m q, arith)
 
 pub sum_fewer : (a b : Cache) → Fewer a b → sum_of a ≤ sum_of b
 sum_fewer a b h = omega (arith, sum_is a, sum_is b, h bytes (λ _. true), ap (total bytes) (all_stay a), ap (total bytes) (all_stay b))

@@ -1,7 +1,7 @@
 -- What is found was put.
-use Rattle.weak_cache.proofs.Vocabulary.{◌≡◌, ℕ, ◌-◌, leb, ltb, Bool, true, false, cond, not, ◌&&◌, ◌⊎◌, inl, inr, Option, None, Some, List, [], ◌∷◌, refl, sym, ap, ◌∙◌, ◌==◌, filter, find, is_some, option_map, list_all, eqb-true}
-use Rattle.weak_cache.proofs.Vocabulary.{false≢true, Entry, Cache, size_of, is_at, is_of, forgotten, entry_of, without, Limits, content_at, at_version, in_front, used, searched, has_room, put, within_quota, within_budget, stays}
-use Rattle.weak_cache.specs.Calls.{Call, ContentAt, Put, Forget, after, run, spares, WasPut}
+use Rattle.weak_cache.proofs.Vocabulary.{◌≡◌, ℕ, ◌-◌, leb, ltb, Bool, true, false, cond, not, ◌&&◌, ◌⊎◌, inl, inr, Option, None, Some, List, [], ◌∷◌, refl, sym, ap, ◌∙◌, ◌==◌, filter, find, list_all, eqb-true, arith, false≢true, Entry, Cache}
+use Rattle.weak_cache.proofs.Vocabulary.{size_of, is_at, is_of, forgotten, entry_of, without, Limits, in_front, searched, has_room, put, within_quota, within_budget, stays}
+use Rattle.weak_cache.specs.Calls.{Call, Put, after, run, spares, WasPut}
 use Rattle.weak_cache.specs.Laws.{HintWasPut, ContentWasPut, FoundWasPut}
 use Rattle.std.specs.Cmp.Derive.{both_true}
 use Rattle.weak_cache.proofs.Keeping.{both}
@@ -11,25 +11,11 @@ use Rattle.weak_cache.proofs.Puts.{beside, put_is, put_none, same_number}
 
 pub find_kept : (p r : Entry → Bool) → ((x : Entry) → p x ≡ true → r x ≡ true) → (c : Cache) → find p (filter r c) ≡ find p c
 find_kept p r keeps [] = refl
-find_kept p r keeps (e ∷ c) =
-    elim (r e) as (λ t. r e ≡ t → find p (cond t (e ∷ filter r c) (filter r c)) ≡ cond (p e) (Some e) (find p c)) [
-      | true ↦ λ _. ap (cond (p e) (Some e)) (find_kept p r keeps c)
-      | false ↦ λ gone. elim (p e) as (λ t. p e ≡ t → find p (filter r c) ≡ cond t (Some e) (find p c)) [
-        | true ↦ λ own. absurd (false≢true (sym gone ∙ keeps e own))
-        | false ↦ λ _. find_kept p r keeps c
-      ] refl
-    ] refl
+find_kept p r keeps (e ∷ c) = search (false≢true, find_kept p r keeps c, arith)
 
 pub find_gone : (p r : Entry → Bool) → ((x : Entry) → p x ≡ true → r x ≡ false) → (c : Cache) → find p (filter r c) ≡ None
 find_gone p r drops [] = refl
-find_gone p r drops (e ∷ c) =
-    elim (r e) as (λ t. r e ≡ t → find p (cond t (e ∷ filter r c) (filter r c)) ≡ None) [
-      | true ↦ λ stays. elim (p e) as (λ t. p e ≡ t → cond t (Some e) (find p (filter r c)) ≡ None) [
-        | true ↦ λ own. absurd (false≢true (sym (drops e own) ∙ stays))
-        | false ↦ λ _. find_gone p r drops c
-      ] refl
-      | false ↦ λ _. find_gone p r drops c
-    ] refl
+find_gone p r drops (e ∷ c) = search (false≢true, find_gone p r drops c, arith)
 
 -- ---- keys
 
@@ -37,9 +23,7 @@ at_same : (site suite other : ℕ) (x : Entry) → is_of site suite x ≡ true �
 at_same site suite other x own = ap (λ s. s == other) (eqb-true x.site site (both (x.site == site) (x.suite == suite) own).0)
 
 pub of_same : (site suite other number : ℕ) (x : Entry) → is_of site suite x ≡ true → is_of other number x ≡ ((site == other) && (suite == number))
-of_same site suite other number x own =
-    let key = both (x.site == site) (x.suite == suite) own in
-    ap (λ s. (s == other) && (x.suite == number)) (eqb-true x.site site key.0) ∙ ap (λ u. (site == other) && (u == number)) (eqb-true x.suite suite key.1)
+of_same site suite other number x own = search arith
 
 pub key_own : (e : Entry) → is_of e.site e.suite e ≡ true
 key_own e = both_true (same_number e.site) (same_number e.suite)
@@ -51,11 +35,7 @@ some_same : {X : Type 0} (a b : X) → Some a ≡ Some b → a ≡ b
 some_same a b h = cc h
 
 found_forgotten : (site suite other : ℕ) (e : Entry) (c : Cache) → entry_of (forgotten other c) site suite ≡ Some e → (entry_of c site suite ≡ Some e) × (not (site == other) ≡ true)
-found_forgotten site suite other e c h =
-    elim (site == other) as (λ t. (site == other) ≡ t → (entry_of c site suite ≡ Some e) × (not t ≡ true)) [
-      | true ↦ λ same. absurd (none_is_no_entry e (sym (find_gone (is_of site suite) (λ x. not (is_at other x)) (λ x own. ap not (at_same site suite other x own ∙ same)) c) ∙ h))
-      | false ↦ λ apart. (sym (find_kept (is_of site suite) (λ x. not (is_at other x)) (λ x own. ap not (at_same site suite other x own ∙ apart)) c) ∙ h, refl)
-    ] refl
+found_forgotten site suite other e c h = search (none_is_no_entry, find_gone, at_same, find_kept, arith)
 
 found_without : (site suite other number : ℕ) (e : Entry) (c : Cache) → entry_of (without other number c) site suite ≡ Some e → (entry_of c site suite ≡ Some e) × (not ((site == other) && (suite == number)) ≡ true)
 found_without site suite other number e c h =
@@ -98,15 +78,7 @@ budget_found site suite room slots e (x ∷ c) h =
     ] h
 
 pub none_stays : (site suite new_site new_suite quota budget slots : ℕ) (c : Cache) → entry_of c site suite ≡ None → None ≡ entry_of (stays new_site new_suite quota budget slots c) site suite
-none_stays site suite new_site new_suite quota budget slots c none =
-    let left : Cache = stays new_site new_suite quota budget slots c in
-    elim (entry_of left site suite) as (λ o. entry_of left site suite ≡ o → None ≡ o) [
-      | None ↦ λ _. refl
-      | Some e ↦ λ there.
-          let in_quota = budget_found site suite budget slots e (within_quota new_site quota (without new_site new_suite c)) there in
-          let others = quota_found site suite new_site quota e (without new_site new_suite c) in_quota in
-          absurd (none_is_no_entry e (sym none ∙ (found_without site suite new_site new_suite e c others).0))
-    ] refl
+none_stays site suite new_site new_suite quota budget slots c none = search (budget_found, quota_found, none_is_no_entry, found_without, arith)
 
 -- ---- calls
 
@@ -115,14 +87,7 @@ abbrev IsFrom : ℕ → ℕ → Entry → Call → Cache → Type 0
 IsFrom site suite e call c = ((entry_of c site suite ≡ Some e) × (spares site suite call ≡ true)) ⊎ ((call ≡ Put e) × (is_of site suite e ≡ true))
 
 flipped : (site suite : ℕ) (n : Entry) → not ((site == n.site) && (suite == n.suite)) ≡ true → is_of site suite n ≡ false
-flipped site suite n h =
-    elim (is_of site suite n) as (λ t. is_of site suite n ≡ t → t ≡ false) [
-      | true ↦ λ own.
-          let key = both (n.site == site) (n.suite == suite) own in
-          let same : ((site == n.site) && (suite == n.suite)) ≡ true = rw (sym (eqb-true n.site site key.0), sym (eqb-true n.suite suite key.1)) (both_true (same_number n.site) (same_number n.suite)) in
-          absurd (false≢true (sym (ap not same) ∙ h))
-      | false ↦ λ _. refl
-    ] refl
+flipped site suite n h = search arith
 
 put_found : (limits : Limits) (n : Entry) (site suite : ℕ) (e : Entry) (c : Cache) → entry_of (put limits n c) site suite ≡ Some e → IsFrom site suite e (Put n) c
 put_found limits n site suite e c h =
@@ -151,10 +116,7 @@ find_passes q (e ∷ c) x h =
     ] refl h
 
 same_key : (site suite other number : ℕ) (y : Entry) → is_of site suite y ≡ true → is_of other number y ≡ true → (site ≡ other) × (suite ≡ number)
-same_key site suite other number y own theirs =
-    let a = both (y.site == site) (y.suite == suite) own in
-    let b = both (y.site == other) (y.suite == number) theirs in
-    (sym (eqb-true y.site site a.0) ∙ eqb-true y.site other b.0, sym (eqb-true y.suite suite a.1) ∙ eqb-true y.suite number b.1)
+same_key site suite other number y own theirs = search arith
 
 in_front_found : (site suite other number : ℕ) (c : Cache) (o : Option Entry) → entry_of c other number ≡ o → entry_of (in_front o other number c) site suite ≡ entry_of c site suite
 in_front_found site suite other number c None h = refl
@@ -178,18 +140,12 @@ in_front_found site suite other number c (Some x) h =
     ] refl
 
 pub searched_found : (site suite other number dver : ℕ) (c : Cache) → entry_of (searched other number dver c) site suite ≡ entry_of c site suite
-searched_found site suite other number dver c =
-    elim (is_some (content_at c other number dver)) as (λ t. entry_of (cond t (used other number c) c) site suite ≡ entry_of c site suite) [
-      | true ↦ in_front_found site suite other number c (entry_of c other number) refl
-      | false ↦ refl
-    ]
+searched_found site suite other number dver c = search (in_front_found, arith)
 
 -- ---- lists of calls
 
 after_found : (limits : Limits) (call : Call) (site suite : ℕ) (e : Entry) (c : Cache) → entry_of (after limits call c) site suite ≡ Some e → IsFrom site suite e call c
-after_found limits (ContentAt other number dver) site suite e c h = inl (sym (searched_found site suite other number dver c) ∙ h, refl)
-after_found limits (Put n) site suite e c h = put_found limits n site suite e c h
-after_found limits (Forget other) site suite e c h = inl (found_forgotten site suite other e c h)
+after_found limits call site suite e c h6 = search (searched_found, put_found, found_forgotten, arith)
 
 run_found : (limits : Limits) (calls : List Call) (c : Cache) (site suite : ℕ) (e : Entry) → entry_of (run limits calls c) site suite ≡ Some e
     → ((entry_of c site suite ≡ Some e) × (list_all (spares site suite) calls ≡ true)) ⊎ WasPut site suite e calls
@@ -210,21 +166,10 @@ none_is_none : {X : Type 0} (x : X) → None ≡ Some x → ⊥
 none_is_none x h = cc h
 
 hint_was_put : HintWasPut
-hint_was_put limits calls site suite prefix h =
-    elim (entry_of (run limits calls []) site suite) as (λ o. entry_of (run limits calls []) site suite ≡ o → option_map (λ (e : Entry). e.prefix) o ≡ Some prefix → (e : Entry) × WasPut site suite e calls × (e.prefix ≡ prefix)) [
-      | None ↦ λ _ h. absurd (none_is_none prefix h)
-      | Some e ↦ λ there h. (e, put_there limits calls site suite e there, some_same e.prefix prefix h)
-    ] refl h
+hint_was_put limits calls site suite prefix h = search (none_is_none, put_there, some_same, arith)
 
 content_was_put : ContentWasPut
-content_was_put limits calls site suite dver content h =
-    elim (entry_of (run limits calls []) site suite) as (λ o. entry_of (run limits calls []) site suite ≡ o → at_version dver o ≡ Some content → (e : Entry) × WasPut site suite e calls × (e.dver ≡ dver) × (e.content ≡ content)) [
-      | None ↦ λ _ h. absurd (none_is_none content h)
-      | Some e ↦ λ there h. elim (e.dver == dver) as (λ t. (e.dver == dver) ≡ t → cond t (Some e.content) None ≡ Some content → (e : Entry) × WasPut site suite e calls × (e.dver ≡ dver) × (e.content ≡ content)) [
-        | true ↦ λ same h. (e, put_there limits calls site suite e there, eqb-true e.dver dver same, some_same e.content content h)
-        | false ↦ λ _ h. absurd (none_is_none content h)
-      ] refl h
-    ] refl h
+content_was_put limits calls site suite dver content h = search (none_is_none, put_there, eqb-true, some_same, arith)
 
 pub found_was_put : FoundWasPut
 found_was_put = record { hint = hint_was_put; content = content_was_put }

@@ -1,6 +1,6 @@
 -- What is left where the oldest entries go.
-use Rattle.weak_cache.proofs.Vocabulary.{◌≡◌, ℕ, ◌+◌, ◌-◌, ◌<◌, ◌≤◌, leb, ltb, Bool, true, false, cond, not, ◌&&◌, ◌⊎◌, inl, inr, [], ◌∷◌, ◌++◌, length, refl, sym, ap, ◌∙◌, arith, append-nil, filter, filter-append, le-leb, leb-true, lt-ltb}
-use Rattle.weak_cache.proofs.Vocabulary.{ltb-true, Entry, Cache, size_of, sum_of, is_at, list_of, forgotten, within_quota, within_budget}
+use Rattle.weak_cache.proofs.Vocabulary.{◌≡◌, ℕ, ◌+◌, ◌-◌, ◌<◌, ◌≤◌, leb, ltb, Bool, true, false, cond, not, ◌&&◌, ◌⊎◌, inl, inr, [], ◌∷◌, ◌++◌, length, refl, sym, ap, ◌∙◌, arith, append-nil, filter, filter-append, le-leb, leb-true, lt-ltb, ltb-true}
+use Rattle.weak_cache.proofs.Vocabulary.{Entry, Cache, size_of, sum_of, is_at, list_of, forgotten, within_quota, within_budget}
 use Rattle.weak_cache.proofs.Fewer.{Fewer, fewer_same, fewer_none, fewer_more, fewer_without, fewer_filter}
 
 abbrev with' : Entry → Cache → Cache
@@ -52,10 +52,7 @@ forgotten_own site e c own = rw own refl
 -- where a site has too much, its oldest entry is none of those that stay
 pub quota_evicts : (site room : ℕ) (newer : Cache) (e : Entry) (older : Cache) → is_at site e ≡ true → list_of site older ≡ [] → room < sum_of (list_of site (newer ++ e ∷ older))
     → within_quota site room (newer ++ e ∷ older) ≡ within_quota site room (newer ++ older)
-quota_evicts site room [] e older own last above =
-    let sum : sum_of (list_of site (e ∷ older)) ≡ size_of e.content = rw (own, last) (omega arith) in
-    let too_large : leb (size_of e.content) room ≡ false = large _ _ (omega (arith, above, sum)) in
-    rw (own, too_large, forgotten_none site older last, quota_none site room older last) refl
+quota_evicts site room [] e older own last above = search (large, forgotten_none, quota_none, arith)
 quota_evicts site room (x ∷ newer) e older own last above =
     elim (is_at site x) as (λ b. room < sum_of (cond b (x ∷ list_of site (newer ++ e ∷ older)) (list_of site (newer ++ e ∷ older)))
     → cond b (cond (leb (size_of x.content) room) (x ∷ within_quota site (room - size_of x.content) (newer ++ e ∷ older)) (forgotten site (newer ++ e ∷ older)))
@@ -83,11 +80,7 @@ quota_fewer site room (e ∷ c) =
 
 pub forgotten_list : (site : ℕ) (c : Cache) → list_of site (forgotten site c) ≡ []
 forgotten_list site [] = refl
-forgotten_list site (e ∷ c) =
-    elim (is_at site e) as (λ b. is_at site e ≡ b → filter (is_at site) (cond (not b) (e ∷ forgotten site c) (forgotten site c)) ≡ []) [
-      | true ↦ λ _. forgotten_list site c
-      | false ↦ λ other. rw other (forgotten_list site c)
-    ] refl
+forgotten_list site (e ∷ c) = search (forgotten_list site c, arith)
 
 -- what stays of a site has room
 pub quota_sum : (site room : ℕ) (c : Cache) → sum_of (list_of site (within_quota site room c)) ≤ room
@@ -112,11 +105,7 @@ budget_fits room slots (e ∷ c) h few =
 
 -- where there is too much, the oldest entry is none of those that stay
 pub budget_evicts : (room slots : ℕ) (newer : Cache) (e : Entry) → (room < sum_of (newer ++ e ∷ [])) ⊎ (slots < length (newer ++ e ∷ [])) → within_budget room slots (newer ++ e ∷ []) ≡ within_budget room slots newer
-budget_evicts room slots [] e above =
-    elim (leb (size_of e.content) room && ltb 0 slots) as (λ t. (leb (size_of e.content) room && ltb 0 slots) ≡ t → cond t (e ∷ []) [] ≡ []) [
-      | true ↦ λ h. let fits = both (leb (size_of e.content) room) (ltb 0 slots) h in absurd (elim above [ inl sum ↦ omega (arith, sum, leb-true _ _ fits.0) | inr count ↦ omega (arith, count, ltb-true _ _ fits.1) ])
-      | false ↦ λ _. refl
-    ] refl
+budget_evicts room slots [] e above = search (both, leb-true, ltb-true, arith)
 budget_evicts room slots (x ∷ newer) e above =
     elim (leb (size_of x.content) room && ltb 0 slots) as (λ t. (leb (size_of x.content) room && ltb 0 slots) ≡ t
     → cond t (x ∷ within_budget (room - size_of x.content) (slots - 1) (newer ++ e ∷ [])) [] ≡ cond t (x ∷ within_budget (room - size_of x.content) (slots - 1) newer) []) [
@@ -160,21 +149,11 @@ pub record EndsAt (site : ℕ) (cache newer : Cache) (entry : Entry) (older : Ca
 
 pub quota_step : (site room : ℕ) (before after newer : Cache) (e : Entry) (older : Cache) → EndsAt site before newer e older → after ≡ newer ++ older
     → room < sum_of (list_of site before) → within_quota site room after ≡ within_quota site room before
-quota_step site room before after newer e older cut left above =
-    let above' : room < sum_of (list_of site (newer ++ e ∷ older)) = omega (arith, above, ap (λ c. sum_of (list_of site c)) cut.parts) in
-    rw (cut.parts, left) (sym (quota_evicts site room newer e older cut.own cut.last above'))
+quota_step site room before after newer e older cut left above = search (quota_evicts, arith)
 
 pub budget_step : (room slots : ℕ) (before after newer : Cache) (e : Entry) → before ≡ newer ++ e ∷ [] → after ≡ newer ++ [] → (room < sum_of before) ⊎ (slots < length before)
     → within_budget room slots after ≡ within_budget room slots before
-budget_step room slots before after newer e parts left above =
-    let above' : (room < sum_of (newer ++ e ∷ [])) ⊎ (slots < length (newer ++ e ∷ [])) = elim above [ inl sum ↦ inl (omega (arith, sum, ap sum_of parts)) | inr count ↦ inr (omega (arith, count, ap length parts)) ] in
-    rw (parts, left, append-nil newer) (sym (budget_evicts room slots newer e above'))
+budget_step room slots before after newer e parts left above = search (append-nil, budget_evicts, arith)
 
 pub forgotten_step : (site : ℕ) (before after newer : Cache) (e : Entry) (older : Cache) → EndsAt site before newer e older → after ≡ newer ++ older → forgotten site after ≡ forgotten site before
-forgotten_step site before after newer e older cut left =
-    let others : Entry → Bool = λ e. not (is_at site e) in
-    ap (forgotten site) left
-    ∙ filter-append others newer older
-    ∙ ap (λ l. forgotten site newer ++ l) (sym (forgotten_own site e older cut.own))
-    ∙ sym (filter-append others newer (e ∷ older))
-    ∙ ap (forgotten site) (sym cut.parts)
+forgotten_step site before after newer e older cut left = search (filter-append, forgotten_own, arith)

@@ -17,17 +17,7 @@ sum_turned (e ∷ n) = omega (arith, ap sum_of (turned e n), sum_of-append (reve
 
 sum_at_turned : (site : ℕ) (r : Cache) → sum_of (list_of site (reverse r)) ≡ sum_of (list_of site r)
 sum_at_turned site [] = refl
-sum_at_turned site (e ∷ n) =
-    let last : list_of site (reverse (e ∷ n)) ≡ list_of site (reverse n) ++ list_of site (e ∷ []) = ap (list_of site) (turned e n) ∙ filter-append (is_at site) (reverse n) (e ∷ []) in
-    let first : list_of site (e ∷ n) ≡ list_of site (e ∷ []) ++ list_of site n = filter-append (is_at site) (e ∷ []) n in
-    omega (
-      arith,
-      ap sum_of last,
-      ap sum_of first,
-      sum_of-append (list_of site (reverse n)) (list_of site (e ∷ [])),
-      sum_of-append (list_of site (e ∷ [])) (list_of site n),
-      sum_at_turned site n,
-    )
+sum_at_turned site (e ∷ n) = search (turned, filter-append, sum_of-append, sum_at_turned site n, arith)
 
 -- ---- the quota
 

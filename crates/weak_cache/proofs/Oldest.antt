@@ -1,6 +1,6 @@
 -- The oldest entries on a shelf, as they go.
-use Rattle.weak_cache.proofs.Vocabulary.{◌≡◌, ℕ, ◌+◌, ◌≤◌, ◌<◌, Bool, true, List, [], ◌∷◌, ◌++◌, length, map, Some, None, inl, inr, refl, sym, ap, ◌∙◌, subst, arith, ne_eqb, length-append, eq-eqb, filter, option_map, filter-append, In}
-use Rattle.weak_cache.proofs.Vocabulary.{Once, last_of, value_of, Entry, Cache, is_of, list_of, entry_of, size_of, sum_of, Slotted, values, Sited}
+use Rattle.weak_cache.proofs.Vocabulary.{◌≡◌, ℕ, ◌+◌, ◌≤◌, ◌<◌, Bool, true, List, [], ◌∷◌, ◌++◌, length, map, Some, None, inl, inr, refl, sym, ap, ◌∙◌, subst, arith, ne_eqb, length-append, eq-eqb, filter, option_map, filter-append, In, Once, last_of}
+use Rattle.weak_cache.proofs.Vocabulary.{value_of, Entry, Cache, is_of, list_of, entry_of, size_of, sum_of, Slotted, values, Sited}
 use Rattle.recency.specs.Shelf.{without}
 use Rattle.recency.specs.Shelf as shelf
 use Rattle.weak_cache.proofs.Keeping.{EndsAt, sum_of-append}

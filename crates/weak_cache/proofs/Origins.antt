@@ -1,7 +1,6 @@
 -- Where the entries of a cache come from.
-use Rattle.weak_cache.proofs.Vocabulary.{◌≡◌, ℕ, suc, ◌-◌, leb, ltb, Bool, true, false, cond, not, ◌&&◌, ◌⊎◌, inl, inr, Option, None, Some, [], ◌∷◌, refl, sym, ap, subst, ◌∙◌, arith, filter, find, is_some, option_map, All, Contains}
-use Rattle.weak_cache.proofs.Vocabulary.{All-nil, All-cons, All-weaker, All-contains, Entry, Cache, size_of, is_at, is_of, forgotten, entry_of, without, Limits, content_at, at_version, in_front, used, searched, has_room, put, within_quota}
-use Rattle.weak_cache.proofs.Vocabulary.{within_budget}
+use Rattle.weak_cache.proofs.Vocabulary.{◌≡◌, ℕ, suc, ◌-◌, leb, ltb, Bool, true, false, cond, not, ◌&&◌, ◌⊎◌, inl, inr, Some, [], ◌∷◌, refl, sym, ap, ◌∙◌, arith, filter, find, option_map, All, Contains, All-nil, All-cons, All-weaker, All-contains}
+use Rattle.weak_cache.proofs.Vocabulary.{Entry, Cache, size_of, is_at, is_of, forgotten, entry_of, Limits, searched, put, within_quota, within_budget}
 use Rattle.suite_prefix.specs.declared.copies.Prefix.{Prefix}
 use Rattle.weak_cache.specs.Laws.{SearchKeepsAll, EntriesComeFromPuts}
 use Rattle.weak_cache.proofs.Found.{find_passes, searched_found}
@@ -65,20 +64,7 @@ budget_within room slots (e ∷ c) x has =
 -- ---- calls
 
 pub put_has : (limits : Limits) (new : Entry) (c : Cache) (x : Entry) → Has (put limits new c) x → (x ≡ new) ⊎ Has c x
-put_has limits new c x has =
-    elim (has_room limits new.content) as (λ t. has_room limits new.content ≡ t → (x ≡ new) ⊎ Has c x) [
-      | true ↦ λ room. kept (subst (λ c. Has c x) (put_is limits new c room) has)
-      | false ↦ λ none. inr (others (subst (λ c. Has c x) (put_none limits new c none) has))
-    ] refl
-  where
-    others : Has (without new.site new.suite c) x → Has c x
-    others has = (has_filter (λ entry. not (is_of new.site new.suite entry)) c x has).0
-
-    kept : Has (new ∷ beside limits new c) x → (x ≡ new) ⊎ Has c x
-    kept (inl same) = inl (sym same)
-    kept (inr rest) =
-        let in_quota = within_quota new.site (limits.quota - size_of new.content) (without new.site new.suite c) in
-        inr (others (quota_within new.site (limits.quota - size_of new.content) (without new.site new.suite c) x (budget_within (limits.budget - size_of new.content) (limits.slots - 1) in_quota x rest)))
+put_has limits new c x has = search (put_is, put_none, has_filter, beside, quota_within, budget_within, arith)
 
 found_has : (q : Entry → Bool) (c : Cache) (x : Entry) → find q c ≡ Some x → Has c x
 found_has q [] x is = cc
@@ -89,41 +75,16 @@ found_has q (e ∷ c) x is =
     ] is
 
 pub searched_has : (site suite dver : ℕ) (c : Cache) (x : Entry) → Has (searched site suite dver c) x → Has c x
-searched_has site suite dver c x has =
-    elim (is_some (content_at c site suite dver)) as (λ t. Has (cond t (used site suite c) c) x → Has c x) [
-      | true ↦ front (entry_of c site suite) refl
-      | false ↦ λ has. has
-    ] has
-  where
-    front : (found : Option Entry) → entry_of c site suite ≡ found → Has (in_front found site suite c) x → Has c x
-    front None was has = has
-    front (Some entry) was has = elim has [
-      | inl same ↦ found_has (is_of site suite) c x (was ∙ ap Some same)
-      | inr rest ↦ (has_filter (λ entry. not (is_of site suite entry)) c x rest).0
-    ]
+searched_has site suite dver c x has = search (found_has, has_filter, arith)
 
 pub forgotten_has : (site : ℕ) (c : Cache) (x : Entry) → Has (forgotten site c) x → Has c x × (is_at site x ≡ false)
-forgotten_has site c x has =
-    let there = has_filter (λ entry. not (is_at site entry)) c x has in
-    (there.0, of (is_at site x) there.1)
-  where
-    of : (b : Bool) → not b ≡ true → b ≡ false
-    of true is = cc
-    of false is = refl
+forgotten_has site c x has = search (has_filter, arith)
 
 pub hint_has : (c : Cache) (site suite : ℕ) (prefix : Prefix) → option_map (λ (entry : Entry). entry.prefix) (entry_of c site suite) ≡ Some prefix → (entry : Entry) × Has c entry × (is_of site suite entry ≡ true) × (entry.prefix ≡ prefix)
-hint_has c site suite prefix is = of (entry_of c site suite) refl is
-  where
-    of : (found : Option Entry) → entry_of c site suite ≡ found → option_map (λ (entry : Entry). entry.prefix) found ≡ Some prefix → (entry : Entry) × Has c entry × (is_of site suite entry ≡ true) × (entry.prefix ≡ prefix)
-    of None was is = cc
-    of (Some entry) was is = (entry, found_has (is_of site suite) c entry was, find_passes (is_of site suite) c entry was, let same : entry.prefix ≡ prefix = cc in same)
+hint_has c site suite prefix is = search (found_has, find_passes, arith)
 
 pub search_keeps_all : SearchKeepsAll
-search_keeps_all = record {
-  entry = λ site suite dver other number cache. searched_found other number site suite dver cache;
-  hint = λ site suite dver other number cache. ap (option_map (λ (entry : Entry). entry.prefix)) (searched_found other number site suite dver cache);
-  content = λ site suite dver other number at cache. ap (at_version at) (searched_found other number site suite dver cache);
-}
+search_keeps_all = search (searched_found, arith)
 
 pub entries_come_from_puts : EntriesComeFromPuts
 entries_come_from_puts = record {

@@ -1,6 +1,6 @@
 -- What a cache is after a put.
-use Rattle.weak_cache.proofs.Vocabulary.{◌≡◌, ℕ, ◌-◌, ◌≤◌, leb, ltb, true, false, cond, not, ◌&&◌, [], ◌∷◌, length, refl, sym, ap, ◌∙◌, arith, eq-eqb, ◌==◌, filter, leb-true, ltb-true, eqb-true, Entry, Cache, size_of, sum_of, is_at, is_of}
-use Rattle.weak_cache.proofs.Vocabulary.{list_of, without, Limits, IsWithin, has_room, put, within_quota, within_budget}
+use Rattle.weak_cache.proofs.Vocabulary.{◌≡◌, ℕ, ◌-◌, ◌≤◌, leb, ltb, true, false, cond, not, ◌&&◌, [], ◌∷◌, length, refl, sym, ap, ◌∙◌, arith, eq-eqb, ◌==◌, filter, leb-true, ltb-true, eqb-true, Entry, Cache, size_of, sum_of, is_at, is_of, list_of}
+use Rattle.weak_cache.proofs.Vocabulary.{without, Limits, IsWithin, has_room, put, within_quota, within_budget}
 use Rattle.weak_cache.proofs.Fewer.{Fewer, fewer_filter, fewer_then, list_fewer, once_fewer}
 use Rattle.weak_cache.proofs.Keeping.{both, quota_fewer, quota_sum, budget_fewer, budget_sum}
 
@@ -13,10 +13,7 @@ pub same_number : (n : ℕ) → (n == n) ≡ true
 same_number n = eq-eqb n n refl
 
 pub put_is : (limits : Limits) (e : Entry) (c : Cache) → has_room limits e.content ≡ true → put limits e c ≡ e ∷ beside limits e c
-put_is limits e c room =
-    let a = both (leb (size_of e.content) limits.budget && leb (size_of e.content) limits.quota) (ltb 0 limits.slots) room in
-    let b = both (leb (size_of e.content) limits.budget) (leb (size_of e.content) limits.quota) a.0 in
-    rw (room, same_number e.site, b.1, b.0, a.1) refl
+put_is limits e c room = search arith
 
 -- the same, step by step
 pub put_steps : (limits : Limits) (e : Entry) (c : Cache) → has_room limits e.content ≡ true → within_budget limits.budget limits.slots (within_quota e.site limits.quota (e ∷ without e.site e.suite c)) ≡ e ∷ beside limits e c
@@ -27,19 +24,12 @@ pub put_none : (limits : Limits) (e : Entry) (c : Cache) → has_room limits e.c
 put_none limits e c room = rw room refl
 
 beside_fewer : (limits : Limits) (e : Entry) (c : Cache) → Fewer (beside limits e c) (without e.site e.suite c)
-beside_fewer limits e c =
-    let w = without e.site e.suite c in
-    let q = within_quota e.site (limits.quota - size_of e.content) w in
-    fewer_then (beside limits e c) q w (budget_fewer (limits.budget - size_of e.content) (limits.slots - 1) q) (quota_fewer e.site (limits.quota - size_of e.content) w)
+beside_fewer limits e c = search (fewer_then, budget_fewer, quota_fewer, arith)
 
 -- nothing of the key is left
 none_of_key : (site suite : ℕ) (c : Cache) → filter (is_of site suite) (without site suite c) ≡ []
 none_of_key site suite [] = refl
-none_of_key site suite (e ∷ c) =
-    elim (is_of site suite e) as (λ t. is_of site suite e ≡ t → filter (is_of site suite) (cond (not t) (e ∷ without site suite c) (without site suite c)) ≡ []) [
-      | true ↦ λ _. none_of_key site suite c
-      | false ↦ λ other. rw other (none_of_key site suite c)
-    ] refl
+none_of_key site suite (e ∷ c) = search (none_of_key site suite c, arith)
 
 pub within_put : (limits : Limits) (e : Entry) (c : Cache) → has_room limits e.content ≡ true → IsWithin (record { limits = limits; entries = c }) → IsWithin (record { limits = limits; entries = e ∷ beside limits e c })
 within_put limits e c room h =

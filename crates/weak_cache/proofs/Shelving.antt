@@ -1,7 +1,7 @@
 -- The entries on a shelf, as one comes or goes.
-use Rattle.weak_cache.proofs.Vocabulary.{◌≡◌, ℕ, ◌+◌, ◌≤◌, inl, inr, Bool, true, false, cond, not, List, [], ◌∷◌, ◌++◌, length, map, Option, Some, None, refl, sym, ap, ◌∙◌, subst, arith, eq-eqb, ne_eqb, length-append, ◌==◌, ◌&&◌, filter}
-use Rattle.weak_cache.proofs.Vocabulary.{find, option_map, eqb-true, In, Once, first_of, last_of, Shelf, is_in, value_of, touched, older_than, get_by, Entry, Cache, is_at, is_of, sum_of, list_of, entry_of, Sums, IsTally, Slotted, values}
-use Rattle.weak_cache.proofs.Vocabulary.{same_key, has_key, slot_in, Sited, from_slot, from_on, IsKept}
+use Rattle.weak_cache.proofs.Vocabulary.{◌≡◌, ℕ, ◌+◌, ◌≤◌, inl, inr, Bool, true, false, cond, not, List, [], ◌∷◌, ◌++◌, length, map, Option, Some, None, refl, sym, ap, ◌∙◌, subst, arith, eq-eqb, ne_eqb, length-append, ◌==◌, ◌&&◌, filter, find}
+use Rattle.weak_cache.proofs.Vocabulary.{option_map, eqb-true, In, Once, first_of, last_of, Shelf, is_in, value_of, touched, older_than, get_by, Entry, Cache, is_at, is_of, sum_of, list_of, entry_of, Sums, IsTally, Slotted, values, same_key, has_key}
+use Rattle.weak_cache.proofs.Vocabulary.{slot_in, Sited, from_slot, from_on, IsKept}
 use Rattle.recency.specs.Shelf.{without}
 use Rattle.std.specs.Map.{lookup}
 use Rattle.weak_cache.specs.declared.kept.Kept.{Kept}

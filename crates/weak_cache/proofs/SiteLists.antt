@@ -1,7 +1,6 @@
 -- What each call finds in a site's list and leaves of it.
-use Rattle.weak_cache.proofs.Vocabulary.{◌≡◌, ◌≢◌, ℕ, ◌-◌, ◌<◌, leb, ltb, Bool, true, false, cond, not, ◌&&◌, ◌||◌, ◌⊎◌, inl, inr, Option, None, Some, [], ◌∷◌, ◌++◌, length, refl, sym, ap, ◌∙◌, arith, ◌==◌, filter, is_some, option_map}
-use Rattle.weak_cache.proofs.Vocabulary.{append-nil, filter-append, eqb-true, false≢true, leb-true, leb-false, lt-ltb, ltb-true, ltb-false, Entry, Cache, size_of, sum_of, is_at, is_of, list_of, forgotten, entry_of, without, Limits}
-use Rattle.weak_cache.proofs.Vocabulary.{at_version, in_front, searched, has_room, put, within_quota, within_budget, is_above}
+use Rattle.weak_cache.proofs.Vocabulary.{◌≡◌, ◌≢◌, ℕ, ◌-◌, ◌<◌, leb, ltb, Bool, true, false, cond, not, ◌&&◌, ◌||◌, ◌⊎◌, inl, inr, [], ◌∷◌, ◌++◌, length, refl, sym, ap, ◌∙◌, arith, ◌==◌, filter, append-nil, filter-append, false≢true, leb-true}
+use Rattle.weak_cache.proofs.Vocabulary.{leb-false, lt-ltb, ltb-true, ltb-false, Entry, Cache, size_of, sum_of, is_at, is_of, list_of, forgotten, entry_of, without, Limits, searched, has_room, put, within_quota, within_budget, is_above}
 use Rattle.weak_cache.specs.SiteLists.{with_new, PutLeaves, SiteLists}
 use Rattle.weak_cache.proofs.Keeping.{both, forgotten_list}
 use Rattle.weak_cache.proofs.Found.{find_kept, find_passes}
@@ -14,49 +13,24 @@ with' e c = e ∷ c
 
 filter_swap : (p q : Entry → Bool) (c : Cache) → filter p (filter q c) ≡ filter q (filter p c)
 filter_swap p q [] = refl
-filter_swap p q (e ∷ c) =
-    elim (p e) as (λ t. p e ≡ t → filter p (cond (q e) (e ∷ filter q c) (filter q c)) ≡ filter q (cond t (e ∷ filter p c) (filter p c))) [
-      | true ↦ λ yes. elim (q e) as (λ u. filter p (cond u (e ∷ filter q c) (filter q c)) ≡ cond u (e ∷ filter q (filter p c)) (filter q (filter p c))) [
-        | true ↦ rw yes (ap (with' e) (filter_swap p q c))
-        | false ↦ filter_swap p q c
-      ]
-      | false ↦ λ no. elim (q e) as (λ u. filter p (cond u (e ∷ filter q c) (filter q c)) ≡ filter q (filter p c)) [
-        | true ↦ rw no (filter_swap p q c)
-        | false ↦ filter_swap p q c
-      ]
-    ] refl
+filter_swap p q (e ∷ c) = search (filter_swap p q c, arith)
 
 filter_kept : (p r : Entry → Bool) → ((x : Entry) → p x ≡ true → r x ≡ true) → (c : Cache) → filter p (filter r c) ≡ filter p c
 filter_kept p r keeps [] = refl
-filter_kept p r keeps (e ∷ c) =
-    elim (r e) as (λ t. r e ≡ t → filter p (cond t (e ∷ filter r c) (filter r c)) ≡ cond (p e) (e ∷ filter p c) (filter p c)) [
-      | true ↦ λ _. ap (λ l. cond (p e) (e ∷ l) l) (filter_kept p r keeps c)
-      | false ↦ λ gone. elim (p e) as (λ t. p e ≡ t → filter p (filter r c) ≡ cond t (e ∷ filter p c) (filter p c)) [
-        | true ↦ λ own. absurd (false≢true (sym gone ∙ keeps e own))
-        | false ↦ λ _. filter_kept p r keeps c
-      ] refl
-    ] refl
+filter_kept p r keeps (e ∷ c) = search (false≢true, filter_kept p r keeps c, arith)
 
 -- ---- sites
 
 -- an entry of a site is of no other
 apart_at : (site other : ℕ) → other ≢ site → (x : Entry) → is_at site x ≡ true → is_at other x ≡ false
-apart_at site other apart x own =
-    elim (is_at other x) as (λ t. is_at other x ≡ t → t ≡ false) [
-      | true ↦ λ theirs. absurd (apart (sym (eqb-true x.site other theirs) ∙ eqb-true x.site site own))
-      | false ↦ λ _. refl
-    ] refl
+apart_at site other apart x own = search arith
 
 own_at : (site suite : ℕ) (x : Entry) → is_of site suite x ≡ true → is_at site x ≡ true
 own_at site suite x own = (both (x.site == site) (x.suite == suite) own).0
 
 -- so what goes of a site is none of another's
 keeps_others : (site other : ℕ) → other ≢ site → (p : Entry → Bool) → ((x : Entry) → p x ≡ true → is_at site x ≡ true) → (x : Entry) → is_at other x ≡ true → not (p x) ≡ true
-keeps_others site other apart p own x theirs =
-    elim (p x) as (λ t. p x ≡ t → not t ≡ true) [
-      | true ↦ λ here. absurd (false≢true (sym (apart_at site other apart x (own x here)) ∙ theirs))
-      | false ↦ λ _. refl
-    ] refl
+keeps_others site other apart p own x theirs = search arith
 
 forgotten_others : (site other : ℕ) (c : Cache) → other ≢ site → list_of other (forgotten site c) ≡ list_of other c
 forgotten_others site other c apart = filter_kept (is_at other) (λ x. not (is_at site x)) (keeps_others site other apart (is_at site) (λ x own. own)) c
@@ -73,32 +47,10 @@ found_own : (site suite : ℕ) (c : Cache) → entry_of (list_of site c) site su
 found_own site suite c = find_kept (is_of site suite) (is_at site) (own_at site suite) c
 
 searched_own : (site suite dver : ℕ) (c : Cache) → list_of site (searched site suite dver c) ≡ searched site suite dver (list_of site c)
-searched_own site suite dver c =
-    let front : (o : Option Entry) → entry_of c site suite ≡ o → list_of site (cond (is_some (at_version dver o)) (in_front o site suite c) c) ≡ cond (is_some (at_version dver o))
-    (in_front o site suite (list_of site c)) (list_of site c) = λ o.
-    elim o as (λ o. entry_of c site suite ≡ o → list_of site (cond (is_some (at_version dver o)) (in_front o site suite c) c) ≡ cond (is_some (at_version dver o)) (in_front o site suite (list_of site c)) (list_of site c)) [
-      | None ↦ λ _. refl
-      | Some e ↦ λ there.
-          let own : is_at site e ≡ true = own_at site suite e (find_passes (is_of site suite) c e there) in
-          elim (is_some (at_version dver (Some e))) as (λ t. list_of site (cond t (e ∷ without site suite c) c) ≡ cond t (e ∷ without site suite (list_of site c)) (list_of site c)) [
-            | true ↦ rw own (ap (with' e) (without_own site suite c))
-            | false ↦ refl
-          ]
-    ] in
-    front (entry_of c site suite) refl ∙ ap (λ o. cond (is_some (at_version dver o)) (in_front o site suite (list_of site c)) (list_of site c)) (sym (found_own site suite c))
+searched_own site suite dver c = search (own_at, find_passes, without_own, found_own, arith)
 
 searched_others : (site suite dver other : ℕ) (c : Cache) → other ≢ site → list_of other (searched site suite dver c) ≡ list_of other c
-searched_others site suite dver other c apart =
-    elim (entry_of c site suite) as (λ o. entry_of c site suite ≡ o → list_of other (cond (is_some (at_version dver o)) (in_front o site suite c) c) ≡ list_of other c) [
-      | None ↦ λ _. refl
-      | Some e ↦ λ there.
-          let own : is_at site e ≡ true = own_at site suite e (find_passes (is_of site suite) c e there) in
-          let none : is_at other e ≡ false = apart_at site other apart e own in
-          elim (is_some (at_version dver (Some e))) as (λ t. list_of other (cond t (e ∷ without site suite c) c) ≡ list_of other c) [
-            | true ↦ rw none (without_others site suite other c apart)
-            | false ↦ refl
-          ]
-    ] refl
+searched_others site suite dver other c apart = search (own_at, find_passes, apart_at, without_others, arith)
 
 -- ---- the quota
 
@@ -138,26 +90,10 @@ quota_others site room other apart (e ∷ c) =
 -- ---- put
 
 new_own : (limits : Limits) (e : Entry) (c : Cache) → list_of e.site (with_new limits e c) ≡ with_new limits e (list_of e.site c)
-new_own limits e c =
-    let w : Cache = without e.site e.suite c in
-    let l : Cache = without e.site e.suite (list_of e.site c) in
-    let left : list_of e.site w ≡ l = without_own e.site e.suite c in
-    let all : list_of e.site (e ∷ w) ≡ e ∷ l = rw (same_number e.site) (ap (with' e) left) in
-    elim (has_room limits e.content) as (λ t. list_of e.site (cond t (within_quota e.site limits.quota (e ∷ w)) w) ≡ cond t (within_quota e.site limits.quota (e ∷ l)) l) [
-      | true ↦ quota_own e.site limits.quota (e ∷ w) ∙ ap (within_quota e.site limits.quota) all
-      | false ↦ left
-    ]
+new_own limits e c = search (without_own, same_number, quota_own, arith)
 
 new_others : (limits : Limits) (e : Entry) (c : Cache) (other : ℕ) → other ≢ e.site → list_of other (with_new limits e c) ≡ list_of other c
-new_others limits e c other apart =
-    let w : Cache = without e.site e.suite c in
-    let left : list_of other w ≡ list_of other c = without_others e.site e.suite other c apart in
-    let none : is_at other e ≡ false = apart_at e.site other apart e (same_number e.site) in
-    let all : list_of other (e ∷ w) ≡ list_of other w = rw none refl in
-    elim (has_room limits e.content) as (λ t. list_of other (cond t (within_quota e.site limits.quota (e ∷ w)) w) ≡ list_of other c) [
-      | true ↦ quota_others e.site limits.quota other apart (e ∷ w) ∙ all ∙ left
-      | false ↦ left
-    ]
+new_others limits e c other apart = search (without_others, apart_at, same_number, quota_others, arith)
 
 or_right : (a b : Bool) → b ≡ true → (a || b) ≡ true
 or_right true b h = refl
@@ -188,13 +124,7 @@ budget_goes room slots (e ∷ c) =
             ap (with' e) rest.1,
             λ newest older g. elim (rest.2 newest older g) [ inl s ↦ inl (omega (arith, s, leb-true _ _ fits.0)) | inr s ↦ inr (omega (arith, s, ltb-true _ _ fits.1)) ],
           )
-      | false ↦ λ h. (
-        e ∷ c,
-        refl,
-        λ newest older g.
-            let same : e ≡ newest = head_same e newest c older g in
-            elim (short (leb (size_of e.content) room) (ltb 0 slots) h) [ inl s ↦ inl (omega (arith, leb-false _ _ s, ap (λ (x : Entry). size_of x.content) same)) | inr s ↦ inr (omega (arith, ltb-false _ _ s)) ],
-      )
+      | false ↦ λ h. search (head_same, short, leb-false, ltb-false, arith)
     ] refl
 
 abbrev Leaves : Limits → Cache → Cache → Type 0
@@ -222,12 +152,4 @@ put_leaves limits e c =
     }
 
 pub site_lists : SiteLists
-site_lists = record {
-  hint = λ site suite c. ap (option_map (λ (e : Entry). e.prefix)) (found_own site suite c);
-  content = λ site suite dver c. ap (at_version dver) (found_own site suite c);
-  searched_own = searched_own;
-  searched_others = searched_others;
-  put = put_leaves;
-  forgotten_own = forgotten_list;
-  forgotten_others = forgotten_others;
-}
+site_lists = search (found_own, searched_own, searched_others, put_leaves, forgotten_list, forgotten_others, arith)
