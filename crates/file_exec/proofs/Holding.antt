@@ -8,7 +8,7 @@ use Rattle.file_exec.proofs.Steps.{HoldsAll}
 -- where two courses are done, the first was, and then the second
 parted : {A B E P : Type 0} (known : Known) (edits : Edits) (first : Course A E) (next : A → Course B E) (ended : Ended B) → run known edits (◌>>=◌ first next) ≡ Done (Ok ended)
     → ((middle : Ended A) → run known edits first ≡ Done (Ok middle) → run known middle.edits (next middle.given) ≡ Done (Ok ended) → P) → P
-parted known = search (runs_in_turn, arith)
+parted known edits first next ended is then = search (runs_in_turn, arith)
 
 placed : (known : Known) (edits : Edits) (suite : ℕ) (row : Option Row) (ended : Ended Object) → run known edits (asked.place_at suite row) ≡ Done (Ok ended) → suite ≡ ended.given.suite
 placed known edits suite row ended h5 = search arith
@@ -49,7 +49,7 @@ parent_holds known edits caller names ended is =
     folder middle names h2 = search (let_in, arith)
 
 look_holds : {E : Type 0} (known : Known) (edits : Edits) (suite : ℕ) (mode : LockMode) (ended : Ended (Option Row)) → run known edits (look {E = E} suite mode) ≡ Done (Ok ended) → is_met known (Hold suite mode) ≡ true
-look_holds known = search arith
+look_holds known edits suite mode ended is = search arith
 
 -- ---- the same of what the code has reached
 

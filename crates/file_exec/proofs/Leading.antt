@@ -1,7 +1,7 @@
 -- The changes lead from the rows before to the rows after.
-use Rattle.file_exec.proofs.Vocabulary.{◌⊎◌, inl, inr, ◌≡◌, ℕ, Bool, true, false, cond, [], ◌∷◌, Option, Some, None, refl, sym, ap, subst, ◌∙◌, ◌==◌, ◌&&◌, ◌||◌, option_map, is_some, list_all, unsigned_tied, nat_cmp, eqb-true, arith, nat_cmp_total}
-use Rattle.file_exec.proofs.Vocabulary.{get-insert, get, Exclusive, Row, row_of, Change, Edit, SetAcl, SetVotes, SetContent, Make, touches, makes, sets_acl, sets_votes, some, change_of, changes_at, with_change, Edits, changed, seen, sets_content}
-use Rattle.file_exec.proofs.Vocabulary.{is_set, head, content_in, with_edits, Known, known_of, known_rows, is_held, is_opened, is_held_for, TellsAt, ChangesBySuite, ChangesLeadOn}
+use Rattle.file_exec.proofs.Vocabulary.{◌⊎◌, ◌≡◌, ℕ, Bool, true, false, cond, [], ◌∷◌, Option, Some, None, refl, sym, ap, subst, ◌∙◌, ◌==◌, ◌&&◌, ◌||◌, option_map, is_some, list_all, unsigned_tied, nat_cmp, eqb-true, arith, nat_cmp_total, get-insert}
+use Rattle.file_exec.proofs.Vocabulary.{get, Exclusive, Row, row_of, Change, Edit, touches, makes, sets_acl, sets_votes, some, change_of, changes_at, with_change, Edits, changed, seen, sets_content, is_set, head, content_in, with_edits, Known}
+use Rattle.file_exec.proofs.Vocabulary.{known_of, known_rows, is_held, is_opened, is_held_for, TellsAt, ChangesBySuite, ChangesLeadOn}
 use Rattle.file_exec.proofs.Alike.{head_seen, content_seen, held_head, opened_same}
 use Rattle.file_exec.proofs.StepOnTable.{row_of-with_edits}
 use Rattle.file_exec.proofs.VotesRead.{knows_whose_votes}
@@ -20,17 +20,14 @@ found change [] suite = refl
 found change (e ∷ edits) suite = of (change e.0) refl (found change edits suite)
   where
     absent : (b : Bool) (change : Option Change) → change ≡ None → if_touched b change ≡ change
-    absent true change is = refl
-    absent false change is = sym is
+    absent b change h2 = search arith
 
     here : (b : Bool) (made : Change) → (e.0 == suite) ≡ b → change e.0 ≡ Some made → Found change edits suite false (get nat_cmp (changes_at change edits) suite)
         → Found change edits suite b (cond b (Some made) (get nat_cmp (changes_at change edits) suite))
-    here true made is was rest = sym was ∙ ap change (eqb-true e.0 suite is)
-    here false made is was rest = rest
+    here b made h2 h3 h4 = search (eqb-true, arith)
 
     none : (b : Bool) → (e.0 == suite) ≡ b → change e.0 ≡ None → Found change edits suite false (get nat_cmp (changes_at change edits) suite) → Found change edits suite b (get nat_cmp (changes_at change edits) suite)
-    none true is was rest = rest ∙ absent (touches edits suite) (change suite) (sym (ap change (eqb-true e.0 suite is)) ∙ was)
-    none false is was rest = rest
+    none b h1 h2 h3 = search (absent, eqb-true, arith)
 
     of : (made : Option Change) → change e.0 ≡ made → Found change edits suite false (get nat_cmp (changes_at change edits) suite)
         → Found change edits suite (e.0 == suite) (get nat_cmp (with_change e.0 made (changes_at change edits)) suite)
@@ -60,7 +57,17 @@ untouched_unset (e ∷ edits) suite is =
 -- a suite that is touched is held
 touched_held : (known : Known) (edits : Edits) (suite : ℕ) → list_all (is_held_for known) edits ≡ true → touches edits suite ≡ true → is_held Exclusive (known_of known suite) ≡ true
 touched_held known [] suite held touched = cc
-touched_held known (e ∷ edits) suite held touched = search (eqb-true, touched_held known edits suite, arith)
+touched_held known (e ∷ edits) suite held touched =
+    elim (e.0 == suite) as (λ b. (e.0 == suite) ≡ b → (b || touches edits suite) ≡ true → is_held Exclusive (known_of known suite) ≡ true) [
+      | true ↦ λ is _. ap (λ suite. is_held Exclusive (known_of known suite)) (sym (eqb-true e.0 suite is)) ∙ first (is_held Exclusive (known_of known e.0)) held
+      | false ↦ λ _ touched. touched_held known edits suite (rest (is_held Exclusive (known_of known e.0)) held) touched
+    ] refl touched
+  where
+    first : (a : Bool) → (a && list_all (is_held_for known) edits) ≡ true → a ≡ true
+    first a h1 = search arith
+
+    rest : (a : Bool) → (a && list_all (is_held_for known) edits) ≡ true → list_all (is_held_for known) edits ≡ true
+    rest a h1 = search arith
 
 -- a content that no edit sets stays, and no row goes
 stays : (edits : Edits) (suite : ℕ) (row : Row) → is_set edits suite ≡ false → content_in (seen edits suite (Some row)) ≡ row.content
@@ -72,12 +79,7 @@ stays (e ∷ edits) suite row is =
     ] is
   where
     of : (edit : Edit) (now : Option Row) → (sets_content edit || is_set edits suite) ≡ false → (is_set edits suite ≡ false → content_in now ≡ row.content) → content_in (changed edit now) ≡ row.content
-    of (SetAcl acl) (Some now) is same = same is
-    of (SetAcl acl) None is same = same is
-    of (SetVotes votes) (Some now) is same = same is
-    of (SetVotes votes) None is same = same is
-    of (SetContent content) now is same = cc
-    of (Make made) now is same = cc
+    of edit now h2 h3 = search arith
 
 still_none : (edits : Edits) (suite : ℕ) → is_set edits suite ≡ false → seen edits suite None ≡ None
 still_none [] suite is = refl
@@ -88,14 +90,10 @@ still_none (e ∷ edits) suite is =
     ] is
   where
     of : (edit : Edit) (now : Option Row) → (sets_content edit || is_set edits suite) ≡ false → (is_set edits suite ≡ false → now ≡ None) → changed edit now ≡ None
-    of (SetAcl acl) now is none = ap (changed (SetAcl acl)) (none is)
-    of (SetVotes votes) now is none = ap (changed (SetVotes votes)) (none is)
-    of (SetContent content) now is none = cc
-    of (Make made) now is none = cc
+    of edit now h2 h3 = search arith
 
 content_stays : (edits : Edits) (suite : ℕ) (row : Option Row) → is_set edits suite ≡ false → content_in row ≡ content_in (seen edits suite row)
-content_stays edits suite (Some row) is = sym (stays edits suite row is)
-content_stays edits suite None is = sym (ap content_in (still_none edits suite is))
+content_stays edits suite row h3 = search (stays, still_none, arith)
 
 -- a part of a row stays where no edit sets it
 pub neither : (a b : Bool) → (a || b) ≡ false → (a ≡ false) × (b ≡ false)
@@ -133,11 +131,7 @@ none_before (e ∷ edits) suite row is =
     ] is
   where
     of : (edit : Edit) (now : Option Row) → changed edit now ≡ None → now ≡ None
-    of edit None is = refl
-    of (SetAcl acl) (Some now) is = cc
-    of (SetVotes votes) (Some now) is = cc
-    of (SetContent content) (Some now) is = cc
-    of (Make made) (Some now) is = cc
+    of edit now h2 = search arith
 
 -- a row is what it is without its content, and its content
 same_rows : (a b : Option Row) → head a ≡ head b → content_in a ≡ content_in b → a ≡ b
@@ -177,12 +171,10 @@ changes_lead_on service known rows t caller ops ended suite agrees is =
             (head_seen ended.edits suite (known_rows known suite) (row_of rows suite) heads) (content_seen ended.edits suite (known_rows known suite) (row_of rows suite) heads set)
 
         of_known : (b : Bool) → is_set ended.edits suite ≡ b → (b || is_opened (known_of known suite)) ≡ true → Some row ≡ seen ended.edits suite (row_of rows suite)
-        of_known true set told = of_set set
-        of_known false _ opened = sym was ∙ ap (seen ended.edits suite) (opened_same (known_of known suite) (row_of rows suite) (agrees suite) opened)
+        of_known b h1 h2 = search (of_set, opened_same, arith)
 
         of_told : (is_set ended.edits suite ≡ true) ⊎ (some sets_votes ended.edits suite ≡ true) → Some row ≡ seen ended.edits suite (row_of rows suite)
-        of_told (inl set) = of_set set
-        of_told (inr voted) = of_known (is_set ended.edits suite) refl (knows_whose_votes service known t caller ops ended is suite voted)
+        of_told h0 = search (of_set, of_known, knows_whose_votes, arith)
     of_row heads None was =
         none_alike (seen ended.edits suite (row_of rows suite)) (ap head (sym was) ∙ head_seen ended.edits suite (known_rows known suite) (row_of rows suite) heads)
         ∙ sym (none_alike (row_of rows suite) (ap head (sym (none_before ended.edits suite (known_rows known suite) was)) ∙ heads))
@@ -194,8 +186,4 @@ changes_lead_on service known rows t caller ops ended suite agrees is =
         (touched_held known ended.edits suite (sets_what_is_held service known t caller ops ended is) touched)) (seen ended.edits suite (known_rows known suite)) refl
 
 pub changes_by_suite : ChangesBySuite
-changes_by_suite known edits suite = found (change_of known edits) edits suite ∙ same (touches edits suite)
-  where
-    same : (b : Bool) → if_touched b (change_of known edits suite) ≡ cond b (change_of known edits suite) None
-    same true = refl
-    same false = refl
+changes_by_suite known edits suite = search (found, arith)

@@ -1,10 +1,10 @@
 -- Each operation walked once: what it reads it has looked at, and what it sets it has a licence for.
-use Rattle.file_exec.proofs.Vocabulary.{◌≡◌, ℕ, zero, suc, ◌+◌, ◌≤◌, ◌<◌, Bool, true, false, cond, List, [], ◌∷◌, ◌++◌, length, drop, get_or, Option, Some, None, Result, Ok, refl, sym, ap, subst, ◌∙◌, arith, ◌==◌, ◌||◌, not, nat_lt, nat_le, is_some}
+use Rattle.file_exec.proofs.Vocabulary.{◌≡◌, ℕ, zero, suc, ◌+◌, ◌≤◌, ◌<◌, Bool, true, false, cond, List, [], ◌∷◌, ◌++◌, length, drop, get_or, Option, Some, None, Result, Ok, refl, sym, ap, subst, ◌∙◌, arith, ◌||◌, not, nat_lt, nat_le, is_some}
 use Rattle.file_exec.proofs.Vocabulary.{AllByRecursion, false≢true, nat_tests, length-drop, drop_more, Identity, kind_of, max_content, max_names, LockMode, Shared, Exclusive, Answer, Action, Op, Refusal, Why, Service, known_votes, votes_of_new}
-use Rattle.file_exec.proofs.Vocabulary.{max_operations, gives_default, is_misplaced, refuse_if, last_name, names_of, Row, root, made_number, found_or, is_miscounted, Object, bytes_in, names_in, to_read, to_write, to_change, permit, permit_others}
-use Rattle.file_exec.proofs.Vocabulary.{owner_only, Edit, Need, Hold, Know, Course, Give, Refuse, Look, Read, Set, ◌>>=◌, rule, at_place, Edits, is_set, looked, content_read, unless_set, needs, Ended, ending, KnownSuite, Known, known_of, known_rows}
-use Rattle.file_exec.proofs.Vocabulary.{is_held, is_met, is_opened, first_unmet, heard, Needs, Done, exec_of, AgreesWith, IsTold, IsShown, MayChange, Licensed, writes_bytes, changes_lists, changes_votes, adds_name, makes_row, drops_name, HasLicence}
-use Rattle.file_exec.proofs.Vocabulary.{AllLicensed, EditsAreLicensed}
+use Rattle.file_exec.proofs.Vocabulary.{max_operations, gives_default, is_misplaced, refuse_if, last_name, names_of, Row, root, made_number, found_or, Object, bytes_in, names_in, to_read, to_write, to_change, permit, permit_others, owner_only, Edit}
+use Rattle.file_exec.proofs.Vocabulary.{Need, Hold, Know, Course, Give, Refuse, Look, Read, Set, ◌>>=◌, rule, at_place, Edits, is_set, looked, content_read, unless_set, needs, Ended, ending, KnownSuite, Known, known_of, known_rows, is_held, is_met}
+use Rattle.file_exec.proofs.Vocabulary.{is_opened, first_unmet, heard, Needs, Done, exec_of, AgreesWith, IsTold, IsShown, MayChange, Licensed, writes_bytes, changes_lists, changes_votes, adds_name, makes_row, drops_name, HasLicence, AllLicensed}
+use Rattle.file_exec.proofs.Vocabulary.{EditsAreLicensed}
 use Rattle.suite_content.specs.Folders as folders
 use Rattle.file_ops.specs.declared.operation.Action.TheVariants as action
 use Rattle.file_ops.specs.declared.refusal.Why.TheVariants as why
@@ -122,8 +122,7 @@ module _ (known : Known) (rows : ℕ → Option Row) where
         record { goes = record { shown = is.0; permitted = may; names = is.1 } }))))
       where
         read_shown : (edits : Edits) (place : Object) → IsPlace edits place → Does L (λ later names. IsShown rows later place × AreNames place.suite later names) edits (asked.names_at place.suite)
-        read_shown edits place at =
-            record { goes = (at.1, λ _. (gives {L = L} {Q = λ later names. IsShown rows later place × AreNames place.suite later names} {edits = edits} (names_in (content_read rows edits place.suite)) (λ names is. (at.0, is))).goes) }
+        read_shown edits place at = search (gives, arith)
 
     refuse_used : (P : Edits → Unit {0} → Type 0) (edits : Edits) → P edits tt → (suite : ℕ) → Found suite → (row : Option Row) → Goes L P edits (asked.refuse_used suite row)
     refuse_used h0 edits h2 suite h4 row = search arith
@@ -222,14 +221,7 @@ module _ (known : Known) (rows : ℕ → Option Row) where
         licence edits suite edit licensed = record { at = at; few = let below = many_left at op later there in omega (arith, below, few); op = op; later = later; there = there; licensed = licensed }
 
     transaction : Goes Has Any [] (asked.transaction service t caller ops)
-    transaction =
-        elim (is_miscounted ops) as (λ b. is_miscounted ops ≡ b → Goes Has Any [] (cond b (Refuse (record { op = 0; why = why.OpCount })) (asked.play service [] t 0 caller ops))) [
-          | true ↦ λ _. tt
-          | false ↦ λ counted. (play [] [] 0 ops (few (length ops) counted) refl).goes
-        ] refl
-      where
-        few : (n : ℕ) → ((n == 0) || nat_lt max_operations n) ≡ false → n ≤ max_operations
-        few n counted = grind (arith, nat_tests)
+    transaction = search (play, nat_lt, nat_tests, arith)
 
     -- ---- where it ends, and what it needs
 
@@ -246,8 +238,7 @@ module _ (known : Known) (rows : ℕ → Option Row) where
       where
         of : (b : Bool) → first_unmet known (unless_set b suite (needs rows edits (later (content_read rows edits suite)))) ≡ None
             → ((b || is_opened (known_of known suite)) ≡ true) × (first_unmet known (needs rows edits (later (content_read rows edits suite))) ≡ None)
-        of true unmet = (refl, unmet)
-        of false unmet = met known (Know suite) _ unmet
+        of b h1 = search (met, arith)
     all_licensed edits (Set suite edit later) ended goes unmet is all =
         all_licensed ((suite, edit) ∷ edits) later ended goes.1 (met known (Hold suite Exclusive) _ unmet).1 is (goes.0, all)
 
@@ -259,8 +250,7 @@ module _ (known : Known) (rows : ℕ → Option Row) where
       where
         by : (b : Bool) → is_met known (Hold suite mode) ≡ b → cond (not b) (Some (Hold suite mode)) (first_unmet known (needs rows edits (later (looked rows edits suite)))) ≡ Some (Know number)
             → (is_met known (Hold suite mode) ≡ true → first_unmet known (needs rows edits (later (looked rows edits suite))) ≡ Some (Know number) → Found number) → Found number
-        by true holds is rest = rest holds is
-        by false holds is rest = cc
+        by b h1 h2 h3 = search arith
     reads edits (Read suite later) number goes is =
         by (is_set edits suite) refl is (λ told is. reads edits (later (content_read rows edits suite)) number (goes.1 told) is)
       where
@@ -269,19 +259,16 @@ module _ (known : Known) (rows : ℕ → Option Row) where
 
         by_opened : (b : Bool) → is_opened (known_of known suite) ≡ b → is_set edits suite ≡ false → cond (not b) (Some (Know suite)) (first_unmet known left) ≡ Some (Know number)
             → (IsTold known edits suite → first_unmet known left ≡ Some (Know number) → Found number) → Found number
-        by_opened true told unset is rest = rest (ap (λ a. a || is_opened (known_of known suite)) unset ∙ told) is
-        by_opened false told unset is rest = let same : suite ≡ number = cc in subst Found same goes.0
+        by_opened b h1 h2 h3 h4 = search arith
 
         by : (a : Bool) → is_set edits suite ≡ a → first_unmet known (unless_set a suite left) ≡ Some (Know number) → (IsTold known edits suite → first_unmet known left ≡ Some (Know number) → Found number) → Found number
-        by true is_set' is rest = rest (ap (λ a. a || is_opened (known_of known suite)) is_set') is
-        by false unset is rest = by_opened (is_opened (known_of known suite)) refl unset is rest
+        by a h1 h2 h3 = search (by_opened, arith)
     reads edits (Set suite edit later) number goes is =
         by (is_met known (Hold suite Exclusive)) is (λ is. reads ((suite, edit) ∷ edits) later number goes.1 is)
       where
         by : (b : Bool) → cond (not b) (Some (Hold suite Exclusive)) (first_unmet known (needs rows ((suite, edit) ∷ edits) later)) ≡ Some (Know number)
             → (first_unmet known (needs rows ((suite, edit) ∷ edits) later) ≡ Some (Know number) → Found number) → Found number
-        by true is rest = rest is
-        by false is rest = cc
+        by b h1 h2 = search arith
 
 -- what holds of each operation holds of the one at a place
 pub holds_there : (P : Op → Type 0) (ops : List Op) (at : ℕ) (op : Op) (later : List Op) → AllByRecursion P ops → drop at ops ≡ op ∷ later → P op

@@ -84,7 +84,7 @@ emptied_place place = record { suite = place.suite; row = emptied place.row }
 module _ {A Z : Type 0} (rows : Rows) (P : Result (Ended A) Why → Result Z Why → Type 0) (err : (why : Why) → P (Err why) (Err why)) where
   pub free : {B C : Type 0} (first : Course B Why) (see : C → B) (r : Result C Why) (next : B → Course A Why) (later : C → Result Z Why) → On rows first ≡ unedited (ok_map see r)
       → ((x : C) → r ≡ Ok x → P (On rows (next (see x))) (later x)) → P (On rows (◌>>=◌ first next)) (steps.◌>>=◌ r later)
-  free first = search (ending_bind, arith)
+  free first see r next later is same = search (ending_bind, arith)
 
   pub ruled : {B : Type 0} (r : Result B Why) (next : B → Course A Why) (later : B → Result Z Why) → ((x : B) → r ≡ Ok x → P (On rows (next x)) (later x)) → P (On rows (◌>>=◌ (rule r) next)) (steps.◌>>=◌ r later)
   ruled r next later h3 = search arith

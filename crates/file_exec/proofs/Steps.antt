@@ -24,14 +24,13 @@ module _ {A B C D : Type 0} {memory : Heard B Why → Type 0} {see : A → B} {k
   -- after a part that gave something the rest goes on from there
   pub goes : {x : A} {after : Edits} (next : B → Course D Why) {memory' : Heard D Why → Type 0} {see' : C → D} {result : Result C Stop}
       → RunsOr memory see (Ok x) known before middle first → RunsOr memory' see' result known middle after (next (see x)) → RunsOr memory' see' result known before after (◌>>=◌ first next)
-  goes {x = x} {after = after} next {memory' = memory'} {see' = see'} {result = result} gave later =
-      record { told = subst (Told memory' see' result after) (sym (goes_on next gave)) later.told }
+  goes next gave later = search (goes_on next gave, arith)
 
   -- after a part that did not go on nothing does, where that is so of one that was refused memory
   pub stops_with : {e : Stop} {after : Edits} (next : B → Course D Why) {memory' : Heard D Why → Type 0} {see' : C → D} {result : Result C Stop}
       → (memory (run known before first) → memory' (run known before (◌>>=◌ first next)))
       → RunsOr memory see (Err e) known before middle first → Fails result e → RunsOr memory' see' result known before after (◌>>=◌ first next)
-  stops_with next = search (failed, runs_in_turn, arith)
+  stops_with next refused stopped fails = search (failed, runs_in_turn, arith)
 
 -- the same after a part that takes no memory
 pub stops : {A B C D : Type 0} {see : A → B} {known : Known} {before middle after : Edits} {first : Course B Why} {e : Stop} (next : B → Course D Why) {memory : Heard D Why → Type 0} {see' : C → D} {result : Result C Stop}
@@ -41,7 +40,7 @@ stops next stopped fails = stops_with next (λ never. absurd (false≢true (sym 
 -- the same before a part that gives something in each case
 pub stops_last : {A B C D : Type 0} {see : A → B} {known : Known} {before middle after : Edits} {first : Course B Why} {e : Stop} (last : B → D) {see' : C → D} {result : Result C Stop}
     → Runs see (Err e) known before middle first → Fails result e → Runs see' result known before after (◌>>=◌ first (λ given. Give (last given)))
-stops_last last = search (stops_with, runs_in_turn, arith)
+stops_last last stopped fails = search (stops_with, runs_in_turn, arith)
 
 module _ {B C D : Type 0} {r : Result B Why} {known : Known} {before after : Edits} {memory : Heard D Why → Type 0} where
   -- what a rule gives, and its refusal
@@ -73,7 +72,7 @@ same_set {see = see} {result = result} {known = known} {before = before} {after 
 -- two edits in other words
 pub same_both : {A : Type 0} {see : A → Unit {0}} {result : Result A Stop} {known : Known} {before after : Edits} {first first' second second' : ℕ × Edit}
     → first ≡ first' → second ≡ second' → Runs see result known before after (set_both first second) → Runs see result known before after (set_both first' second')
-same_both h0 = search arith
+same_both same same' runs = search arith
 
 -- an edit, and what follows on it
 module _ {A C D : Type 0} {see : A → Unit {0}} {known : Known} {before middle : Edits} {suite : ℕ} {edit : Edit} {later : Course D Why} where

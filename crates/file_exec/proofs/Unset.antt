@@ -1,7 +1,6 @@
 -- What the changes that the executor answers say of what was known.
-use Rattle.file_exec.proofs.Vocabulary.{◌≡◌, ℕ, Bool, true, false, cond, List, [], ◌∷◌, Option, Some, None, Ok, refl, sym, ap, ◌∙◌, is_some, option_map, list_all, nat_cmp, eqb-true, same_Some, get, Configuration, arith, Exclusive, Answer, Refusal}
-use Rattle.file_exec.proofs.Vocabulary.{Row, Change, Edit, Edits, Ended, changed, seen, is_set, Known, known_of, known_rows, is_held, Heard, Done, exec_of, is_held_for, sets_acl, sets_votes, makes, touches, some, change_of, changes_of, answered}
-use Rattle.file_exec.proofs.Vocabulary.{ChangesAreHeld, UnsetVotesStay}
+use Rattle.file_exec.proofs.Vocabulary.{◌≡◌, ℕ, Bool, true, false, cond, List, [], ◌∷◌, Option, None, Ok, refl, sym, ap, ◌∙◌, ◌==◌, ◌&&◌, ◌||◌, is_some, option_map, list_all, nat_cmp, eqb-true, same_Some, get, Configuration, arith, Exclusive, Answer}
+use Rattle.file_exec.proofs.Vocabulary.{Refusal, Row, Change, Edit, Edits, Ended, changed, seen, Known, known_of, is_held, Heard, Done, exec_of, is_held_for, sets_votes, touches, some, change_of, changes_of, answered, ChangesAreHeld, UnsetVotesStay}
 use Rattle.file_exec.specs.declared.executor.Outcome.TheVariants as outcome
 use Rattle.file_exec.proofs.Leading.{changes_by_suite}
 use Rattle.file_exec.proofs.Unmet.{sets_what_is_held}
@@ -20,7 +19,16 @@ from_log known heard answers changes h4 = search arith
 
 touched_held : (known : Known) (log : Edits) (number : ℕ) → list_all (is_held_for known) log ≡ true → touches log number ≡ true → is_held Exclusive (known_of known number) ≡ true
 touched_held known [] number all touched = cc
-touched_held known (e ∷ log) number all touched = search (eqb-true, touched_held known log number, arith)
+touched_held known (e ∷ log) number all touched = of (touched_held known log number (second (is_held_for known e) (list_all (is_held_for known) log) all)) (e.0 == number) refl touched
+  where
+    first : (a b : Bool) → (a && b) ≡ true → a ≡ true
+    first a b h2 = search arith
+
+    second : (a b : Bool) → (a && b) ≡ true → b ≡ true
+    second a b h2 = search arith
+
+    of : (touches log number ≡ true → is_held Exclusive (known_of known number) ≡ true) → (b : Bool) → (e.0 == number) ≡ b → (b || touches log number) ≡ true → is_held Exclusive (known_of known number) ≡ true
+    of h0 b h2 h3 = search (eqb-true, first, arith)
 
 changed_touched : (b : Bool) (change : Option Change) → is_some (cond b change None) ≡ true → b ≡ true
 changed_touched b change h2 = search arith
@@ -44,28 +52,5 @@ seen_votes : (log : Edits) (number : ℕ) (row : Option Row) → some sets_votes
 seen_votes [] number row none = refl
 seen_votes (e ∷ log) number row none = search (unset_votes, seen_votes log number row, arith)
 
-abbrev told_of : Edits → ℕ → Option Row → Option Change
-told_of log number row = option_map (λ row. record {
-  made = some makes log number;
-  acl = some sets_acl log number;
-  votes = some sets_votes log number;
-  content = is_set log number;
-  row = row;
-}) row
-
 pub unset_votes_stay : UnsetVotesStay
-unset_votes_stay service known t caller ops answers changes suite change is told none = by (from_log known (exec_of service known t caller ops) answers changes is)
-  where
-    at : (log : Edits) (row : Option Row) → seen log suite (known_rows known suite) ≡ row → told_of log suite row ≡ Some change → votes_of (known_rows known suite) ≡ Some change.row.votes
-    at log (Some row) same found =
-        sym (seen_votes log suite (known_rows known suite) (ap (λ (change : Change). change.votes) (same_Some _ change found) ∙ none))
-        ∙ ap votes_of same
-        ∙ ap (λ (change : Change). Some change.row.votes) (same_Some _ change found)
-    at log None same found = cc
-
-    touched : (log : Edits) (b : Bool) → cond b (change_of known log suite) None ≡ Some change → votes_of (known_rows known suite) ≡ Some change.row.votes
-    touched log true found = at log (seen log suite (known_rows known suite)) refl found
-    touched log false found = cc
-
-    by : FromLog known (exec_of service known t caller ops) changes → votes_of (known_rows known suite) ≡ Some change.row.votes
-    by all = touched all.0.edits (touches all.0.edits suite) (sym (changes_by_suite known all.0.edits suite) ∙ ap (λ changes. get nat_cmp changes suite) (sym all.2) ∙ told)
+unset_votes_stay service known t caller ops answers changes suite change is told none = search (from_log, seen_votes, same_Some, changes_by_suite, arith)

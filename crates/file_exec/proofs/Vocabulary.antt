@@ -1,6 +1,6 @@
 -- The names that the proofs of this crate take from elsewhere, each with one meaning here.
-pub use Rattle.std.proofs.Common.{Bool, Err, Greater, IfOk, Less, List, None, Ok, OnErr, Option, Result, Some, [], add-one, ap, arith, cond, drop, false, filter, find, get_or, inl, inr, is_some, length, nat_le, nat_lt, not, option_map, refl, subst}
-pub use Rattle.std.proofs.Common.{suc, sym, take, true, zero, ℕ, ◌&&◌, ◌++◌, ◌+◌, ◌-◌, ◌<◌, ◌==◌, ◌||◌, ◌∙◌, ◌∷◌, ◌≡◌, ◌≤◌, ◌⊎◌}
+pub use Rattle.std.proofs.Common.{Bool, Err, Greater, IfOk, Less, List, None, Ok, OnErr, Option, Result, Some, [], add-one, ap, arith, cond, drop, false, filter, find, get_or, is_some, length, nat_le, nat_lt, not, option_map, refl, subst, suc, sym}
+pub use Rattle.std.proofs.Common.{take, true, zero, ℕ, ◌&&◌, ◌++◌, ◌+◌, ◌-◌, ◌<◌, ◌==◌, ◌||◌, ◌∙◌, ◌∷◌, ◌≡◌, ◌≤◌, ◌⊎◌}
 pub use Rattle.std.proofs.Math.Nat.{eq-zero-or-pos}
 pub use Rattle.std.proofs.lemmas.Bool.{eqb-true, false≢true}
 pub use Rattle.std.proofs.lemmas.Bool.Decides.{nat_tests}
@@ -64,7 +64,7 @@ pub use Rattle.file_exec.specs.code.Ways.{LeadsTo, PlaysTo, from_root, only_read
 pub use Rattle.file_exec.specs.declared.act.Transaction.{Transaction}
 pub use Rattle.file_exec.specs.declared.changes.Change.{Change}
 pub use Rattle.file_exec.specs.declared.edit_log.Edit.{Edit}
-pub use Rattle.file_exec.specs.declared.edit_log.Edit.TheVariants.{Make, SetAcl, SetContent, SetVotes}
+pub use Rattle.file_exec.specs.declared.edit_log.Edit.TheVariants.{SetAcl, SetContent}
 pub use Rattle.file_exec.specs.declared.executor.Outcome.{Outcome}
 pub use Rattle.file_exec.specs.declared.need.Need.{Need}
 pub use Rattle.file_exec.specs.declared.need.Need.TheVariants.{Hold, Know}

@@ -1,18 +1,12 @@
 -- Moves from a point on come to the step that the function takes, and to no other.
-use Rattle.law_protocol.proofs.Vocabulary.{nat_cmp_total, IsOrdered-insert, Hold, Know, Next, Ask, Current, Short, next, Cache, GatheredSuite, Suites, suite_of, with_suite, step_at, step_from, IsEager, Rises, GoesTo, Outcome as Executed}
-use Rattle.law_protocol.proofs.Vocabulary.{◌≡◌, ℕ, zero, suc, ◌≤◌, false, List, [], ◌∷◌, Option, Some, None, refl, sym, ap, subst, ◌∙◌, arith, length, Granted, Fixed, Task, Gathering, Fetching, Widening}
+use Rattle.law_protocol.proofs.Vocabulary.{nat_cmp_total, IsOrdered-insert, Hold, Know, Next, Ask, Current, Short, next, Cache, GatheredSuite, Suites, suite_of, with_suite, step_at, step_from, IsEager, Rises, GoesTo, Outcome as Executed, ◌≡◌, ℕ}
+use Rattle.law_protocol.proofs.Vocabulary.{zero, suc, ◌≤◌, false, List, [], ◌∷◌, Option, Some, None, refl, sym, ap, subst, ◌∙◌, arith, length, Granted, Fixed, Task, Gathering, Fetching, Widening}
 use Rattle.suite_prefix.specs.declared.lock_mode.LockMode.{LockMode}
 use Rattle.txn_core.specs.Transactions.{Step, Gathered, on_with, gather, gather_by, widen_by, widen_one, widened, widen_all, open_needed, open_suite, or_all, opened, heard_on, raised_or_new, proceed, execute}
 use Rattle.txn_core.specs.Moves.{Stage, Executes, Widens, Asks, Prepares, PreparesAt, GivesUp, Tells, TellsAt, Point, point, EndsIn, is_short, Move, opens, fetches, gathers, lacks_lock, refuses, grants, prepares, passes, widens, widens_by}
 use Rattle.txn_core.specs.Moves.{lacks_wide, Moves, stays, goes}
 use Rattle.file_exec.specs.declared.executor.Outcome.TheVariants as exec
 use Rattle.law_protocol.proofs.Opened.{missing, missing_few, with_content, next_round, opens_by, round_opens, grows, nothing_opens, one_more}
-
--- a stage from which it moves on
-abbrev IsGoing : Stage → Type 0
-IsGoing Executes = Unit {0}
-IsGoing (Widens left granted) = Unit {0}
-IsGoing other = ⊥
 
 -- what is fetched
 abbrev fetched_at : Stage → ℕ
@@ -27,22 +21,15 @@ module _ (fixed : Fixed) (task : Task) where
 
   executes_on : (cache : Cache) (suites : Suites) (heard : Executed) → heard_on fixed task suites ≡ heard → open_needed task (all_at cache suites) heard ≡ None
       → execute fixed task (all_at cache suites) ≡ proceed fixed task cache suites heard
-  executes_on cache suites heard is none =
-      let all = all_at cache suites in
-      ap (λ (all : Gathered). proceed fixed task all.cache all.suites (heard_on fixed task all.suites)) (nothing_opens fixed task (length suites) all (ap (open_needed task all) is ∙ none))
-      ∙ ap (proceed fixed task cache suites) is
+  executes_on cache suites heard is none = search (nothing_opens, arith)
 
   gathers_on : (cache : Cache) (suites : Suites) (number : ℕ) (coming : Next) → is_short coming ≡ false → gather_by task cache suites number coming ≡ on_with task cache suites (Gathering number)
-  gathers_on cache suites number (Short got wanting busy) more = cc
-  gathers_on cache suites number _ more = refl
+  gathers_on cache suites number coming h4 = search arith
 
   widens_on : (cache : Cache) (suites : Suites) (number : ℕ) (left : List ℕ) (granted : Granted) (suite : GatheredSuite) (coming : Next) → suite_of suites number ≡ Some suite → next (widened granted.changes number suite).collector ≡ coming
       → widen_all task cache suites granted (number ∷ left)
       ≡ widen_by task cache (with_suite number (widened granted.changes number suite) suites) (Widening (number ∷ left) granted) number coming (λ suites. widen_all task cache suites granted left)
-  widens_on cache suites number left granted suite coming there is =
-      let phase = Widening (number ∷ left) granted in
-      ap (λ found. widen_one task cache suites phase granted.changes number found (λ suites. widen_all task cache suites granted left)) there
-      ∙ ap (λ coming. widen_by task cache (with_suite number (widened granted.changes number suite) suites) phase number coming (λ suites. widen_all task cache suites granted left)) is
+  widens_on cache suites number left granted suite coming there is = search arith
 
   one_move : {at next : Point} → Move fixed task at next → Rises at.suites → IsEager task next → step_from fixed task at ≡ step_from fixed task next
   one_move (opens {cache = cache} {suites = suites} {number = number} {suite = suite} {first = first} {content = content} needs there was free) rises eager =
@@ -56,8 +43,7 @@ module _ (fixed : Fixed) (task : Task) where
       executes_on cache suites (exec.Need (Hold number mode)) needs refl ∙ ap (gather task cache suites number) new ∙ ap (gather_by task cache (with_suite number suite suites) number) short
   one_move (refuses {cache = cache} {suites = suites} {refusal = refusal} is) rises eager = executes_on cache suites (exec.Refused refusal) is refl
   one_move (grants {cache = cache} {suites = suites} {answers = answers} {changes = changes} is) rises eager = executes_on cache suites (exec.Done answers changes) is refl
-  one_move (passes {cache = cache} {suites = suites} {number = number} {left = left} {granted = granted} none) rises eager =
-      ap (λ found. widen_one task cache suites (Widening (number ∷ left) granted) granted.changes number found (λ suites. widen_all task cache suites granted left)) none
+  one_move (passes {cache = cache} {suites = suites} {number = number} {left = left} {granted = granted} none) rises eager = search arith
   one_move (widens {cache = cache} {suites = suites} {number = number} {left = left} {granted = granted} {suite = suite} there is) rises eager = widens_on cache suites number left granted suite _ there is
   one_move (widens_by {cache = cache} {suites = suites} {number = number} {left = left} {granted = granted} {suite = suite} there is) rises eager = widens_on cache suites number left granted suite _ there is
   one_move (lacks_wide {cache = cache} {suites = suites} {number = number} {left = left} {granted = granted} {suite = suite} there is) rises eager = widens_on cache suites number left granted suite _ there is
@@ -72,20 +58,13 @@ module _ (fixed : Fixed) (task : Task) where
   rises_on (lacks_wide {suites = suites} {number = number} there is) rises = IsOrdered-insert nat_cmp_total suites number _ rises
   rises_on _ rises = rises
 
-  is_going : {at next : Point} → Move fixed task at next → IsGoing at.stage
-  is_going prepares = tt
-  is_going _ = tt
-
   -- ---- to no other
 
   eager_before : {at end : Point} → Moves fixed task at end → IsEager task end → IsEager task at
-  eager_before stays eager = eager
-  eager_before (goes move rest) eager = λ number is. absurd (subst IsGoing is (is_going move))
+  eager_before h0 h1 = search arith
 
   ends_at : (cache : Cache) (suites : Suites) (stage : Stage) (step : Step) → EndsIn task cache suites stage step → step ≡ step_at fixed task cache suites stage
-  ends_at cache suites Executes step is = absurd is
-  ends_at cache suites (Widens left granted) step is = absurd is
-  ends_at cache suites other step is = sym is
+  ends_at cache suites stage step h4 = search arith
 
   pub comes_to : {at end : Point} (step : Step) → Moves fixed task at end → EndsIn task end.cache end.suites end.stage step → Rises at.suites → IsEager task end → step ≡ step_from fixed task at
   comes_to step (stays {at = at}) ends rises eager = ends_at at.cache at.suites at.stage step ends
@@ -125,8 +104,7 @@ module _ (fixed : Fixed) (task : Task) where
 
   goes_proceed : (cache : Cache) (suites : Suites) (heard : Executed) → heard_on fixed task suites ≡ heard → open_needed task (all_at cache suites) heard ≡ None
       → GoesTo fixed task (point Executes cache suites) (proceed fixed task cache suites heard)
-  goes_proceed cache suites (exec.Need (Hold number mode)) is none =
-      let suite = raised_or_new fixed task cache number mode (suite_of suites number) in goes_gather cache suites number mode suite is refl (next suite.collector) refl
+  goes_proceed cache suites (exec.Need (Hold number mode)) is none = search (goes_gather, arith)
   goes_proceed cache suites (exec.Need (Know number)) is none =
       ends_with _ (fetches is) refl (λ other same. subst (λ other. open_suite task (all_at cache suites) other (suite_of suites other) ≡ None) (ap fetched_at same) none)
   goes_proceed cache suites (exec.Done answers changes) is none = in_front (grants is) (goes_wide cache suites _ _)

@@ -1,7 +1,7 @@
 -- Contents that are to be had without asking are opened until none is left that is needed: each takes one suite from those that have none, so
 -- that as many rounds as there are suites are enough.
-use Rattle.law_protocol.proofs.Vocabulary.{nat_cmp_total, IsOrdered-insert, Content, Know, ReadPoint, GatheredSuite, Suites, suite_of, with_suite, known_of, Rises, Outcome as Executed, ◌≡◌, ℕ, zero, suc, ◌+◌, ◌≤◌, Bool, true, false, cond}
-use Rattle.law_protocol.proofs.Vocabulary.{List, [], ◌∷◌, Option, Some, None, refl, sym, ap, subst, ◌∙◌, arith, length, is_some, Ok, Err, Fixed, Task}
+use Rattle.law_protocol.proofs.Vocabulary.{nat_cmp_total, IsOrdered-insert, Content, Know, ReadPoint, GatheredSuite, Suites, suite_of, with_suite, known_of, Rises, Outcome as Executed, ◌≡◌, ℕ, zero, suc, ◌+◌, ◌≤◌, Bool, false, cond, List, [], ◌∷◌}
+use Rattle.law_protocol.proofs.Vocabulary.{Option, Some, None, refl, sym, ap, subst, ◌∙◌, arith, length, is_some, Fixed, Task}
 use Rattle.std.specs.Ordering.{nat_cmp}
 use Rattle.std.specs.BTreeMap.{is_at}
 use Rattle.std.proofs.lemmas.Map.{length-set_value}
@@ -12,9 +12,9 @@ use Rattle.file_ops.specs.declared.answer.Answer.{Answer}
 use Rattle.file_ops.specs.declared.refusal.Refusal.{Refusal}
 use Rattle.file_exec.specs.declared.need.Need.{Need}
 use Rattle.file_exec.specs.Changes.{answered}
-use Rattle.file_exec.specs.Known.{Known, Heard, Needs, Done}
+use Rattle.file_exec.specs.Known.{Known, Heard, Needs}
 use Rattle.file_exec.proofs.Unmet.{needs_what_is_unmet}
-use Rattle.txn_core.specs.Transactions.{Gathered, free_content, after_search, opened_with, open_first, open_suite, open_needed, or_all, opened, heard_on}
+use Rattle.txn_core.specs.Transactions.{Gathered, free_content, after_search, open_needed, or_all, opened, heard_on}
 use Rattle.txn_core.proofs.Setting.{known_at}
 use Rattle.file_exec.specs.declared.executor.Outcome.TheVariants as exec
 use Rattle.file_exec.specs.Known as known
@@ -31,11 +31,7 @@ missing (one ∷ suites) = lacking one.1.content + missing suites
 
 pub missing_few : (suites : Suites) → missing suites ≤ length suites
 missing_few [] = omega arith
-missing_few (one ∷ suites) = of one.1.content (missing_few suites)
-  where
-    of : (content : Option Content) → missing suites ≤ length suites → lacking content + missing suites ≤ suc (length suites)
-    of (Some content) rest = omega (arith, rest)
-    of None rest = omega (arith, rest)
+missing_few (one ∷ suites) = search (missing_few suites, arith)
 
 missing_set : (number : ℕ) (suites : Suites) (suite : GatheredSuite) (content : Content) → suite_of suites number ≡ Some suite → suite.content ≡ None
     → suc (missing (replace nat_cmp suites number (record suite { content = Some content }))) ≡ missing suites
@@ -47,11 +43,7 @@ missing_set number (one ∷ suites) suite content there none = of (is_at (nat_cm
 
     of : (b : Bool) → cond b (Some one.1) (suite_of suites number) ≡ Some suite → (suite_of suites number ≡ Some suite → suc (missing (replace nat_cmp suites number new)) ≡ missing suites)
         → suc (missing (cond b ((one.0, new) ∷ suites) (one ∷ replace nat_cmp suites number new))) ≡ lacking one.1.content + missing suites
-    of true there rest =
-        let one_less : lacking one.1.content + missing suites ≡ 1 + missing suites =
-        ap (λ (suite : GatheredSuite). lacking suite.content + missing suites) (same_Some one.1 suite there) ∙ ap (λ content. lacking content + missing suites) none in
-        omega (arith, one_less)
-    of false there rest = let less = rest there in omega (arith, less)
+    of b h1 h2 = search (same_Some, arith)
 
 -- with a content more
 abbrev pub with_content : Task → Gathered → ℕ → GatheredSuite → ReadPoint → Content → Gathered
@@ -64,18 +56,14 @@ module _ (fixed : Fixed) (task : Task) where
   -- ---- what is needed is not there
 
   need_in : Executed → Option Need
-  need_in (exec.Need need) = Some need
-  need_in _ = None
+  need_in h0 = grind arith
 
   needed_first : (known' : Known) (heard : Heard (List Answer) Refusal) (need : Need) → answered known' heard ≡ exec.Need need → heard ≡ Needs need
   unfolding need_in
-  needed_first known' (Needs other) need is = ap Needs (same_Some other need (ap need_in is))
-  needed_first known' (Done (Ok ended)) need is = cc
-  needed_first known' (Done (Err refusal)) need is = cc
+  needed_first known' heard need h3 = search arith
 
   none_there : (content : Option Content) → is_some content ≡ false → content ≡ None
-  none_there (Some content) is = cc
-  none_there None is = refl
+  none_there content h1 = search arith
 
   away : (suites : Suites) (number : ℕ) (suite : GatheredSuite) (first : ReadPoint) → heard_on fixed task suites ≡ exec.Need (Know number) → suite_of suites number ≡ Some suite → suite.first ≡ Some first → suite.content ≡ None
   away suites number suite first is there was =
@@ -101,31 +89,12 @@ module _ (fixed : Fixed) (task : Task) where
   next_round all = open_needed task all (heard_on fixed task all.suites)
 
   pub opens_by : (all more : Gathered) → next_round all ≡ Some more → Opens all more
-  opens_by all more is = of (heard_on fixed task all.suites) refl is
-    where
-      by_content : (number : ℕ) (suite : GatheredSuite) (first : ReadPoint) (content : Option Content) → heard_on fixed task all.suites ≡ exec.Need (Know number) → suite_of all.suites number ≡ Some suite → suite.first ≡ Some first
-          → free_content task all.cache number first ≡ content → opened_with task all number suite first content ≡ Some more → Opens all more
-      by_content number suite first (Some content) needs there was free is = record { number = number; suite = suite; first = first; content = content; needs = needs; there = there; was = was; free = free; is = same_Some _ more is }
-      by_content number suite first None needs there was free is = cc
-
-      by_first : (number : ℕ) (suite : GatheredSuite) (first : Option ReadPoint) → heard_on fixed task all.suites ≡ exec.Need (Know number) → suite_of all.suites number ≡ Some suite → suite.first ≡ first
-          → open_first task all number suite first ≡ Some more → Opens all more
-      by_first number suite (Some first) needs there was is = by_content number suite first (free_content task all.cache number first) needs there was refl is
-      by_first number suite None needs there was is = cc
-
-      by_suite : (number : ℕ) (found : Option GatheredSuite) → heard_on fixed task all.suites ≡ exec.Need (Know number) → suite_of all.suites number ≡ found → open_suite task all number found ≡ Some more → Opens all more
-      by_suite number (Some suite) needs there is = by_first number suite suite.first needs there refl is
-      by_suite number None needs there is = cc
-
-      of : (heard : Executed) → heard_on fixed task all.suites ≡ heard → open_needed task all heard ≡ Some more → Opens all more
-      of (exec.Need (Know number)) needs is = by_suite number (suite_of all.suites number) needs refl is
-      of other needs is = cc
+  opens_by all more is = search arith
 
   pub round_opens : (all : Gathered) (number : ℕ) (suite : GatheredSuite) (first : ReadPoint) (content : Content) → heard_on fixed task all.suites ≡ exec.Need (Know number)
       → suite_of all.suites number ≡ Some suite → suite.first ≡ Some first
       → free_content task all.cache number first ≡ Some content → next_round all ≡ Some (with_content task all number suite first content)
-  round_opens all number suite first content needs there was free =
-      ap (open_needed task all) needs ∙ ap (open_suite task all number) there ∙ ap (open_first task all number suite) was ∙ ap (opened_with task all number suite first) free
+  round_opens all number suite first content needs there was free = search arith
 
   -- the suites rise still, are as many, and one less has no content
   pub record Grows (all more : Gathered) : Type 0 where
@@ -165,20 +134,8 @@ module _ (fixed : Fixed) (task : Task) where
           ∙ sym (ap (λ found. or_all all found (λ all. opened (suc rounds) fixed task all)) is)
 
   pub nothing_opens : (rounds : ℕ) (all : Gathered) → next_round all ≡ None → opened rounds fixed task all ≡ all
-  nothing_opens zero all none = refl
-  nothing_opens (suc less) all none = ap (λ found. or_all all found (λ all. opened less fixed task all)) none
+  nothing_opens rounds all h2 = search arith
 
   -- as many rounds as there are suites come to the same from here and from where one content more is opened
   pub one_more : (all more : Gathered) → Rises all.suites → next_round all ≡ Some more → opened (length all.suites) fixed task all ≡ opened (length more.suites) fixed task more
-  one_more all more rises is =
-      let g = grows all more rises is in
-      let few = missing_few all.suites in
-      let fewer = g.less in
-      of (length all.suites) refl few g fewer
-    where
-      of : (n : ℕ) → length all.suites ≡ n → missing all.suites ≤ n → Grows all more → suc (missing more.suites) ≡ missing all.suites
-          → opened n fixed task all ≡ opened (length more.suites) fixed task more
-      of zero many few g fewer = absurd (omega (arith, few, fewer))
-      of (suc n) many few g fewer =
-          ap (λ found. or_all all found (λ all. opened n fixed task all)) is ∙ enough n more g.rises (omega (arith, few, fewer))
-          ∙ ap (λ n. opened n fixed task more) (sym (g.long ∙ many))
+  one_more all more rises is = search (grows, missing_few, enough, arith)

@@ -1,6 +1,6 @@
 -- What a request of a transaction, once it is served, is to the machine of a suite.
-use Rattle.law_run_machine.proofs.Vocabulary.{◌≡◌, ℕ, Bool, true, false, cond, [], ◌∷◌, Option, Some, None, is_some, refl, sym, ap, ◌∙◌, arith, ◌==◌, ◌&&◌, ◌||◌, false≢true, nat_tests, is_exclusive, Part, Request, Reply, Replied, locks}
-use Rattle.law_run_machine.proofs.Vocabulary.{says_held, Beginning, World, Told, Verdict, set2, Event, Held, Upgrade, Overrule, happens, run, upgraded_told, at2, one_is, itself, another, prepare_of, first_verdict, moves, names, may_sweep}
+use Rattle.law_run_machine.proofs.Vocabulary.{◌≡◌, ℕ, Bool, true, false, cond, [], ◌∷◌, Option, Some, None, is_some, refl, sym, ap, ◌∙◌, arith, ◌==◌, ◌&&◌, ◌||◌, false≢true, nat_tests, is_exclusive, Part, Request, Reply, Replied, locks, says_held}
+use Rattle.law_run_machine.proofs.Vocabulary.{Beginning, World, Told, Verdict, set2, Event, Held, Upgrade, Overrule, happens, run, upgraded_told, at2, one_is, itself, another, prepare_of, first_verdict, moves, names, may_sweep}
 use Rattle.law_server_moves.specs.Preparing.{part_of}
 use Rattle.rep_core.specs.declared.request.Request.TheVariants as request
 use Rattle.rep_core.specs.declared.reply.Reply.TheVariants as reply

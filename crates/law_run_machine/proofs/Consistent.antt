@@ -1,6 +1,6 @@
 -- What each request that is served keeps of the servers, each event keeps; so every server of a run is consistent.
-use Rattle.law_run_machine.proofs.Vocabulary.{◌≡◌, ℕ, Bool, true, false, cond, List, [], ◌∷◌, Option, Some, None, refl, sym, ap, subst, ◌==◌, Opening, Request, Stamped, State, answer_of, is_full, served, Response, Lacked, Agent, fixed_of}
-use Rattle.law_run_machine.proofs.Vocabulary.{next_of, Begin, Step, Crash, Return, Forget, Lack, after, set1, servers_of, ServersAreConsistent}
+use Rattle.law_run_machine.proofs.Vocabulary.{◌≡◌, ℕ, Bool, true, false, cond, List, [], ◌∷◌, Option, Some, None, refl, sym, ap, subst, ◌==◌, Opening, Request, Stamped, State, answer_of, is_full, served, Response, Lacked, Agent, fixed_of, next_of}
+use Rattle.law_run_machine.proofs.Vocabulary.{Begin, Step, Crash, Return, Forget, Lack, after, set1, servers_of, ServersAreConsistent}
 use Rattle.rep_core.specs.Consistency.{IsConsistent}
 use Rattle.rep_core.proofs.Consistent.{consistent_opening, consistent_step}
 use Rattle.run_core.specs.declared.event.Event.{Event}

@@ -1,7 +1,7 @@
 -- What a transaction decides may be decided, where what is owed is shown.
-use Rattle.law_run_machine.proofs.Vocabulary.{◌≡◌, ℕ, ◌≤◌, true, false, Option, Some, None, is_some, Ok, Err, refl, sym, ap, subst, ◌∙◌, arith, nat_le, false≢true, and_parts, nat_tests, Shared, holds, ReadPoint, GatheredSuite, Suites}
-use Rattle.law_run_machine.proofs.Vocabulary.{suite_of, told_in, Task, Proposal, Deciding, TransactionRun, Doing, Running, Beginning, Known, Change, Told, World, IsReady, Knows, May, showed, showed_to, known_by, written_from, first_of}
-use Rattle.law_run_machine.proofs.Vocabulary.{to_write, decides_with, decides_without, decides_first, decides_on, decision_with, OwesKnown, OwesWith, OwesFirst, Owes}
+use Rattle.law_run_machine.proofs.Vocabulary.{◌≡◌, ℕ, ◌≤◌, true, false, Option, Some, None, is_some, Ok, Err, refl, sym, ap, subst, ◌∙◌, arith, nat_le, false≢true, and_parts, nat_tests, Shared, holds, ReadPoint, GatheredSuite, Suites, suite_of}
+use Rattle.law_run_machine.proofs.Vocabulary.{told_in, Task, Proposal, Deciding, TransactionRun, Doing, Running, Beginning, Known, Change, Told, World, IsReady, Knows, May, showed, showed_to, known_by, written_from, first_of, to_write, decides_with}
+use Rattle.law_run_machine.proofs.Vocabulary.{decides_without, decides_first, decides_on, decision_with, OwesKnown, OwesWith, OwesFirst, Owes}
 use Rattle.suite_prefix.specs.declared.copies.Replica.{Replica}
 use Rattle.law_run_machine.proofs.Stages.{Going, Stage}
 use Rattle.law_run_machine.proofs.Readying.{ReadyIn, IsReadying}

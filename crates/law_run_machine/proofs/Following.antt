@@ -1,8 +1,8 @@
 -- The machine of a suite follows the world, event by event.
-use Rattle.law_run_machine.proofs.Vocabulary.{◌≡◌, ℕ, Bool, true, false, cond, List, [], ◌∷◌, Option, Some, None, refl, sym, subst, ◌∙◌, Opening, Request, Stamped, State, reply_of, answer_of, is_full, served, Response, Replied, Lacked, Job}
-use Rattle.law_run_machine.proofs.Vocabulary.{Doing, Agent, fixed_of, next_of, take, begin, Begin, Step, Crash, Return, Forget, Lack, Actor, server_at, actor_at, with_server, answered, asks_at, asks, steps_once, lacks_for, lacks, operated}
-use Rattle.law_run_machine.proofs.Vocabulary.{operates, becomes, step, after, World, set1, begun, Event, run, Obeys, Inv, all_steps, Shows, moves, AgentSide, beginning, opening_shows, decision_by, servers_of, home_in, response_events}
-use Rattle.law_run_machine.proofs.Vocabulary.{begin_events, answered_events, asked_at_events, asked_events, step_events, lacks_for_events, lack_events, operated_events, operator_events, events_of, machine_from, history_from, MachinesFollow}
+use Rattle.law_run_machine.proofs.Vocabulary.{◌≡◌, ℕ, Bool, true, false, cond, List, [], ◌∷◌, Option, Some, None, refl, sym, subst, ◌∙◌, Opening, Request, Stamped, State, reply_of, answer_of, is_full, served, Response, Replied, Lacked, Job, Doing}
+use Rattle.law_run_machine.proofs.Vocabulary.{Agent, fixed_of, next_of, take, begin, Begin, Step, Crash, Return, Forget, Lack, Actor, server_at, actor_at, with_server, answered, asks_at, asks, steps_once, lacks_for, lacks, operated, operates}
+use Rattle.law_run_machine.proofs.Vocabulary.{becomes, step, after, World, set1, begun, Event, run, Obeys, Inv, all_steps, Shows, moves, AgentSide, beginning, opening_shows, decision_by, servers_of, home_in, response_events, begin_events}
+use Rattle.law_run_machine.proofs.Vocabulary.{answered_events, asked_at_events, asked_events, step_events, lacks_for_events, lack_events, operated_events, operator_events, events_of, machine_from, history_from, MachinesFollow}
 use Rattle.law_suite_machine.proofs.Starting.{begins}
 use Rattle.law_run_machine.specs.Sides.{AnsweredWell, AsksAtWell, AsksWell, StepsWell, LacksForWell, LacksWell, KeepsSide, KeepSides}
 use Rattle.law_server_moves.proofs.Steps.{each_step_moves}

@@ -1,6 +1,6 @@
 -- Every agent of a run that is not idle is one of a job.
-use Rattle.law_run_machine.proofs.Vocabulary.{◌≡◌, ◌⊎◌, inl, inr, ℕ, zero, suc, ◌+◌, true, false, cond, List, [], ◌∷◌, ◌++◌, Option, Some, None, refl, sym, ap, subst, ◌∙◌, ◌&&◌, nat_lt, slice_get, false≢true, same_Some, none-some, Request}
-use Rattle.law_run_machine.proofs.Vocabulary.{Response, Job, ReadPoint, GatheredSuite, suite_of, Fixed, Proposal, Deciding, TransactionRun, Doing, Running, Actor, step, opening, actors_from, after, IsOfAJob, AgentsAreOfJobs}
+use Rattle.law_run_machine.proofs.Vocabulary.{◌≡◌, ◌⊎◌, inl, inr, ℕ, zero, suc, ◌+◌, true, false, cond, List, [], ◌∷◌, ◌++◌, Option, Some, None, refl, sym, ap, subst, ◌∙◌, ◌&&◌, nat_lt, slice_get, false≢true, same_Some, none-some, Request, Response}
+use Rattle.law_run_machine.proofs.Vocabulary.{Job, ReadPoint, GatheredSuite, suite_of, Fixed, Proposal, Deciding, TransactionRun, Doing, Running, Actor, step, opening, actors_from, after, IsOfAJob, AgentsAreOfJobs}
 use Rattle.txn_core.proofs.Quorums.{decides_on_quorums}
 use Rattle.txn_core.specs.Agents.{after_event, Forget, Agent, Take, fixed_of, next_of, take, take_in, begin, started, forget, is_idle, has_sense, max_jobs, after_all}
 use Rattle.run_core.proofs.EachAgent.{OfEach, after_event as each_after}

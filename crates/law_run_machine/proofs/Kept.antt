@@ -1,9 +1,9 @@
 -- Agents keep to their side in every run: event by event.
-use Rattle.law_run_machine.proofs.Vocabulary.{◌≡◌, inl, ℕ, zero, suc, ◌+◌, ◌<◌, ◌≤◌, Bool, true, false, cond, List, [], ◌∷◌, ◌++◌, length, Option, Some, None, refl, sym, ap, subst, ◌∙◌, arith, ◌*◌, slice_get, false≢true, same_Some}
-use Rattle.law_run_machine.proofs.Vocabulary.{none-some, max_servers, Opening, Request, Reply, has_prepared, State, reply_of, answer_of, is_full, Replied, Lacked, Job, Agent, fixed_of, next_of, take, begin, forget, Begin, Step, Crash}
-use Rattle.law_run_machine.proofs.Vocabulary.{Return, Forget, Lack, Actor, server_at, actor_at, answered, asks_at, asks, steps_once, lacks_for, lacks, operated, operates, becomes, step, Beginning, World, begun, Event, run, Obeys, Inv}
-use Rattle.law_run_machine.proofs.Vocabulary.{all_steps, Shows, moves, beginning, opening_shows, decision_by, own_events, servers_of, home_in, begin_events, answered_events, asked_at_events, asked_events, step_events, lacks_for_events}
-use Rattle.law_run_machine.proofs.Vocabulary.{lack_events, operated_events, operator_events, events_of, moved, SidesAreKept, Owed, AreOwed}
+use Rattle.law_run_machine.proofs.Vocabulary.{◌≡◌, inl, ℕ, zero, suc, ◌+◌, ◌<◌, ◌≤◌, Bool, true, false, cond, List, [], ◌∷◌, ◌++◌, length, Option, Some, None, refl, sym, ap, subst, ◌∙◌, arith, ◌*◌, slice_get, false≢true, same_Some, none-some}
+use Rattle.law_run_machine.proofs.Vocabulary.{max_servers, Opening, Request, Reply, has_prepared, State, reply_of, answer_of, is_full, Replied, Lacked, Job, Agent, fixed_of, next_of, take, begin, forget, Begin, Step, Crash, Return, Forget, Lack}
+use Rattle.law_run_machine.proofs.Vocabulary.{Actor, server_at, actor_at, answered, asks_at, asks, steps_once, lacks_for, lacks, operated, operates, becomes, step, Beginning, World, begun, Event, run, Obeys, Inv, all_steps, Shows, moves, beginning}
+use Rattle.law_run_machine.proofs.Vocabulary.{opening_shows, decision_by, own_events, servers_of, home_in, begin_events, answered_events, asked_at_events, asked_events, step_events, lacks_for_events, lack_events, operated_events, operator_events}
+use Rattle.law_run_machine.proofs.Vocabulary.{events_of, moved, SidesAreKept, Owed, AreOwed}
 use Rattle.law_suite_machine.proofs.Starting.{begins}
 use Rattle.law_run_machine.specs.Sides.{AnsweredWell, AsksAtWell, AsksWell, StepsWell, LacksForWell, LacksWell, KeepsSide, KeepSides}
 use Rattle.law_suite_machine.proofs.Lasting.{run_stays}

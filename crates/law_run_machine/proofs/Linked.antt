@@ -1,6 +1,6 @@
 -- Agents keep to their side in every run: what each event keeps of agents and machine together.
-use Rattle.law_run_machine.proofs.Vocabulary.{◌≡◌, inl, inr, ℕ, zero, suc, ◌+◌, ◌<◌, ◌≤◌, Option, Some, None, is_some, refl, sym, ap, ◌∙◌, arith, ◌*◌, nat_cmp, none-some, IsOrdered, Suites, Phase, Finishing, TransactionRun, Sweeping}
-use Rattle.law_run_machine.proofs.Vocabulary.{Telling, Doing, Running, RunningSweep, Agent, locks, Actor, actor_at, World, MayFinish, ended_as}
+use Rattle.law_run_machine.proofs.Vocabulary.{◌≡◌, inl, inr, ℕ, zero, suc, ◌+◌, ◌<◌, ◌≤◌, Option, Some, None, is_some, refl, sym, ap, ◌∙◌, arith, ◌*◌, nat_cmp, none-some, IsOrdered, Suites, Phase, Finishing, TransactionRun, Sweeping, Telling, Doing}
+use Rattle.law_run_machine.proofs.Vocabulary.{Running, RunningSweep, Agent, locks, Actor, actor_at, World, MayFinish, ended_as}
 use Rattle.run_core.specs.Worlds as worlds
 use Rattle.law_run_machine.proofs.Quiet.{Quiet}
 use Rattle.law_run_machine.proofs.Stages.{Going, Stage}

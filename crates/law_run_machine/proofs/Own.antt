@@ -1,7 +1,7 @@
 -- What agents do by themselves is nothing to the servers.
-use Rattle.law_run_machine.proofs.Vocabulary.{◌≡◌, ℕ, Bool, true, false, cond, List, [], ◌∷◌, ◌++◌, Option, Some, None, refl, State, Suites, Proposal, Doing, Running, RunningSweep, Taken, Beginning, Change, World, Event, Held, Upgrade, Aim}
-use Rattle.law_run_machine.proofs.Vocabulary.{Prepare, DecideRead, DecideRefused, DecideWrite, DecideElsewhere, Overrule, GiveUp, Finish, Lose, run, aimed, given_up, Shows, aimed_shows, given_up_shows, to_write, fixed_in, aim_of, aims_once}
-use Rattle.law_run_machine.proofs.Vocabulary.{aims, is_finishing, is_at_an_end, gives_up, tells_aborted, begun_events, own_events}
+use Rattle.law_run_machine.proofs.Vocabulary.{◌≡◌, ℕ, Bool, true, false, cond, List, [], ◌∷◌, ◌++◌, Option, Some, None, refl, State, Suites, Proposal, Doing, Running, RunningSweep, Taken, Beginning, Change, World, Event, Held, Upgrade, Aim, Prepare}
+use Rattle.law_run_machine.proofs.Vocabulary.{DecideRead, DecideRefused, DecideWrite, DecideElsewhere, Overrule, GiveUp, Finish, Lose, run, aimed, given_up, Shows, aimed_shows, given_up_shows, to_write, fixed_in, aim_of, aims_once, aims}
+use Rattle.law_run_machine.proofs.Vocabulary.{is_finishing, is_at_an_end, gives_up, tells_aborted, begun_events, own_events}
 
 -- each is an agent's own
 abbrev AllOwn : List Event → Type 0

@@ -1,10 +1,10 @@
 -- In every run each server that told a transaction of a copy has prepared, where it is decided: event by event.
 use Rattle.law_run_machine.proofs.Vocabulary.{◌≡◌, ℕ, ◌+◌, ◌<◌, ◌≤◌, Bool, true, false, cond, List, [], ◌∷◌, length, Option, Some, None, is_some, refl, sym, ap, subst, ◌∙◌, arith, ◌==◌, ◌&&◌, ◌*◌, nat_lt, slice_get, slice_set, same_Some}
-use Rattle.law_run_machine.proofs.Vocabulary.{slice_get_within, length-set, max_servers, Opening, is_exclusive, Part, Request, Reply, State, reply_of, answer_of, is_full, served, parts_at, Replied, Lacked, Job, Transaction, Sweep}
-use Rattle.law_run_machine.proofs.Vocabulary.{Preparing, Doing, Running, RunningSweep, request_in, changes_of, Agent, fixed_of, next_in, next_of, take, take_in, begin, started, forget, is_idle, has_sense, max_jobs, asks_same, Begin, Step}
-use Rattle.law_run_machine.proofs.Vocabulary.{Crash, Return, Forget, Lack, Actor, server_at, actor_at, answered, asks_at, asks, steps_once, lacks_for, lacks, operated, operates, becomes, step, Beginning, World, Told, Verdict, set2, Event}
-use Rattle.law_run_machine.proofs.Vocabulary.{Held, Upgrade, Overrule, happens, run, upgraded_told, at2, prepare_of, first_verdict, moves, beginning, decision_by, own_events, home_in, begin_events, answered_events, asked_at_events}
-use Rattle.law_run_machine.proofs.Vocabulary.{asked_events, step_events, lacks_for_events, lack_events, operated_events, operator_events, moved}
+use Rattle.law_run_machine.proofs.Vocabulary.{slice_get_within, length-set, max_servers, Opening, is_exclusive, Part, Request, Reply, State, reply_of, answer_of, is_full, served, parts_at, Replied, Lacked, Job, Transaction, Sweep, Preparing, Doing}
+use Rattle.law_run_machine.proofs.Vocabulary.{Running, RunningSweep, request_in, changes_of, Agent, fixed_of, next_in, next_of, take, take_in, begin, started, forget, is_idle, has_sense, max_jobs, asks_same, Begin, Step, Crash, Return, Forget, Lack}
+use Rattle.law_run_machine.proofs.Vocabulary.{Actor, server_at, actor_at, answered, asks_at, asks, steps_once, lacks_for, lacks, operated, operates, becomes, step, Beginning, World, Told, Verdict, set2, Event, Held, Upgrade, Overrule, happens, run}
+use Rattle.law_run_machine.proofs.Vocabulary.{upgraded_told, at2, prepare_of, first_verdict, moves, beginning, decision_by, own_events, home_in, begin_events, answered_events, asked_at_events, asked_events, step_events, lacks_for_events, lack_events}
+use Rattle.law_run_machine.proofs.Vocabulary.{operated_events, operator_events, moved}
 use Rattle.rep_core.specs.declared.request.Request.TheVariants as request
 use Rattle.rep_core.specs.declared.reply.Reply.TheVariants as reply
 use Rattle.rep_core.specs.declared.stamped.Lack.TheVariants as lack

@@ -1,9 +1,9 @@
 -- A transaction is decided once each server that told it of a copy has prepared.
-use Rattle.law_run_machine.proofs.Vocabulary.{◌≡◌, ◌⊎◌, inl, inr, ℕ, zero, suc, ◌+◌, ◌<◌, ◌≤◌, true, false, cond, List, [], ◌∷◌, Option, Some, None, is_some, refl, sym, ap, subst, ◌∙◌, arith, ◌==◌, filter, nat_cmp, false≢true, nat_tests}
-use Rattle.law_run_machine.proofs.Vocabulary.{max_servers, get, Shared, Part, Request, Reply, is_prepared, Has, filter_has, map_has, has_any, any_find, holds, Cache, GatheredSuite, Suites, suite_of, has_locks, holds_lock, told_in, told_at}
-use Rattle.law_run_machine.proofs.Vocabulary.{part_of, parts_at, Response, Replied, Lacked, Cause, Lost, Ending, Undecided, Changes, Fixed, Task, Proposal, Phase, Gathering, Fetching, Widening, Preparing, Deciding, Finishing}
-use Rattle.law_run_machine.proofs.Vocabulary.{TransactionRun, SweepRun, Doing, Running, RunningSweep, After, GoesOn, Ends, execute, tell_end, give_up, prepare, locked_at, numbers_from, lack_cause, after_response, request_in, verdict_in}
-use Rattle.law_run_machine.proofs.Vocabulary.{ending_by, cause_of_abort, Agent, next_in, take_in, left, IsEarly, goes_response, goes_execute, Beginning, World, Event, Prepare, happens, run, at2, itself, prepare_of}
+use Rattle.law_run_machine.proofs.Vocabulary.{◌≡◌, ◌⊎◌, inl, inr, ℕ, zero, suc, ◌+◌, ◌<◌, ◌≤◌, true, false, cond, List, [], ◌∷◌, Option, Some, None, is_some, refl, sym, ap, subst, ◌∙◌, arith, ◌==◌, filter, nat_cmp, false≢true, nat_tests, max_servers}
+use Rattle.law_run_machine.proofs.Vocabulary.{get, Shared, Part, Request, Reply, is_prepared, Has, filter_has, map_has, has_any, any_find, holds, Cache, GatheredSuite, Suites, suite_of, has_locks, holds_lock, told_in, told_at, part_of, parts_at}
+use Rattle.law_run_machine.proofs.Vocabulary.{Response, Replied, Lacked, Cause, Lost, Ending, Undecided, Changes, Fixed, Task, Proposal, Phase, Gathering, Fetching, Widening, Preparing, Deciding, Finishing, TransactionRun, SweepRun, Doing, Running}
+use Rattle.law_run_machine.proofs.Vocabulary.{RunningSweep, After, GoesOn, Ends, execute, tell_end, give_up, prepare, locked_at, numbers_from, lack_cause, after_response, request_in, verdict_in, ending_by, cause_of_abort, Agent, next_in, take_in}
+use Rattle.law_run_machine.proofs.Vocabulary.{left, IsEarly, goes_response, goes_execute, Beginning, World, Event, Prepare, happens, run, at2, itself, prepare_of}
 use Rattle.std.specs.BTreeMap.{is_at}
 use Rattle.rep_core.specs.declared.reply.Verdict.{Verdict}
 use Rattle.rep_core.specs.declared.reply.Reply.TheVariants as reply

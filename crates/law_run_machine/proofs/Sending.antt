@@ -1,10 +1,9 @@
 -- What a transaction asks a server, its machine of a suite lets it ask.
-use Rattle.law_run_machine.proofs.Vocabulary.{◌≡◌, ◌⊎◌, inl, inr, ℕ, Bool, true, false, cond, List, ◌∷◌, Option, Some, None, is_some, Ok, Err, refl, sym, ap, subst, ◌∙◌, arith, ◌==◌, ◌||◌, ◌≢◌, filter, find, nat_le, nat_cmp, false≢true}
-use Rattle.law_run_machine.proofs.Vocabulary.{and_parts, nat_tests, IsOrdered, Shared, Lock, Part, Request, has_prepared, verdict_of, has_map, has_filter, find_some, newest, holds, ReadPoint, GatheredSuite, Suites, suite_of, holds_lock}
-use Rattle.law_run_machine.proofs.Vocabulary.{holds_exclusively, told_in, told_at, change_of, new_copy, new_prefix, sets_prefix, has_vote, takes_whole, take_of_changed, take_from, part_of, parts_at, Fixed, Task, home_of, Proposal, Phase}
-use Rattle.law_run_machine.proofs.Vocabulary.{Gathering, Fetching, Widening, Preparing, Deciding, Finishing, asked_by, asked_for, fetched_at, fetched_for, request_in, changes_of, decision_of, asks_same, Beginning, Change, Entry, World}
-use Rattle.law_run_machine.proofs.Vocabulary.{Told, Verdict, Answered, Refused, Aborted, Event, happens, decided, May, ended_as, Decides, AgentSide, content_to, change_to, written_from, first_of, to_write, decides_first, decides_on}
-use Rattle.law_run_machine.proofs.Vocabulary.{decision_with, decision_in}
+use Rattle.law_run_machine.proofs.Vocabulary.{◌≡◌, ◌⊎◌, inl, inr, ℕ, Bool, true, false, cond, List, ◌∷◌, Option, Some, None, is_some, Ok, Err, refl, sym, ap, subst, ◌∙◌, arith, ◌==◌, ◌||◌, ◌≢◌, filter, find, nat_le, nat_cmp, false≢true, and_parts}
+use Rattle.law_run_machine.proofs.Vocabulary.{nat_tests, IsOrdered, Shared, Lock, Part, Request, has_prepared, verdict_of, has_map, has_filter, find_some, newest, holds, ReadPoint, GatheredSuite, Suites, suite_of, holds_lock, holds_exclusively}
+use Rattle.law_run_machine.proofs.Vocabulary.{told_in, told_at, change_of, new_copy, new_prefix, sets_prefix, has_vote, takes_whole, take_of_changed, take_from, part_of, parts_at, Fixed, Task, home_of, Proposal, Phase, Gathering, Fetching, Widening}
+use Rattle.law_run_machine.proofs.Vocabulary.{Preparing, Deciding, Finishing, asked_by, asked_for, fetched_at, fetched_for, request_in, changes_of, decision_of, asks_same, Beginning, Change, Entry, World, Told, Verdict, Answered, Refused, Aborted}
+use Rattle.law_run_machine.proofs.Vocabulary.{Event, happens, decided, May, ended_as, Decides, AgentSide, content_to, change_to, written_from, first_of, to_write, decides_first, decides_on, decision_with, decision_in}
 use Rattle.vote_core.specs.Quorums.{Representative}
 use Rattle.suite_prefix.specs.declared.lock_mode.LockMode.{LockMode}
 use Rattle.suite_prefix.specs.declared.copies.Prefix.{Prefix}

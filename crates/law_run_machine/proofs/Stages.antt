@@ -1,9 +1,8 @@
 -- Where a transaction stands against the machine of a suite, and what it does by itself when it takes a response.
-use Rattle.law_run_machine.proofs.Vocabulary.{◌≡◌, ◌⊎◌, inl, inr, ℕ, Bool, true, false, cond, List, [], ◌∷◌, ◌++◌, Option, Some, None, refl, sym, ap, ◌∙◌, is_prepared, Request, Reply, Cache, Suites, suite_of, parts_at, Response, Replied}
-use Rattle.law_run_machine.proofs.Vocabulary.{Lacked, Cause, Lost, Ending, Undecided, Fixed, Task, home_of, Proposal, Phase, Gathering, Fetching, Widening, Preparing, Deciding, Finishing, TransactionRun, Running, After, GoesOn, Ends}
-use Rattle.law_run_machine.proofs.Vocabulary.{execute, tell_end, give_up, prepare, locked_at, lack_cause, prepared, after_response, request_in, changes_of, decision_of, ending_by, cause_of_abort, Agent, Taken, left, end_of, is_decide}
-use Rattle.law_run_machine.proofs.Vocabulary.{asks_same, asked_as, fetched_as, IsEarly, goes_response, goes_execute, Beginning, Change, World, Verdict, Aborted, Event, run, Obeys, MayFinish, ended_as, to_write, aim_of, aims, gives_up}
-use Rattle.law_run_machine.proofs.Vocabulary.{fixed_in, is_finishing}
+use Rattle.law_run_machine.proofs.Vocabulary.{◌≡◌, ◌⊎◌, inl, inr, ℕ, Bool, true, false, cond, List, [], ◌∷◌, ◌++◌, Option, Some, None, refl, sym, ap, ◌∙◌, is_prepared, Request, Reply, Cache, Suites, suite_of, parts_at, Response, Replied, Lacked}
+use Rattle.law_run_machine.proofs.Vocabulary.{Cause, Lost, Ending, Undecided, Fixed, Task, home_of, Proposal, Phase, Gathering, Fetching, Widening, Preparing, Deciding, Finishing, TransactionRun, Running, After, GoesOn, Ends, execute, tell_end}
+use Rattle.law_run_machine.proofs.Vocabulary.{give_up, prepare, locked_at, lack_cause, prepared, after_response, request_in, changes_of, decision_of, ending_by, cause_of_abort, Agent, Taken, left, end_of, is_decide, asks_same, asked_as, fetched_as}
+use Rattle.law_run_machine.proofs.Vocabulary.{IsEarly, goes_response, goes_execute, Beginning, Change, World, Verdict, Aborted, Event, run, Obeys, MayFinish, ended_as, to_write, aim_of, aims, gives_up, fixed_in, is_finishing}
 use Rattle.law_server_moves.proofs.Placing.{here1}
 use Rattle.rep_core.specs.declared.request.Request.TheVariants as request
 use Rattle.rep_core.specs.declared.reply.Reply.TheVariants as reply

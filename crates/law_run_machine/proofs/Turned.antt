@@ -1,11 +1,11 @@
 -- Agents against the machine of a suite: after a turn, and once a job begins.
-use Rattle.law_run_machine.proofs.Vocabulary.{◌≡◌, inl, ℕ, zero, suc, ◌+◌, ◌<◌, ◌≤◌, Bool, true, false, cond, List, [], ◌∷◌, ◌++◌, Option, Some, None, is_some, Ok, Err, refl, sym, ap, subst, ◌∙◌, arith, ◌*◌, ◌==◌, ◌&&◌, ◌||◌, nat_lt}
-use Rattle.law_run_machine.proofs.Vocabulary.{slice_get, slice_set, false≢true, and_parts, same_Some, none-some, Opening, Request, Reply, Stamped, Lock, has_prepared, State, reply_of, is_full, served, ReadPoint, GatheredSuite, Suites}
-use Rattle.law_run_machine.proofs.Vocabulary.{suite_of, Response, Replied, Lacked, Job, Transaction, Sweep, Fixed, Task, Proposal, Phase, Preparing, Deciding, TransactionRun, Sweeping, Resolving, Telling, SweepRun, Doing, Running}
-use Rattle.law_run_machine.proofs.Vocabulary.{RunningSweep, After, GoesOn, Ends, home_of, execute, decision_of, asked_now, Agent, fixed_of, next_in, next_of, take, take_in, begin, started, is_idle, has_sense, max_jobs, left, locks}
-use Rattle.law_run_machine.proofs.Vocabulary.{says_held, is_decide, Keeps, nothing_held, begin_keeps, Actor, server_at, actor_at, with_server, Beginning, Known, Change, World, Verdict, set1, Event, GiveUp, run, May, Obeys, one_is, one_not}
-use Rattle.law_run_machine.proofs.Vocabulary.{Inv, Shows, ended_as, moves, AgentSide, beginning, may_sweep, asks_in_its_name, asks_to_sweep, to_write, known_by, decides_with, decides_without, decides_first, decides_on, decision_by}
-use Rattle.law_run_machine.proofs.Vocabulary.{decision_in, decision_with, aims, tells_aborted, begun_events, own_events, servers_of, home_in}
+use Rattle.law_run_machine.proofs.Vocabulary.{◌≡◌, inl, ℕ, zero, suc, ◌+◌, ◌<◌, ◌≤◌, Bool, true, false, cond, List, [], ◌∷◌, ◌++◌, Option, Some, None, is_some, Ok, Err, refl, sym, ap, subst, ◌∙◌, arith, ◌*◌, ◌==◌, ◌&&◌, ◌||◌, nat_lt, slice_get}
+use Rattle.law_run_machine.proofs.Vocabulary.{slice_set, false≢true, and_parts, same_Some, none-some, Opening, Request, Reply, Stamped, Lock, has_prepared, State, reply_of, is_full, served, ReadPoint, GatheredSuite, Suites, suite_of, Response}
+use Rattle.law_run_machine.proofs.Vocabulary.{Replied, Lacked, Job, Transaction, Sweep, Fixed, Task, Proposal, Phase, Preparing, Deciding, TransactionRun, Sweeping, Resolving, Telling, SweepRun, Doing, Running, RunningSweep, After, GoesOn, Ends}
+use Rattle.law_run_machine.proofs.Vocabulary.{home_of, execute, decision_of, asked_now, Agent, fixed_of, next_in, next_of, take, take_in, begin, started, is_idle, has_sense, max_jobs, left, locks, says_held, is_decide, Keeps, nothing_held}
+use Rattle.law_run_machine.proofs.Vocabulary.{begin_keeps, Actor, server_at, actor_at, with_server, Beginning, Known, Change, World, Verdict, set1, Event, GiveUp, run, May, Obeys, one_is, one_not, Inv, Shows, ended_as, moves, AgentSide, beginning}
+use Rattle.law_run_machine.proofs.Vocabulary.{may_sweep, asks_in_its_name, asks_to_sweep, to_write, known_by, decides_with, decides_without, decides_first, decides_on, decision_by, decision_in, decision_with, aims, tells_aborted, begun_events}
+use Rattle.law_run_machine.proofs.Vocabulary.{own_events, servers_of, home_in}
 use Rattle.acl_core.specs.Identity.{Identity}
 use Rattle.file_ops.specs.declared.operation.Op.{Op}
 use Rattle.law_server_moves.proofs.Replies.{replies_tell}

@@ -1,8 +1,8 @@
 -- One turn of an agent: what its request and its response make of the machine and of what it is doing.
-use Rattle.law_run_machine.proofs.Vocabulary.{◌≡◌, ℕ, ◌+◌, Bool, true, false, cond, List, [], ◌∷◌, ◌++◌, Option, Some, None, is_some, refl, sym, ap, subst, ◌∙◌, ◌*◌, ◌==◌, ◌&&◌, ◌||◌, nat_cmp, IsOrdered, Shared, Lock, Request, Reply}
-use Rattle.law_run_machine.proofs.Vocabulary.{has_prepared, holds, Suites, told_at, Response, Replied, Lacked, Fixed, Proposal, TransactionRun, Sweeping, Listing, Resolving, Telling, Breaking, SweepRun, Doing, Running, RunningSweep, After}
-use Rattle.law_run_machine.proofs.Vocabulary.{GoesOn, Ends, home_of, request_of, sweep_on, others, Agent, Taken, Take, next_of, take_in, left, with_step, end_of, locks, says_held, Keeps, plus_all, all_keep, exchange_of, Beginning, Change}
-use Rattle.law_run_machine.proofs.Vocabulary.{World, Event, GiveUp, run, Obeys, ended_as, to_write, aim_of, aims_once, aims, gives_up, is_at_an_end, fixed_in, is_finishing, own_events}
+use Rattle.law_run_machine.proofs.Vocabulary.{◌≡◌, ℕ, ◌+◌, Bool, true, false, cond, List, [], ◌∷◌, ◌++◌, Option, Some, None, is_some, refl, sym, ap, subst, ◌∙◌, ◌*◌, ◌==◌, ◌&&◌, ◌||◌, nat_cmp, IsOrdered, Shared, Lock, Request, Reply, has_prepared}
+use Rattle.law_run_machine.proofs.Vocabulary.{holds, Suites, told_at, Response, Replied, Lacked, Fixed, Proposal, TransactionRun, Sweeping, Listing, Resolving, Telling, Breaking, SweepRun, Doing, Running, RunningSweep, After, GoesOn, Ends, home_of}
+use Rattle.law_run_machine.proofs.Vocabulary.{request_of, sweep_on, others, Agent, Taken, Take, next_of, take_in, left, with_step, end_of, locks, says_held, Keeps, plus_all, all_keep, exchange_of, Beginning, Change, World, Event, GiveUp, run, Obeys}
+use Rattle.law_run_machine.proofs.Vocabulary.{ended_as, to_write, aim_of, aims_once, aims, gives_up, is_at_an_end, fixed_in, is_finishing, own_events}
 use Rattle.file_ops.specs.declared.service.Service.{Service}
 use Rattle.rep_core.specs.declared.reply.Reply.TheVariants as reply
 use Rattle.rep_core.specs.declared.reply.Verdict as replied

@@ -1,6 +1,6 @@
 -- The names that the proofs of this crate take from elsewhere, each with one meaning here.
-pub use Rattle.std.proofs.Common.{Bool, Err, List, None, Ok, Option, Some, [], ap, arith, cond, false, filter, find, get_or, inl, inr, is_some, length, nat_le, nat_lt, refl, slice_get, slice_set, subst, suc, sym, true, zero, ℕ, ◌&&◌, ◌*◌}
-pub use Rattle.std.proofs.Common.{◌++◌, ◌+◌, ◌<◌, ◌==◌, ◌||◌, ◌∙◌, ◌∷◌, ◌≡◌, ◌≢◌, ◌≤◌, ◌⊎◌}
+pub use Rattle.std.proofs.Common.{Bool, Err, List, None, Ok, Option, Some, [], ap, arith, cond, false, filter, find, get_or, inl, inr, is_some, length, nat_le, nat_lt, refl, slice_get, slice_set, subst, suc, sym, true, zero, ℕ, ◌&&◌, ◌*◌, ◌++◌, ◌+◌}
+pub use Rattle.std.proofs.Common.{◌<◌, ◌==◌, ◌||◌, ◌∙◌, ◌∷◌, ◌≡◌, ◌≢◌, ◌≤◌, ◌⊎◌}
 pub use Rattle.std.proofs.lemmas.Bool.{and_parts, false≢true}
 pub use Rattle.std.proofs.lemmas.Bool.Decides.{nat_tests}
 pub use Rattle.std.proofs.lemmas.List.{get_or-set_other, get_or-set_same, length-set}
@@ -50,8 +50,8 @@ pub use Rattle.txn_core.specs.Doing.{TransactionRun, Widening, home_of}
 pub use Rattle.txn_core.specs.Laws.{exchange_of, is_decide, locks, says_held}
 pub use Rattle.txn_core.specs.Suites.{GatheredSuite, ReadPoint, Suites, has_locks, holds_exclusively, holds_lock, suite_of, told_at, told_in}
 pub use Rattle.txn_core.specs.Sweeps.{asked_now, others, sweep_on}
-pub use Rattle.txn_core.specs.Transactions.{after_response, asked_by, asked_for, cause_of_abort, changes_of, decision_of, ending_by, execute, fetched_at, fetched_for, give_up, lack_cause, locked_at, numbers_from, prepare, prepared}
-pub use Rattle.txn_core.specs.Transactions.{request_in, request_of, tell_end, verdict_in}
+pub use Rattle.txn_core.specs.Transactions.{after_response, asked_by, asked_for, cause_of_abort, changes_of, decision_of, ending_by, execute, fetched_at, fetched_for, give_up, lack_cause, locked_at, numbers_from, prepare, prepared, request_in}
+pub use Rattle.txn_core.specs.Transactions.{request_of, tell_end, verdict_in}
 pub use Rattle.txn_core.specs.Writing.{change_of, has_vote, new_copy, new_prefix, part_of, parts_at, sets_prefix, take_from, take_of_changed, takes_whole}
 pub use Rattle.txn_core.specs.declared.ending.Cause.{Cause}
 pub use Rattle.txn_core.specs.declared.ending.Cause.TheVariants.{Lost}
@@ -66,6 +66,6 @@ pub use Rattle.weak_cache.specs.Entries.{Cache}
 pub use Rattle.law_run_machine.specs.Deciding.{aim_of, aims, aims_once, begun_events, change_to, content_to, decides_first, decides_on, decides_with, decides_without, decision_by, decision_in, decision_with, first_of, fixed_in, gives_up}
 pub use Rattle.law_run_machine.specs.Deciding.{is_at_an_end, is_finishing, known_by, own_events, showed, showed_to, tells_aborted, to_write, written_from}
 pub use Rattle.law_run_machine.specs.Laws.{AgentsAreOfJobs, IsOfAJob, MachinesFollow, ServersAreConsistent, SidesAreKept}
-pub use Rattle.law_run_machine.specs.Machines.{answered_events, asked_at_events, asked_events, begin_events, events_of, history_from, home_in, lack_events, lacks_for_events, machine_from, moved, operated_events, operator_events}
-pub use Rattle.law_run_machine.specs.Machines.{response_events, servers_of, step_events}
+pub use Rattle.law_run_machine.specs.Machines.{answered_events, asked_at_events, asked_events, begin_events, events_of, history_from, home_in, lack_events, lacks_for_events, machine_from, moved, operated_events, operator_events, response_events}
+pub use Rattle.law_run_machine.specs.Machines.{servers_of, step_events}
 pub use Rattle.law_run_machine.specs.Owed.{AreOwed, Owed, Owes, OwesFirst, OwesKnown, OwesWith}

@@ -1,8 +1,8 @@
 -- In every run a transaction prepares at a server once: event by event.
-use Rattle.law_run_machine.proofs.Vocabulary.{◌≡◌, inl, ℕ, ◌+◌, ◌<◌, ◌≤◌, Bool, true, false, cond, List, ◌∷◌, Option, Some, None, refl, sym, ap, subst, ◌∙◌, ◌*◌, slice_get, slice_set, same_Some, Opening, Request, Stamped, has_prepared}
-use Rattle.law_run_machine.proofs.Vocabulary.{State, is_prepare, reply_of, answer_of, is_full, served, Response, Replied, Lacked, Job, Fixed, Proposal, Preparing, TransactionRun, Doing, Running, RunningSweep, asked_now, Agent, fixed_of}
-use Rattle.law_run_machine.proofs.Vocabulary.{next_in, next_of, take, take_in, begin, forget, Begin, Step, Crash, Return, Forget, Lack, Actor, server_at, actor_at, answered, asks_at, asks, steps_once, lacks_for, lacks, operated, operates}
-use Rattle.law_run_machine.proofs.Vocabulary.{becomes, step, World, may_sweep, asks_in_its_name, asks_to_sweep, servers_of}
+use Rattle.law_run_machine.proofs.Vocabulary.{◌≡◌, inl, ℕ, ◌+◌, ◌<◌, ◌≤◌, Bool, true, false, cond, List, ◌∷◌, Option, Some, None, refl, sym, ap, subst, ◌∙◌, ◌*◌, slice_get, slice_set, same_Some, Opening, Request, Stamped, has_prepared, State}
+use Rattle.law_run_machine.proofs.Vocabulary.{is_prepare, reply_of, answer_of, is_full, served, Response, Replied, Lacked, Job, Fixed, Proposal, Preparing, TransactionRun, Doing, Running, RunningSweep, asked_now, Agent, fixed_of, next_in, next_of}
+use Rattle.law_run_machine.proofs.Vocabulary.{take, take_in, begin, forget, Begin, Step, Crash, Return, Forget, Lack, Actor, server_at, actor_at, answered, asks_at, asks, steps_once, lacks_for, lacks, operated, operates, becomes, step, World}
+use Rattle.law_run_machine.proofs.Vocabulary.{may_sweep, asks_in_its_name, asks_to_sweep, servers_of}
 use Rattle.rep_core.specs.declared.request.Request.TheVariants as request
 use Rattle.rep_core.specs.declared.stamped.Lack.TheVariants as lack
 use Rattle.run_core.specs.declared.event.Event as happening

@@ -1,10 +1,10 @@
 -- A transaction prepares at a server once: where it is to prepare, none of its locks is prepared there.
-use Rattle.law_run_machine.proofs.Vocabulary.{◌≡◌, ◌⊎◌, inl, inr, ℕ, zero, suc, ◌+◌, ◌≤◌, Bool, true, false, cond, List, [], ◌∷◌, Option, Some, None, refl, sym, ap, subst, ◌∙◌, arith, ◌*◌, ◌==◌, ◌&&◌, filter, nat_lt, false≢true, and_parts}
-use Rattle.law_run_machine.proofs.Vocabulary.{nat_tests, max_servers, Opening, Lock, Request, Stamped, is_prepared, has_prepared, State, is_prepare, WasPrepared, is_full, served, Has, has_from, contains_from, has_filter, any_has, has_any}
-use Rattle.law_run_machine.proofs.Vocabulary.{Cache, Suites, suite_of, has_locks, parts_at, Response, Replied, Lacked, Job, Transaction, Sweep, Cause, Lost, Ending, Undecided, Fixed, Task, Proposal, Phase, Gathering, Fetching, Widening}
-use Rattle.law_run_machine.proofs.Vocabulary.{Preparing, Deciding, Finishing, TransactionRun, SweepRun, Doing, Running, RunningSweep, After, GoesOn, Ends, execute, tell_end, give_up, prepare, locked_at, numbers_from, lack_cause}
-use Rattle.law_run_machine.proofs.Vocabulary.{after_response, request_in, changes_of, verdict_in, ending_by, cause_of_abort, Agent, next_in, take_in, begin, started, is_idle, has_sense, max_jobs, left, asked_as, fetched_as, IsEarly}
-use Rattle.law_run_machine.proofs.Vocabulary.{goes_response, goes_execute, server_at, with_server, at1, another, names, may_sweep, servers_of}
+use Rattle.law_run_machine.proofs.Vocabulary.{◌≡◌, ◌⊎◌, inl, inr, ℕ, zero, suc, ◌+◌, ◌≤◌, Bool, true, false, cond, List, [], ◌∷◌, Option, Some, None, refl, sym, ap, subst, ◌∙◌, arith, ◌*◌, ◌==◌, ◌&&◌, filter, nat_lt, false≢true, and_parts, nat_tests}
+use Rattle.law_run_machine.proofs.Vocabulary.{max_servers, Opening, Lock, Request, Stamped, is_prepared, has_prepared, State, is_prepare, WasPrepared, is_full, served, Has, has_from, contains_from, has_filter, any_has, has_any, Cache, Suites}
+use Rattle.law_run_machine.proofs.Vocabulary.{suite_of, has_locks, parts_at, Response, Replied, Lacked, Job, Transaction, Sweep, Cause, Lost, Ending, Undecided, Fixed, Task, Proposal, Phase, Gathering, Fetching, Widening, Preparing, Deciding}
+use Rattle.law_run_machine.proofs.Vocabulary.{Finishing, TransactionRun, SweepRun, Doing, Running, RunningSweep, After, GoesOn, Ends, execute, tell_end, give_up, prepare, locked_at, numbers_from, lack_cause, after_response, request_in, changes_of}
+use Rattle.law_run_machine.proofs.Vocabulary.{verdict_in, ending_by, cause_of_abort, Agent, next_in, take_in, begin, started, is_idle, has_sense, max_jobs, left, asked_as, fetched_as, IsEarly, goes_response, goes_execute, server_at, with_server, at1}
+use Rattle.law_run_machine.proofs.Vocabulary.{another, names, may_sweep, servers_of}
 use Rattle.rep_core.proofs.PreparedLocks.{prepared_by_prepare}
 use Rattle.rep_core.specs.declared.reply.Verdict.{Verdict}
 use Rattle.rep_core.specs.Serving.{step}

@@ -1,8 +1,7 @@
 -- Where agents stand among the decisions so far.
-use Rattle.law_runs.proofs.Vocabulary.{◌≡◌, ◌≢◌, ◌⊎◌, inl, inr, ⊎_elim, ℕ, ◌+◌, ◌≤◌, ◌<◌, Bool, true, false, cond, List, [], ◌∷◌, ◌++◌, Option, Some, None, refl, sym, ap, subst, ◌∙◌, arith, ◌*◌, ◌==◌, ◌&&◌, nat_lt, Ok, Err, and_parts}
-use Rattle.law_runs.proofs.Vocabulary.{none-some, same_Some, Service, Lock, Reply, Replied, Lacked, Request, Verdict, Has, Response, Ending, Answered, Refused, Job, Transaction, Sweep, home_of, Fixed, Task, TransactionRun, SweepRun, Doing}
-use Rattle.law_runs.proofs.Vocabulary.{Running, RunningSweep, After, GoesOn, Ends, Sweeping, Listing, Resolving, Telling, Breaking, is_decide, said_by, Agent, next_in, left, end_of, take_in, begin, started, is_idle, has_sense, max_jobs}
-use Rattle.law_runs.proofs.Vocabulary.{Decided}
+use Rattle.law_runs.proofs.Vocabulary.{◌≡◌, ◌≢◌, ◌⊎◌, inl, inr, ⊎_elim, ℕ, ◌+◌, ◌≤◌, ◌<◌, Bool, true, false, cond, List, [], ◌∷◌, ◌++◌, Option, Some, None, refl, sym, ap, subst, ◌∙◌, arith, ◌*◌, ◌==◌, ◌&&◌, nat_lt, Ok, Err, and_parts, none-some}
+use Rattle.law_runs.proofs.Vocabulary.{same_Some, Service, Lock, Reply, Replied, Lacked, Request, Verdict, Has, Response, Ending, Answered, Refused, Job, Transaction, Sweep, home_of, Fixed, Task, TransactionRun, SweepRun, Doing, Running}
+use Rattle.law_runs.proofs.Vocabulary.{RunningSweep, After, GoesOn, Ends, Sweeping, Listing, Resolving, Telling, Breaking, is_decide, said_by, Agent, next_in, left, end_of, take_in, begin, started, is_idle, has_sense, max_jobs, Decided}
 use Rattle.rep_core.specs.declared.reply.Reply.TheVariants as reply
 use Rattle.rep_core.specs.declared.reply.Verdict.TheVariants as verdict
 use Rattle.txn_core.specs.Sweeps as sweep

@@ -1,9 +1,9 @@
 -- A decision is what its transaction comes to on what its agent knows.
-use Rattle.law_runs.proofs.Vocabulary.{◌≡◌, ℕ, ◌+◌, Bool, true, false, cond, List, [], ◌∷◌, Option, Some, None, refl, sym, ap, subst, ◌∙◌, ◌*◌, ◌&&◌, nat_lt, is_some, Result, Ok, Err, none-some, same_Some, Opening, Answer, Refusal, Rows}
-use Rattle.law_runs.proofs.Vocabulary.{replies, Request, Verdict, State, record_of, reply_of, recorded, verdict_of, is_full, answer_of, Ended, done_is_the_tables, Job, Transaction, Sweep, Response, known_of, Fixed, Task, Proposal}
-use Rattle.law_runs.proofs.Vocabulary.{TransactionRun, SweepRun, Doing, Running, RunningSweep, After, GoesOn, Ends, decision_of, is_decide, Agent, next_in, next_of, left, take_in, begin, started, fixed_of, is_idle, has_sense, max_jobs}
-use Rattle.law_runs.proofs.Vocabulary.{Event, Begin, Step, Crash, Return, Forget, Lack, Served, Actor, World, server_at, actor_at, opening, answered, asks_at, asks, steps_once, step, after, run, Decided, to_decide, answer_in, decided_as}
-use Rattle.law_runs.proofs.Vocabulary.{decided_at, decided_by, task_of, task_at, IsAnsweredAsKnown, AnswersFollowKnowledge}
+use Rattle.law_runs.proofs.Vocabulary.{◌≡◌, ℕ, ◌+◌, Bool, true, false, cond, List, [], ◌∷◌, Option, Some, None, refl, sym, ap, subst, ◌∙◌, ◌*◌, ◌&&◌, nat_lt, is_some, Result, Ok, Err, none-some, same_Some, Opening, Answer, Refusal, Rows, replies}
+use Rattle.law_runs.proofs.Vocabulary.{Request, Verdict, State, record_of, reply_of, recorded, verdict_of, is_full, answer_of, Ended, done_is_the_tables, Job, Transaction, Sweep, Response, known_of, Fixed, Task, Proposal, TransactionRun, SweepRun}
+use Rattle.law_runs.proofs.Vocabulary.{Doing, Running, RunningSweep, After, GoesOn, Ends, decision_of, is_decide, Agent, next_in, next_of, left, take_in, begin, started, fixed_of, is_idle, has_sense, max_jobs, Event, Begin, Step, Crash, Return}
+use Rattle.law_runs.proofs.Vocabulary.{Forget, Lack, Served, Actor, World, server_at, actor_at, opening, answered, asks_at, asks, steps_once, step, after, run, Decided, to_decide, answer_in, decided_as, decided_at, decided_by, task_of, task_at}
+use Rattle.law_runs.proofs.Vocabulary.{IsAnsweredAsKnown, AnswersFollowKnowledge}
 use Rattle.file_exec.specs.Known.{on_table}
 use Rattle.rep_core.specs.declared.request.Request.TheVariants as request
 use Rattle.rep_core.specs.declared.reply.Reply.TheVariants as reply

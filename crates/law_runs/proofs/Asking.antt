@@ -1,6 +1,6 @@
 -- What an agent asks in a transaction's name, and where it asks for a decision.
-use Rattle.law_runs.proofs.Vocabulary.{◌≡◌, ℕ, true, false, ◌∷◌, Option, Some, refl, sym, ap, ◌∙◌, arith, ◌==◌, nat_tests, same_Some, Request, Service, Suites, suite_of, parts_at, Fixed, Task, home_of, Proposal, Phase, Gathering, Fetching}
-use Rattle.law_runs.proofs.Vocabulary.{Widening, Preparing, Deciding, Finishing, Sweeping, Listing, SweepRun, request_in, changes_of, decision_of, asked_now, is_decide, asks_same, asked_as, fetched_as, names, may_sweep}
+use Rattle.law_runs.proofs.Vocabulary.{◌≡◌, ℕ, true, false, ◌∷◌, Option, Some, refl, sym, ap, ◌∙◌, arith, ◌==◌, nat_tests, same_Some, Request, Service, Suites, suite_of, parts_at, Fixed, Task, home_of, Proposal, Phase, Gathering, Fetching, Widening}
+use Rattle.law_runs.proofs.Vocabulary.{Preparing, Deciding, Finishing, Sweeping, Listing, SweepRun, request_in, changes_of, decision_of, asked_now, is_decide, asks_same, asked_as, fetched_as, names, may_sweep}
 use Rattle.rep_core.specs.declared.request.Request.TheVariants as request
 
 itself : (t : ℕ) → (t == t) ≡ true

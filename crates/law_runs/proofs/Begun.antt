@@ -1,7 +1,7 @@
 -- Each number of a transaction is begun once, and asked for by its agent alone.
-use Rattle.law_runs.proofs.Vocabulary.{◌≡◌, ◌⊎◌, inl, inr, ⊎_elim, ℕ, ◌+◌, ◌≤◌, ◌<◌, true, false, cond, List, [], ◌∷◌, ◌++◌, Option, Some, None, refl, sym, ap, subst, ◌∙◌, arith, ◌*◌, ◌%◌, ◌&&◌, nat_eq, nat_lt, AllByRecursion, cons_option}
-use Rattle.law_runs.proofs.Vocabulary.{ne_eqb, none-some, same_Some, cond_some, IsDistinct-cons, Opening, Request, Has, contains_from, Answered, Job, Response, Fixed, Doing, Running, RunningSweep, Agent, next_in, next_of, take, begin}
-use Rattle.law_runs.proofs.Vocabulary.{started, fixed_of, is_idle, has_sense, max_jobs, asks_same, Event, Begin, EndedJob, Actor, World, actor_at, opening, becomes, step, run, Decided, decisions, task_of, may_sweep, ChangesAreMet}
+use Rattle.law_runs.proofs.Vocabulary.{◌≡◌, ◌⊎◌, inl, inr, ⊎_elim, ℕ, ◌+◌, ◌≤◌, ◌<◌, true, false, cond, List, [], ◌∷◌, ◌++◌, Option, Some, None, refl, sym, ap, subst, ◌∙◌, arith, ◌*◌, ◌%◌, ◌&&◌, nat_eq, nat_lt, AllByRecursion, cons_option, ne_eqb}
+use Rattle.law_runs.proofs.Vocabulary.{none-some, same_Some, cond_some, IsDistinct-cons, Opening, Request, Has, contains_from, Answered, Job, Response, Fixed, Doing, Running, RunningSweep, Agent, next_in, next_of, take, begin, started, fixed_of}
+use Rattle.law_runs.proofs.Vocabulary.{is_idle, has_sense, max_jobs, asks_same, Event, Begin, EndedJob, Actor, World, actor_at, opening, becomes, step, run, Decided, decisions, task_of, may_sweep, ChangesAreMet}
 use Rattle.law_runs.specs.Numbers.{begins_now, begins_at, begun_from, begun, EachIsBegunOnce, AgentsAskForThemselves, AsksForItself, AsksToSweep}
 use Rattle.std.specs.List.{IsDistinct}
 use Rattle.law_runs.proofs.Asking.{asks_in_its_name, asks_to_sweep, decides}

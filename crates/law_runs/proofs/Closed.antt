@@ -1,7 +1,7 @@
 -- A transaction that tells its end is not decided any more.
-use Rattle.law_runs.proofs.Vocabulary.{◌≡◌, ℕ, ◌+◌, ◌<◌, true, false, cond, List, [], ◌∷◌, ◌++◌, Option, Some, None, refl, sym, ap, subst, ◌∙◌, arith, ⊎_elim, ◌*◌, ◌&&◌, nat_lt, cons_option, same_Some, Opening, IsAccepted, Request, Has}
-use Rattle.law_runs.proofs.Vocabulary.{Cache, Job, Response, Replied, Lacked, Suites, Fixed, Task, Phase, Gathering, Finishing, SweepRun, Doing, Running, RunningSweep, After, GoesOn, Ends, after_response, Agent, next_of, left, take_in}
-use Rattle.law_runs.proofs.Vocabulary.{take, begin, started, fixed_of, is_idle, has_sense, max_jobs, Event, opening, step, run, Decided, decided, decisions, decisions_from, after-append, decisions_from-append}
+use Rattle.law_runs.proofs.Vocabulary.{◌≡◌, ℕ, ◌+◌, ◌<◌, true, false, cond, List, [], ◌∷◌, ◌++◌, Option, Some, None, refl, sym, ap, subst, ◌∙◌, arith, ⊎_elim, ◌*◌, ◌&&◌, nat_lt, cons_option, same_Some, Opening, IsAccepted, Request, Has, Cache, Job}
+use Rattle.law_runs.proofs.Vocabulary.{Response, Replied, Lacked, Suites, Fixed, Task, Phase, Gathering, Finishing, SweepRun, Doing, Running, RunningSweep, After, GoesOn, Ends, after_response, Agent, next_of, left, take_in, take, begin, started}
+use Rattle.law_runs.proofs.Vocabulary.{fixed_of, is_idle, has_sense, max_jobs, Event, opening, step, run, Decided, decided, decisions, decisions_from, after-append, decisions_from-append}
 use Rattle.txn_core.specs.Sweeps as sweep
 use Rattle.law_runs.proofs.Standing.{NotIn, not_in_more}
 use Rattle.law_runs.proofs.Agents.{IsAt, same_place, take_keeps}

@@ -1,8 +1,8 @@
 -- The laws of all runs, from what every event keeps.
-use Rattle.law_runs.proofs.Vocabulary.{◌≡◌, inl, inr, ℕ, zero, suc, ◌+◌, ◌<◌, true, false, cond, List, [], ◌∷◌, ◌++◌, Option, Some, None, refl, sym, ap, subst, ◌∙◌, arith, ◌*◌, ◌%◌, ◌/◌, ◌==◌, nat_lt, slice_get, Contains, Ok, Err}
-use Rattle.law_runs.proofs.Vocabulary.{false≢true, nat_tests, none-some, same_Some, nat_cmp, Opening, IsAccepted, State, Verdict, Has, has_from, contains_from, Ending, Answered, Refused, Swept, Undecided, home_of, Agent, fixed_of, Event}
-use Rattle.law_runs.proofs.Vocabulary.{EndedJob, Actor, World, opening, servers_from, actors_from, server_at, actor_at, recorded_by, after, dones, outcomes, run, done_in, Decided, decisions, decisions_from, dones-append, outcomes-append}
-use Rattle.law_runs.proofs.Vocabulary.{decisions_from-append, ended, IsDecidedAs, DecidedOnce, record_by, DecisionsAreTheRecords, denials_of, denials_at, AuditIsTheDenials, AnsweredBefore}
+use Rattle.law_runs.proofs.Vocabulary.{◌≡◌, inl, inr, ℕ, zero, suc, ◌+◌, ◌<◌, true, false, cond, List, [], ◌∷◌, ◌++◌, Option, Some, None, refl, sym, ap, subst, ◌∙◌, arith, ◌*◌, ◌%◌, ◌/◌, ◌==◌, nat_lt, slice_get, Contains, Ok, Err, false≢true}
+use Rattle.law_runs.proofs.Vocabulary.{nat_tests, none-some, same_Some, nat_cmp, Opening, IsAccepted, State, Verdict, Has, has_from, contains_from, Ending, Answered, Refused, Swept, Undecided, home_of, Agent, fixed_of, Event, EndedJob, Actor, World}
+use Rattle.law_runs.proofs.Vocabulary.{opening, servers_from, actors_from, server_at, actor_at, recorded_by, after, dones, outcomes, run, done_in, Decided, decisions, decisions_from, dones-append, outcomes-append, decisions_from-append, ended}
+use Rattle.law_runs.proofs.Vocabulary.{IsDecidedAs, DecidedOnce, record_by, DecisionsAreTheRecords, denials_of, denials_at, AuditIsTheDenials, AnsweredBefore}
 use Rattle.sorted_map.specs.SortedMap.{get}
 use Rattle.law_runs.specs.Numbers.{number_of, has_begun, was_begun}
 use Rattle.law_runs.specs.Claims.{verdict_of}

@@ -1,6 +1,6 @@
 -- What an event makes of each agent: it is as it was, or it began, forgot, or took a response.
-use Rattle.law_runs.proofs.Vocabulary.{◌≡◌, ⊎_elim, ℕ, List, Option, Some, None, refl, sym, subst, Request, State, none-some, same_Some, Job, Response, Replied, Lacked, Fixed, Agent, next_of, take, begin, forget, Event, Begin, Step, Crash}
-use Rattle.law_runs.proofs.Vocabulary.{Return, Forget, Lack, Served, Actor, World, server_at, actor_at, with_actor, serve, after_serving, moved, becomes, answered, asks_at, asks, steps_once, lacks_for, lacks, operated, operates, step}
+use Rattle.law_runs.proofs.Vocabulary.{◌≡◌, ⊎_elim, ℕ, List, Option, Some, None, refl, sym, subst, Request, State, none-some, same_Some, Job, Response, Replied, Lacked, Fixed, Agent, next_of, take, begin, forget, Event, Begin, Step, Crash, Return}
+use Rattle.law_runs.proofs.Vocabulary.{Forget, Lack, Served, Actor, World, server_at, actor_at, with_actor, serve, after_serving, moved, becomes, answered, asks_at, asks, steps_once, lacks_for, lacks, operated, operates, step}
 use Rattle.rep_core.specs.declared.stamped.Lack.{Lack as Why}
 use Rattle.rep_core.specs.declared.request.Request.TheVariants as request
 use Rattle.rep_core.specs.declared.stamped.Lack.TheVariants as lack

@@ -1,7 +1,7 @@
 -- What a transaction is to be decided with is what the executor came to on what is known.
 use Rattle.law_runs.proofs.Vocabulary.{◌≡◌, ℕ, zero, suc, true, false, cond, List, [], ◌∷◌, Option, Some, None, refl, sym, ap, subst, ◌∙◌, length, is_some, Result, Ok, Err, false≢true, serves, Answer, Refusal, Row, Request, Reply, Verdict}
-use Rattle.law_runs.proofs.Vocabulary.{is_prepared, Ended, IsMoreAt, MoreKnown, more_known_changes_nothing, Cache, ReadPoint, GatheredSuite, Suites, suite_of, with_suite, known_of, settled, first_or, Response, Replied, Lacked, Cause, Lost}
-use Rattle.law_runs.proofs.Vocabulary.{Ending, Undecided, Changes, Granted, Fixed, Task, Proposal, Phase, Gathering, Fetching, Widening, Preparing, Deciding, Finishing, TransactionRun, After, GoesOn, Ends, serves_itself}
+use Rattle.law_runs.proofs.Vocabulary.{is_prepared, Ended, IsMoreAt, MoreKnown, more_known_changes_nothing, Cache, ReadPoint, GatheredSuite, Suites, suite_of, with_suite, known_of, settled, first_or, Response, Replied, Lacked, Cause, Lost, Ending}
+use Rattle.law_runs.proofs.Vocabulary.{Undecided, Changes, Granted, Fixed, Task, Proposal, Phase, Gathering, Fetching, Widening, Preparing, Deciding, Finishing, TransactionRun, After, GoesOn, Ends, serves_itself}
 use Rattle.file_exec.specs.declared.need.Need.TheVariants.{Hold, Know}
 use Rattle.suite_content.specs.declared.content.Content.{Content}
 use Rattle.suite_prefix.specs.declared.copies.Prefix.{Prefix}

@@ -1,9 +1,9 @@
 -- A Finish says how its transaction ended; and whose Finish was served before a transaction was decided, was decided before it.
-use Rattle.law_runs.proofs.Vocabulary.{◌≡◌, ℕ, Bool, true, false, cond, List, [], ◌∷◌, ◌++◌, append_assoc, Option, Some, None, refl, sym, ap, subst, ◌∙◌, arith, ◌==◌, not, Ok, Err, Contains, and_parts, false≢true, nat_tests, none-some}
-use Rattle.law_runs.proofs.Vocabulary.{same_Some, Service, Opening, IsAccepted, Request, Verdict, Stamped, Lock, State, record_of, is_full, answer_of, Has, has_from, contains_from, Ending, Lacked, Suites, suite_of, parts_at, home_of, Fixed}
-use Rattle.law_runs.proofs.Vocabulary.{Task, Phase, Gathering, Fetching, Widening, Preparing, Deciding, Finishing, TransactionRun, SweepRun, Doing, Running, RunningSweep, Sweeping, Telling, request_in, changes_of, decision_of, asked_now}
-use Rattle.law_runs.proofs.Vocabulary.{Agent, next_in, next_of, fixed_of, asks_same, asked_as, fetched_as, Event, Begin, Step, Crash, Return, Forget, Lack, Served, Actor, World, opening, server_at, actor_at, serve, becomes, answered}
-use Rattle.law_runs.proofs.Vocabulary.{asks_at, asks, steps_once, lacks_for, lacks, operated, operates, step, after, dones, run, Decided, decisions, after-append, names, may_sweep, IsDecidedAs}
+use Rattle.law_runs.proofs.Vocabulary.{◌≡◌, ℕ, Bool, true, false, cond, List, [], ◌∷◌, ◌++◌, append_assoc, Option, Some, None, refl, sym, ap, subst, ◌∙◌, arith, ◌==◌, not, Ok, Err, Contains, and_parts, false≢true, nat_tests, none-some, same_Some}
+use Rattle.law_runs.proofs.Vocabulary.{Service, Opening, IsAccepted, Request, Verdict, Stamped, Lock, State, record_of, is_full, answer_of, Has, has_from, contains_from, Ending, Lacked, Suites, suite_of, parts_at, home_of, Fixed, Task, Phase}
+use Rattle.law_runs.proofs.Vocabulary.{Gathering, Fetching, Widening, Preparing, Deciding, Finishing, TransactionRun, SweepRun, Doing, Running, RunningSweep, Sweeping, Telling, request_in, changes_of, decision_of, asked_now, Agent, next_in, next_of}
+use Rattle.law_runs.proofs.Vocabulary.{fixed_of, asks_same, asked_as, fetched_as, Event, Begin, Step, Crash, Return, Forget, Lack, Served, Actor, World, opening, server_at, actor_at, serve, becomes, answered, asks_at, asks, steps_once, lacks_for}
+use Rattle.law_runs.proofs.Vocabulary.{lacks, operated, operates, step, after, dones, run, Decided, decisions, after-append, names, may_sweep, IsDecidedAs}
 use Rattle.rep_core.specs.Laws.{is_finish}
 use Rattle.law_runs.specs.Finishes.{EndedSo, FinishIsAfter, asks_for_itself, FinishedBefore, FinishedChangesAreMet, SomeRunsFinish}
 use Rattle.rep_core.specs.declared.stamped.Lack.{Lack as Why}

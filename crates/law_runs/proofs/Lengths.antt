@@ -1,7 +1,6 @@
 -- A world has as many servers and agents as it opened with.
-use Rattle.law_runs.proofs.Vocabulary.{◌≡◌, ℕ, zero, suc, ◌+◌, List, [], ◌∷◌, length, Option, Some, None, refl, ap, ◌∙◌, Opening, Request, served, State, Response, Lacked, Fixed, Agent, begin, fixed_of, forget, next_of, Event, Begin, Step}
-use Rattle.law_runs.proofs.Vocabulary.{Crash, Return, Forget, Lack, Served, after, run, Actor, World, actor_at, actors_from, answered, asks, asks_at, becomes, lacks, lacks_for, opening, operated, operates, serve, server_at, servers_from}
-use Rattle.law_runs.proofs.Vocabulary.{step, steps_once}
+use Rattle.law_runs.proofs.Vocabulary.{◌≡◌, ℕ, zero, suc, ◌+◌, List, [], ◌∷◌, length, Option, Some, None, refl, ap, ◌∙◌, Opening, Request, served, State, Response, Lacked, Fixed, Agent, begin, fixed_of, forget, next_of, Event, Begin, Step, Crash}
+use Rattle.law_runs.proofs.Vocabulary.{Return, Forget, Lack, Served, after, run, Actor, World, actor_at, actors_from, answered, asks, asks_at, becomes, lacks, lacks_for, opening, operated, operates, serve, server_at, servers_from, step, steps_once}
 use Rattle.std.proofs.lemmas.List.{length-set}
 use Rattle.rep_core.specs.declared.request.Request.TheVariants as request
 

@@ -1,9 +1,9 @@
 -- What a sweep tells of a transaction is its home's record: event by event.
-use Rattle.law_runs.proofs.Vocabulary.{◌≡◌, ⊎_elim, ℕ, ◌+◌, Bool, true, false, cond, List, [], ◌∷◌, Option, Some, None, refl, sym, ap, subst, ◌∙◌, ◌==◌, ◌&&◌, nat_lt, slice_get, slice_set, none-some, same_Some, Opening, Lock, Request}
-use Rattle.law_runs.proofs.Vocabulary.{Reply, Verdict, Stamped, State, record_of, reply_of, is_full, served, answer_of, resolve_ruled, Job, Transaction, Sweep, Response, Replied, Lacked, home_of, Fixed, TransactionRun, SweepRun, Doing}
-use Rattle.law_runs.proofs.Vocabulary.{Running, RunningSweep, After, GoesOn, Ends, Sweeping, Listing, Resolving, Telling, Breaking, Agent, next_in, next_of, left, take_in, take, begin, started, forget, fixed_of, is_idle, has_sense}
-use Rattle.law_runs.proofs.Vocabulary.{max_jobs, Event, Begin, Step, Crash, Return, Forget, Lack, Served, Actor, World, server_at, actor_at, with_actor, opening, serve, after_serving, moved, becomes, lacked, answered, asks_at, asks}
-use Rattle.law_runs.proofs.Vocabulary.{steps_once, lacks_for, lacks, operated, operates, step, after, run}
+use Rattle.law_runs.proofs.Vocabulary.{◌≡◌, ⊎_elim, ℕ, ◌+◌, Bool, true, false, cond, List, [], ◌∷◌, Option, Some, None, refl, sym, ap, subst, ◌∙◌, ◌==◌, ◌&&◌, nat_lt, slice_get, slice_set, none-some, same_Some, Opening, Lock, Request, Reply, Verdict}
+use Rattle.law_runs.proofs.Vocabulary.{Stamped, State, record_of, reply_of, is_full, served, answer_of, resolve_ruled, Job, Transaction, Sweep, Response, Replied, Lacked, home_of, Fixed, TransactionRun, SweepRun, Doing, Running, RunningSweep, After}
+use Rattle.law_runs.proofs.Vocabulary.{GoesOn, Ends, Sweeping, Listing, Resolving, Telling, Breaking, Agent, next_in, next_of, left, take_in, take, begin, started, forget, fixed_of, is_idle, has_sense, max_jobs, Event, Begin, Step, Crash, Return}
+use Rattle.law_runs.proofs.Vocabulary.{Forget, Lack, Served, Actor, World, server_at, actor_at, with_actor, opening, serve, after_serving, moved, becomes, lacked, answered, asks_at, asks, steps_once, lacks_for, lacks, operated, operates, step, after}
+use Rattle.law_runs.proofs.Vocabulary.{run}
 use Rattle.rep_core.specs.Locks.{has_prepared}
 use Rattle.rep_core.specs.declared.stamped.Lack.{Lack as Why}
 use Rattle.rep_core.specs.Service.{after as after_request}

@@ -1,6 +1,6 @@
 -- What servers have recorded of the decisions so far, and what a served request adds.
-use Rattle.law_runs.proofs.Vocabulary.{◌≡◌, ◌≢◌, ◌⊎◌, ⊎_elim, ℕ, true, false, cond, List, [], ◌∷◌, ◌++◌, append_assoc, Option, Some, None, refl, sym, ap, subst, ◌∙◌, arith, ◌==◌, nat_tests, same_Some, Verdict, State, record_of, Has, Fixed}
-use Rattle.law_runs.proofs.Vocabulary.{home_of, Decided, denials_of, denials_at}
+use Rattle.law_runs.proofs.Vocabulary.{◌≡◌, ◌≢◌, ◌⊎◌, ⊎_elim, ℕ, true, false, cond, List, [], ◌∷◌, ◌++◌, append_assoc, Option, Some, None, refl, sym, ap, subst, ◌∙◌, arith, ◌==◌, nat_tests, same_Some, Verdict, State, record_of, Has, Fixed, home_of}
+use Rattle.law_runs.proofs.Vocabulary.{Decided, denials_of, denials_at}
 use Rattle.rep_core.specs.declared.reply.Verdict.TheVariants as verdict
 use Rattle.law_runs.proofs.Standing.{Recorded, recorded_more, recorded_last, verdict_as, has_append}
 use Rattle.law_runs.proofs.Places.{Puts, at_puts, same_or}

@@ -1,7 +1,7 @@
 -- Where agents know the table, every run is answered as the table answers it.
-use Rattle.law_runs.proofs.Vocabulary.{◌≡◌, List, [], ◌∷◌, ◌++◌, append_assoc, Option, Some, None, refl, sym, ap, subst, ◌∙◌, option_to_list, Result, Ok, Err, cons_option, Opening, Refusal, PlainTable, Played, transaction, replies}
-use Rattle.law_runs.proofs.Vocabulary.{table_after, fixed_of, Event, opening, step, run, Decided, decided, decisions, decisions_from, played_on, table_with, table_after_all, table_of, AnswersAreTheTables, after-append}
-use Rattle.law_runs.proofs.Vocabulary.{decisions_from-append, denied_in, denials_of, KnowsTheTable, KnownAnswersAreTheTables, all_denials, TablesAuditIsTheDenials}
+use Rattle.law_runs.proofs.Vocabulary.{◌≡◌, List, [], ◌∷◌, ◌++◌, append_assoc, Option, Some, None, refl, sym, ap, subst, ◌∙◌, option_to_list, Result, Ok, Err, cons_option, Opening, Refusal, PlainTable, Played, transaction, replies, table_after}
+use Rattle.law_runs.proofs.Vocabulary.{fixed_of, Event, opening, step, run, Decided, decided, decisions, decisions_from, played_on, table_with, table_after_all, table_of, AnswersAreTheTables, after-append, decisions_from-append, denied_in}
+use Rattle.law_runs.proofs.Vocabulary.{denials_of, KnowsTheTable, KnownAnswersAreTheTables, all_denials, TablesAuditIsTheDenials}
 use Rattle.file_ops.specs.Rows as rows
 use Rattle.law_runs.proofs.Servers.{append_none}
 use Rattle.law_runs.proofs.Answering.{answers_follow_knowledge}

@@ -1,7 +1,7 @@
 -- A request that an agent's transaction makes of a server: what it decides, and what it says.
-use Rattle.law_runs.proofs.Vocabulary.{◌≡◌, ◌⊎◌, inl, inr, ⊎_elim, ℕ, Bool, true, false, cond, List, [], ◌∷◌, ◌++◌, Option, Some, None, refl, sym, ap, subst, ◌∙◌, is_some, option_to_list, Ok, Err, false≢true, same_Some, Refusal, denials}
-use Rattle.law_runs.proofs.Vocabulary.{Request, Reply, Verdict, Stamped, State, record_of, reply_of, after_record, recorded, verdict_of, audit_of, denial_of, with_item, is_full, served, record_here, record_apart, record_step, recording}
-use Rattle.law_runs.proofs.Vocabulary.{Replied, Fixed, Task, Phase, Deciding, Proposal, home_of, decision_of, is_decide, said_by, Agent, Decided, to_decide, answer_in, decided_as, decided_at}
+use Rattle.law_runs.proofs.Vocabulary.{◌≡◌, ◌⊎◌, inl, inr, ⊎_elim, ℕ, Bool, true, false, cond, List, [], ◌∷◌, ◌++◌, Option, Some, None, refl, sym, ap, subst, ◌∙◌, is_some, option_to_list, Ok, Err, false≢true, same_Some, Refusal, denials, Request}
+use Rattle.law_runs.proofs.Vocabulary.{Reply, Verdict, Stamped, State, record_of, reply_of, after_record, recorded, verdict_of, audit_of, denial_of, with_item, is_full, served, record_here, record_apart, record_step, recording, Replied, Fixed, Task}
+use Rattle.law_runs.proofs.Vocabulary.{Phase, Deciding, Proposal, home_of, decision_of, is_decide, said_by, Agent, Decided, to_decide, answer_in, decided_as, decided_at}
 use Rattle.file_ops.specs.declared.audit.AuditItem.{AuditItem}
 use Rattle.file_ops.specs.declared.refusal.Why.{Why}
 use Rattle.rep_core.specs.Service.{after}

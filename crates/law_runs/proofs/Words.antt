@@ -1,7 +1,7 @@
 -- What an agent makes of a response: it stays with its task, and ends it as the home said.
-use Rattle.law_runs.proofs.Vocabulary.{◌≡◌, ℕ, true, false, cond, List, [], ◌∷◌, Some, refl, sym, ap, subst, Request, Verdict, Reply, is_prepared, Cache, Suites, suite_of, parts_at, Response, Replied, Lacked, Cause, Lost, Ending, Undecided}
-use Rattle.law_runs.proofs.Vocabulary.{Fixed, Task, home_of, Proposal, Phase, Gathering, Fetching, Widening, Preparing, Deciding, Finishing, TransactionRun, After, GoesOn, Ends, execute, tell_end, give_up, prepare, locked_at, lack_cause}
-use Rattle.law_runs.proofs.Vocabulary.{prepared, after_response, request_in, changes_of, decision_of, verdict_in, ending_by, cause_of_abort, is_decide, said_by, asks_same, asked_as, fetched_as}
+use Rattle.law_runs.proofs.Vocabulary.{◌≡◌, ℕ, true, false, cond, List, [], ◌∷◌, Some, refl, sym, ap, subst, Request, Verdict, Reply, is_prepared, Cache, Suites, suite_of, parts_at, Response, Replied, Lacked, Cause, Lost, Ending, Undecided, Fixed}
+use Rattle.law_runs.proofs.Vocabulary.{Task, home_of, Proposal, Phase, Gathering, Fetching, Widening, Preparing, Deciding, Finishing, TransactionRun, After, GoesOn, Ends, execute, tell_end, give_up, prepare, locked_at, lack_cause, prepared}
+use Rattle.law_runs.proofs.Vocabulary.{after_response, request_in, changes_of, decision_of, verdict_in, ending_by, cause_of_abort, is_decide, said_by, asks_same, asked_as, fetched_as}
 use Rattle.txn_core.proofs.Walk.{IsEarly, goes_response, goes_execute}
 use Rattle.rep_core.specs.declared.request.Request.TheVariants as request
 use Rattle.rep_core.specs.declared.reply.Verdict.TheVariants as verdict

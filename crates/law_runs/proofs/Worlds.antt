@@ -1,9 +1,9 @@
 -- What holds of the decisions and the jobs that ended in every run: one event after the other.
-use Rattle.law_runs.proofs.Vocabulary.{◌≡◌, ◌≢◌, ◌⊎◌, inl, inr, ⊎_elim, ℕ, zero, suc, ◌+◌, ◌≤◌, Bool, true, false, cond, List, [], ◌∷◌, ◌++◌, append_assoc, Option, Some, None, refl, sym, ap, subst, ◌∙◌, arith, ◌*◌, slice_get, slice_set}
-use Rattle.law_runs.proofs.Vocabulary.{option_map, option_to_list, cons_option, none-some, same_Some, Request, Reply, Verdict, Stamped, State, record_of, is_full, served, answer_of, next_stamp, Ending, Job, Response, Replied, Lacked, Fixed}
-use Rattle.law_runs.proofs.Vocabulary.{Task, TransactionRun, SweepRun, Doing, Running, RunningSweep, home_of, is_decide, said_by, Agent, next_in, next_of, take_in, take, begin, forget, Event, Begin, Step, Crash, Return, Forget, Lack}
-use Rattle.law_runs.proofs.Vocabulary.{Served, EndedJob, Actor, World, server_at, actor_at, with_actor, Stepped, serve, after_serving, moved, outcome_of, lacked, answered, becomes, asks_at, asks, steps_once, lacks_for, lacks, operated}
-use Rattle.law_runs.proofs.Vocabulary.{operates, step, after, dones, outcomes, Decided, task_of, task_at, task_in, decided_by, decided, decisions_from, decided_at, to_decide, decided_as, answer_in, asks_same, Deciding as Deciding'}
+use Rattle.law_runs.proofs.Vocabulary.{◌≡◌, ◌≢◌, ◌⊎◌, inl, inr, ⊎_elim, ℕ, zero, suc, ◌+◌, ◌≤◌, Bool, true, false, cond, List, [], ◌∷◌, ◌++◌, append_assoc, Option, Some, None, refl, sym, ap, subst, ◌∙◌, arith, ◌*◌, slice_get, slice_set, option_map}
+use Rattle.law_runs.proofs.Vocabulary.{option_to_list, cons_option, none-some, same_Some, Request, Reply, Verdict, Stamped, State, record_of, is_full, served, answer_of, next_stamp, Ending, Job, Response, Replied, Lacked, Fixed, Task, TransactionRun}
+use Rattle.law_runs.proofs.Vocabulary.{SweepRun, Doing, Running, RunningSweep, home_of, is_decide, said_by, Agent, next_in, next_of, take_in, take, begin, forget, Event, Begin, Step, Crash, Return, Forget, Lack, Served, EndedJob, Actor, World}
+use Rattle.law_runs.proofs.Vocabulary.{server_at, actor_at, with_actor, Stepped, serve, after_serving, moved, outcome_of, lacked, answered, becomes, asks_at, asks, steps_once, lacks_for, lacks, operated, operates, step, after, dones, outcomes}
+use Rattle.law_runs.proofs.Vocabulary.{Decided, task_of, task_at, task_in, decided_by, decided, decisions_from, decided_at, to_decide, decided_as, answer_in, asks_same, Deciding as Deciding'}
 use Rattle.rep_core.specs.declared.stamped.Lack.{Lack as Why}
 use Rattle.rep_core.specs.Service.{after as after_request, reply_of}
 use Rattle.rep_core.specs.declared.request.Request.TheVariants as request

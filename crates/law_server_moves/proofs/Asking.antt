@@ -1,7 +1,7 @@
 -- Requests for locks move the machine, and what lets locks go.
-use Rattle.law_server_moves.proofs.Vocabulary.{◌≡◌, ℕ, Bool, true, false, cond, [], ◌∷◌, Option, Some, None, refl, sym, ap, subst, ◌∙◌, inl, inr, ◌==◌, ◌&&◌, ◌||◌, not, LockMode, Exclusive, is_exclusive, Lock, Request, Reply, rise, lock_at}
-use Rattle.law_server_moves.proofs.Vocabulary.{in_the_way, has_lock, broken, copy_of, State, locking_reply, after_locking, poll_reply, after_poll, after_crash, lock_there, way_free, with_locked, Beginning, World, set1, Event, Held, Upgrade}
-use Rattle.law_server_moves.proofs.Vocabulary.{Lose, upgraded, upgraded_hold, lost, kept, IsFree, MayLose, itself, one_is, hold_of, ShowsAt, Shows, is_prepared, left_by_break, left_by_crash, moves, Follows}
+use Rattle.law_server_moves.proofs.Vocabulary.{◌≡◌, ℕ, Bool, true, false, cond, [], ◌∷◌, Option, Some, None, refl, ap, subst, ◌∙◌, ◌==◌, ◌&&◌, ◌||◌, not, LockMode, Exclusive, is_exclusive, Lock, Request, Reply, rise, arith, in_the_way, has_lock}
+use Rattle.law_server_moves.proofs.Vocabulary.{broken, copy_of, State, locking_reply, after_locking, poll_reply, after_poll, after_crash, lock_there, way_free, with_locked, Beginning, World, set1, Event, Held, Upgrade, Lose, upgraded, lost, IsFree}
+use Rattle.law_server_moves.proofs.Vocabulary.{MayLose, itself, one_is, hold_of, ShowsAt, Shows, is_prepared, left_by_break, left_by_crash, moves, Follows}
 use Rattle.rep_core.specs.declared.request.Request.TheVariants as request
 use Rattle.rep_core.specs.declared.reply.Reply.TheVariants as reply
 use Rattle.law_suite_machine.specs.Events as events
@@ -13,61 +13,25 @@ use Rattle.law_server_moves.proofs.Keeping.{shows_moved, stays, nothing}
 -- ---- the machine at the server that is asked
 
 held_here : (z : ℕ) (st : State) (w : World) (i t : ℕ) (m : LockMode) → ShowsAt z st w i → rise st.locks ≡ true → w.lock i t ≡ None → ShowsAt z (with_locked t z m st) (events.held w i t (is_exclusive m)) i
-held_here z st w i t m shows up none = record {
-  copy = shows.copy;
-  lock = λ u.
-      here2 w.lock i t (Some (record { exclusive = is_exclusive m; prepared = false })) u
-      ∙ ap (cond (u == t) (Some (record { exclusive = is_exclusive m; prepared = false }))) (shows.lock u)
-      ∙ sym (hold_at-new t z m st.locks up u (hold_none (lock_at t z st.locks) (sym (shows.lock t) ∙ none)));
-  plan = shows.plan;
-}
+held_here z st w i t m shows up none = search (here2, hold_at-new, hold_none, arith)
 
 upgraded_here : (z : ℕ) (st : State) (w : World) (i t : ℕ) → ShowsAt z st w i → rise st.locks ≡ true → has_lock t z st.locks ≡ true → ShowsAt z (with_locked t z Exclusive st) (upgraded w i t) i
-upgraded_here z st w i t shows up has = record {
-  copy = shows.copy;
-  lock = λ u.
-      here2 w.lock i t (upgraded_hold (w.lock i t)) u
-      ∙ (λ k. cond (u == t) (upgraded_hold (shows.lock t k)) (shows.lock u k))
-      ∙ sym (hold_at-raised t z st.locks up u has);
-  plan = shows.plan;
-}
+upgraded_here z st w i t shows up has = search (here2, hold_at-raised, arith)
 
 broken_here : (z : ℕ) (st : State) (w : World) (i t : ℕ) → ShowsAt z st w i → rise st.locks ≡ true → ShowsAt z (record st { locks = broken t z st.locks }) (lost w (left_by_break w i t)) i
-broken_here z st w i t shows up = record {
-  copy = shows.copy;
-  lock = λ u.
-      ap (λ b. kept (not (b && (u == t)) || is_prepared (w.lock i u)) (w.lock i u)) (itself i i refl)
-      ∙ ap (λ h. kept (not (u == t) || is_prepared h) h) (shows.lock u)
-      ∙ sym (hold_at-broken t z st.locks up u);
-  plan = shows.plan;
-}
+broken_here z st w i t shows up = search (itself, hold_at-broken, arith)
 
 crashed_here : (z : ℕ) (st : State) (w : World) (i : ℕ) → ShowsAt z st w i → rise st.locks ≡ true → ShowsAt z (after_crash st) (lost w (left_by_crash w i)) i
-crashed_here z st w i shows up = record {
-  copy = shows.copy;
-  lock = λ u.
-      ap (λ b. kept (not b || is_prepared (w.lock i u)) (w.lock i u)) (itself i i refl)
-      ∙ ap (λ h. kept (is_prepared h) h) (shows.lock u)
-      ∙ sym (hold_at-crashed st.locks up u z);
-  plan = shows.plan;
-}
+crashed_here z st w i shows up = search (itself, hold_at-crashed, arith)
 
 -- ---- the server's side of the conditions
 
 free_way : (z : ℕ) (st : State) (w : World) (i t : ℕ) (m : LockMode) → ShowsAt z st w i → in_the_way t z m st.locks ≡ None → IsFree w i t (is_exclusive m)
-free_way z st w i t m shows none u other lock strong =
-    let l = hold_some (lock_at u z st.locks) other (sym (shows.lock u) ∙ lock) in
-    way_free t z m st.locks none u l.0 l.1 (elim strong [ inl e ↦ inl e | inr e ↦ inr (l.2 ∙ e) ])
-
-or_true : (a b : Bool) → b ≡ true → (a || b) ≡ true
-or_true true b e = refl
-or_true false b e = e
+free_way z st w i t m shows none u other lock strong = search (hold_some, way_free, arith)
 
 -- a prepared lock stays
 pub spares : (w : World) (goes : ℕ → ℕ → Bool) → MayLose w (λ j u. not (goes j u) || is_prepared (w.lock j u))
-spares w goes = record {
-  prepared_stay = λ j u h lock prepared. or_true (not (goes j u)) (is_prepared (w.lock j u)) (ap is_prepared lock ∙ prepared);
-}
+spares w goes = search arith
 
 -- ---- each request
 
@@ -116,12 +80,7 @@ module _ (start : Beginning) (z : ℕ) (home : ℕ → ℕ) (servers : ℕ → S
   raising : (t s : ℕ) → has_lock t s (servers i).locks ≡ true → (o : Option Lock) → in_the_way t s Exclusive (servers i).locks ≡ o
       → Comes (request.Upgrade t s) (locking_reply o (copy_of (servers i).store s)) (after_locking o t s Exclusive (servers i))
   raising t s has (Some other) e = nothing start z home servers i w shows
-  raising t s has None e =
-      elim (z == s) as (λ b. (z == s) ≡ b → Follows start z home (set1 servers i (with_locked t s Exclusive (servers i))) w (cond b (Upgrade i t ∷ []) [])) [
-        | true ↦ λ is. subst (λ s. has_lock t s (servers i).locks ≡ true → in_the_way t s Exclusive (servers i).locks ≡ None
-            → Follows start z home (set1 servers i (with_locked t s Exclusive (servers i))) w (Upgrade i t ∷ [])) (one_is s z is) (upgrade_held t) has e
-        | false ↦ λ other. locked_elsewhere t s Exclusive other
-      ] refl
+  raising t s has None e = search (upgrade_held t, with_locked, one_is, locked_elsewhere, arith)
 
   pub upgrade_moves : (t s : ℕ) (b : Bool) → has_lock t s (servers i).locks ≡ b → Comes (request.Upgrade t s) (cond b (poll_reply (servers i) t s Exclusive) reply.Lost) (cond b (after_poll (servers i) t s Exclusive) (servers i))
   upgrade_moves t s true has = raising t s has (in_the_way t s Exclusive (servers i).locks) refl
@@ -138,16 +97,7 @@ module _ (start : Beginning) (z : ℕ) (home : ℕ → ℕ) (servers : ℕ → S
   }
 
   pub break_moves : (t s : ℕ) → Comes (request.Break t s) reply.Done (record (servers i) { locks = broken t s (servers i).locks })
-  break_moves t s =
-      elim (z == s) as (λ b. (z == s) ≡ b → Follows start z home (set1 servers i (record (servers i) { locks = broken t s (servers i).locks })) w (cond b (Lose (left_by_break w i t) ∷ []) [])) [
-        | true ↦ λ is. subst (λ s. Follows start z home (set1 servers i (record (servers i) { locks = broken t s (servers i).locks })) w (Lose (left_by_break w i t) ∷ [])) (one_is s z is) (break_here t)
-        | false ↦ λ other. stays start z home servers i (record (servers i) { locks = broken t s (servers i).locks }) w shows (λ t. refl) (record { copy = refl; lock = λ u. hold_at-unbroken t s (servers i).locks up u z other; plan = refl })
-      ] refl
+  break_moves t s = search (break_here t, one_is, stays, hold_at-unbroken, arith)
 
   pub crash_moves : Comes request.Crash reply.Done (after_crash (servers i))
-  crash_moves = record {
-    obeys = (spares w (λ j u. j == i), tt);
-    shows = shows_moved z home servers i (after_crash (servers i)) w (lost w (left_by_crash w i)) shows refl (λ t. refl)
-        (crashed_here z (servers i) w i (shows.at i) up)
-        (λ j apart. crashed_apart z (servers j) w i j apart (shows.at j));
-  }
+  crash_moves = search (spares, shows_moved, crashed_here, crashed_apart, arith)

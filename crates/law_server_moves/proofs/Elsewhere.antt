@@ -1,6 +1,6 @@
 -- What each event of the machine leaves at the servers that it does not name.
-use Rattle.law_server_moves.proofs.Vocabulary.{◌≡◌, ℕ, Bool, List, Option, ap, ◌∙◌, ◌==◌, ◌&&◌, ◌||◌, not, Replica, State, World, Verdict, Entry, held, upgraded, prepared, finished, lost, decided, kept, another, ShowsAt, is_prepared}
-use Rattle.law_server_moves.proofs.Vocabulary.{left_by_break, left_by_crash}
+use Rattle.law_server_moves.proofs.Vocabulary.{◌≡◌, ℕ, Bool, List, Option, ap, ◌∙◌, ◌==◌, ◌&&◌, ◌||◌, not, Replica, State, World, Verdict, Entry, held, upgraded, prepared, finished, lost, decided, kept, another, ShowsAt, is_prepared, left_by_break}
+use Rattle.law_server_moves.proofs.Vocabulary.{left_by_crash}
 use Rattle.law_server_moves.proofs.Placing.{there1, there2}
 
 module _ (suite : ℕ) (st : State) (w : World) (i j : ℕ) (apart : j ≡ i → ⊥) (shows : ShowsAt suite st w j) where

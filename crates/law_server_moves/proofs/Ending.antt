@@ -1,7 +1,7 @@
 -- Finish, Decide and Resolve move the machine.
-use Rattle.law_server_moves.proofs.Vocabulary.{◌≡◌, ℕ, Bool, true, false, cond, List, [], ◌∷◌, Option, Some, None, refl, sym, ap, subst, ◌∙◌, ◌==◌, nat_cmp, get, Replica, IsSound, copy_of, left_by, State, record_of, after_finish}
-use Rattle.law_server_moves.proofs.Vocabulary.{after_record, recorded, recording, record_here, record_apart, Beginning, Entry, World, Aborted, set1, Event, Finish, Overrule, copy_after, plan_after, decided, MayFinish, at1, one_is, one_not}
-use Rattle.law_server_moves.proofs.Vocabulary.{plan_of, ended_as, verdict_of, ShowsAt, Shows, first_verdict, moves, Decides, Follows}
+use Rattle.law_server_moves.proofs.Vocabulary.{◌≡◌, ℕ, Bool, cond, List, [], ◌∷◌, Option, Some, None, refl, sym, ap, subst, ◌∙◌, ◌==◌, get, Replica, IsSound, State, record_of, after_finish, arith, after_record, recorded, recording, record_here}
+use Rattle.law_server_moves.proofs.Vocabulary.{record_apart, Beginning, Entry, World, Aborted, set1, Event, Finish, Overrule, copy_after, plan_after, decided, MayFinish, at1, one_is, one_not, plan_of, ended_as, verdict_of, ShowsAt, Shows}
+use Rattle.law_server_moves.proofs.Vocabulary.{first_verdict, moves, Decides, Follows}
 use Rattle.file_ops.specs.declared.audit.AuditItem.{AuditItem}
 use Rattle.rep_core.specs.declared.request.Decision.{Decision}
 use Rattle.rep_core.proofs.IntentionLookups.{others, stored, get-without_intentions, copy_finished}
@@ -20,40 +20,14 @@ use Rattle.law_server_moves.proofs.Keeping.{keeps_shows, shows_moved, nothing}
 -- ---- Finish
 
 copy_by : (v : replied.Verdict) (t : ℕ) (o : Option server.Intention) (copy : Replica) → copy_after (ended_as v) t (plan_of o copy) copy ≡ stored (service.is_answered v) t o copy
-copy_by (verdict.Answered replies) t None copy = refl
-copy_by (verdict.Answered replies) t (Some x) copy = refl
-copy_by (verdict.Refused refusal) t o copy = refl
-copy_by verdict.Aborted t o copy = refl
+copy_by v t o copy = search arith
 
 -- the intention of another transaction stays, and so does the copy beside it
 plan_by : (t : ℕ) (answered : Bool) (o : Option server.Intention) (copy : Replica) → plan_after t (plan_of o copy) ≡ plan_of (others t o) (stored answered t o copy)
-plan_by t true None copy = refl
-plan_by t false None copy = refl
-plan_by t true (Some x) copy =
-    elim (x.t == t) as (λ b. cond b None (Some (record { t = x.t; copy = left_by x.take copy })) ≡ plan_of (cond b None (Some x)) (cond b (left_by x.take copy) copy)) [ true ↦ refl | false ↦ refl ]
-plan_by t false (Some x) copy =
-    elim (x.t == t) as (λ b. cond b None (Some (record { t = x.t; copy = left_by x.take copy })) ≡ plan_of (cond b None (Some x)) copy) [ true ↦ refl | false ↦ refl ]
+plan_by t answered o copy = search arith
 
 finished_here : (z : ℕ) (st : State) (w : World) (i t : ℕ) (v : replied.Verdict) → IsSound st.store → ShowsAt z st w i → ShowsAt z (after_finish st t v) (events.finished w i t (ended_as v)) i
-finished_here z st w i t v sound shows =
-    let o = get nat_cmp st.store.intentions z in
-    let copy = copy_of st.store z in
-    record {
-      copy =
-          here1 w.copy i (copy_after (ended_as v) t (w.plan i) (w.copy i))
-          ∙ (λ k. copy_after (ended_as v) t (shows.plan k) (shows.copy k))
-          ∙ copy_by v t o copy
-          ∙ sym (copy_finished st.store t (service.is_answered v) z sound);
-      lock = λ u.
-          here2 w.lock i t None u
-          ∙ ap (cond (u == t) None) (shows.lock u)
-          ∙ sym (hold_at-released t st.locks u z);
-      plan =
-          here1 w.plan i (plan_after t (w.plan i))
-          ∙ ap (plan_after t) shows.plan
-          ∙ plan_by t (service.is_answered v) o copy
-          ∙ sym (λ k. plan_of (get-without_intentions t st.store.intentions z sound.rising k) (copy_finished st.store t (service.is_answered v) z sound k));
-    }
+finished_here z st w i t v sound shows = search (here1, copy_by, copy_finished, here2, hold_at-released, plan_by, get-without_intentions, arith)
 
 module _ (start : Beginning) (z : ℕ) (home : ℕ → ℕ) (servers : ℕ → State) (i : ℕ) (w : World) (shows : Shows z home servers w) where
   -- the agent that sends a Finish knows how the transaction ended
@@ -100,25 +74,15 @@ module _ (start : Beginning) (z : ℕ) (home : ℕ → ℕ) (servers : ℕ → S
       → Follows start z home (set1 servers i (after_record o t v item (servers i))) w (first_verdict (w.verdict t) decision)
   ruled t v item decision at_home decides (Some old) e =
       subst (λ o. Follows start z home (set1 servers i (servers i)) w (first_verdict o decision)) (sym (at_home_is t at_home ∙ ap verdict_of e)) (nothing start z home servers i w shows)
-  ruled t v item decision at_home decides None e =
-      let none = at_home_is t at_home ∙ ap verdict_of e in
-      subst (λ o. Follows start z home (set1 servers i (recording t v item (servers i))) w (first_verdict o decision)) (sym none) (record {
-        obeys = (decides.may none, tt);
-        shows = subst (Shows z home (set1 servers i (recording t v item (servers i)))) (sym decides.is) (recorded_shows t v item decides.log at_home);
-      })
+  ruled t v item decision at_home decides None e = search (at_home_is, recording, recorded_shows, arith)
 
   elsewhere : (t : ℕ) (v : replied.Verdict) (item : Option AuditItem) → (home t ≡ i → ⊥) → (o : Option replied.Verdict) → Follows start z home (set1 servers i (after_record o t v item (servers i))) w []
-  elsewhere t v item away (Some old) = nothing start z home servers i w shows
-  elsewhere t v item away None = record { obeys = tt; shows = recorded_elsewhere t v item away }
+  elsewhere t v item h3 o = search (nothing, recorded_elsewhere, arith)
 
   -- a verdict that is asked for
   ruling : (t : ℕ) (v : replied.Verdict) (item : Option AuditItem) (decision : Event) → (home t ≡ i → Decides start w t (ended_as v) decision)
       → Follows start z home (set1 servers i (after_record (record_of (servers i) t) t v item (servers i))) w (cond (home t == i) (first_verdict (w.verdict t) decision) [])
-  ruling t v item decision decides =
-      elim (home t == i) as (λ b. (home t == i) ≡ b → Follows start z home (set1 servers i (after_record (record_of (servers i) t) t v item (servers i))) w (cond b (first_verdict (w.verdict t) decision) [])) [
-        | true ↦ λ e. let is = one_is i (home t) e in ruled t v item decision is (decides is) (record_of (servers i) t) refl
-        | false ↦ λ e. elsewhere t v item (one_not i (home t) e) (record_of (servers i) t)
-      ] refl
+  ruling t v item decision decides = search (one_is, ruled, elsewhere, one_not, arith)
 
   -- the agent asks the transaction's home to decide it, once it may be decided
   pub decide_moves : (t : ℕ) (decided : Decision) (decision : Event) → (home t ≡ i → Decides start w t (ended_as (service.verdict_of decided)) decision)

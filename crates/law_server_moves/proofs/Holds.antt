@@ -1,7 +1,7 @@
 -- The lock that the machine has of a transaction, after each change of a server's locks.
-use Rattle.law_server_moves.proofs.Vocabulary.{◌≡◌, ℕ, Bool, true, false, cond, List, Option, Some, None, refl, sym, ap, ◌∙◌, arith, ◌==◌, ◌&&◌, ◌||◌, not, option_map, nat_tests, LockMode, Shared, Exclusive, is_exclusive, stronger, Lock}
-use Rattle.law_server_moves.proofs.Vocabulary.{Part, rise, lock_at, has_lock, with_prepared, released, broken, prepared_locks, lock_there, taken, ready, names, if_prepared, lock_at-locked, lock_at-prepared, lock_at-released}
-use Rattle.law_server_moves.proofs.Vocabulary.{lock_at-crashed, lock_at-broken, Hold, upgraded_hold, prepared_hold, kept, hold_of, is_prepared, locked}
+use Rattle.law_server_moves.proofs.Vocabulary.{◌≡◌, ℕ, Bool, true, false, cond, List, Option, Some, None, sym, ap, ◌∙◌, arith, ◌==◌, ◌&&◌, ◌||◌, not, option_map, nat_tests, LockMode, Exclusive, is_exclusive, stronger, Lock, Part, rise, lock_at}
+use Rattle.law_server_moves.proofs.Vocabulary.{has_lock, with_prepared, released, broken, prepared_locks, lock_there, taken, ready, names, if_prepared, lock_at-locked, lock_at-prepared, lock_at-released, lock_at-crashed, lock_at-broken, Hold}
+use Rattle.law_server_moves.proofs.Vocabulary.{upgraded_hold, prepared_hold, kept, hold_of, is_prepared, locked}
 
 -- ---- tests
 
@@ -13,37 +13,27 @@ pub apart : (u t z s : ℕ) → (z == s) ≡ false → ((u == t) && (z == s)) �
 apart u t z s e = grind (arith, nat_tests)
 
 with_true : (a b : Bool) → b ≡ true → (a && b) ≡ a
-with_true true b e = e
-with_true false b e = refl
+with_true a b h2 = search arith
 
 with_false : (a b : Bool) → b ≡ false → (a && b) ≡ false
-with_false true b e = e
-with_false false b e = refl
+with_false a b h2 = search arith
 
 -- ---- a hold and its lock
 
 pub hold_none : (o : Option Lock) → hold_of o ≡ None → o ≡ None
-hold_none None e = refl
-hold_none (Some l) e = cc
+hold_none o h1 = search arith
 
 pub hold_some : (o : Option Lock) (k : Hold) → hold_of o ≡ Some k → (l : Lock) × (o ≡ Some l) × (is_exclusive l.mode ≡ k.exclusive) × (l.prepared ≡ k.prepared)
-hold_some None k e = cc
-hold_some (Some l) k e =
-    let same : (record { exclusive = is_exclusive l.mode; prepared = l.prepared }) ≡ k = cc in
-    (l, refl, ap (λ (h : Hold). h.exclusive) same, ap (λ (h : Hold). h.prepared) same)
+hold_some o k h2 = search arith
 
 hold_if : (b : Bool) (a o : Option Lock) → hold_of (cond b a o) ≡ cond b (hold_of a) (hold_of o)
-hold_if true a o = refl
-hold_if false a o = refl
+hold_if b a o = search arith
 
 -- ---- a lock that is taken
 
 module _ (t z : ℕ) (m : LockMode) (ls : List Lock) (up : rise ls ≡ true) where
   hold_at-taken : (u : ℕ) (o : Option Lock) → lock_at t z ls ≡ o → hold_of (lock_at u z (locked t z m ls)) ≡ cond (u == t) (hold_of (Some (taken t z m o))) (hold_of (lock_at u z ls))
-  hold_at-taken u o is =
-      ap hold_of (lock_at-locked t z m ls up u z)
-      ∙ (λ k. hold_of (cond (here u t z k) (Some (taken t z m (is k))) (lock_at u z ls)))
-      ∙ hold_if (u == t) (Some (taken t z m o)) (lock_at u z ls)
+  hold_at-taken u o is = search (lock_at-locked, here, taken, hold_if, arith)
 
   -- a new one
   pub hold_at-new : (u : ℕ) → lock_at t z ls ≡ None → hold_of (lock_at u z (locked t z m ls)) ≡ cond (u == t) (Some (record { exclusive = is_exclusive m; prepared = false })) (hold_of (lock_at u z ls))
@@ -51,13 +41,10 @@ module _ (t z : ℕ) (m : LockMode) (ls : List Lock) (up : rise ls ≡ true) whe
 
   -- at another suite
   pub hold_at-elsewhere : (y u : ℕ) → (y == z) ≡ false → hold_of (lock_at u y (locked t z m ls)) ≡ hold_of (lock_at u y ls)
-  hold_at-elsewhere y u other =
-      ap hold_of (lock_at-locked t z m ls up u y)
-      ∙ ap (λ b. hold_of (cond b (Some (taken t z m (lock_at t z ls))) (lock_at u y ls))) (apart u t y z other)
+  hold_at-elsewhere y u other = search (lock_at-locked, taken, apart, arith)
 
 always_exclusive : (m : LockMode) → is_exclusive (stronger m Exclusive) ≡ true
-always_exclusive Shared = refl
-always_exclusive Exclusive = refl
+always_exclusive m = search arith
 
 -- one that becomes exclusive
 pub hold_at-raised : (t z : ℕ) (ls : List Lock) → rise ls ≡ true → (u : ℕ) → has_lock t z ls ≡ true → hold_of (lock_at u z (locked t z Exclusive ls)) ≡ cond (u == t) (upgraded_hold (hold_of (lock_at t z ls))) (hold_of (lock_at u z ls))
@@ -70,22 +57,15 @@ hold_at-raised t z ls up u has =
 -- ---- locks that are prepared
 
 hold_ready : (o : Option Lock) → hold_of (option_map ready o) ≡ prepared_hold (hold_of o)
-hold_ready None = refl
-hold_ready (Some l) = refl
+hold_ready o = search arith
 
 -- at a suite that the parts name
 pub hold_at-prepared : (t : ℕ) (parts : List Part) (ls : List Lock) (u z : ℕ) → names z parts ≡ true → hold_of (lock_at u z (with_prepared t parts ls)) ≡ cond (u == t) (prepared_hold (hold_of (lock_at u z ls))) (hold_of (lock_at u z ls))
-hold_at-prepared t parts ls u z named =
-    ap hold_of (lock_at-prepared t parts ls u z)
-    ∙ ap (λ b. hold_of (cond b (option_map ready (lock_at u z ls)) (lock_at u z ls))) (with_true (u == t) (names z parts) named)
-    ∙ hold_if (u == t) (option_map ready (lock_at u z ls)) (lock_at u z ls)
-    ∙ ap (λ h. cond (u == t) h (hold_of (lock_at u z ls))) (hold_ready (lock_at u z ls))
+hold_at-prepared t parts ls u z named = search (lock_at-prepared, ready, with_true, names, hold_if, hold_ready, arith)
 
 -- at another
 pub hold_at-unnamed : (t : ℕ) (parts : List Part) (ls : List Lock) (u z : ℕ) → names z parts ≡ false → hold_of (lock_at u z (with_prepared t parts ls)) ≡ hold_of (lock_at u z ls)
-hold_at-unnamed t parts ls u z unnamed =
-    ap hold_of (lock_at-prepared t parts ls u z)
-    ∙ ap (λ b. hold_of (cond b (option_map ready (lock_at u z ls)) (lock_at u z ls))) (with_false (u == t) (names z parts) unnamed)
+hold_at-unnamed t parts ls u z unnamed = search (lock_at-prepared, ready, with_false, names, arith)
 
 -- ---- locks that go
 
@@ -93,24 +73,17 @@ pub hold_at-released : (t : ℕ) (ls : List Lock) (u z : ℕ) → hold_of (lock_
 hold_at-released t ls u z = ap hold_of (lock_at-released t ls u z) ∙ hold_if (u == t) None (lock_at u z ls)
 
 hold_if_prepared : (o : Option Lock) → hold_of (if_prepared o) ≡ kept (is_prepared (hold_of o)) (hold_of o)
-hold_if_prepared None = refl
-hold_if_prepared (Some l) = elim (l.prepared) as (λ b. hold_of (cond b (Some l) None) ≡ kept b (hold_of (Some l))) [ true ↦ refl | false ↦ refl ]
+hold_if_prepared o = search arith
 
 pub hold_at-crashed : (ls : List Lock) → rise ls ≡ true → (u z : ℕ) → hold_of (lock_at u z (prepared_locks ls)) ≡ kept (is_prepared (hold_of (lock_at u z ls))) (hold_of (lock_at u z ls))
 hold_at-crashed ls up u z = ap hold_of (lock_at-crashed ls up u z) ∙ hold_if_prepared (lock_at u z ls)
 
 hold_broken : (b : Bool) (o : Option Lock) → hold_of (cond b (if_prepared o) o) ≡ kept (not b || is_prepared (hold_of o)) (hold_of o)
-hold_broken true o = hold_if_prepared o
-hold_broken false o = refl
+hold_broken b o = search arith
 
 pub hold_at-broken : (t z : ℕ) (ls : List Lock) → rise ls ≡ true → (u : ℕ) → hold_of (lock_at u z (broken t z ls)) ≡ kept (not (u == t) || is_prepared (hold_of (lock_at u z ls))) (hold_of (lock_at u z ls))
-hold_at-broken t z ls up u =
-    ap hold_of (lock_at-broken t z ls up u z)
-    ∙ ap (λ b. hold_of (cond b (if_prepared (lock_at u z ls)) (lock_at u z ls))) (here u t z)
-    ∙ hold_broken (u == t) (lock_at u z ls)
+hold_at-broken t z ls up u = search (lock_at-broken, if_prepared, here, hold_broken, arith)
 
 -- at another suite
 pub hold_at-unbroken : (t s : ℕ) (ls : List Lock) → rise ls ≡ true → (u z : ℕ) → (z == s) ≡ false → hold_of (lock_at u z (broken t s ls)) ≡ hold_of (lock_at u z ls)
-hold_at-unbroken t s ls up u z other =
-    ap hold_of (lock_at-broken t s ls up u z)
-    ∙ ap (λ b. hold_of (cond b (if_prepared (lock_at u z ls)) (lock_at u z ls))) (apart u t z s other)
+hold_at-unbroken t s ls up u z other = search (lock_at-broken, if_prepared, apart, arith)

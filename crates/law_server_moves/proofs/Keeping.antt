@@ -1,6 +1,5 @@
 -- A server that keeps what it has of a suite, and the machine after a change of one server.
-use Rattle.law_server_moves.proofs.Vocabulary.{◌≡◌, ℕ, Bool, true, false, cond, [], refl, sym, ap, ◌∙◌, ◌==◌, nat_cmp, get, lock_at, State, record_of, copy_of, Beginning, World, set1, hold_of, plan_of, verdict_of, ShowsAt, Shows, Follows}
-use Rattle.law_server_moves.proofs.Placing.{placed, records_stay}
+use Rattle.law_server_moves.proofs.Vocabulary.{◌≡◌, ℕ, [], refl, nat_cmp, get, lock_at, State, record_of, copy_of, Beginning, World, set1, hold_of, ShowsAt, Shows, Follows, arith}
 
 -- what one server has of the suite stays
 pub record Keeps (suite : ℕ) (old new : State) : Type 0 where
@@ -12,41 +11,22 @@ pub keeps_all : (suite : ℕ) (st : State) → Keeps suite st st
 keeps_all suite st = record { copy = refl; lock = λ u. refl; plan = refl }
 
 pub keeps_shows : (suite : ℕ) (old new : State) (w : World) (i : ℕ) → Keeps suite old new → ShowsAt suite old w i → ShowsAt suite new w i
-keeps_shows suite old new w i keeps shows = record {
-  copy = shows.copy ∙ sym keeps.copy;
-  lock = λ u. shows.lock u ∙ sym (keeps.lock u);
-  plan = shows.plan ∙ sym (λ k. plan_of (keeps.plan k) (keeps.copy k));
-}
+keeps_shows suite old new w i keeps shows = search arith
 
 -- the machine moves at one server
 pub shows_moved : (suite : ℕ) (home : ℕ → ℕ) (servers : ℕ → State) (i : ℕ) (new : State) (w later : World) → Shows suite home servers w → later.verdict ≡ w.verdict
     → ((t : ℕ) → record_of new t ≡ record_of (servers i) t) → ShowsAt suite new later i → ((j : ℕ) → (j ≡ i → ⊥) → ShowsAt suite (servers j) later j)
     → Shows suite home (set1 servers i new) later
-shows_moved suite home servers i new w later shows verdicts records here there = record {
-  at = placed suite servers i new later here there;
-  verdict = λ t. ap (λ f. f t) verdicts ∙ shows.verdict t ∙ records_stay home servers i new t (λ _. records t);
-}
+shows_moved suite home servers i new w later shows verdicts records here there = search arith
 
 -- or stays
 pub shows_kept : (suite : ℕ) (home : ℕ → ℕ) (servers : ℕ → State) (i : ℕ) (new : State) (w : World) → Shows suite home servers w
     → ((t : ℕ) → record_of new t ≡ record_of (servers i) t) → Keeps suite (servers i) new → Shows suite home (set1 servers i new) w
-shows_kept suite home servers i new w shows records keeps =
-    shows_moved suite home servers i new w w shows refl records (keeps_shows suite (servers i) new w i keeps (shows.at i)) (λ j _. shows.at j)
+shows_kept suite home servers i new w shows records keeps = search arith
 
 -- the stamp is nothing to the machine
 pub shows_stamped : (suite : ℕ) (home : ℕ → ℕ) (servers : ℕ → State) (i : ℕ) (new : State) (stamp : ℕ) (w : World) → Shows suite home (set1 servers i new) w → Shows suite home (set1 servers i (record new { stamp = stamp })) w
-shows_stamped suite home servers i new stamp w shows = record {
-  at = λ j. at_each (j == i) j (shows.at j);
-  verdict = λ t. shows.verdict t ∙ same (home t == i) t;
-}
-  where
-    at_each : (b : Bool) (j : ℕ) → ShowsAt suite (cond b new (servers j)) w j → ShowsAt suite (cond b (record new { stamp = stamp }) (servers j)) w j
-    at_each true j s = record { copy = s.copy; lock = s.lock; plan = s.plan }
-    at_each false j s = s
-
-    same : (b : Bool) (t : ℕ) → verdict_of (record_of (cond b new (servers (home t))) t) ≡ verdict_of (record_of (cond b (record new { stamp = stamp }) (servers (home t))) t)
-    same true t = refl
-    same false t = refl
+shows_stamped suite home servers i new stamp w shows = search arith
 
 -- no event
 pub stays : (start : Beginning) (suite : ℕ) (home : ℕ → ℕ) (servers : ℕ → State) (i : ℕ) (new : State) (w : World) → Shows suite home servers w

@@ -1,5 +1,5 @@
 -- One server changes, and the machine with it.
-use Rattle.law_server_moves.proofs.Vocabulary.{◌≡◌, ℕ, cond, ◌&&◌, refl, sym, ap, ◌∙◌, ◌==◌, State, record_of, World, set1, set2, at1, itself, another, ShowsAt, verdict_of}
+use Rattle.law_server_moves.proofs.Vocabulary.{◌≡◌, ℕ, cond, ◌&&◌, refl, ap, ◌==◌, State, record_of, World, set1, set2, at1, itself, another, ShowsAt, verdict_of, arith}
 
 -- ---- functions changed at one place, read there and elsewhere
 
@@ -28,7 +28,4 @@ placed suite servers i new w here there j = at1 (λ st. ShowsAt suite st w j) se
 -- the records stay, of those whose home it is
 pub records_stay : (home : ℕ → ℕ) (servers : ℕ → State) (i : ℕ) (new : State) (t : ℕ) → (home t ≡ i → record_of new t ≡ record_of (servers i) t)
     → verdict_of (record_of (servers (home t)) t) ≡ verdict_of (record_of (set1 servers i new (home t)) t)
-records_stay home servers i new t same =
-    at1 (λ st. verdict_of (record_of (servers (home t)) t) ≡ verdict_of (record_of st t)) servers i new (home t)
-    (λ is. ap (λ j. verdict_of (record_of (servers j) t)) is ∙ ap verdict_of (sym (same is)))
-    (λ _. refl)
+records_stay home servers i new t same = search arith

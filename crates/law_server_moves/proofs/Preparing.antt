@@ -1,8 +1,8 @@
 -- Prepare moves the machine.
-use Rattle.law_server_moves.proofs.Vocabulary.{◌≡◌, ℕ, Bool, true, false, cond, List, [], ◌∷◌, length, Option, Some, None, is_some, refl, sym, ap, subst, ◌∙◌, arith, ◌==◌, ◌&&◌, ◌||◌, not, nat_lt, list_any, nat_cmp, false≢true, and_parts}
-use Rattle.law_server_moves.proofs.Vocabulary.{or_parts, nat_tests, get, Replica, LockMode, Shared, Exclusive, is_exclusive, serves, is_valid_copy, Part, rise, is_own, has_prepared, has_lock_for, IsSound, is_sound, is_used_up, copy_of}
-use Rattle.law_server_moves.proofs.Vocabulary.{left_by, is_keep, goes_with, holds_last, is_sound_part, lists_twice, intended, suites_with, max_suites, overfills, State, stands_prepared, can_prepare, prepares, laid, one_each, Beginning}
-use Rattle.law_server_moves.proofs.Vocabulary.{World, set1, Event, prepared_hold, IsTake, MayPrepare, at1, itself, another, hold_of, plan_of, ShowsAt, Shows, part_of, left_of, SendsFixed, Sends, prepare_of, moves, Follows}
+use Rattle.law_server_moves.proofs.Vocabulary.{◌≡◌, ℕ, Bool, true, false, cond, List, [], ◌∷◌, length, Option, Some, None, refl, sym, ap, subst, ◌∙◌, arith, ◌==◌, ◌&&◌, ◌||◌, not, nat_lt, list_any, and_parts, or_parts, nat_tests, get, Replica}
+use Rattle.law_server_moves.proofs.Vocabulary.{LockMode, is_exclusive, serves, is_valid_copy, Part, rise, is_own, has_prepared, has_lock_for, IsSound, is_sound, copy_of, left_by, is_keep, goes_with, holds_last, is_sound_part, lists_twice, intended}
+use Rattle.law_server_moves.proofs.Vocabulary.{suites_with, max_suites, overfills, State, stands_prepared, can_prepare, prepares, laid, one_each, Beginning, World, set1, Event, IsTake, MayPrepare, hold_of, plan_of, ShowsAt, Shows, part_of, left_of}
+use Rattle.law_server_moves.proofs.Vocabulary.{SendsFixed, Sends, prepare_of, moves, Follows}
 use Rattle.rep_core.proofs.Finding.{any_find, find_some, all_at, none_at, once_both}
 use Rattle.rep_core.proofs.IntentionLookups.{planned, get_unnamed, get-with_intentions}
 use Rattle.rep_core.proofs.Consistent.{Looked, looked}
@@ -20,33 +20,15 @@ use Rattle.law_server_moves.proofs.Fit.{take_is}
 -- ---- the machine at the server that is asked
 
 plan_by : (t : ℕ) (part : Part) (o : Option server.Intention) (copy : Replica) → events.intended t (left_of part copy) (plan_of o copy) ≡ plan_of (planned t (Some part) o) copy
-plan_by t part o copy =
-    elim (is_keep part.take) as (λ b. events.intended t (cond b None (Some (left_by part.take copy))) (plan_of o copy) ≡ plan_of (cond b o (Some (record { t = t; take = part.take }))) copy) [ true ↦ refl | false ↦ refl ]
+plan_by t part o copy = search arith
 
 -- the value at a place, by the place that is asked for
 at_place : {X : Type 0} (h : X → X) (f : ℕ → X) (t u : ℕ) → cond (u == t) (h (f t)) (f u) ≡ cond (u == t) (h (f u)) (f u)
-at_place h f t u = at1 (λ x. x ≡ cond (u == t) (h (f u)) (f u)) f t (h (f t)) u
-    (λ same. ap (λ u. h (f u)) (sym same) ∙ sym (ap (λ b. cond b (h (f u)) (f u)) (itself t u same)))
-    (λ apart. sym (ap (λ b. cond b (h (f u)) (f u)) (another t u apart)))
+at_place h f t u = search arith
 
 prepared_here : (z : ℕ) (st : State) (w : World) (i t : ℕ) (parts : List Part) (part : Part) → ShowsAt z st w i → lists_twice parts ≡ false → part_of z parts ≡ Some part
     → ShowsAt z (laid t parts st) (events.prepared w i t (left_of part (copy_of st.store z))) i
-prepared_here z st w i t parts part shows once is =
-    let copy = copy_of st.store z in
-    let named : list_any (λ part. part.suite == z) parts ≡ true = any_find (λ part. part.suite == z) parts ∙ ap is_some is in
-    record {
-      copy = shows.copy;
-      lock = λ u.
-          here2 w.lock i t (prepared_hold (w.lock i t)) u
-          ∙ at_place prepared_hold (w.lock i) t u
-          ∙ ap (λ o. cond (u == t) (prepared_hold o) o) (shows.lock u)
-          ∙ sym (hold_at-prepared t parts st.locks u z named);
-      plan =
-          here1 w.plan i (events.intended t (left_of part copy) (w.plan i))
-          ∙ ap (events.intended t (left_of part copy)) shows.plan
-          ∙ plan_by t part (get nat_cmp st.store.intentions z) copy
-          ∙ sym (ap (λ o. plan_of o copy) (get-with_intentions t parts st.store.intentions z once ∙ ap (λ o. planned t o (get nat_cmp st.store.intentions z)) is));
-    }
+prepared_here z st w i t parts part shows once is = search (any_find (λ part. part.suite == z) parts, get-with_intentions t parts st.store.intentions z once, here2, at_place, hold_at-prepared, here1, plan_by, planned, arith)
 
 -- ---- the server's side of the condition
 
@@ -54,27 +36,16 @@ same_suite : (a b : ℕ) → (a == b) ≡ true → a ≡ b
 same_suite a b e = grind (arith, nat_tests)
 
 serves_exclusive : (have want : LockMode) → serves have want ≡ true → is_exclusive want ≡ true → is_exclusive have ≡ true
-serves_exclusive Exclusive want s e = refl
-serves_exclusive Shared Exclusive s e = absurd (false≢true s)
-serves_exclusive Shared Shared s e = absurd (false≢true e)
+serves_exclusive have want h2 h3 = search arith
 
 or_other : (a b : Bool) → (a || b) ≡ true → a ≡ false → b ≡ true
 or_other a b e f = grind (arith, nat_tests)
 
 valid_if : (copy : Replica) → is_sound copy ≡ true → is_valid_copy copy ≡ true
-valid_if copy sound =
-    let a = and_parts (is_valid_copy copy && not (is_used_up copy.prefix.pver)) (not (is_used_up copy.dver)) sound in
-    (and_parts (is_valid_copy copy) (not (is_used_up copy.prefix.pver)) a.0).0
-
-some_replica : (a b : Replica) → Some a ≡ Some b → a ≡ b
-some_replica a b e = cc
+valid_if copy sound = search arith
 
 left_is : (part : Part) (copy x : Replica) → left_of part copy ≡ Some x → (is_keep part.take ≡ false) × (left_by part.take copy ≡ x)
-left_is part copy x e =
-    elim (is_keep part.take) as (λ b. cond b None (Some (left_by part.take copy)) ≡ Some x → (b ≡ false) × (left_by part.take copy ≡ x)) [
-      | true ↦ λ e. cc
-      | false ↦ λ e. (refl, some_replica (left_by part.take copy) x e)
-    ] e
+left_is part copy x e = search arith
 
 may_prepare : (z : ℕ) (st : State) (w : World) (i t : ℕ) (parts : List Part) (part : Part) → ShowsAt z st w i → rise st.locks ≡ true → IsSound st.store → Looked st t parts
     → list_any (λ part. holds_last part.take) parts ≡ false → part_of z parts ≡ Some part → SendsFixed w st.locks t part
@@ -118,10 +89,7 @@ both_tests stands can a b = grind (arith, nat_tests)
 module _ (start : Beginning) (z : ℕ) (home : ℕ → ℕ) (servers : ℕ → State) (i : ℕ) (w : World) (shows : Shows z home servers w) (decision : Event) (t : ℕ) (parts : List Part) where
   preparing : Sends w (servers i).locks t z parts → rise (servers i).locks ≡ true → IsSound (servers i).store → list_any (λ part. holds_last part.take) parts ≡ false → Looked (servers i) t parts → (o : Option Part) → part_of z parts ≡ o
       → Follows start z home (set1 servers i (laid t parts (servers i))) w (prepare_of i t w o)
-  preparing sends up sound last sees None e =
-      let unnamed : list_any (λ part. part.suite == z) parts ≡ false = any_find (λ part. part.suite == z) parts ∙ ap is_some e in
-      stays start z home servers i (laid t parts (servers i)) w shows (λ t. refl)
-      (record { copy = refl; lock = λ u. hold_at-unnamed t parts (servers i).locks u z unnamed; plan = get_unnamed t parts (servers i).store.intentions z unnamed })
+  preparing sends up sound last sees None e = search (any_find, stays, laid, hold_at-unnamed, get_unnamed, arith)
   preparing sends up sound last sees (Some part) e =
       subst (λ c. Follows start z home (set1 servers i (laid t parts (servers i))) w (events.Prepare i t (left_of part c) ∷ [])) (sym (shows.at i).copy) (record {
         obeys = (may_prepare z (servers i) w i t parts part (shows.at i) up sound sees last e (sends part e), tt);

@@ -1,6 +1,6 @@
 -- A step of a server, whatever it is asked.
-use Rattle.law_server_moves.proofs.Vocabulary.{◌≡◌, ℕ, true, false, cond, List, [], None, refl, sym, subst, Request, Reply, Stamped, in_the_way, has_lock, State, stands_prepared, can_prepare, reply_up, after_up, reply_down, after_down}
-use Rattle.law_server_moves.proofs.Vocabulary.{reply_of, after, asks_too_much, next_stamp, is_full, served, step, room, Beginning, World, set1, Event, run, Shows, AgentSide, moves, Follows, EachStepMoves}
+use Rattle.law_server_moves.proofs.Vocabulary.{◌≡◌, ℕ, true, false, cond, List, [], None, refl, Request, Reply, Stamped, in_the_way, has_lock, State, stands_prepared, can_prepare, reply_up, after_up, reply_down, after_down, arith, reply_of, after}
+use Rattle.law_server_moves.proofs.Vocabulary.{asks_too_much, is_full, step, room, Beginning, World, set1, Event, run, Shows, AgentSide, moves, Follows, EachStepMoves}
 use Rattle.rep_core.specs.Consistency.{IsConsistent}
 use Rattle.rep_core.specs.declared.request.Request.TheVariants as request
 use Rattle.law_server_moves.proofs.Keeping.{stays, nothing, shows_stamped}
@@ -28,8 +28,7 @@ module _ (start : Beginning) (z : ℕ) (home : ℕ → ℕ) (servers : ℕ → S
   up _ agent room = none
 
   down : (asked : Request) → Comes asked (reply_down asked) (after_down (servers i) asked)
-  down request.Return = stays start z home servers i (record (servers i) { up = true }) w shows (λ t. refl) (record { copy = refl; lock = λ u. refl; plan = refl })
-  down _ = none
+  down asked = search (stays, up, none, arith)
 
   any : (asked : Request) → AgentSide start z home decision i (servers i).locks w asked → ((servers i).up ≡ true → asks_too_much (servers i) asked ≡ false) → Comes asked (reply_of (servers i) asked) (after (servers i) asked)
   any asked agent room =
@@ -42,10 +41,7 @@ module _ (start : Beginning) (z : ℕ) (home : ℕ → ℕ) (servers : ℕ → S
   stamped new stamp events follows = record { obeys = follows.obeys; shows = shows_stamped z home servers i new stamp (run start w events) follows.shows }
 
   pub step_moves : (asked : Stamped Request) → AgentSide start z home decision i (servers i).locks w asked.value → is_full (servers i) asked ≡ false → Comes asked.value (reply_of (servers i) asked.value) (step (servers i) asked)
-  step_moves asked agent not_full =
-      let said = reply_of (servers i) asked.value in
-      subst (λ b. Comes asked.value said (cond b (servers i) (served (servers i) asked))) (sym not_full)
-      (stamped (after (servers i) asked.value) (next_stamp (servers i) asked) (moves z home decision i w asked.value said) (any asked.value agent (room (servers i) asked not_full)))
+  step_moves asked agent not_full = grind (stamped, any, room, arith)
 
 pub each_step_moves : EachStepMoves
 each_step_moves start z home servers i w decision asked shows consistent unlocked agent not_full = step_moves start z home servers i w decision shows consistent unlocked asked agent not_full

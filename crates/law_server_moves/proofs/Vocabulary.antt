@@ -1,6 +1,6 @@
 -- The names that the proofs of this crate take from elsewhere, each with one meaning here.
-pub use Rattle.std.proofs.Common.{Bool, List, None, Option, Some, [], ap, arith, cond, false, inl, inr, is_some, length, lit<, nat_lt, not, option_map, refl, subst, suc, sym, true, zero, ℕ, ◌&&◌, ◌<◌, ◌==◌, ◌||◌, ◌∙◌, ◌∷◌, ◌≡◌, ◌⊎◌}
-pub use Rattle.std.proofs.lemmas.Bool.{and_parts, false≢true, lt-ltb, or_parts}
+pub use Rattle.std.proofs.Common.{Bool, List, None, Option, Some, [], ap, arith, cond, false, length, nat_lt, not, option_map, refl, subst, sym, true, ℕ, ◌&&◌, ◌==◌, ◌||◌, ◌∙◌, ◌∷◌, ◌≡◌}
+pub use Rattle.std.proofs.lemmas.Bool.{and_parts, false≢true, or_parts}
 pub use Rattle.std.proofs.lemmas.Bool.Decides.{nat_tests}
 pub use Rattle.std.specs.List.{list_any}
 pub use Rattle.std.specs.Ordering.{nat_cmp}
@@ -13,11 +13,10 @@ pub use Rattle.rep_core.proofs.LockLookups.{if_prepared, lock_at-broken, lock_at
 pub use Rattle.rep_core.proofs.Records.{decide_ruled, record_apart, record_here, resolve_ruled}
 pub use Rattle.rep_core.proofs.Ways.{laid, recording, room, with_locked}
 pub use Rattle.rep_core.specs.Locks.{broken, has_lock, has_lock_for, has_prepared, in_the_way, is_own, lock_at, locked, prepared_locks, released, rise, with_prepared}
-pub use Rattle.rep_core.specs.Service.{after, after_crash, after_down, after_finish, after_locking, after_poll, after_record, after_up, can_prepare, locking_reply, poll_reply, prepares, recorded, reply_down, reply_of, reply_up}
-pub use Rattle.rep_core.specs.Service.{stands_prepared}
-pub use Rattle.rep_core.specs.Serving.{asks_too_much, is_full, next_stamp, served, step}
+pub use Rattle.rep_core.specs.Service.{after, after_crash, after_down, after_finish, after_locking, after_poll, after_record, after_up, can_prepare, locking_reply, poll_reply, prepares, recorded, reply_down, reply_of, reply_up, stands_prepared}
+pub use Rattle.rep_core.specs.Serving.{asks_too_much, is_full, step}
 pub use Rattle.rep_core.specs.State.{State, opening, record_of}
-pub use Rattle.rep_core.specs.Store.{IsSound, copy_in, copy_of, goes_with, holds_last, intended, is_keep, is_sound, is_sound_part, is_used_up, left_by, lists_twice, max_suites, overfills, root_copy, suites_with}
+pub use Rattle.rep_core.specs.Store.{IsSound, copy_of, goes_with, holds_last, intended, is_keep, is_sound, is_sound_part, left_by, lists_twice, max_suites, overfills, root_copy, suites_with}
 pub use Rattle.rep_core.specs.declared.lock.Lock.{Lock}
 pub use Rattle.rep_core.specs.declared.reply.Reply.{Reply}
 pub use Rattle.rep_core.specs.declared.request.Part.{Part}
@@ -27,12 +26,12 @@ pub use Rattle.sorted_map.specs.SortedMap.{get}
 pub use Rattle.suite_content.specs.declared.content.Content.{Content}
 pub use Rattle.suite_prefix.specs.LockModes.{is_exclusive, serves, stronger}
 pub use Rattle.suite_prefix.specs.SettingsRules.{Opening}
-pub use Rattle.suite_prefix.specs.Tests.{holds, is_absent, is_empty, is_valid_copy, is_valid_prefix, is_within_limits, version_agrees}
+pub use Rattle.suite_prefix.specs.Tests.{holds, is_absent, is_empty, is_valid_copy, version_agrees}
 pub use Rattle.suite_prefix.specs.declared.copies.Prefix.{Prefix}
-pub use Rattle.suite_prefix.specs.declared.copies.PrefixKind.TheVariants.{Absent, File, Folder}
+pub use Rattle.suite_prefix.specs.declared.copies.PrefixKind.TheVariants.{Folder}
 pub use Rattle.suite_prefix.specs.declared.copies.Replica.{Replica}
 pub use Rattle.suite_prefix.specs.declared.lock_mode.LockMode.{LockMode}
-pub use Rattle.suite_prefix.specs.declared.lock_mode.LockMode.TheVariants.{Exclusive, Shared}
+pub use Rattle.suite_prefix.specs.declared.lock_mode.LockMode.TheVariants.{Exclusive}
 pub use Rattle.vote_core.specs.Validity.{IsValid}
 pub use Rattle.law_server_moves.specs.Agents.{AgentSide, Decides}
 pub use Rattle.law_server_moves.specs.Laws.{EachStepMoves, Follows, OpeningShows, RepliesTell, SomeStepMoves, Tells, TellsContent, TellsCopy, beginning}

@@ -1,18 +1,15 @@
 -- A step that moves the machine: at a server of one, a transaction with an exclusive lock prepares a new prefix of the root.
-use Rattle.law_server_moves.proofs.Vocabulary.{◌≡◌, ℕ, ◌<◌, true, [], ◌∷◌, None, refl, subst, lit<, arith, IsValid, Prefix, Folder, Opening, Exclusive, Part, Request, Stamped, left_by, root_copy, State, opening, step, World, set1, begun}
-use Rattle.law_server_moves.proofs.Vocabulary.{Overrule, held, aimed, Beginning, Change, Shows, SendsFixed, beginning, SomeStepMoves}
+use Rattle.law_server_moves.proofs.Vocabulary.{◌≡◌, ℕ, true, [], ◌∷◌, None, refl, subst, arith, IsValid, Prefix, Folder, Opening, Exclusive, Part, Request, Stamped, left_by, root_copy, State, opening, step, World, set1, begun, Overrule, held, aimed}
+use Rattle.law_server_moves.proofs.Vocabulary.{Beginning, Change, Shows, SendsFixed, beginning, SomeStepMoves}
 use Rattle.std.specs.FinSet.{empty}
 use Rattle.std.proofs.lemmas.Option.{same_Some}
-use Rattle.std.proofs.lemmas.List.Elements.{All-nil, All-cons}
-use Rattle.vote_core.specs.Quorums.{Representative, Configuration}
-use Rattle.vote_core.specs.declared.TheConstants.{MAX_SERVERS}
+use Rattle.vote_core.specs.Quorums.{Configuration}
 use Rattle.suite_prefix.specs.TwoLists.{closed_lists}
 use Rattle.rep_core.proofs.Consistent.{consistent_opening, consistent_step}
 use Rattle.std.specs.List.{IsDistinct}
 use Rattle.rep_core.specs.declared.request.Take.TheVariants as take
 use Rattle.rep_core.specs.declared.request.Request.TheVariants as request
-use Rattle.law_server_moves.proofs.Opening.{opening_shows, aimed_shows}
-use Rattle.law_server_moves.proofs.Steps.{each_step_moves}
+use Rattle.law_server_moves.proofs.Opening.{opening_shows}
 
 votes : Configuration
 votes = record { reps = (0, 1) ∷ []; r = 1; w = 1 }
@@ -34,17 +31,7 @@ settings = record {
 
 valid_votes : IsValid votes
 unfolding votes IsDistinct
-valid_votes = record {
-  some_listed = omega arith;
-  numbered = All-cons (λ (rep : Representative). rep.0 < MAX_SERVERS) (0, 1) [] (lit< tt) (All-nil (λ (rep : Representative). rep.0 < MAX_SERVERS));
-  few_votes = All-cons (λ (rep : Representative). rep.1 < 256) (0, 1) [] (lit< tt) (All-nil (λ (rep : Representative). rep.1 < 256));
-  listed_once = (tt, tt);
-  some_votes = omega arith;
-  r_in_range = (omega arith, omega arith);
-  w_in_range = (omega arith, omega arith);
-  reads_meet_writes = omega arith;
-  writes_meet = omega arith;
-}
+valid_votes = search arith
 
 abbrev at_home : ℕ → ℕ
 at_home t = 0
@@ -78,8 +65,7 @@ before = aimed (held (begun start) 0 5 true) 5 new
 
 before_shows : Shows 0 at_home locked before
 unfolding opened polled locked start before settings
-before_shows = aimed_shows 0 at_home locked (held (begun start) 0 5 true) 5 new
-    (each_step_moves start 0 at_home opened 0 (begun start) (Overrule 0) polled (opening_shows 0 at_home settings valid_votes).1 (consistent_opening 0 settings) (λ t _. refl) (λ _. refl) refl).shows
+before_shows = search arith
 
 unlocked : (t : ℕ) → before.told 0 t ≡ None → before.lock 0 t ≡ None
 unfolding before start settings

@@ -1,36 +1,25 @@
 -- What the answering of one line comes to, step by step.
-use Rattle.line_session.proofs.Vocabulary.{◌≡◌, ◌∙◌, ℕ, ◌≤◌, ◌<◌, ◌⊎◌, inl, inr, Bool, false, true, ◌&&◌, List, [], ◌∷◌, ◌++◌, length, map, Option, Some, None}
-use Rattle.line_session.proofs.Vocabulary.{Result, Ok, Err, IfOk, OnErr, refl, ap, sym, subst, append_assoc, faulty, no_memory, no_stream, one_more}
-use Rattle.line_session.proofs.Vocabulary.{WriteFailed, IsErr, AllocError, false≢true, le-ltb, lt-ltb, append-nil, map-append, Came, Done, Left, Lost, Manner}
-use Rattle.line_session.proofs.Vocabulary.{Unkept, is_long, journal_line, keeps_line, kept_if, line_answer, line_keeps, line_next, line_status, long_line}
-use Rattle.line_session.proofs.Vocabulary.{mark_if, max_line, worse, AnswersLine, HasAnswer, IsCarriedOut, IsCourse, IsMemory, RanOut, SaysLine, SaysThen}
-use Rattle.line_session.proofs.Vocabulary.{StandsAfter, StandsIf, memory_answer, Adds, BreaksOff, Kept, Says, SaysAfter, Stays, Told, Turn, told, Course}
-use Rattle.line_session.proofs.Vocabulary.{SessionError}
+use Rattle.line_session.proofs.Vocabulary.{◌≡◌, ◌∙◌, ℕ, ◌≤◌, ◌<◌, ◌⊎◌, inl, inr, Bool, false, true, ◌&&◌, List, [], ◌∷◌, ◌++◌, length, map, Option, Some, None, arith, Result, Ok, Err, IfOk, OnErr, refl, ap, sym, subst, append_assoc, faulty}
+use Rattle.line_session.proofs.Vocabulary.{no_memory, no_stream, one_more, WriteFailed, IsErr, AllocError, false≢true, le-ltb, lt-ltb, append-nil, map-append, Came, Done, Left, Lost, Manner, Unkept, is_long, journal_line, keeps_line, kept_if}
+use Rattle.line_session.proofs.Vocabulary.{line_answer, line_keeps, line_next, line_status, long_line, mark_if, max_line, worse, AnswersLine, HasAnswer, IsCarriedOut, IsCourse, IsMemory, RanOut, SaysLine, SaysThen, StandsAfter, StandsIf}
+use Rattle.line_session.proofs.Vocabulary.{memory_answer, Adds, BreaksOff, Kept, Says, SaysAfter, Stays, Told, Turn, told, Course, SessionError}
 use Rattle.line_session.proofs.Folds.{told-append}
 
 -- ---- what is said
 
 pub says_none : (before after : Option (List Turn)) → Stays before after → Says before [] [] [] after
-says_none None after stays = tt
-says_none (Some turns) after stays = record { pieces = []; added = stays ∙ ap Some (sym (append-nil turns)); all = refl }
+says_none before after h2 = search (append-nil, arith)
 
 pub says_kept : (before after : Option (List Turn)) (line : List ℕ) → Adds before (Kept line) after → Says before (line ∷ []) [] [] after
-says_kept None after line adds = tt
-says_kept (Some turns) after line adds = record { pieces = []; added = adds; all = refl }
+says_kept before after line h3 = search arith
 
 pub says_unchanged : (before : Option (List Turn)) → Says before [] [] [] before
-says_unchanged None = tt
-says_unchanged (Some turns) = record { pieces = []; added = ap Some (sym (append-nil turns)); all = refl }
+says_unchanged before = search (append-nil, arith)
 
 -- one piece more
 piece_added : (turns : List Turn) (keeps pieces : List (List ℕ)) (piece : List ℕ) (mid after : Option (List Turn)) → mid ≡ Some (turns ++ (map Kept keeps ++ map Told pieces)) → Adds mid (Told piece) after
     → after ≡ Some (turns ++ (map Kept keeps ++ map Told (pieces ++ piece ∷ [])))
-piece_added turns keeps pieces piece mid after added adds =
-    subst (λ (it : Option (List Turn)). Adds it (Told piece) after) added adds
-    ∙ ap Some (
-    append_assoc turns (map Kept keeps ++ map Told pieces) (Told piece ∷ [])
-    ∙ ap (λ (it : List Turn). turns ++ it) (append_assoc (map Kept keeps) (map Told pieces) (Told piece ∷ []) ∙ ap (λ (it : List Turn). map Kept keeps ++ it) (sym (map-append Told pieces (piece ∷ []))))
-    )
+piece_added turns keeps pieces piece mid after added adds = search (append_assoc, map-append, arith)
 
 told_pieces : (pieces : List (List ℕ)) (piece : List ℕ) → told (map Told (pieces ++ piece ∷ [])) ≡ told (map Told pieces) ++ piece
 told_pieces pieces piece = ap told (map-append Told pieces (piece ∷ [])) ∙ told-append (map Told pieces) (Told piece ∷ []) ∙ ap (λ it. told (map Told pieces) ++ it) (append-nil piece)
@@ -76,8 +65,7 @@ off_then (Err error) is before mid after keeps text piece rest says off = says_o
 
 pub ran_then : {State : Type 0} (manner : Manner State) (Leaves : State → List ℕ → State → Type 0) (result : Result ℕ AllocError) → IsErr result → (state : State) (number : ℕ) (line : List ℕ) (later : State) (text : List ℕ) (before after : Option (List Turn))
     → RanOut manner Leaves state line later before after → SaysLine manner Leaves result state number line later text before after
-ran_then manner Leaves (Ok status) is state number line later text before after ran = absurd (false≢true is)
-ran_then manner Leaves (Err error) is state number line later text before after ran = ran
+ran_then manner h1 result h3 state number line later text before after h11 = search arith
 
 not_long : (line : List ℕ) → length line ≤ max_line → is_long line ≡ false
 not_long line fits = le-ltb max_line (length line) fits
@@ -102,12 +90,7 @@ long_keeps manner state line long = rw long (elim manner.keeps as (λ (it : Bool
 pub too_long : {State : Type 0} (manner : Manner State) (Leaves : State → List ℕ → State → Type 0) (state : State) (number : ℕ) (line : List ℕ) (text : List ℕ) (before : Option (List Turn)) → is_long line ≡ true → text ≡ long_line number ++ mark_if manner.marks number
     → HasAnswer manner Leaves faulty state number line state text before before
 too_long manner Leaves state number line text before long text_is = record {
-  came_to = record {
-    came = Done;
-    fits = tt;
-    kept = subst (λ (it : List (List ℕ)). Says before it [] [] before) (sym (long_keeps manner state line long)) (says_unchanged before);
-    state_is = rw long refl;
-  };
+  came_to = search (long_keeps, says_unchanged, arith);
   text_is = text_is ∙ (rw long refl);
   status_is = rw long refl;
 }
@@ -120,12 +103,7 @@ record Short {State : Type 0} (manner : Manner State) (state : State) (line : Li
 carried : {State : Type 0} (manner : Manner State) (Leaves : State → List ℕ → State → Type 0) (status : ℕ) (state : State) (number : ℕ) (line : List ℕ) (later : State) (text : List ℕ) (before after : Option (List Turn)) (is_kept : Bool) → Short manner state line is_kept
     → Says before (kept_if is_kept line) [] [] after → IsCarriedOut manner status state number line later [] text → HasAnswer manner Leaves status state number line later text before after
 carried manner Leaves status state number line later text before after is_kept short says is = record {
-  came_to = record {
-    came = Done;
-    fits = tt;
-    kept = subst (λ (it : Bool). Says before (kept_if it line) [] [] after) (sym short.keeping) says;
-    state_is = is.0 ∙ (rw short.short refl);
-  };
+  came_to = search arith;
   text_is = is.1 ∙ (rw short.short refl);
   status_is = is.2 ∙ (rw short.short refl);
 }
@@ -146,10 +124,7 @@ ran_out manner Leaves state line later before after is_kept short says left = re
 pub answered : {State : Type 0} (manner : Manner State) (Leaves : State → List ℕ → State → Type 0) (result : Result ℕ AllocError) (state : State) (number : ℕ) (line : List ℕ) (later : State) (text : List ℕ) (before after : Option (List Turn)) (is_kept : Bool) → length line ≤ max_line
     → keeps_line manner state line ≡ is_kept → Says before (kept_if is_kept line) [] [] after → IfOk result (λ status. IsCarriedOut manner status state number line later [] text)
     → OnErr result (Leaves state line later ⊎ (later ≡ manner.next state line)) → SaysLine manner Leaves result state number line later text before after
-answered manner Leaves (Ok status) state number line later text before after is_kept fits keeping says ok err =
-    carried manner Leaves status state number line later text before after is_kept (record { short = not_long line fits; keeping = keeping }) says ok
-answered manner Leaves (Err error) state number line later text before after is_kept fits keeping says ok err =
-    ran_out manner Leaves state line later before after is_kept (record { short = not_long line fits; keeping = keeping }) says err
+answered manner h1 result state number line later text before after is_kept h11 h12 h13 h14 h15 = search (carried, not_long, ran_out, arith)
 
 -- ---- it is told
 
@@ -174,16 +149,10 @@ says_both (Some turns) mid after keeps text back first second =
     }
 
 memory_text : {State : Type 0} (manner : Manner State) (state : State) (number : ℕ) (line : List ℕ) (came : Came State) → IsMemory came → memory_answer manner.marks number ≡ line_answer manner state number line came
-memory_text manner state number line Done is = absurd is
-memory_text manner state number line Unkept is = absurd is
-memory_text manner state number line Lost is = refl
-memory_text manner state number line (Left later) is = refl
+memory_text manner state number line came h5 = search arith
 
 memory_status : {State : Type 0} (manner : Manner State) (state : State) (line : List ℕ) (came : Came State) → IsMemory came → no_memory ≡ line_status manner state line came
-memory_status manner state line Done is = absurd is
-memory_status manner state line Unkept is = absurd is
-memory_status manner state line Lost is = refl
-memory_status manner state line (Left later) is = refl
+memory_status manner state line came h4 = search arith
 
 -- where the course stood before the line, and what its end sets
 pub record Ends (course mid course_after : Course) (status : ℕ) : Type 0 where
@@ -194,12 +163,7 @@ pub record Ends (course mid course_after : Course) (status : ℕ) : Type 0 where
 
 stands : {State : Type 0} (manner : Manner State) (state : State) (course mid course_after : Course) (status : ℕ) (line : List ℕ) (came : Came State) (later : State) → Ends course mid course_after status → later ≡ line_next manner state line came → status ≡ line_status manner state line came
     → StandsAfter manner state course line came later course_after
-stands manner state course mid course_after status line came later ends state_is status_is = record {
-  state_is = state_is;
-  number_is = ends.number_is ∙ ap one_more ends.course_is.0;
-  status_is = ends.status_is ∙ (λ i. worse (ends.course_is.1 i) (status_is i));
-  marks_are = ends.marks_are ∙ ends.course_is.2;
-}
+stands manner state course mid course_after status line came later ends state_is status_is = search arith
 
 pub ends_line : (course mid course_after : Course) (status : ℕ) → IsCourse course mid → (course_after.number ≡ one_more mid.number) × (course_after.status ≡ worse mid.status status) × (course_after.marks ≡ mid.marks) → Ends course mid course_after status
 ends_line course mid course_after status same is = record { course_is = same; number_is = is.0; status_is = is.1; marks_are = is.2 }
@@ -214,12 +178,10 @@ told_well manner Leaves status state course mid course_after line later text bef
 }
 
 off_session : {State : Type 0} (manner : Manner State) (result : Result (Unit {0}) SessionError) → IsErr result → (before after : Option (List Turn)) (keeps : List (List ℕ)) (text : List ℕ) → (back : List ℕ) × Says before keeps text back after → SaysThen result before keeps text after
-off_session manner (Ok nothing) is before after keeps text says = absurd (false≢true is)
-off_session manner (Err error) is before after keeps text says = says
+off_session manner result h2 before after keeps text h7 = search arith
 
 no_stands : {State : Type 0} (manner : Manner State) (result : Result (Unit {0}) SessionError) → IsErr result → (state : State) (course : Course) (line : List ℕ) (came : Came State) (later : State) (course_after : Course) → StandsIf manner result state course line came later course_after
-no_stands manner (Ok nothing) is state course line came later course_after = absurd (false≢true is)
-no_stands manner (Err error) is state course line came later course_after = tt
+no_stands manner result h2 state course line came later course_after = search arith
 
 pub told_badly : {State : Type 0} (manner : Manner State) (Leaves : State → List ℕ → State → Type 0) (result : Result (Unit {0}) SessionError) → IsErr result → (status : ℕ) (state : State) (course course_after : Course) (line : List ℕ) (later : State) (text : List ℕ) (before between after : Option (List Turn))
     → HasAnswer manner Leaves status state course.number line later text before between → BreaksOff between text after → AnswersLine manner Leaves result state course line later course_after before after
@@ -229,40 +191,22 @@ told_badly manner Leaves result is status state course course_after line later t
     record {
       came = has.came_to.came;
       fits = has.came_to.fits;
-      says = off_session manner result is before after keeping (line_answer manner state course.number line has.came_to.came)
-          (subst (λ (it : List ℕ). (back : List ℕ) × Says before keeping it back after) (append-nil text ∙ has.text_is) said);
+      says = search (off_session, append-nil, arith);
       stands = no_stands manner result is state course line has.came_to.came later course_after;
     }
 
 pub memory_well : {State : Type 0} (manner : Manner State) (Leaves : State → List ℕ → State → Type 0) (state : State) (course mid course_after : Course) (line : List ℕ) (later : State) (before between after : Option (List Turn)) → RanOut manner Leaves state line later before between
     → Says between [] (memory_answer manner.marks course.number) [] after → Ends course mid course_after no_memory → AnswersLine manner Leaves (Ok tt) state course line later course_after before after
-memory_well manner Leaves state course mid course_after line later before between after ran says ends =
-    let keeping = line_keeps manner state line ran.came_to.came in
-    record {
-      came = ran.came_to.came;
-      fits = ran.came_to.fits;
-      says = subst (λ (it : List ℕ). Says before keeping it [] after) (memory_text manner state course.number line ran.came_to.came ran.memory) (says_both before between after keeping (memory_answer manner.marks course.number) [] ran.came_to.kept says);
-      stands = stands manner state course mid course_after no_memory line ran.came_to.came later ends ran.came_to.state_is (memory_status manner state line ran.came_to.came ran.memory);
-    }
+memory_well manner h1 state course mid course_after line later before between after ran says ends = search (memory_text, says_both, stands, memory_status, arith)
 
 pub memory_badly : {State : Type 0} (manner : Manner State) (Leaves : State → List ℕ → State → Type 0) (result : Result (Unit {0}) SessionError) → IsErr result → (state : State) (course course_after : Course) (line : List ℕ) (later : State) (before between after : Option (List Turn)) → RanOut manner Leaves state line later before between
     → (back : List ℕ) × Says between [] (memory_answer manner.marks course.number) back after → AnswersLine manner Leaves result state course line later course_after before after
-memory_badly manner Leaves result is state course course_after line later before between after ran said =
-    let keeping = line_keeps manner state line ran.came_to.came in
-    let all = says_both before between after keeping (memory_answer manner.marks course.number) said.0 ran.came_to.kept said.1 in
-    record {
-      came = ran.came_to.came;
-      fits = ran.came_to.fits;
-      says = off_session manner result is before after keeping (line_answer manner state course.number line ran.came_to.came)
-          (subst (λ (it : List ℕ). (back : List ℕ) × Says before keeping it back after) (memory_text manner state course.number line ran.came_to.came ran.memory) (said.0, all));
-      stands = no_stands manner result is state course line ran.came_to.came later course_after;
-    }
+memory_badly manner h1 result is state course course_after line later before between after ran said = search (says_both, off_session, memory_text, stands, no_stands, arith)
 
 -- ---- what is given
 
 pub stays_here : (before : Option (List Turn)) → Stays before before
-stays_here None = tt
-stays_here (Some turns) = refl
+stays_here before = search arith
 
 pub was_long : (line : List ℕ) → max_line < length line → is_long line ≡ true
 was_long line is = lt-ltb max_line (length line) is

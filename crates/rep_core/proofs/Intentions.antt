@@ -64,8 +64,6 @@ module _ (t : ℕ) where
   get-without [] suite intention rising has = absurd (none-some intention has)
   get-without (e ∷ es) suite intention rising has = search (sorted_tail, apart_behind, lookup_tail, same_Some, lookup_head, cases_Bool, get-without es suite intention, arith)
 
--- ---- what a take makes of the copies
-
 -- ---- the copy of a suite afterwards
 
 module _ (c0 : Configuration) where

@@ -30,5 +30,3 @@ pub record ContentTold (st : State) (t suite dver : ℕ) (content : Content) : T
 
 pub fetch_told : (st : State) (t suite dver : ℕ) (content : Content) → reply_of st (request.Fetch t suite) ≡ reply.Given dver content → ContentTold st t suite dver content
 fetch_told st t suite dver content said = search arith
-
--- ---- Prepared

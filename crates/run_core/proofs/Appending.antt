@@ -1,5 +1,5 @@
 -- A run goes on from where it was.
-use Rattle.run_core.proofs.Vocabulary.{◌≡◌, List, [], ◌∷◌, ◌++◌, Option, Some, None, refl, ap, ◌∙◌, sym, cons_option, Fixed, Event, Done, World, step, after, dones, outcomes, decided, decisions_from}
+use Rattle.run_core.proofs.Vocabulary.{◌≡◌, List, [], ◌∷◌, ◌++◌, Option, refl, ap, ◌∙◌, sym, cons_option, Fixed, Event, Done, World, step, after, dones, outcomes, decided, decisions_from, arith}
 
 pub after-append : (fixed : Fixed) (world : World) (events later : List Event) → after fixed world (events ++ later) ≡ after fixed (after fixed world events) later
 after-append fixed world [] later = refl
@@ -10,8 +10,7 @@ dones-append fixed world [] later = refl
 dones-append fixed world (event ∷ events) later = ap (λ (done : List Done). (step fixed world event).done ∷ done) (dones-append fixed (step fixed world event).world events later)
 
 pub cons_option-append : {X : Type 0} (one : Option X) (xs ys : List X) → cons_option one xs ++ ys ≡ cons_option one (xs ++ ys)
-cons_option-append None xs ys = refl
-cons_option-append (Some x) xs ys = refl
+cons_option-append one xs ys = search arith
 
 pub outcomes-append : (done later : List Done) → outcomes (done ++ later) ≡ outcomes done ++ outcomes later
 outcomes-append [] later = refl

@@ -1,11 +1,8 @@
 -- What holds of each agent of a world holds of each after an event, where it stays so as an agent forgets or takes a response, and where it is so
 -- of an agent that begins.
-use Rattle.run_core.proofs.Vocabulary.{◌≡◌, ℕ, zero, suc, List, [], ◌∷◌, Option, Some, None, refl, subst, slice_get, slice_set, none-some, same_Some, Request, State, Job, Response, Replied, Lacked, Fixed, Agent, next_of, begin, forget}
-use Rattle.run_core.proofs.Vocabulary.{Event, Begin, Step, Crash, Return, Forget, Served, World, Actor, server_at, actor_at, serve, moved, answered, asks_at, asks, steps_once, lacks_for, lacks, operated, operates, becomes, step}
-use Rattle.rep_core.specs.declared.request.Request.TheVariants as request
-use Rattle.rep_core.specs.declared.stamped.Lack.TheVariants as lack
+use Rattle.run_core.proofs.Vocabulary.{◌≡◌, ℕ, zero, suc, List, [], ◌∷◌, Option, Some, subst, slice_get, slice_set, none-some, same_Some, Request, State, Job, Response, Fixed, Agent, begin, forget, arith, Event, Begin, Served, World, Actor, actor_at}
+use Rattle.run_core.proofs.Vocabulary.{moved, answered, asks_at, asks, steps_once, lacks_for, lacks, operates, becomes, step}
 use Rattle.txn_core.specs.Agents.{take}
-use Rattle.run_core.specs.declared.event.Event.TheVariants.{Lack}
 
 abbrev pub OfEach : (Agent → Type 0) → World → Type 0
 OfEach P world = (number : ℕ) (actor : Actor) → actor_at world number ≡ Some actor → P actor.agent
@@ -26,16 +23,10 @@ module _ (P : Agent → Type 0) (world : World) (all : OfEach P world) where
   -- an agent becomes another
   pub each_becomes : (number : ℕ) (change : Agent → Agent) → ((actor : Actor) → actor_at world number ≡ Some actor → P (change actor.agent)) → (found : Option Actor) → actor_at world number ≡ found
       → OfEach P (becomes world number change found).world
-  each_becomes number change keeps (Some actor) there = set number (record actor { agent = change actor.agent }) (keeps actor there)
-  each_becomes number change keeps None there = all
-
-  each_operated : (st : State) (what : Option Served) → OfEach P (operated world st what).world
-  each_operated st (Some what) = all
-  each_operated st None = all
+  each_becomes number change h2 found h4 = search (set, arith)
 
   each_operates : (server : ℕ) (asked : Request) (found : Option State) → OfEach P (operates world server asked found).world
-  each_operates server asked (Some st) = each_operated st (serve server st (record { stamp = 0; value = asked }))
-  each_operates server asked None = all
+  each_operates server asked found = search arith
 
   module _ (fixed : Fixed) (forgets : (agent : Agent) (site : ℕ) → P agent → P (forget agent site)) (takes : (agent : Agent) (response : Response) → P agent → P (take fixed agent response).agent) where
     told : (number : ℕ) (actor : Actor) (stamp : ℕ) (response : Response) → actor_at world number ≡ Some actor
@@ -43,33 +34,22 @@ module _ (P : Agent → Type 0) (world : World) (all : OfEach P world) where
     told number actor stamp response there = set number (moved actor stamp (take fixed actor.agent response)) (takes actor.agent response (all number actor there))
 
     each_answered : (number : ℕ) (actor : Actor) (st : State) → actor_at world number ≡ Some actor → (what : Option Served) → OfEach P (answered fixed world number actor st what).world
-    each_answered number actor st there (Some what) = told number actor what.reply.stamp (Replied what.reply.value) there
-    each_answered number actor st there None = told number actor actor.stamp (Lacked lack.Full) there
+    each_answered number actor st h3 what = search (told, arith)
 
     each_asks_at : (number : ℕ) (actor : Actor) (asked : ℕ × Request) → actor_at world number ≡ Some actor → (found : Option State) → OfEach P (asks_at fixed world number actor asked found).world
-    each_asks_at number actor asked there (Some st) = each_answered number actor st there (serve asked.0 st (record { stamp = actor.stamp; value = asked.1 }))
-    each_asks_at number actor asked there None = all
+    each_asks_at number actor asked h3 found = search (each_answered, arith)
 
     each_asks : (number : ℕ) (actor : Actor) → actor_at world number ≡ Some actor → (asked : Option (ℕ × Request)) → OfEach P (asks fixed world number actor asked).world
-    each_asks number actor there (Some asked) = each_asks_at number actor asked there (server_at world asked.0)
-    each_asks number actor there None = all
+    each_asks number actor h2 asked = search (each_asks_at, arith)
 
     each_steps : (number : ℕ) (found : Option Actor) → actor_at world number ≡ found → OfEach P (steps_once fixed world number found).world
-    each_steps number (Some actor) there = each_asks number actor there (next_of fixed actor.agent)
-    each_steps number None there = all
+    each_steps number found h2 = search (each_asks, arith)
 
     each_lacks_for : (number : ℕ) (actor : Actor) (response : Response) → actor_at world number ≡ Some actor → (asked : Option (ℕ × Request)) → OfEach P (lacks_for fixed world number actor response asked).world
-    each_lacks_for number actor response there (Some asked) = told number actor actor.stamp response there
-    each_lacks_for number actor response there None = all
+    each_lacks_for number actor response h3 asked = search (told, arith)
 
     each_lacks : (number : ℕ) (response : Response) (found : Option Actor) → actor_at world number ≡ found → OfEach P (lacks fixed world number response found).world
-    each_lacks number response (Some actor) there = each_lacks_for number actor response there (next_of fixed actor.agent)
-    each_lacks number response None there = all
+    each_lacks number response found h3 = search (each_lacks_for, arith)
 
     pub after_event : (event : Event) → ((number : ℕ) (job : Job) (actor : Actor) → event ≡ Begin number job → actor_at world number ≡ Some actor → P (begin fixed actor.agent job)) → OfEach P (step fixed world event).world
-    after_event (Begin number job) begins = each_becomes number (λ agent. begin fixed agent job) (λ actor there. begins number job actor refl there) (actor_at world number) refl
-    after_event (Step number) begins = each_steps number (actor_at world number) refl
-    after_event (Crash server) begins = each_operates server request.Crash (server_at world server)
-    after_event (Return server) begins = each_operates server request.Return (server_at world server)
-    after_event (Forget number site) begins = each_becomes number (λ agent. forget agent site) (λ actor there. forgets actor.agent site (all number actor there)) (actor_at world number) refl
-    after_event (Lack number why) begins = each_lacks number (Lacked why) (actor_at world number) refl
+    after_event event h1 = search (each_becomes, each_steps, each_operates, each_lacks, arith)

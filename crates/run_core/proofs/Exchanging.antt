@@ -1,11 +1,10 @@
 -- What one request of an agent to a server leaves of the two.
-use Rattle.run_core.proofs.Vocabulary.{◌≡◌, ℕ, zero, suc, Bool, true, false, cond, List, [], ◌∷◌, Option, Some, None, refl, ap, ◌∙◌, sym, slice_get, slice_set, option_or, Request, Stamped, Full, State, reply_of, answer_of, served}
-use Rattle.run_core.proofs.Vocabulary.{is_full, Replied, Lacked, EndedJob, Served, with_actor, answered, outcome_of, Seated, after_response, ending_by, IsExchange, IsExchangeOf}
+use Rattle.run_core.proofs.Vocabulary.{◌≡◌, ℕ, zero, suc, Bool, true, false, List, [], ◌∷◌, Option, Some, None, refl, ap, sym, slice_get, slice_set, option_or, Request, Stamped, Full, State, reply_of, answer_of, served, arith, is_full, Replied}
+use Rattle.run_core.proofs.Vocabulary.{Lacked, EndedJob, Served, outcome_of, Seated, after_response, ending_by, IsExchange, IsExchangeOf}
 use Rattle.txn_core.specs.Agents.{take}
 
 pub not_true : (b : Bool) → (b ≡ true → ⊥) → b ≡ false
-not_true true never = absurd (never refl)
-not_true false never = refl
+not_true b h1 = search arith
 
 -- what stands at a place, put there again
 pub set_there : {X : Type 0} (xs : List X) (i : ℕ) (x : X) → slice_get xs i ≡ Some x → slice_set xs i x ≡ xs
@@ -15,8 +14,7 @@ set_there (y ∷ ys) (suc i) x there = ap (λ zs. y ∷ zs) (set_there ys i x th
 
 -- what is put into an empty place
 pub or_nothing : {X : Type 0} (x : Option X) → option_or x None ≡ x
-or_nothing (Some x) = refl
-or_nothing None = refl
+or_nothing x = search arith
 
 abbrev stamped : Seated → Request → Stamped Request
 stamped seat asked = record { stamp = seat.actor.stamp; value = asked }
@@ -27,25 +25,12 @@ of_it host seat server asked = record { server = server; request = stamped seat 
 pub was_served : (host : State) (seat : Seated) (server number : ℕ) (asked : Request) → is_full host (stamped seat asked) ≡ false
     → IsExchange host (served host (stamped seat asked)) seat (after_response seat (answer_of host (stamped seat asked)).stamp (Replied (reply_of host asked))) server number asked
     (record { served = Some (of_it host seat server asked); outcome = outcome_of number seat.actor (take seat.fixed seat.actor.agent (Replied (reply_of host asked))).ending })
-was_served host seat server number asked not_full = record {
-  fixed = refl;
-  step = λ world there. ap (λ (full : Bool). answered seat.fixed world number seat.actor host (cond full None (Some (of_it host seat server asked)))) not_full;
-}
+was_served host seat server number asked not_full = search arith
 
 pub was_full : (host : State) (seat : Seated) (server number : ℕ) (asked : Request) → is_full host (stamped seat asked) ≡ true
     → IsExchange host host seat (after_response seat seat.actor.stamp (Lacked Full)) server number asked
     (record { served = None; outcome = outcome_of number seat.actor (take seat.fixed seat.actor.agent (Lacked Full)).ending })
-was_full host seat server number asked full = record {
-  fixed = refl;
-  step = λ world there.
-      ap (λ (full : Bool). answered seat.fixed world number seat.actor host (cond full None (Some (of_it host seat server asked)))) full
-      ∙ sym
-      (ap (λ (servers : List State). record {
-        world = with_actor number (after_response seat seat.actor.stamp (Lacked Full)).actor (record world { servers = servers });
-        done = record { served = None; outcome = outcome_of number seat.actor (take seat.fixed seat.actor.agent (Lacked Full)).ending };
-      })
-      (set_there world.servers server host there));
-}
+was_full host seat server number asked full = search (set_there, arith)
 
 -- ---- the same, and what is told of it
 

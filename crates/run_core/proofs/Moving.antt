@@ -1,10 +1,9 @@
 -- What the code keeps of agents, against the definitions.
-use Rattle.run_core.proofs.Vocabulary.{◌≡◌, ℕ, Bool, true, false, List, Option, Some, None, Result, Ok, Err, refl, ap, subst, ◌∙◌, sym, slice_get, slice_set, option_map, IfOk, IfSome, OnErr, option_or, AllocError, map-set, All-set}
-use Rattle.run_core.proofs.Vocabulary.{All-same, slice_get-map, slice_get_within, get_or_from_slice_get, Request, State, Response, Fixed, Agent, next_of, Done, EndedJob, Served, ComesTo, IsFitting, IsFittingIf, IsTold, served_if, Actor}
-use Rattle.run_core.proofs.Vocabulary.{World, Stepped, becomes, quiet, steps_once, asks, asks_at, answered, serve, lacks, lacks_for, lacked, outcome_of, Seated, changed, actors_in, world_of, AreOf, Becomes, after_response, IsExchange}
-use Rattle.run_core.proofs.Vocabulary.{IsExchangeOf}
+use Rattle.run_core.proofs.Vocabulary.{◌≡◌, ℕ, Bool, false, List, Option, Some, None, Result, Ok, Err, refl, ap, subst, ◌∙◌, sym, slice_get, slice_set, option_map, IfOk, IfSome, OnErr, option_or, AllocError, map-set, All-set, arith, All-same}
+use Rattle.run_core.proofs.Vocabulary.{slice_get-map, slice_get_within, get_or_from_slice_get, Request, State, Response, Fixed, Agent, next_of, Done, EndedJob, Served, ComesTo, IsFitting, IsFittingIf, IsTold, served_if, Actor, World, Stepped}
+use Rattle.run_core.proofs.Vocabulary.{becomes, quiet, steps_once, asks, asks_at, answered, serve, lacks, lacks_for, lacked, outcome_of, Seated, changed, actors_in, world_of, AreOf, Becomes, after_response, IsExchange, IsExchangeOf}
 use Rattle.txn_core.specs.Agents.{take}
-use Rattle.run_core.proofs.Exchanging.{or_nothing, set_there}
+use Rattle.run_core.proofs.Exchanging.{set_there}
 
 -- ---- places
 
@@ -47,31 +46,18 @@ of_becoming fixed seats seats' place change all now = of_if fixed seats seats' p
 becomes_if : (fixed : Fixed) (servers : List State) (seats seats' : List Seated) (place : ℕ) (change : Fixed → Agent → Agent) (found : Option Seated) → AreOf fixed seats
     → slice_get seats place ≡ found → Becomes found (by change) place seats seats'
     → becomes (world_of servers seats) place (change fixed) (option_map actor_of found) ≡ quiet (world_of servers seats')
-becomes_if fixed servers seats seats' place change (Some seat) all is now =
-    let same = fixed_there fixed seats place seat all is in
-    ap (λ (given : Fixed). becomes (world_of servers seats) place (change given) (Some seat.actor)) (sym same)
-    ∙ ap (λ (actors : List Actor). quiet (record { servers = servers; agents = actors })) (sym (actors_set seats place (by change seat)))
-    ∙ ap (λ (left : List Seated). quiet (world_of servers left)) (sym now)
+becomes_if fixed servers seats seats' place change (Some seat) all is now = search (fixed_there fixed seats place seat all is, actors_set seats place (by change seat), arith)
 becomes_if fixed servers seats seats' place change None all is now = ap (λ (left : List Seated). quiet (world_of servers left)) (sym now)
 
 pub becomes_there : (fixed : Fixed) (servers : List State) (seats seats' : List Seated) (place : ℕ) (change : Fixed → Agent → Agent) → AreOf fixed seats → Becomes (slice_get seats place) (by change) place seats seats'
     → becomes (world_of servers seats) place (change fixed) (slice_get (actors_in seats) place) ≡ quiet (world_of servers seats')
-becomes_there fixed servers seats seats' place change all now =
-    ap (becomes (world_of servers seats) place (change fixed)) (actor_there seats place (slice_get seats place) refl)
-    ∙ becomes_if fixed servers seats seats' place change (slice_get seats place) all refl now
+becomes_there fixed servers seats seats' place change all now = search (actor_there, slice_get, becomes_if, arith)
 
 -- ---- Step
 
-pub ask_nobody : (fixed : Fixed) (servers : List State) (seats : List Seated) (place : ℕ) → slice_get seats place ≡ None
-    → steps_once fixed (world_of servers seats) place (slice_get (actors_in seats) place) ≡ quiet (world_of servers seats)
-ask_nobody fixed servers seats place is = ap (steps_once fixed (world_of servers seats) place) (actor_there seats place None is)
-
 ask_somebody : (fixed : Fixed) (servers : List State) (seats : List Seated) (place : ℕ) (seat : Seated) (asked : Option (ℕ × Request)) → AreOf fixed seats → slice_get seats place ≡ Some seat → next_of seat.fixed seat.actor.agent ≡ asked
     → steps_once fixed (world_of servers seats) place (slice_get (actors_in seats) place) ≡ asks fixed (world_of servers seats) place seat.actor asked
-ask_somebody fixed servers seats place seat asked all is next =
-    ap (steps_once fixed (world_of servers seats) place) (actor_there seats place (Some seat) is)
-    ∙ ap (λ (given : Fixed). asks fixed (world_of servers seats) place seat.actor (next_of given seat.actor.agent)) (sym (fixed_there fixed seats place seat all is))
-    ∙ ap (asks fixed (world_of servers seats) place seat.actor) next
+ask_somebody fixed servers seats place seat asked all is next = search (actor_there seats place (Some seat) is, fixed_there fixed seats place seat all is, arith)
 
 pub ask_nothing : (fixed : Fixed) (servers : List State) (seats : List Seated) (place : ℕ) (seat : Seated) → AreOf fixed seats → slice_get seats place ≡ Some seat → next_of seat.fixed seat.actor.agent ≡ None
     → steps_once fixed (world_of servers seats) place (slice_get (actors_in seats) place) ≡ quiet (world_of servers (slice_set seats place seat))
@@ -80,10 +66,7 @@ ask_nothing fixed servers seats place seat all is next = ask_somebody fixed serv
 pub ask_nowhere : (fixed : Fixed) (servers : List State) (seats : List Seated) (place : ℕ) (seat : Seated) (server : ℕ) (asked : Request) → AreOf fixed seats
     → slice_get seats place ≡ Some seat → next_of seat.fixed seat.actor.agent ≡ Some (server, asked) → slice_get servers server ≡ None
     → steps_once fixed (world_of servers seats) place (slice_get (actors_in seats) place) ≡ quiet (world_of servers (slice_set seats place seat))
-ask_nowhere fixed servers seats place seat server asked all is next nowhere =
-    ask_somebody fixed servers seats place seat (Some (server, asked)) all is next
-    ∙ ap (asks_at fixed (world_of servers seats) place seat.actor (server, asked)) nowhere
-    ∙ put_back servers seats place seat is
+ask_nowhere fixed servers seats place seat server asked all is next nowhere = search (ask_somebody fixed servers seats place seat (Some (server, asked)) all is next, put_back servers seats place seat is, arith)
 
 pub ask_there : (fixed : Fixed) (servers : List State) (seats : List Seated) (place server : ℕ) (seat seat' : Seated) (host host' : State) (asked : Request) (done : Done)
     → AreOf fixed seats → slice_get seats place ≡ Some seat → next_of seat.fixed seat.actor.agent ≡ Some (server, asked) → slice_get servers server ≡ Some host
@@ -108,10 +91,7 @@ asks_somebody server asked next one same is = sym same ∙ ap (option_map (λ (s
 
 pub comes_to : (stepped : Stepped) (world : World) (done : Done) (asked : Served) (ended ended' : Option EndedJob) (is_served : Bool)
     → stepped ≡ record { world = world; done = done } → IsTold done asked ended ended' is_served → ComesTo stepped world asked ended ended' is_served
-comes_to stepped world done asked ended ended' is_served is told = record {
-  world_is = sym (ap (λ (one : Stepped). one.world) is);
-  told = subst (λ (one : Stepped). IsTold one.done asked ended ended' is_served) (sym is) told;
-}
+comes_to stepped world done asked ended ended' is_served is told = search arith
 
 -- nothing is told where nothing was done
 pub comes_to_nothing : (stepped : Stepped) (world : World) (asked : Served) (ended : Option EndedJob) → stepped ≡ quiet world → ComesTo stepped world asked ended ended false
@@ -126,8 +106,7 @@ pub comes_there : (fixed : Fixed) (servers : List State) (seats : List Seated) (
     → AreOf fixed seats → slice_get seats number ≡ Some seat → next_of seat.fixed seat.actor.agent ≡ Some (asked.server, asked.request.value) → slice_get servers asked.server ≡ Some host
     → IsExchangeOf host host' seat seat' number asked asked' ended ended' is_served
     → ComesTo (steps_once fixed (world_of servers seats) number (slice_get (actors_in seats) number)) (world_of (slice_set servers asked.server host') (slice_set seats number seat')) asked' ended ended' is_served
-comes_there fixed servers seats seat seat' host host' number asked asked' ended ended' is_served all is next there left =
-    comes_to _ _ left.done asked' ended ended' is_served (ask_there fixed servers seats number asked.server seat seat' host host' asked.request.value left.done all is next there left.exchange) left.told
+comes_there fixed servers seats seat seat' host host' number asked asked' ended ended' is_served all is next there left = search (comes_to, ask_there, arith)
 
 -- whether it was served or not, the agent is of the same service
 pub of_exchange : (fixed : Fixed) (seats : List Seated) (place : ℕ) (seat seat' : Seated) (host host' : State) (asked asked' : Served) (ended ended' : Option EndedJob) (told : Result Bool AllocError)
@@ -140,28 +119,18 @@ of_exchange fixed seats place seat seat' host host' asked asked' ended ended' (E
 -- a step, of what is told of it
 pub step_told : (stepped : Stepped) (world : World) (asked : Served) (outcome : Option EndedJob) (is_served : Bool) → ComesTo stepped world asked None outcome is_served
     → stepped ≡ record { world = world; done = record { served = served_if is_served asked; outcome = outcome } }
-step_told stepped world asked outcome is_served comes =
-    let outcome_is = comes.told.ended_is ∙ or_nothing stepped.done.outcome in
-    rw (comes.world_is, ← comes.told.served_is, outcome_is) refl
+step_told stepped world asked outcome is_served comes = search arith
 
 -- the reply of what was served fits its request
 pub served_fits : (asked : Served) (is_served : Bool) → IsFittingIf is_served asked → IfSome (served_if is_served asked) IsFitting
-served_fits asked true fits = fits
-served_fits asked false fits = tt
+served_fits asked is_served h2 = search arith
 
 -- ---- Lack
-
-pub lack_nobody : (fixed : Fixed) (servers : List State) (seats : List Seated) (place : ℕ) (response : Response) → slice_get seats place ≡ None
-    → lacks fixed (world_of servers seats) place response (slice_get (actors_in seats) place) ≡ quiet (world_of servers seats)
-lack_nobody fixed servers seats place response is = ap (lacks fixed (world_of servers seats) place response) (actor_there seats place None is)
 
 lack_somebody : (fixed : Fixed) (servers : List State) (seats : List Seated) (place : ℕ) (response : Response) (seat : Seated) (asked : Option (ℕ × Request)) → AreOf fixed seats
     → slice_get seats place ≡ Some seat → next_of seat.fixed seat.actor.agent ≡ asked
     → lacks fixed (world_of servers seats) place response (slice_get (actors_in seats) place) ≡ lacks_for fixed (world_of servers seats) place seat.actor response asked
-lack_somebody fixed servers seats place response seat asked all is next =
-    ap (lacks fixed (world_of servers seats) place response) (actor_there seats place (Some seat) is)
-    ∙ ap (λ (given : Fixed). lacks_for fixed (world_of servers seats) place seat.actor response (next_of given seat.actor.agent)) (sym (fixed_there fixed seats place seat all is))
-    ∙ ap (lacks_for fixed (world_of servers seats) place seat.actor response) next
+lack_somebody fixed servers seats place response seat asked all is next = search (actor_there, fixed_there, arith)
 
 pub lack_nothing : (fixed : Fixed) (servers : List State) (seats : List Seated) (place : ℕ) (response : Response) (seat : Seated) → AreOf fixed seats → slice_get seats place ≡ Some seat → next_of seat.fixed seat.actor.agent ≡ None
     → lacks fixed (world_of servers seats) place response (slice_get (actors_in seats) place) ≡ quiet (world_of servers (slice_set seats place seat))

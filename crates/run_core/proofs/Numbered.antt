@@ -1,31 +1,21 @@
 -- The servers and the agents of a service, as it opens.
-use Rattle.run_core.proofs.Vocabulary.{◌≡◌, ℕ, zero, suc, ◌+◌, List, [], ◌∷◌, ◌++◌, refl, ap, ◌∙◌, arith, All-nil, All-cons, Opening, State, fixed_of, Actor, servers_from, actors_from, Seated, seats_from, actors_in, AreOf}
+use Rattle.run_core.proofs.Vocabulary.{◌≡◌, ℕ, zero, suc, ◌+◌, List, [], ◌∷◌, ◌++◌, refl, ap, arith, All-nil, All-cons, Opening, fixed_of, Actor, servers_from, actors_from, Seated, seats_from, actors_in, AreOf}
 use Rattle.rep_core.specs.State as state
 use Rattle.run_core.specs.code.Seats.{opening}
 
 servers_from-more : (given : Opening) (start count : ℕ) → servers_from given start (suc count) ≡ servers_from given start count ++ state.opening (start + count) given ∷ []
 servers_from-more given start zero = let same : start ≡ start + 0 = omega arith in ap (λ n. state.opening n given ∷ []) same
-servers_from-more given start (suc count) =
-    let same : start + 1 + count ≡ start + suc count = omega arith in
-    ap (λ (servers : List State). state.opening start given ∷ servers) (servers_from-more given (start + 1) count ∙ ap (λ n. servers_from given (start + 1) count ++ state.opening n given ∷ []) same)
+servers_from-more given start (suc count) = search (servers_from-more given (start + 1) count, arith)
 
 pub one_more_server : (given : Opening) (count : ℕ) → servers_from given 0 (count + 1) ≡ servers_from given 0 count ++ state.opening count given ∷ []
-one_more_server given count =
-    let same : 0 + count ≡ count = omega arith in
-    let next : count + 1 ≡ suc count = omega arith in
-    ap (servers_from given 0) next ∙ servers_from-more given 0 count ∙ ap (λ n. servers_from given 0 count ++ state.opening n given ∷ []) same
+one_more_server given count = search (servers_from-more given 0 count, arith)
 
 seats_from-more : (given : Opening) (start count : ℕ) → seats_from given start (suc count) ≡ seats_from given start count ++ opening given (start + count) ∷ []
 seats_from-more given start zero = let same : start ≡ start + 0 = omega arith in ap (λ n. opening given n ∷ []) same
-seats_from-more given start (suc count) =
-    let same : start + 1 + count ≡ start + suc count = omega arith in
-    ap (λ (seats : List Seated). opening given start ∷ seats) (seats_from-more given (start + 1) count ∙ ap (λ n. seats_from given (start + 1) count ++ opening given n ∷ []) same)
+seats_from-more given start (suc count) = search (seats_from-more given (start + 1) count, arith)
 
 pub one_more_seat : (given : Opening) (count : ℕ) → seats_from given 0 (count + 1) ≡ seats_from given 0 count ++ opening given count ∷ []
-one_more_seat given count =
-    let same : 0 + count ≡ count = omega arith in
-    let next : count + 1 ≡ suc count = omega arith in
-    ap (seats_from given 0) next ∙ seats_from-more given 0 count ∙ ap (λ n. seats_from given 0 count ++ opening given n ∷ []) same
+one_more_seat given count = search (seats_from-more given 0 count, arith)
 
 pub actors_of_seats : (given : Opening) (start count : ℕ) → actors_in (seats_from given start count) ≡ actors_from start count
 actors_of_seats given start zero = refl

@@ -1,7 +1,6 @@
 -- An event without sense changes nothing.
-use Rattle.run_core.proofs.Vocabulary.{◌≡◌, ℕ, ◌+◌, ◌<◌, false, cond, [], ◌∷◌, Option, Some, None, inl, inr, refl, ap, sym, ◌∙◌, arith, ◌==◌, nat_lt, not, is_some, Contains, false≢true, nat_tests, Request, State, Has, contains_from}
-use Rattle.run_core.proofs.Vocabulary.{Entry, Cache, forgotten, Job, Response, Lacked, Fixed, Agent, begin, begins, started, forget, max_sites, next_of, Served, asked_by, can_begin, asks_one, can_forget, NothingComes, Actor, World}
-use Rattle.run_core.proofs.Vocabulary.{actor_at, server_at, becomes, quiet, steps_once, asks, asks_at, lacks, lacks_for, operates, operated, serve}
+use Rattle.run_core.proofs.Vocabulary.{◌≡◌, ℕ, ◌+◌, ◌<◌, false, cond, [], ◌∷◌, Option, Some, None, inl, refl, ap, sym, ◌∙◌, arith, ◌==◌, nat_lt, is_some, Contains, nat_tests, Request, State, Has, contains_from, Entry, Cache, forgotten, Job, Response}
+use Rattle.run_core.proofs.Vocabulary.{Lacked, Fixed, Agent, begin, begins, started, forget, max_sites, asked_by, can_begin, asks_one, can_forget, NothingComes, Actor, World, actor_at, server_at, becomes, quiet, steps_once, asks, lacks, operates}
 use Rattle.rep_core.specs.declared.request.Request.TheVariants as request
 use Rattle.run_core.specs.declared.event.Event.TheVariants as event
 use Rattle.run_core.proofs.Exchanging.{set_there}
@@ -9,10 +8,7 @@ use Rattle.run_core.proofs.Exchanging.{set_there}
 -- an agent that stays as it was, put back where it stood
 stays : (world : World) (place : ℕ) (change : Agent → Agent) (found : Option Actor) → actor_at world place ≡ found
     → ((actor : Actor) → found ≡ Some actor → change actor.agent ≡ actor.agent) → becomes world place change found ≡ quiet world
-stays world place change None is same = refl
-stays world place change (Some actor) is same =
-    ap (λ (agent : Agent). becomes world place (λ _. agent) (Some actor)) (same actor refl)
-    ∙ ap (λ agents. quiet (record world { agents = agents })) (set_there world.agents place actor is)
+stays world place change found h4 h5 = search (set_there, arith)
 
 -- ---- Begin
 
@@ -29,9 +25,7 @@ apart site other less none = grind (arith, nat_tests, less, none)
 
 none_left : (site : ℕ) (cache : Cache) → nat_lt site max_sites ≡ false → ((entry : Entry) → Has cache entry → entry.site < max_sites) → forgotten site cache ≡ cache
 none_left site [] none there = refl
-none_left site (entry ∷ cache) none there =
-    ap (λ t. cond (not t) (entry ∷ forgotten site cache) (forgotten site cache)) (apart entry.site site (there entry (inl refl)) none)
-    ∙ ap (λ rest. entry ∷ rest) (none_left site cache none (λ one has. there one (inr has)))
+none_left site (entry ∷ cache) none there = search (apart entry.site site (there entry (inl refl)) none, none_left site cache none, arith)
 
 forgets_nothing : (world : World) (place site : ℕ) (found : Option Actor) → can_forget site found ≡ false
     → ((actor : Actor) (entry : Entry) → found ≡ Some actor → Contains actor.agent.cache entry → entry.site < max_sites)
@@ -43,40 +37,28 @@ forgets_nothing world place site found none there actor is =
 -- ---- Step and Lack
 
 none_there : {X : Type 0} (found : Option X) → is_some found ≡ false → found ≡ None
-none_there None none = refl
-none_there (Some x) none = absurd (false≢true (sym none))
+none_there found h1 = search arith
 
 asks_none : (fixed : Fixed) (world : World) (place : ℕ) (actor : Actor) (asked : Option (ℕ × Request)) → asks_one world asked ≡ false → asks fixed world place actor asked ≡ quiet world
-asks_none fixed world place actor None none = refl
-asks_none fixed world place actor (Some asked) none = ap (asks_at fixed world place actor asked) (none_there (server_at world asked.0) none)
+asks_none fixed world place actor asked h5 = search arith
 
 steps_never : (fixed : Fixed) (world : World) (place : ℕ) (found : Option Actor) → asks_one world (asked_by fixed found) ≡ false → steps_once fixed world place found ≡ quiet world
-steps_never fixed world place None none = refl
-steps_never fixed world place (Some actor) none = asks_none fixed world place actor (next_of fixed actor.agent) none
+steps_never fixed world place found h4 = search arith
 
 lacks_never : (fixed : Fixed) (world : World) (place : ℕ) (response : Response) (found : Option Actor) → is_some (asked_by fixed found) ≡ false → lacks fixed world place response found ≡ quiet world
-lacks_never fixed world place response None none = refl
-lacks_never fixed world place response (Some actor) none = ap (lacks_for fixed world place actor response) (none_there (next_of fixed actor.agent) none)
+lacks_never fixed world place response found h5 = search arith
 
 -- ---- Crash and Return
 
-not_operated : (world : World) (st : State) (what : Option Served) → is_some (operated world st what).done.served ≡ false → operated world st what ≡ quiet world
-not_operated world st None none = refl
-not_operated world st (Some what) none = absurd (false≢true (sym none))
-
 operates_never : (world : World) (server : ℕ) (asked : Request) (found : Option State) → is_some (operates world server asked found).done.served ≡ false → operates world server asked found ≡ quiet world
-operates_never world server asked None none = refl
-operates_never world server asked (Some st) none = not_operated world st (serve server st (record { stamp = 0; value = asked })) none
+operates_never world server asked found h4 = search arith
 
 -- ---- every event
 
 pub nothing_comes : NothingComes
-nothing_comes fixed world (event.Begin agent job) there none =
-    stays world agent (λ a. begin fixed a job) (actor_at world agent) refl (begun_never fixed job (actor_at world agent) none)
+nothing_comes fixed world (event.Begin agent job) there none = search (stays, begun_never, arith)
 nothing_comes fixed world (event.Step agent) there none = steps_never fixed world agent (actor_at world agent) none
 nothing_comes fixed world (event.Crash server) there none = operates_never world server request.Crash (server_at world server) none
 nothing_comes fixed world (event.Return server) there none = operates_never world server request.Return (server_at world server) none
-nothing_comes fixed world (event.Forget agent site) there none =
-    stays world agent (λ a. forget a site) (actor_at world agent) refl
-    (forgets_nothing world agent site (actor_at world agent) none (λ actor entry is has. there agent actor entry is has))
+nothing_comes fixed world (event.Forget agent site) there none = search (stays, forgets_nothing, arith)
 nothing_comes fixed world (event.Lack agent why) there none = lacks_never fixed world agent (Lacked why) (actor_at world agent) none

@@ -1,7 +1,6 @@
 -- The names that the proofs of this crate take from elsewhere, each with one meaning here.
-pub use Rattle.std.proofs.Common.{Bool, Contains, Err, IfErr, IfOk, IfSome, IsSome, List, None, Ok, OnErr, Option, Result, Some, [], ap, arith, cond, false, get_or, inl, inr, is_some, length, nat_lt, not, option_map, refl, rules, slice_get}
-pub use Rattle.std.proofs.Common.{slice_set, subst, suc, sym, take, true, vec_len, zero, ℕ, ⊎_elim, ◌++◌, ◌+◌, ◌<◌, ◌==◌, ◌||◌, ◌∙◌, ◌∷◌, ◌≡◌}
-pub use Rattle.std.proofs.lemmas.Bool.{false≢true}
+pub use Rattle.std.proofs.Common.{Bool, Contains, Err, IfErr, IfOk, IfSome, IsSome, List, None, Ok, OnErr, Option, Result, Some, [], ap, arith, cond, false, get_or, inl, is_some, length, nat_lt, option_map, refl, rules, slice_get, slice_set, subst}
+pub use Rattle.std.proofs.Common.{suc, sym, take, true, vec_len, zero, ℕ, ◌++◌, ◌+◌, ◌<◌, ◌==◌, ◌||◌, ◌∙◌, ◌∷◌, ◌≡◌}
 pub use Rattle.std.proofs.lemmas.Bool.Decides.{nat_tests}
 pub use Rattle.std.proofs.lemmas.List.{map-set, take_more}
 pub use Rattle.std.proofs.lemmas.List.Elements.{All-cons, All-nil, All-same, All-set}
@@ -34,10 +33,9 @@ pub use Rattle.run_core.specs.Opened.{Opened}
 pub use Rattle.run_core.specs.Runs.{after, dones, outcomes}
 pub use Rattle.run_core.specs.Senses.{NothingComes, asks_one, can_begin, can_forget}
 pub use Rattle.run_core.specs.Telling.{ComesTo, IsFitting, IsFittingIf, IsTold, served_if}
-pub use Rattle.run_core.specs.Wanting.{by_asking, by_begin, by_event, by_exchange, by_next, by_outcome, by_step, by_stop}
+pub use Rattle.run_core.specs.Wanting.{by_asking, by_begin, by_event, by_exchange, by_step, by_stop}
 pub use Rattle.run_core.specs.WorkedRuns.{WorkedRuns}
-pub use Rattle.run_core.specs.Worlds.{Actor, Stepped, World, actor_at, actors_from, answered, asks, asks_at, becomes, lacked, lacks, lacks_for, moved, opening, operated, operates, outcome_of, quiet, serve, server_at, servers_from, step}
-pub use Rattle.run_core.specs.Worlds.{steps_once, with_actor}
+pub use Rattle.run_core.specs.Worlds.{Actor, Stepped, World, actor_at, actors_from, answered, asks, asks_at, becomes, lacked, lacks, lacks_for, moved, opening, operates, outcome_of, quiet, serve, server_at, servers_from, step, steps_once}
 pub use Rattle.run_core.specs.code.Exchanges.{IsExchange, IsExchangeOf}
 pub use Rattle.run_core.specs.code.Orders.{request_of}
 pub use Rattle.run_core.specs.code.Seats.{AreOf, Becomes, Seated, actors_in, after_response, changed, ending_by, seats_from, world_of}
@@ -45,5 +43,5 @@ pub use Rattle.run_core.specs.declared.done.Done.{Done}
 pub use Rattle.run_core.specs.declared.done.EndedJob.{EndedJob}
 pub use Rattle.run_core.specs.declared.done.Served.{Served}
 pub use Rattle.run_core.specs.declared.event.Event.{Event}
-pub use Rattle.run_core.specs.declared.event.Event.TheVariants.{Begin, Crash, Forget, Return, Step}
+pub use Rattle.run_core.specs.declared.event.Event.TheVariants.{Begin}
 pub use Rattle.run_core.specs.declared.operator.Order.{Order}

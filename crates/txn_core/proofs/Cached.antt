@@ -1,6 +1,6 @@
 -- What a step leaves in the cache.
-use Rattle.txn_core.proofs.Vocabulary.{◌≡◌, ℕ, Bool, true, false, cond, ◌⊎◌, inl, inr, Some, refl, ap, subst, ◌==◌, same_Some, Content, Request, Reply, Entry, Cache, searched, put_has, searched_has, ReadPoint, GatheredSuite, Suites}
-use Rattle.txn_core.proofs.Vocabulary.{suite_of, Response, Replied, Fixed, Task, Phase, Fetching, Executes, Point, point, EndsIn, Move, opens, MovesTo, entry_of, Hears, gets, Step, after_search, Gathered, execute, after_response, given_in}
+use Rattle.txn_core.proofs.Vocabulary.{◌≡◌, ℕ, ◌⊎◌, inl, inr, Some, refl, ap, subst, Content, Request, Reply, Entry, Cache, put_has, searched_has, ReadPoint, GatheredSuite, Suites, arith, suite_of, Response, Replied, Fixed, Task, Phase, Fetching}
+use Rattle.txn_core.proofs.Vocabulary.{Executes, Point, point, EndsIn, Move, MovesTo, entry_of, Hears, gets, Step, after_search, Gathered, execute, after_response, given_in}
 use Rattle.weak_cache.proofs.Origins.{Has}
 use Rattle.rep_core.specs.declared.reply.Reply.TheVariants as reply
 use Rattle.txn_core.proofs.Moving.{kept, left_by, execute_moves, response_moves}
@@ -13,15 +13,10 @@ ends_same task at step ends = left_by task (λ step. step.cache ≡ at.cache) at
 
 -- what was looked for moves, and no more
 searched_back : (task : Task) (cache : Cache) (number : ℕ) (first : ReadPoint) (x : Entry) → Has (after_search task cache number first) x → Has cache x
-searched_back task cache number first x has = of (first.dver == 0) has
-  where
-    of : (b : Bool) → Has (cond b cache (searched task.site number first.dver cache)) x → Has cache x
-    of true has = has
-    of false has = searched_has task.site number first.dver cache x has
+searched_back task cache number first x has = search (searched_has, arith)
 
 move_has : (fixed : Fixed) (task : Task) (x : Entry) {at next : Point} → Move fixed task at next → Has next.cache x → Has at.cache x
-move_has fixed task x (opens {cache = cache} {number = number} {first = first} needs there was free) has = searched_back task cache number first x has
-move_has fixed task x _ has = has
+move_has fixed task x h3 h4 = search (searched_back, arith)
 
 moves_has : (fixed : Fixed) (task : Task) (x : Entry) (at : Point) (step : Step) → MovesTo fixed task at step → Has step.cache x → Has at.cache x
 moves_has fixed task x at step moves has =
@@ -46,8 +41,7 @@ pub record PutBy (fixed : Fixed) (task : Task) (suites : Suites) (phase : Phase)
   pub is : x ≡ record { site = task.site; suite = number; prefix = first.prefix; dver = first.dver; content = content }
 
 pub given_is : (said : Reply) (content : Content) → given_in said ≡ Some content → (dver : ℕ) × (said ≡ reply.Given dver content)
-given_is (reply.Given dver other) content is = (dver, ap (reply.Given dver) (same_Some other content is))
-given_is _ content is = cc
+given_is said content h2 = search arith
 
 hears_has : (fixed : Fixed) (task : Task) (cache : Cache) (suites : Suites) (x : Entry) (server : ℕ) (asked : Request) {phase : Phase} {response : Response} {heard : Point} → Hears fixed task cache suites server asked phase response heard
     → Has heard.cache x → Has cache x ⊎ PutBy fixed task suites phase response x
@@ -62,7 +56,4 @@ hears_has fixed task cache suites x server asked _ has = inl has
 
 pub response_has : (fixed : Fixed) (task : Task) (cache : Cache) (suites : Suites) (x : Entry) (phase : Phase) (server : ℕ) (asked : Request) (response : Response)
     → Has (after_response fixed (record { task = task; suites = suites; phase = phase }) cache server asked response).cache x → Has cache x ⊎ PutBy fixed task suites phase response x
-response_has fixed task cache suites x phase server asked response has =
-    let step = after_response fixed (record { task = task; suites = suites; phase = phase }) cache server asked response in
-    let moves = response_moves fixed task cache suites server asked phase response in
-    hears_has fixed task cache suites x server asked moves.hears (moves_has fixed task x moves.heard step moves.moves has)
+response_has fixed task cache suites x phase server asked response has = search (response_moves fixed task cache suites server asked phase response, hears_has, moves_has, arith)

@@ -1,7 +1,7 @@
 -- What an agent's cache keeps, and from where.
-use Rattle.txn_core.proofs.Vocabulary.{◌≡◌, ℕ, true, false, Bool, cond, ◌⊎◌, inl, inr, List, [], Option, Some, None, refl, sym, ap, subst, ◌∙◌, ◌+◌, ◌&&◌, nat_lt, same_Some, Request, Entry, has_to, entries_come_from_puts, ReadPoint}
-use Rattle.txn_core.proofs.Vocabulary.{Response, Job, Transaction, Sweep, Fixed, Task, Fetching, TransactionRun, Doing, Running, RunningSweep, request_in, fetched_for, fetched_at, Agent, Event, Take, next_in, next_of, take_in, take, begin}
-use Rattle.txn_core.proofs.Vocabulary.{started, is_idle, has_sense, max_jobs, after_all, of_job, task_of, FirstGave, IsFetched, CachesWhatWasFetched}
+use Rattle.txn_core.proofs.Vocabulary.{◌≡◌, ℕ, true, false, Bool, cond, ◌⊎◌, inl, inr, List, [], Option, Some, None, refl, sym, ap, subst, ◌∙◌, ◌+◌, ◌&&◌, nat_lt, same_Some, Request, Entry, has_to, entries_come_from_puts, ReadPoint, Response, Job}
+use Rattle.txn_core.proofs.Vocabulary.{Transaction, Sweep, Fixed, Task, Fetching, TransactionRun, Doing, Running, RunningSweep, request_in, fetched_for, fetched_at, Agent, Event, Take, next_in, next_of, take_in, take, begin, started, is_idle}
+use Rattle.txn_core.proofs.Vocabulary.{has_sense, max_jobs, after_all, of_job, task_of, FirstGave, IsFetched, CachesWhatWasFetched}
 use Rattle.weak_cache.proofs.Origins.{Has, has_from}
 use Rattle.txn_core.proofs.Gathers.{Kept}
 use Rattle.txn_core.proofs.Causes.{started_from, Stands}

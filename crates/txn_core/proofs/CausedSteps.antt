@@ -1,10 +1,10 @@
 -- Each step leaves what is caused: a phase that stands on what was told, or an end with its cause.
-use Rattle.txn_core.proofs.Vocabulary.{◌≡◌, ℕ, true, false, cond, List, [], ◌∷◌, ◌++◌, Option, Some, None, Ok, Err, refl, sym, inl, inr, ap, subst, ◌∙◌, ◌==◌, ◌&&◌, not, length, same_Some, Content, Decision, Request, Reply, Verdict, Lack}
-use Rattle.txn_core.proofs.Vocabulary.{is_prepared, fits, Hold, Know, Told, Said, Prefix, LockMode, Shared, Exclusive, Has, Collector, all_told, raise, tell, mode_of, Asked, Next, Ask, Current, Short, next, Cache, put, ReadPoint}
-use Rattle.txn_core.proofs.Vocabulary.{GatheredSuite, Suites, suite_of, with_suite, settled, told_in, parts_at, Response, Cause, Ending, Replied, Lacked, Unavailable, Busy, Lost, Full, Undecided, Granted, home_of, Fixed, Task, Proposal}
-use Rattle.txn_core.proofs.Vocabulary.{Phase, Gathering, Fetching, Widening, Preparing, Deciding, Finishing, Step, Gathered, tell_end, give_up, prepare, locked_at, short_cause, gather_by, widen_by, widen_one, widened, widen_all, to_widen}
-use Rattle.txn_core.proofs.Vocabulary.{opened, start_from, heard_on, raised_or_new, keep_content, heard_of, said_to, proceed, execute, collected, hear, fetched, after_lack, after_response, asked_by, asked_for, fetched_at, fetched_for}
-use Rattle.txn_core.proofs.Vocabulary.{request_in, changes_of, decision_of, given_in, verdict_in, ending_by, cause_of_abort, lack_cause, Exchange, locks, is_decide, told_of, all_fit, Outcome as Executed}
+use Rattle.txn_core.proofs.Vocabulary.{◌≡◌, ℕ, true, false, cond, List, [], ◌∷◌, ◌++◌, Option, Some, None, Ok, Err, refl, sym, inl, inr, ap, subst, ◌∙◌, ◌==◌, ◌&&◌, not, length, same_Some, Content, Decision, Request, Reply, Verdict, Lack, arith}
+use Rattle.txn_core.proofs.Vocabulary.{is_prepared, fits, Hold, Know, Told, Said, Prefix, LockMode, Shared, Exclusive, Has, Collector, all_told, raise, tell, mode_of, Asked, Next, Ask, Current, Short, next, Cache, put, ReadPoint, GatheredSuite}
+use Rattle.txn_core.proofs.Vocabulary.{Suites, suite_of, with_suite, settled, told_in, parts_at, Response, Cause, Ending, Replied, Lacked, Unavailable, Busy, Lost, Full, Undecided, Granted, home_of, Fixed, Task, Proposal, Phase, Gathering, Fetching}
+use Rattle.txn_core.proofs.Vocabulary.{Widening, Preparing, Deciding, Finishing, Step, Gathered, tell_end, give_up, prepare, locked_at, short_cause, gather_by, widen_by, widen_one, widened, widen_all, to_widen, opened, start_from, heard_on}
+use Rattle.txn_core.proofs.Vocabulary.{raised_or_new, keep_content, heard_of, said_to, proceed, execute, collected, hear, fetched, after_lack, after_response, asked_by, asked_for, fetched_at, fetched_for, request_in, changes_of, decision_of}
+use Rattle.txn_core.proofs.Vocabulary.{given_in, verdict_in, ending_by, cause_of_abort, lack_cause, Exchange, locks, is_decide, told_of, all_fit, Outcome as Executed}
 use Rattle.txn_core.specs.Undecided.{says_aborted, says_down, is_finish, stops, loses}
 use Rattle.rep_core.specs.declared.request.Request.TheVariants as request
 use Rattle.rep_core.specs.declared.reply.Reply.TheVariants as reply
@@ -32,14 +32,7 @@ module _ (fixed : Fixed) (task : Task) (Old : Base) (Loose : ℕ → Prefix → 
   short_still : (past : List Exchange) (cache : Cache) (server : ℕ) (asked : Request) (response : Response) → ((number : ℕ) → locks number asked ≡ false) → (suite had wanting : ℕ) (busy : Option (ℕ × ℕ))
       → ShortBy fixed task Old Loose past suite had wanting busy
       → ShortBy fixed task Old (OrFresh fixed task cache (push past server asked response) Loose) (push past server asked response) suite had wanting busy
-  short_still past cache server asked response none suite had wanting busy by = record {
-    collector = by.collector;
-    told = by.told ∙ sym (told_same past server asked response none suite);
-    short = by.short;
-    begun = elim by.begun [ inl old ↦ inl old | inr loose ↦ inr (inl loose.0, loose.1) ];
-    wide = λ w is. sets_more fixed task Old past (record { server = server; request = asked; response = response } ∷ []) suite w.votes (by.wide w is);
-    wanted = wants_more fixed task Old past (record { server = server; request = asked; response = response } ∷ []) suite by.collector.mode by.wanted;
-  }
+  short_still past cache server asked response none suite had wanting busy by = search (told_same, sets_more, wants_more, arith)
 
   still_caused : (past : List Exchange) (cache : Cache) (server : ℕ) (asked : Request) (response : Response) → ((number : ℕ) → locks number asked ≡ false) → (cause : Cause) → CausedBy fixed task Old Loose past cause
       → CausedBy fixed task Old (OrFresh fixed task cache (push past server asked response) Loose) (push past server asked response) cause
@@ -51,8 +44,7 @@ module _ (fixed : Fixed) (task : Task) (Old : Base) (Loose : ℕ → Prefix → 
 
   still_ended : (past : List Exchange) (cache : Cache) (server : ℕ) (asked : Request) (response : Response) → ((number : ℕ) → locks number asked ≡ false) → (ending : Ending) → EndCaused fixed task Old Loose past ending
       → EndCaused fixed task Old (OrFresh fixed task cache (push past server asked response) Loose) (push past server asked response) ending
-  still_ended past cache server asked response none (Undecided cause) is fine = still_caused past cache server asked response none cause (is (both_fit past (record { server = server; request = asked; response = response } ∷ []) fine).0)
-  still_ended past cache server asked response none _ is fine = tt
+  still_ended past cache server asked response h5 ending h7 h8 = search (still_caused, both_fit, arith)
 
   short_caused : (L : ℕ → Prefix → Type 0) (past : List Exchange) (number : ℕ) (collector : Collector) (had wanting : ℕ) (busy : Option (ℕ × ℕ)) → all_told collector ≡ Tells past number → next collector ≡ Short had wanting busy
       → Begun Old.start L number collector
@@ -76,8 +68,7 @@ module _ (fixed : Fixed) (task : Task) (Old : Base) (Loose : ℕ → Prefix → 
   caused_give_up past cache suites cause is = caused_end past cache suites verdict.Aborted (Undecided cause) (locked_at suites) is
 
   caused_prepare : (past : List Exchange) (cache : Cache) (suites : Suites) (outcome : Proposal) (servers : List ℕ) → Leaves fixed task Old Loose past (prepare task cache suites outcome servers)
-  caused_prepare past cache suites outcome [] = (refl, tt)
-  caused_prepare past cache suites outcome (server ∷ servers) = (refl, tt)
+  caused_prepare past cache suites outcome servers = search arith
 
   caused_gather : (past : List Exchange) (cache : Cache) (suites : Suites) (number : ℕ) (suite : GatheredSuite) (after : Next) → Are (Tells past) suites → EachBut (Keeps past) number suites → suite_of suites number ≡ Some suite
       → all_told suite.collector ≡ Tells past number → Asking fixed task Old (OrFresh fixed task cache past Old.start) past number suite → next suite.collector ≡ after
@@ -85,8 +76,7 @@ module _ (fixed : Fixed) (task : Task) (Old : Base) (Loose : ℕ → Prefix → 
   caused_gather past cache suites number suite (Short had wanting busy) are others there same asking is =
       caused_give_up past cache suites (short_cause number had wanting busy) (λ _. short_caused (OrFresh fixed task cache past Loose) past number suite.collector had wanting busy same is
       (elim asking.start [ inl old ↦ inl old | inr fresh ↦ inr (inr fresh, same ∙ fresh.untold) ]) asking.wide asking.wanted)
-  caused_gather past cache suites number suite _ are others there same asking is =
-      (refl, (are, others, λ found at. subst (Asking fixed task Old (OrFresh fixed task cache past Old.start) past number) (same_Some suite found (sym there ∙ at)) asking))
+  caused_gather past cache suites number suite _ are others there same asking is = search (same_Some, arith)
 
   -- what is gathered: a suite that is there, or a new one
   gathers : (past : List Exchange) (cache : Cache) (number : ℕ) (mode : LockMode) (found : Option GatheredSuite) → ((suite : GatheredSuite) → found ≡ Some suite → Keeps past number suite) → (found ≡ None → told_of number [] past ≡ [])
@@ -102,8 +92,7 @@ module _ (fixed : Fixed) (task : Task) (Old : Base) (Loose : ℕ → Prefix → 
       record { start = inl now.start; first = inl now.first; content = now.content; wide = now.wide; wanted = wanted }
     where
       wants_raised : (w : Option collecting.Widening) → Wants fixed task Old past number Exclusive → Wants fixed task Old past number suite.collector.mode → Wants fixed task Old past number (collecting.raised w suite.collector.mode)
-      wants_raised (Some w) now before = before
-      wants_raised None now before = now
+      wants_raised w h1 h2 = search arith
   gathers past cache number mode None kept untold wants exclusive =
       asks_new fixed task Old past number (OrFresh fixed task cache past Old.start) mode Shared (start_from fixed task cache number) (untold refl) (inr (record { from = refl; untold = untold refl })) wants
 
@@ -152,8 +141,7 @@ module _ (fixed : Fixed) (task : Task) (Old : Base) (Loose : ℕ → Prefix → 
       (gathers past cache number mode (suite_of suites number) (each number) (λ none. sym (ap told_in (sym none) ∙ are.1 number))
       (record { suites = suites; gathered = gathered past suites each; needs = is }) (λ suite first there was. exclusive_needed fixed task suites number mode suite first is there was)) refl
   caused_proceed past cache suites (exec.Need (Know number)) is are each = (refl, (are, each))
-  caused_proceed past cache suites (exec.Done answers changes) is are each =
-      caused_widen past cache suites (record { answers = answers; changes = changes }) (to_widen changes) are each (record { suites = suites; gathered = gathered past suites each; done = is }) (λ n has. has)
+  caused_proceed past cache suites (exec.Done answers changes) is are each = search (caused_widen, gathered, arith)
   caused_proceed past cache suites (exec.Refused refusal) is are each = caused_prepare past cache suites (Err refusal) (locked_at suites)
 
   pub caused_execute : (past : List Exchange) (all : Gathered) → FreeIn Old.content task all.cache → Are (Tells past) all.suites → Each (Keeps past) all.suites → Leaves fixed task Old Loose past (execute fixed task all)
@@ -164,10 +152,7 @@ module _ (fixed : Fixed) (task : Task) (Old : Base) (Loose : ℕ → Prefix → 
     where
       opens : (number : ℕ) (suite : GatheredSuite) (first : ReadPoint) (content : Content) → suite.first ≡ Some first → Free task all.cache first number content → Keeps past number suite
           → Keeps past number (record suite { content = Some content })
-      opens number suite first content was found kept =
-          kept_same fixed task Old past number suite (record suite { content = Some content }) refl refl
-          (λ other at. (first, was, subst (Old.content number first) (same_Some content other at) (free number first content found)))
-          (λ w is. kept.wide w is) kept.wanted kept
+      opens number suite first content was found kept = search (kept_same, same_Some, arith)
 
   -- ---- a reply to a collector
 
@@ -189,8 +174,7 @@ module _ (fixed : Fixed) (task : Task) (Old : Base) (Loose : ℕ → Prefix → 
   caused_collected past cache suites phase number go_on now (Short had wanting busy) hears is =
       caused_give_up past cache (with_suite number now suites) (short_cause number had wanting busy)
       (λ _. short_caused (OrFresh fixed task cache past Loose) past number now.collector had wanting busy hears.told is (inl hears.begun) hears.wide hears.wanted)
-  caused_collected past cache suites phase number go_on now (Current prefix dver members) hears is =
-      hears.more (settled prefix dver members now) (hears.are (settled prefix dver members now) refl) (hears.settles prefix dver members is)
+  caused_collected past cache suites phase number go_on now (Current prefix dver members) hears is = search arith
 
   caused_heard : (past : List Exchange) (cache : Cache) (suites : Suites) (phase : Phase) (number : ℕ) (found : Option GatheredSuite) (server : ℕ) (asked : Request) (said : Reply) (go_on : Suites → Step)
       → Are (Tells past) suites → suite_of suites number ≡ found → asked_for task number found ≡ Some (server, asked) → ((suite : GatheredSuite) → found ≡ Some suite → Asking fixed task Old Old.start past number suite)
@@ -250,8 +234,7 @@ module _ (fixed : Fixed) (task : Task) (Old : Base) (Loose : ℕ → Prefix → 
   caused_fetched past cache suites number (Some suite) server asked said are each there is given free = of (given_in said) refl free
     where
       what : (first : Option ReadPoint) → fetched_at task number first ≡ Some (server, asked) → request.Fetch task.t number ≡ asked
-      what (Some first) is = asks_same first.source server (request.Fetch task.t number) asked is
-      what None is = cc
+      what first h1 = search (asks_same, arith)
 
       x : Exchange
       x = record { server = server; request = asked; response = Replied said }
@@ -305,8 +288,7 @@ module _ (fixed : Fixed) (task : Task) (Old : Base) (Loose : ℕ → Prefix → 
       caused_give_up _ cache suites (lack_cause server lacked)
       (λ _. lack_caused _ past server asked lacked (ap is_finish (sym (asks_same (home_of fixed.service task.t) server (request.Decide task.t (decision_of task outcome)) asked is))))
   caused_lack past cache suites (Finishing [] v ending) server asked lacked is stands = cc
-  caused_lack past cache suites (Finishing (now ∷ left) v ending) server asked lacked is stands =
-      caused_end _ cache suites v ending left (still_ended past cache server asked (Lacked lacked) (λ number. ap (locks number) (sym (asks_same now server (request.Finish task.t v) asked is))) ending stands)
+  caused_lack past cache suites (Finishing (now ∷ left) v ending) server asked lacked is stands = search (caused_end, still_ended, asks_same, arith)
 
   decided_caused : (L : ℕ → Prefix → Type 0) (past : List Exchange) (server t : ℕ) (decision : Decision) (said : Reply) → fits (request.Decide t decision) said ≡ true
       → EndIs fixed task Old L (push past server (request.Decide t decision) (Replied said)) (ending_by (verdict_in said verdict.Aborted) (cause_of_abort said))
@@ -365,6 +347,4 @@ module _ (fixed : Fixed) (task : Task) (Old : Base) (Loose : ℕ → Prefix → 
       (decided_caused (OrFresh fixed task cache (push past server (request.Decide task.t (decision_of task outcome)) (Replied said)) Loose) past server task.t (decision_of task outcome) said)
       (last_fits past server asked (Replied said) fine))
   caused_response past cache suites (Finishing [] v ending) server asked (Replied said) is stands free given then' = cc
-  caused_response past cache suites (Finishing (now ∷ left) v ending) server asked (Replied said) is stands free given then' =
-      caused_end (push past server asked (Replied said)) cache suites v ending left (still_ended past cache server asked (Replied said)
-      (λ number. ap (locks number) (sym (asks_same now server (request.Finish task.t v) asked is))) ending stands)
+  caused_response past cache suites (Finishing (now ∷ left) v ending) server asked (Replied said) is stands free given then' = search (caused_end, push, still_ended, asks_same, arith)

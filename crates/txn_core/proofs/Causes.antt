@@ -1,35 +1,26 @@
 -- What causes an undecided end, and what a phase stands on.
-use Rattle.txn_core.proofs.Vocabulary.{◌≡◌, ℕ, Bool, true, false, cond, List, [], ◌∷◌, ◌++◌, Option, Some, None, refl, sym, ◌⊎◌, ap, subst, ◌∙◌, ◌==◌, ◌&&◌, eqb-true, Contains-append_left, Contains-push, Part, Request, Reply, is_prepared}
-use Rattle.txn_core.proofs.Vocabulary.{fits, Told, Said, Prefix, Has, Collector, all_told, mode_of, request_for, Asked, Poll, Upgrade, Next, Ask, Short, next, Cache, GatheredSuite, Suites, suite_of, with_suite, told_in, Response, Cause}
-use Rattle.txn_core.proofs.Vocabulary.{Ending, Replied, Unavailable, Busy, Lost, Overruled, HomeDown, Full, Memory, Undecided, Fixed, Task, Phase, Gathering, Fetching, Widening, Finishing, TransactionRun, After, GoesOn, Ends, Step}
-use Rattle.txn_core.proofs.Vocabulary.{to_widen, start_from, said_to, asked_by, given_in, Exchange, locks, is_decide, told_of, told_by, more_told, fits_response, all_fit}
+use Rattle.txn_core.proofs.Vocabulary.{◌≡◌, ℕ, Bool, true, false, cond, List, [], ◌∷◌, ◌++◌, Option, Some, None, refl, sym, ◌⊎◌, ap, ◌∙◌, ◌==◌, ◌&&◌, eqb-true, Contains-append_left, Contains-push, Part, Request, Reply, is_prepared, arith, fits, Told}
+use Rattle.txn_core.proofs.Vocabulary.{Said, Prefix, Has, Collector, all_told, mode_of, request_for, Asked, Next, Short, next, Cache, GatheredSuite, Suites, suite_of, with_suite, told_in, Response, Cause, Ending, Replied, Unavailable, Busy, Lost}
+use Rattle.txn_core.proofs.Vocabulary.{Overruled, HomeDown, Full, Memory, Undecided, Fixed, Task, Phase, Gathering, Fetching, Widening, Finishing, TransactionRun, After, GoesOn, Ends, Step, to_widen, start_from, said_to, asked_by, given_in, Exchange}
+use Rattle.txn_core.proofs.Vocabulary.{locks, is_decide, told_of, told_by, fits_response, all_fit}
 use Rattle.std.proofs.lemmas.List.Folds.{list_all-append}
 use Rattle.txn_core.specs.Undecided.{Was, says_aborted, says_down, stops, loses}
 use Rattle.rep_core.specs.declared.request.Request.TheVariants as request
-use Rattle.rep_core.specs.declared.reply.Reply.TheVariants as reply
 use Rattle.rep_core.specs.declared.stamped.Lack.TheVariants as lack
 use Rattle.suite_collect.specs.Collecting as collecting
-use Rattle.txn_core.proofs.Asks.{asks_same}
 use Rattle.txn_core.proofs.Gathers.{self, with_at, Each, EachBut, Base, Wants, Sets, Grants, Kept, Asking}
 use Rattle.txn_core.proofs.ToldLists.{Are, are_with}
 
 -- ---- replies that lose a lock
 
 lost_lock : (t number : ℕ) (question : Asked) (said : Reply) → fits (request_for t number question) said ≡ true → said_to (request_for t number question) said ≡ None → loses (request_for t number question) (Replied said) ≡ true
-lost_lock t number (Poll mode) reply.Lost fine none = refl
-lost_lock t number Upgrade reply.Down fine none = refl
-lost_lock t number Upgrade reply.Lost fine none = refl
-lost_lock t number _ _ fine none = cc
+lost_lock t number question said h4 h5 = search arith
 
 pub lost_fetch : (t number : ℕ) (said : Reply) → fits (request.Fetch t number) said ≡ true → given_in said ≡ None → loses (request.Fetch t number) (Replied said) ≡ true
-lost_fetch t number reply.Down fine none = refl
-lost_fetch t number reply.Lost fine none = refl
-lost_fetch t number _ fine none = cc
+lost_fetch t number said h3 h4 = search arith
 
 pub lost_prepare : (t : ℕ) (parts : List Part) (said : Reply) → fits (request.Prepare t parts) said ≡ true → is_prepared said ≡ false → loses (request.Prepare t parts) (Replied said) ≡ true
-lost_prepare t parts reply.Down fine none = refl
-lost_prepare t parts reply.Lost fine none = refl
-lost_prepare t parts _ fine none = cc
+lost_prepare t parts said h3 h4 = search arith
 
 -- ---- causes
 
@@ -120,9 +111,7 @@ told-push number before [] one = refl
 told-push number before (first ∷ past) one = told-push number (cond (locks number first.request) (told_by before first first.response) before) past one
 
 pub told_same : (past : List Exchange) (server : ℕ) (asked : Request) (response : Response) → ((number : ℕ) → locks number asked ≡ false) → (number : ℕ) → Tells (push past server asked response) number ≡ Tells past number
-told_same past server asked response none number =
-    let one : Exchange = record { server = server; request = asked; response = response } in
-    told-push number [] past one ∙ ap (λ b. cond b (told_by (Tells past number) one response) (Tells past number)) (none number)
+told_same past server asked response none number = search (told-push, arith)
 
 pub are_quiet : (past : List Exchange) (suites : Suites) (server : ℕ) (asked : Request) (response : Response) → ((number : ℕ) → locks number asked ≡ false) → Are (Tells past) suites → Are (Tells (push past server asked response)) suites
 are_quiet past suites server asked response none are = (are.0, λ number. are.1 number ∙ sym (told_same past server asked response none number))
@@ -130,45 +119,26 @@ are_quiet past suites server asked response none are = (are.0, λ number. are.1 
 -- ---- what fits
 
 pub both_fit : (past later : List Exchange) → all_fit (past ++ later) ≡ true → (all_fit past ≡ true) × (all_fit later ≡ true)
-both_fit past later fine = of (all_fit past) (all_fit later) (sym (list_all-append (λ (one : Exchange). fits_response one.request one.response) past later) ∙ fine)
-  where
-    of : (a b : Bool) → (a && b) ≡ true → (a ≡ true) × (b ≡ true)
-    of true b is = (refl, is)
-    of false b is = cc
+both_fit past later fine = search (list_all-append, arith)
 
 pub last_fits : (past : List Exchange) (server : ℕ) (asked : Request) (response : Response) → all_fit (push past server asked response) ≡ true → fits_response asked response ≡ true
-last_fits past server asked response fine = of (fits_response asked response) (both_fit past (record { server = server; request = asked; response = response } ∷ []) fine).1
-  where
-    of : (a : Bool) → (a && true) ≡ true → a ≡ true
-    of true is = refl
-    of false is = cc
+last_fits past server asked response fine = search (both_fit, arith)
 
 -- ---- what is told
 
 pub lost_asked : (task : Task) (number : ℕ) (after : Next) (server : ℕ) (asked : Request) (said : Reply) → asked_by task number after ≡ Some (server, asked) → fits asked said ≡ true → said_to asked said ≡ None
     → loses asked (Replied said) ≡ true
-lost_asked task number (Ask who question) server asked said is =
-    subst (λ asked. fits asked said ≡ true → said_to asked said ≡ None → loses asked (Replied said) ≡ true) (asks_same who server (request_for task.t number question) asked is) (lost_lock task.t number question said)
-lost_asked task number _ server asked said is = cc
+lost_asked task number after server asked said h6 = search arith
 
 -- what was told of each suite, once one of them heard something
 pub tells_heard : (past : List Exchange) (number server : ℕ) (asked : Request) (said : Reply) (heard : Said) → ((other : ℕ) → locks other asked ≡ (number == other)) → said_to asked said ≡ Some heard
     → (other : ℕ) → Tells (push past server asked (Replied said)) other ≡ cond (number == other) (record { server = server; mode = mode_of asked; said = heard } ∷ Tells past other) (Tells past other)
-tells_heard past number server asked said heard lock was other =
-    told-push other [] past (record { server = server; request = asked; response = Replied said })
-    ∙ ap (λ b. cond b (more_told (Tells past other) server asked (said_to asked said)) (Tells past other)) (lock other)
-    ∙ ap (λ heard. cond (number == other) (more_told (Tells past other) server asked heard) (Tells past other)) was
+tells_heard past number server asked said heard lock was other = search (told-push, arith)
 
 pub are_heard : (told new : ℕ → List Told) (suites : Suites) (number : ℕ) (one : Told) (now : GatheredSuite) → Are told suites → ((other : ℕ) → new other ≡ cond (number == other) (one ∷ told other) (told other))
     → all_told now.collector ≡ one ∷ told number
     → Are new (with_suite number now suites)
-are_heard told new suites number one now are newly same =
-    let with' = are_with told suites number now are in
-    (with'.0, λ other. with'.1 other ∙ at other (number == other) refl ∙ sym (newly other))
-  where
-    at : (other : ℕ) (b : Bool) → (number == other) ≡ b → cond b (all_told now.collector) (told other) ≡ cond b (one ∷ told other) (told other)
-    at other true is = same ∙ ap (λ other. one ∷ told other) (eqb-true number other is)
-    at other false is = refl
+are_heard told new suites number one now are newly same = search (are_with told suites number now are, eqb-true, arith)
 
 pub told_there : (past : List Exchange) (suites : Suites) (number : ℕ) (found : Option GatheredSuite) → suite_of suites number ≡ found → Are (Tells past) suites → told_in found ≡ Tells past number
 told_there past suites number found there are = ap told_in (sym there) ∙ are.1 number

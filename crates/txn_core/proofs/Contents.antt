@@ -1,11 +1,10 @@
 -- Which contents are to be had: without asking, or as a server gave them.
-use Rattle.txn_core.proofs.Vocabulary.{◌≡◌, ℕ, zero, suc, Bool, true, false, cond, ◌⊎◌, inl, inr, List, [], ◌∷◌, ◌++◌, Option, Some, None, refl, sym, ap, subst, ◌∙◌, ◌==◌, Contains, eqb-true, same_Some, append-nil, append_assoc}
-use Rattle.txn_core.proofs.Vocabulary.{Contains-append_left, Contains-push, Content, empty_content, held_by, Request, Reply, Hold, Know, Cache, content_at, searched, search_keeps_all, ReadPoint, GatheredSuite, suite_of, Response, Replied}
-use Rattle.txn_core.proofs.Vocabulary.{Lacked, Job, Fixed, Task, Executes, Point, point, Move, opens, MovesTo, Step, Gathered, opened, or_all, open_needed, open_suite, open_first, opened_with, free_content, after_search, heard_on, execute}
-use Rattle.txn_core.proofs.Vocabulary.{Agent, Event, begin, after_all, Exchange, of_job, IsContentOf, Outcome as Executed}
+use Rattle.txn_core.proofs.Vocabulary.{◌≡◌, ℕ, zero, suc, Bool, true, false, cond, ◌⊎◌, inl, inr, List, [], ◌∷◌, ◌++◌, Option, Some, None, refl, sym, ap, subst, ◌∙◌, ◌==◌, Contains, same_Some, append-nil, append_assoc, arith, Contains-append_left}
+use Rattle.txn_core.proofs.Vocabulary.{Contains-push, Content, empty_content, held_by, Request, Reply, Cache, content_at, searched, search_keeps_all, ReadPoint, GatheredSuite, suite_of, Response, Replied, Lacked, Job, Fixed, Task, Executes, Point}
+use Rattle.txn_core.proofs.Vocabulary.{point, Move, MovesTo, Step, Gathered, opened, or_all, open_needed, open_suite, open_first, opened_with, free_content, after_search, heard_on, execute, Agent, Event, begin, after_all, Exchange, of_job}
+use Rattle.txn_core.proofs.Vocabulary.{IsContentOf, Outcome as Executed}
 use Rattle.rep_core.specs.declared.request.Request.TheVariants as request
 use Rattle.rep_core.specs.declared.reply.Reply.TheVariants as reply
-use Rattle.file_exec.specs.declared.executor.Outcome.TheVariants as exec
 use Rattle.txn_core.proofs.Moving.{kept, execute_moves}
 use Rattle.txn_core.proofs.Gathers.{Each, each_but, each_with}
 use Rattle.txn_core.proofs.Cached.{ends_same}
@@ -20,8 +19,7 @@ searched_finds task cache other first number dver = of (first.dver == 0)
     of false = search_keeps_all.content task.site other first.dver task.site number dver cache
 
 move_finds : (fixed : Fixed) (task : Task) (number dver : ℕ) {at next : Point} → Move fixed task at next → content_at next.cache task.site number dver ≡ content_at at.cache task.site number dver
-move_finds fixed task number dver (opens {cache = cache} {number = other} {first = first} needs there was free) = searched_finds task cache other first number dver
-move_finds fixed task number dver _ = refl
+move_finds fixed task number dver h4 = search (searched_finds, arith)
 
 moves_find : (fixed : Fixed) (task : Task) (at : Point) (step : Step) → MovesTo fixed task at step → (number dver : ℕ) → content_at step.cache task.site number dver ≡ content_at at.cache task.site number dver
 moves_find fixed task at step moves number dver =
@@ -35,11 +33,7 @@ abbrev pub Free : Task → Cache → ReadPoint → ℕ → Content → Type 0
 Free task cache first number content = ((first.dver ≡ 0) × (content ≡ empty_content (held_by first.prefix.kind))) ⊎ (content_at cache task.site number first.dver ≡ Some content)
 
 pub free_is : (task : Task) (cache : Cache) (number : ℕ) (first : ReadPoint) (content : Content) → free_content task cache number first ≡ Some content → Free task cache first number content
-free_is task cache number first content is = of (first.dver == 0) refl is
-  where
-    of : (b : Bool) → (first.dver == 0) ≡ b → cond b (Some (empty_content (held_by first.prefix.kind))) (content_at cache task.site number first.dver) ≡ Some content → Free task cache first number content
-    of true none is = inl (eqb-true first.dver 0 none, sym (same_Some (empty_content (held_by first.prefix.kind)) content is))
-    of false some is = inr is
+free_is task cache number first content is = search arith
 
 -- contents are opened as they are found from the start on
 pub each_opened : (start : Cache) (task : Task) (K : ℕ → GatheredSuite → Type 0)
@@ -52,12 +46,10 @@ each_opened start task K opening (suc n) fixed all same each = of (heard_on fixe
         → ((more : Gathered) → found ≡ Some more → ((number dver : ℕ) → content_at more.cache task.site number dver ≡ content_at start task.site number dver) × Each K more.suites)
         → ((more : Gathered) → ((number dver : ℕ) → content_at more.cache task.site number dver ≡ content_at start task.site number dver) → Each K more.suites → Each K (opened n fixed task more).suites)
         → Each K (or_all all found (λ all. opened n fixed task all)).suites
-    or' (Some more) both later = let now = both more refl in later more now.0 now.1
-    or' None both later = each
+    or' found h1 h2 = search arith
 
     back : (first : ReadPoint) (number : ℕ) (content : Content) → Free task all.cache first number content → Free task start first number content
-    back first number content (inl none) = inl none
-    back first number content (inr found) = inr (sym (same number first.dver) ∙ found)
+    back first number content h3 = search arith
 
     with_content : (number : ℕ) (suite : GatheredSuite) (first : ReadPoint) (content : Option Content) (more : Gathered) → suite_of all.suites number ≡ Some suite
         → suite.first ≡ Some first → free_content task all.cache number first ≡ content
@@ -72,18 +64,14 @@ each_opened start task K opening (suc n) fixed all same each = of (heard_on fixe
 
     at_first : (number : ℕ) (suite : GatheredSuite) (first : Option ReadPoint) (more : Gathered) → suite_of all.suites number ≡ Some suite → suite.first ≡ first → open_first task all number suite first ≡ Some more
         → ((number dver : ℕ) → content_at more.cache task.site number dver ≡ content_at start task.site number dver) × Each K more.suites
-    at_first number suite (Some first) more there was is = with_content number suite first (free_content task all.cache number first) more there was refl is
-    at_first number suite None more there was is = cc
+    at_first number suite first more h4 h5 h6 = search (with_content, arith)
 
     at_suite : (number : ℕ) (found : Option GatheredSuite) (more : Gathered) → suite_of all.suites number ≡ found → open_suite task all number found ≡ Some more
         → ((number dver : ℕ) → content_at more.cache task.site number dver ≡ content_at start task.site number dver) × Each K more.suites
-    at_suite number (Some suite) more there is = at_first number suite suite.first more there refl is
-    at_suite number None more there is = cc
+    at_suite number found more h3 h4 = search (at_first, arith)
 
     needed' : (heard : Executed) (more : Gathered) → open_needed task all heard ≡ Some more → ((number dver : ℕ) → content_at more.cache task.site number dver ≡ content_at start task.site number dver) × Each K more.suites
-    needed' (exec.Need (Know number)) more is = at_suite number (suite_of all.suites number) more refl is
-    needed' (exec.Need (Hold number mode)) more is = cc
-    needed' _ more is = cc
+    needed' heard more h2 = search (at_suite, arith)
 
     of : (heard : Executed)
         → ((more : Gathered) → ((number dver : ℕ) → content_at more.cache task.site number dver ≡ content_at start task.site number dver) → Each K more.suites → Each K (opened n fixed task more).suites)
@@ -96,8 +84,7 @@ FreeIn C task cache = (number : ℕ) (first : ReadPoint) (content : Content) →
 
 -- so it is where the same is found
 free_same : (C : ℕ → ReadPoint → Content → Type 0) (task : Task) (cache other : Cache) → ((number dver : ℕ) → content_at other task.site number dver ≡ content_at cache task.site number dver) → FreeIn C task cache → FreeIn C task other
-free_same C task cache other same free number first content (inl none) = free number first content (inl none)
-free_same C task cache other same free number first content (inr found) = free number first content (inr (sym (same number first.dver) ∙ found))
+free_same h0 task cache other h4 h5 h6 h7 h8 h9 = search arith
 
 -- moves leave what is found as it was
 pub free_start : (C : ℕ → ReadPoint → Content → Type 0) (fixed : Fixed) (task : Task) (at : Point) (step : Step) → MovesTo fixed task at step → FreeIn C task step.cache → FreeIn C task at.cache
@@ -129,8 +116,7 @@ module _ (fixed : Fixed) (agent : Agent) (job : Job) where
   pub content_more : (events : List Event) (event : Event) (one : List Exchange) → of_job fixed agent job (events ++ event ∷ []) ≡ of_job fixed agent job events ++ one → (site number : ℕ) (first : ReadPoint) (content : Content)
       → Content_of events site number first content → Content_of (events ++ event ∷ []) site number first content
   content_more events event one told site number first content (inl none) = inl none
-  content_more events event one told site number first content (inr (inl cached)) =
-      inr (inl (record { before = cached.before; later = cached.later ++ event ∷ []; parts = ap (λ events. events ++ event ∷ []) cached.parts ∙ append_assoc cached.before cached.later (event ∷ []); found = cached.found }))
+  content_more events event one told site number first content (inr (inl cached)) = search (append_assoc, arith)
   content_more events event one told site number first content (inr (inr given)) = inr (inr (record {
     t = given.t;
     dver = given.dver;
@@ -140,9 +126,7 @@ module _ (fixed : Fixed) (agent : Agent) (job : Job) where
 
   -- what is found in the cache after an event
   pub free_now : (events : List Event) (task : Task) (cache : Cache) → (after_all fixed (begin fixed agent job) events).cache ≡ cache → FreeIn (Content_of events task.site) task cache
-  free_now events task cache is number first content (inl none) = inl none
-  free_now events task cache is number first content (inr found) =
-      inr (inl (record { before = events; later = []; parts = sym (append-nil events); found = ap (λ cache. content_at cache task.site number first.dver) is ∙ found }))
+  free_now events task cache h3 h4 h5 h6 h7 = search (append-nil, arith)
 
   -- what was given is so once it was told
   pub given_now : (events more : List Event) (task : Task) (server : ℕ) (asked : Request) (heard : Response) → of_job fixed agent job more ≡ of_job fixed agent job events ++ record { server = server; request = asked; response = heard } ∷ []

@@ -1,9 +1,8 @@
 -- Which contents a transaction knows.
-use Rattle.txn_core.proofs.Vocabulary.{◌≡◌, ℕ, ◌+◌, Bool, true, false, cond, List, [], ◌∷◌, ◌++◌, Option, Some, None, refl, sym, ap, subst, ◌∙◌, ◌&&◌, nat_lt, same_Some, append-nil, append_assoc, Content, LockMode, Request, next, Cache}
-use Rattle.txn_core.proofs.Vocabulary.{ReadPoint, GatheredSuite, Suites, suite_of, with_suite, Response, Job, Transaction, Sweep, Fixed, Task, Phase, TransactionRun, SweepRun, Doing, Running, RunningSweep, After, GoesOn, Ends, Executes}
-use Rattle.txn_core.proofs.Vocabulary.{Point, point, Move, opens, gathers, lacks_lock, widens, widens_by, lacks_wide, MovesTo, now_told, Hears, asks_on, falls_short, settles, gets, Step, Gathered, raised_or_new, execute, fetched_at}
-use Rattle.txn_core.proofs.Vocabulary.{fetched_for, after_response, request_in, Agent, Event, Take, Forget, next_in, next_of, left, take_in, begin, started, is_idle, has_sense, max_jobs, after_all, exchange_of, of_job, task_of}
-use Rattle.txn_core.proofs.Vocabulary.{KnowsContents}
+use Rattle.txn_core.proofs.Vocabulary.{◌≡◌, ℕ, ◌+◌, Bool, true, List, [], ◌∷◌, ◌++◌, Option, Some, None, refl, sym, ap, subst, ◌∙◌, ◌&&◌, nat_lt, same_Some, append-nil, append_assoc, Content, LockMode, Request, next, Cache, arith, ReadPoint}
+use Rattle.txn_core.proofs.Vocabulary.{GatheredSuite, Suites, suite_of, with_suite, Response, Job, Transaction, Sweep, Fixed, Task, Phase, TransactionRun, SweepRun, Doing, Running, RunningSweep, After, GoesOn, Ends, Executes, Point, point, Move}
+use Rattle.txn_core.proofs.Vocabulary.{opens, gathers, lacks_lock, widens, widens_by, lacks_wide, MovesTo, now_told, Hears, asks_on, falls_short, settles, gets, Step, Gathered, raised_or_new, execute, fetched_at, fetched_for, after_response}
+use Rattle.txn_core.proofs.Vocabulary.{request_in, Agent, Event, Take, Forget, next_in, left, take_in, begin, started, is_idle, has_sense, max_jobs, after_all, exchange_of, of_job, task_of, KnowsContents}
 use Rattle.rep_core.specs.declared.request.Request.TheVariants as request
 use Rattle.txn_core.proofs.Moving.{kept, left_by, execute_moves, response_moves}
 use Rattle.txn_core.specs.Sweeps as sweep
@@ -90,8 +89,7 @@ module _ (fixed : Fixed) (agent : Agent) (job : Job) where
   left_knows events task (Ends ending) knows = tt
 
   round_knows : (events : List Event) (after : After SweepRun) → DoingKnows events (left RunningSweep after)
-  round_knows events (GoesOn sweep_run) = tt
-  round_knows events (Ends ending) = tt
+  round_knows events after = search arith
 
   knows_take : (events : List Event) (response : Response) (doing : Option Doing) (asked : Option (ℕ × Request)) → (after_all fixed (begin fixed agent job) events).doing ≡ doing → next_in fixed doing ≡ asked
       → of_job fixed agent job (events ++ Take response ∷ []) ≡ of_job fixed agent job events ++ exchange_of asked response
@@ -123,26 +121,17 @@ module _ (fixed : Fixed) (agent : Agent) (job : Job) where
   knows_forget events site None knows = tt
 
   knows_more : (events : List Event) (event : Event) → DoingKnows events (after_all fixed (begin fixed agent job) events).doing → DoingKnows (events ++ event ∷ []) (after_all fixed (begin fixed agent job) (events ++ event ∷ [])).doing
-  knows_more events (Take response) knows =
-      let now = after_all fixed (begin fixed agent job) events in
-      let after = after-append fixed (begin fixed agent job) events (Take response) in
-      subst (λ (agent : Agent). DoingKnows (events ++ Take response ∷ []) agent.doing) (sym after)
-      (knows_take events response now.doing (next_of fixed now) refl refl (exchanges-take fixed (begin fixed agent job) events response) after knows)
-  knows_more events (Forget site) knows =
-      let now = after_all fixed (begin fixed agent job) events in
-      subst (λ (agent : Agent). DoingKnows (events ++ Forget site ∷ []) agent.doing) (sym (after-append fixed (begin fixed agent job) events (Forget site))) (knows_forget events site now.doing knows)
+  knows_more events event h2 = search (after-append, knows_take, exchanges-take, knows_forget, arith)
 
   all_know : (events more : List Event) → DoingKnows events (after_all fixed (begin fixed agent job) events).doing → DoingKnows (events ++ more) (after_all fixed (begin fixed agent job) (events ++ more)).doing
   all_know events [] knows = subst (λ events. DoingKnows events (after_all fixed (begin fixed agent job) events).doing) (sym (append-nil events)) knows
-  all_know events (event ∷ more) knows =
-      subst (λ events. DoingKnows events (after_all fixed (begin fixed agent job) events).doing) (append_assoc events (event ∷ []) more) (all_know (events ++ event ∷ []) more (knows_more events event knows))
+  all_know events (event ∷ more) knows = search (append_assoc, knows_more, all_know (events ++ event ∷ []) more, arith)
 
   begin_knows : is_idle agent.doing ≡ true → DoingKnows [] (begin fixed agent job).doing
   begin_knows idle = of (is_idle agent.doing && has_sense fixed job && nat_lt agent.count max_jobs) refl job refl
     where
       none : (doing : Option Doing) → is_idle doing ≡ true → DoingKnows [] doing
-      none None idle = tt
-      none (Some doing) idle = cc
+      none doing h1 = search arith
 
       begun : (j : Job) → begin fixed agent job ≡ record (started fixed agent j) { count = agent.count + 1 } → DoingKnows [] (started fixed agent j).doing
       begun (Sweep server) is = tt
@@ -153,12 +142,7 @@ module _ (fixed : Fixed) (agent : Agent) (job : Job) where
           (free_now fixed agent job [] task step.cache (ap (λ (agent : Agent). agent.cache) is)) (λ number suite there. cc))
 
       of : (b : Bool) → (is_idle agent.doing && has_sense fixed job && nat_lt agent.count max_jobs) ≡ b → (j : Job) → job ≡ j → DoingKnows [] (begin fixed agent job).doing
-      of true is j same =
-          let has_begun : begin fixed agent job ≡ record (started fixed agent j) { count = agent.count + 1 } =
-          ap (λ b. cond b (record (started fixed agent job) { count = agent.count + 1 }) agent) is ∙ ap (λ job. record (started fixed agent job) { count = agent.count + 1 }) same in
-          subst (λ (agent : Agent). DoingKnows [] agent.doing) (sym has_begun) (begun j has_begun)
-      of false is j same =
-          subst (λ (agent : Agent). DoingKnows [] agent.doing) (sym (ap (λ b. cond b (record (started fixed agent job) { count = agent.count + 1 }) agent) is)) (none agent.doing idle)
+      of b h1 j h3 = search (begun, none, arith)
 
 pub knows_contents : KnowsContents
 knows_contents fixed agent job events txn_run number suite content idle was there is =

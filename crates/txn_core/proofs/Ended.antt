@@ -1,6 +1,6 @@
 -- The end of a transaction, as its code goes about it.
-use Rattle.txn_core.proofs.Vocabulary.{◌≡◌, ℕ, List, [], ◌∷◌, Option, refl, sym, ap, ◌∙◌, subst, Verdict, Lack, Cache, Ending, Task, Proposal, Phase, Finishing, TransactionRun, Steps, phase_of, Suites, locked_at, tell_end, give_up, finish}
-use Rattle.txn_core.proofs.Vocabulary.{prepare, after_lack, lack_cause}
+use Rattle.txn_core.proofs.Vocabulary.{◌≡◌, ℕ, List, ◌∷◌, Option, ap, ◌∙◌, subst, Verdict, Lack, Cache, Ending, Task, Proposal, Phase, Finishing, TransactionRun, Steps, phase_of, Suites, locked_at, tell_end, give_up, finish, arith, prepare}
+use Rattle.txn_core.proofs.Vocabulary.{after_lack, lack_cause}
 use Rattle.txn_core.specs.declared.phase.Phase.{Phase as Coded}
 use Rattle.txn_core.specs.declared.phase.Phase.TheVariants as coded
 
@@ -20,16 +20,10 @@ module _ (task : Task) (cache : Cache) (suites given : Suites) (servers : List �
 pub lacks_at_end : (task : Task) (cache : Cache) (suites : Suites) (phase : Phase) (server : ℕ) (lacked : Lack) (now : ℕ) (left : List ℕ) (verdict : Verdict) (ending : Ending)
     (result : Option Ending) (after : TransactionRun) → phase ≡ Finishing (now ∷ left) verdict ending
     → Steps (tell_end task cache suites verdict ending left) result after cache → Steps (after_lack task cache suites phase server lacked) result after cache
-lacks_at_end task cache suites phase server lacked now left verdict ending result after is steps =
-    subst (λ phase. Steps (after_lack task cache suites phase server lacked) result after cache) (sym is) steps
+lacks_at_end task cache suites phase server lacked now left verdict ending result after is steps = search arith
 
 -- where nothing is told yet, the transaction gives up
 pub lacks_before_end : (task : Task) (cache : Cache) (suites : Suites) (phase : Coded) (server : ℕ) (lacked : Lack)
     → ((now : ℕ) (left : List ℕ) (verdict : Verdict) (ending : Ending) → phase ≡ coded.Finishing now left verdict ending → ⊥)
     → after_lack task cache suites (phase_of phase) server lacked ≡ give_up task cache suites (lack_cause server lacked)
-lacks_before_end task cache suites (coded.Gathering number) server lacked other = refl
-lacks_before_end task cache suites (coded.Fetching number) server lacked other = refl
-lacks_before_end task cache suites (coded.Widening number after granted) server lacked other = refl
-lacks_before_end task cache suites (coded.Proposing [] outcome) server lacked other = refl
-lacks_before_end task cache suites (coded.Proposing (now ∷ left) outcome) server lacked other = refl
-lacks_before_end task cache suites (coded.Finishing now left verdict ending) server lacked other = absurd (other now left verdict ending refl)
+lacks_before_end task cache suites phase server lacked h6 = search arith

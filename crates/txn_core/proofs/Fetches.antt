@@ -1,11 +1,10 @@
 -- A transaction fetches no content twice.
-use Rattle.txn_core.proofs.Vocabulary.{◌≡◌, ℕ, ◌+◌, ◌≤◌, Bool, true, false, cond, List, [], ◌∷◌, ◌++◌, Option, Some, None, Ok, Err, refl, sym, ap, subst, ◌∙◌, arith, ◌==◌, ◌&&◌, ◌*◌, nat_lt, is_some, unsigned_tied, eqb-true, nat_cmp_total}
-use Rattle.txn_core.proofs.Vocabulary.{same_Some, get-insert, Content, Answer, Identity, Op, LockMode, Shared, Exclusive, serves, Request, Verdict, Hold, Know, Known, Heard, Needs, Done, answered, next, Cache, ReadPoint, GatheredSuite}
-use Rattle.txn_core.proofs.Vocabulary.{Suites, suite_of, with_suite, known_of, Response, Cause, Ending, Undecided, Transaction, home_of, Fixed, Task, Proposal, Phase, Gathering, Fetching, Widening, Preparing, Deciding, Finishing}
-use Rattle.txn_core.proofs.Vocabulary.{TransactionRun, Doing, Running, RunningSweep, After, GoesOn, Ends, parts_at, Stage, Executes, Widens, Asks, Prepares, PreparesAt, GivesUp, Tells, TellsAt, Point, point, EndsIn, Move, opens, gathers}
-use Rattle.txn_core.proofs.Vocabulary.{lacks_lock, refuses, grants, passes, widens, widens_by, lacks_wide, prepares, MovesTo, Collects, gathering, widening, Hears, asks_on, settles, gets, Step, Gathered, tell_end, give_up, prepare}
-use Rattle.txn_core.proofs.Vocabulary.{locked_at, heard_on, raised_or_new, execute, after_response, asked_for, fetched_at, fetched_for, request_in, changes_of, decision_of, Agent, Event, Take, Forget, next_in, next_of, take_in, take, begin}
-use Rattle.txn_core.proofs.Vocabulary.{started, forget, is_idle, has_sense, max_jobs, Exchange, exchange_of, exchanges, of_job, count_of, Outcome as Executed, fetches as fetches'}
+use Rattle.txn_core.proofs.Vocabulary.{◌≡◌, ℕ, ◌+◌, ◌≤◌, Bool, true, false, cond, List, [], ◌∷◌, ◌++◌, Option, Some, None, refl, sym, ap, subst, ◌∙◌, arith, ◌==◌, ◌&&◌, ◌*◌, nat_lt, is_some, unsigned_tied, eqb-true, nat_cmp_total, get-insert}
+use Rattle.txn_core.proofs.Vocabulary.{Content, Answer, Identity, Op, LockMode, Exclusive, serves, Request, Verdict, Hold, Know, Known, Heard, Needs, answered, next, Cache, ReadPoint, GatheredSuite, Suites, suite_of, with_suite, known_of, Response}
+use Rattle.txn_core.proofs.Vocabulary.{Cause, Ending, Undecided, Transaction, Fixed, Task, Proposal, Phase, Gathering, Fetching, Widening, TransactionRun, Doing, Running, RunningSweep, After, GoesOn, Ends, Stage, Executes, Widens, Asks, Prepares}
+use Rattle.txn_core.proofs.Vocabulary.{PreparesAt, GivesUp, Tells, TellsAt, Point, point, EndsIn, Move, opens, gathers, lacks_lock, refuses, grants, passes, widens, widens_by, lacks_wide, prepares, MovesTo, Collects, gathering, widening, Hears}
+use Rattle.txn_core.proofs.Vocabulary.{asks_on, settles, gets, Step, Gathered, tell_end, give_up, prepare, locked_at, heard_on, raised_or_new, execute, after_response, asked_for, fetched_for, request_in, Agent, Event, Take, Forget, next_in, next_of}
+use Rattle.txn_core.proofs.Vocabulary.{take_in, take, begin, started, forget, is_idle, has_sense, max_jobs, Exchange, exchange_of, exchanges, of_job, count_of, Outcome as Executed, fetches as fetches'}
 use Rattle.file_ops.specs.declared.refusal.Refusal.{Refusal}
 use Rattle.file_exec.specs.declared.need.Need.{Need}
 use Rattle.file_exec.proofs.Unmet.{needs_what_is_unmet}
@@ -15,7 +14,7 @@ use Rattle.file_exec.specs.declared.executor.Outcome.TheVariants as exec
 use Rattle.file_exec.specs.Known as known
 use Rattle.txn_core.proofs.Moving.{kept, collects_asks, execute_moves, response_moves}
 use Rattle.txn_core.specs.Agents as agents
-use Rattle.txn_core.proofs.Asks.{asks_same, asked_as}
+use Rattle.txn_core.proofs.Asks.{asked_as}
 use Rattle.txn_core.proofs.Setting.{known_at}
 
 -- a request for the content of a suite
@@ -43,12 +42,7 @@ abbrev Bounded : (ℕ → ℕ) → Type 0
 Bounded before = (number : ℕ) → before number ≤ 1
 
 one_most : (found : Option GatheredSuite) → content_in found ≤ 1
-one_most None = omega arith
-one_most (Some suite) = of (is_some suite.content)
-  where
-    of : (b : Bool) → one_if b ≤ 1
-    of true = omega arith
-    of false = omega arith
+one_most found = search arith
 
 bounded_by : (before : ℕ → ℕ) (suites : Suites) → Keeps before suites → Bounded before
 bounded_by before suites keeps number = let bound = keeps number in let most = one_most (suite_of suites number) in omega (arith, bound, most)
@@ -61,11 +55,7 @@ keeps_with before suites number found now there more keeps other =
     (of (number == other) refl)
   where
     of : (b : Bool) → (number == other) ≡ b → before other ≤ content_in (cond b (Some now) (suite_of suites other))
-    of true same =
-        let was = keeps other in
-        let here : content_in (suite_of suites other) ≡ content_in found = ap (λ number. content_in (suite_of suites number)) (sym (eqb-true number other same)) ∙ ap content_in there in
-        omega (arith, was, here, more)
-    of false same = keeps other
+    of b h1 = search (eqb-true, arith)
 
 -- a suite whose content is not there is fetched
 abbrev IsAway : Suites → ℕ → Type 0
@@ -82,15 +72,13 @@ Leaves before (GoesOn txn_run) = InPhase before txn_run.suites txn_run.phase
 Leaves before (Ends ending) = Bounded before
 
 l_end : (before : ℕ → ℕ) (task : Task) (cache : Cache) (suites : Suites) (v : Verdict) (ending : Ending) (servers : List ℕ) → Bounded before → Leaves before (tell_end task cache suites v ending servers).after
-l_end before task cache suites v ending [] bounded = bounded
-l_end before task cache suites v ending (server ∷ servers) bounded = bounded
+l_end before task cache suites v ending servers h7 = search arith
 
 l_give_up : (before : ℕ → ℕ) (task : Task) (cache : Cache) (suites : Suites) (cause : Cause) → Bounded before → Leaves before (give_up task cache suites cause).after
 l_give_up before task cache suites cause bounded = l_end before task cache suites verdict.Aborted (Undecided cause) (locked_at suites) bounded
 
 l_prepare : (before : ℕ → ℕ) (task : Task) (cache : Cache) (suites : Suites) (outcome : Proposal) (servers : List ℕ) → Bounded before → Leaves before (prepare task cache suites outcome servers).after
-l_prepare before task cache suites outcome [] bounded = bounded
-l_prepare before task cache suites outcome (server ∷ servers) bounded = bounded
+l_prepare before task cache suites outcome servers h6 = search arith
 
 -- a content more
 more_content : (suite : GatheredSuite) (content : Content) → content_in (Some suite) ≤ content_in (Some (record suite { content = Some content }))
@@ -98,14 +86,11 @@ more_content suite content = one_most (Some suite)
 
 -- what the executor needs is not there
 pub need_in : Executed → Option Need
-need_in (exec.Need need) = Some need
-need_in _ = None
+need_in h0 = grind arith
 
 pub needed_first : (known' : Known) (heard : Heard (List Answer) Refusal) (need : Need) → answered known' heard ≡ exec.Need need → heard ≡ Needs need
 unfolding need_in
-needed_first known' (Needs other) need is = ap Needs (same_Some other need (ap need_in is))
-needed_first known' (Done (Ok ended)) need is = cc
-needed_first known' (Done (Err refusal)) need is = cc
+needed_first known' heard need h3 = search arith
 
 away : (fixed : Fixed) (task : Task) (suites : Suites) (number : ℕ) → heard_on fixed task suites ≡ exec.Need (Know number) → IsAway suites number
 away fixed task suites number is suite first there was =
@@ -122,9 +107,7 @@ exclusive_needed fixed task suites number mode suite first is there was =
     (needed_first (known_of suites) (known.exec_of fixed.service (known_of suites) task.t task.caller task.ops) (Hold number mode) is))
   where
     of : (have want : LockMode) → serves have want ≡ false → want ≡ Exclusive
-    of have Exclusive is = refl
-    of Shared Shared is = cc
-    of Exclusive Shared is = cc
+    of have want h2 = search arith
 
 raised_keeps : (before : ℕ → ℕ) (fixed : Fixed) (task : Task) (cache : Cache) (suites : Suites) (number : ℕ) (mode : LockMode) (found : Option GatheredSuite) → suite_of suites number ≡ found → Keeps before suites
     → Keeps before (with_suite number (raised_or_new fixed task cache number mode found) suites)
@@ -184,9 +167,6 @@ none_more before asked number none = let same = ap one_if none in omega (arith, 
 keeps_quiet : (before : ℕ → ℕ) (asked : Request) (suites : Suites) → ((number : ℕ) → fetches number asked ≡ false) → Keeps before suites → Keeps (plus before asked) suites
 keeps_quiet before asked suites none keeps number = let same = none_more before asked number (none number) in let bound = keeps number in omega (arith, same, bound)
 
-bounded_quiet : (before : ℕ → ℕ) (asked : Request) → ((number : ℕ) → fetches number asked ≡ false) → Bounded before → Bounded (plus before asked)
-bounded_quiet before asked none bounded number = let same = none_more before asked number (none number) in let bound = bounded number in omega (arith, same, bound)
-
 asks_no_content : (task : Task) (number : ℕ) (found : Option GatheredSuite) (server : ℕ) (asked : Request) → asked_for task number found ≡ Some (server, asked) → (other : ℕ) → fetches other asked ≡ false
 asks_no_content task number found server asked is other = asked_as (fetches other) false task number found server asked (λ mode. refl) refl is
 
@@ -199,38 +179,10 @@ record IsFetch (task : Task) (suites : Suites) (number : ℕ) (asked : Request) 
   what : (other : ℕ) → fetches other asked ≡ (number == other)
 
 is_fetch : (task : Task) (suites : Suites) (number : ℕ) (server : ℕ) (asked : Request) (found : Option GatheredSuite) → suite_of suites number ≡ found → fetched_for task number found ≡ Some (server, asked) → IsFetch task suites number asked
-is_fetch task suites number server asked None there is = cc
-is_fetch task suites number server asked (Some suite) there is = of suite.first refl is
-  where
-    of : (first : Option ReadPoint) → suite.first ≡ first → fetched_at task number first ≡ Some (server, asked) → IsFetch task suites number asked
-    of (Some first) was is = record {
-      suite = suite;
-      first = first;
-      there = there;
-      was = was;
-      what = λ other. ap (fetches other) (sym (asks_same first.source server (request.Fetch task.t number) asked is));
-    }
-    of None was is = cc
-
--- it was not fetched before
-fetch_once : (before : ℕ → ℕ) (task : Task) (suites : Suites) (number : ℕ) (asked : Request) → IsFetch task suites number asked → Keeps before suites → IsAway suites number → before number ≡ 0
-fetch_once before task suites number asked fetch keeps away' =
-    let bound = keeps number in
-    let none = ap content_in fetch.there ∙ ap one_if (away' fetch.suite fetch.first fetch.there fetch.was) in
-    omega (arith, bound, none)
+is_fetch task suites number server asked found h6 h7 = search arith
 
 fetch_bounded : (before : ℕ → ℕ) (task : Task) (suites : Suites) (number : ℕ) (asked : Request) → IsFetch task suites number asked → Keeps before suites → IsAway suites number → Bounded (plus before asked)
-fetch_bounded before task suites number asked fetch keeps away' other = of (number == other) refl
-  where
-    of : (b : Bool) → (number == other) ≡ b → before other + one_if (fetches other asked) ≤ 1
-    of true same =
-        let none = ap before (sym (eqb-true number other same)) ∙ fetch_once before task suites number asked fetch keeps away' in
-        let one = ap one_if (fetch.what other ∙ same) in
-        omega (arith, none, one)
-    of false same =
-        let bound = bounded_by before suites keeps other in
-        let one = ap one_if (fetch.what other ∙ same) in
-        omega (arith, bound, one)
+fetch_bounded before task suites number asked fetch keeps away' other = search arith
 
 fetch_keeps : (before : ℕ → ℕ) (task : Task) (suites : Suites) (number : ℕ) (asked : Request) (suite : GatheredSuite) (content : Content) → IsFetch task suites number asked → Keeps before suites → IsAway suites number
     → Keeps (plus before asked) (with_suite number (record suite { content = Some content }) suites)
@@ -239,27 +191,12 @@ fetch_keeps before task suites number asked suite content fetch keeps away' othe
     (of (number == other) refl)
   where
     of : (b : Bool) → (number == other) ≡ b → before other + one_if (fetches other asked) ≤ content_in (cond b (Some (record suite { content = Some content })) (suite_of suites other))
-    of true same = fetch_bounded before task suites number asked fetch keeps away' other
-    of false same =
-        let bound = keeps other in
-        let one = ap one_if (fetch.what other ∙ same) in
-        omega (arith, bound, one)
+    of b h1 = search (fetch_bounded, arith)
 
 -- at most once, whatever is asked now
 response_bounded : (before : ℕ → ℕ) (fixed : Fixed) (task : Task) (suites : Suites) (phase : Phase) (server : ℕ) (asked : Request) → InPhase before suites phase
     → request_in fixed task suites phase ≡ Some (server, asked) → Bounded (plus before asked)
-response_bounded before fixed task suites (Gathering number) server asked in' is = bounded_quiet before asked (asks_no_content task number (suite_of suites number) server asked is) (bounded_by before suites in')
-response_bounded before fixed task suites (Fetching number) server asked in' is = fetch_bounded before task suites number asked (is_fetch task suites number server asked (suite_of suites number) refl is) in'.0 in'.1
-response_bounded before fixed task suites (Widening [] granted) server asked in' is = cc
-response_bounded before fixed task suites (Widening (number ∷ left) granted) server asked in' is = bounded_quiet before asked (asks_no_content task number (suite_of suites number) server asked is) (bounded_by before suites in')
-response_bounded before fixed task suites (Preparing [] outcome) server asked in' is = cc
-response_bounded before fixed task suites (Preparing (now ∷ left) outcome) server asked in' is =
-    bounded_quiet before asked (λ other. ap (fetches other) (sym (asks_same now server (request.Prepare task.t (parts_at suites (changes_of outcome) now)) asked is))) in'
-response_bounded before fixed task suites (Deciding outcome) server asked in' is =
-    bounded_quiet before asked (λ other. ap (fetches other) (sym (asks_same (home_of fixed.service task.t) server (request.Decide task.t (decision_of task outcome)) asked is))) in'
-response_bounded before fixed task suites (Finishing [] v ending) server asked in' is = cc
-response_bounded before fixed task suites (Finishing (now ∷ left) v ending) server asked in' is =
-    bounded_quiet before asked (λ other. ap (fetches other) (sym (asks_same now server (request.Finish task.t v) asked is))) in'
+response_bounded before fixed task suites phase server asked h7 h8 = search arith
 
 module _ (before : ℕ → ℕ) (fixed : Fixed) (task : Task) (cache : Cache) (suites : Suites) (server : ℕ) (asked : Request) where
   -- the collector of a suite was told
@@ -271,8 +208,7 @@ module _ (before : ℕ → ℕ) (fixed : Fixed) (task : Task) (cache : Cache) (s
       keeps_with (plus before asked) suites number (Some suite) new there (subst (λ content. one_if (is_some suite.content) ≤ one_if (is_some content)) (sym same) (omega arith)) (keeps_quiet before asked suites none (of collects in'))
     where
       of : {phase : Phase} {stage : Stage} → Collects phase number stage → InPhase before suites phase → Keeps before suites
-      of gathering in' = in'
-      of widening in' = in'
+      of h0 h1 = search arith
 
   hears_in : {phase : Phase} {response : Response} {heard : Point} → Hears fixed task cache suites server asked phase response heard → InPhase before suites phase
       → request_in fixed task suites phase ≡ Some (server, asked) → AtStage (plus before asked) heard.suites heard.stage
@@ -287,8 +223,7 @@ module _ (before : ℕ → ℕ) (fixed : Fixed) (task : Task) (cache : Cache) (s
 l_response : (before : ℕ → ℕ) (fixed : Fixed) (task : Task) (cache : Cache) (suites : Suites) (phase : Phase) (server : ℕ) (asked : Request) (response : Response)
     → InPhase before suites phase → request_in fixed task suites phase ≡ Some (server, asked)
     → Leaves (plus before asked) (after_response fixed (record { task = task; suites = suites; phase = phase }) cache server asked response).after
-l_response before fixed task cache suites phase server asked response in' is =
-    let moves = response_moves fixed task cache suites server asked phase response in moves_in (plus before asked) fixed task moves.heard _ moves.moves (hears_in before fixed task cache suites server asked moves.hears in' is)
+l_response before fixed task cache suites phase server asked response in' is = search (response_moves fixed task cache suites server asked phase response, moves_in, hears_in, arith)
 
 -- ---- all responses
 
@@ -298,19 +233,10 @@ InDoing before (Some (RunningSweep sweep_run)) = ⊥
 InDoing before None = Bounded before
 
 in_left : (before : ℕ → ℕ) (after : After TransactionRun) → Leaves before after → InDoing before (agents.left Running after)
-in_left before (GoesOn txn_run) leaves = leaves
-in_left before (Ends ending) leaves = leaves
-
-phase_bounded : (before : ℕ → ℕ) (suites : Suites) (phase : Phase) → InPhase before suites phase → Bounded before
-phase_bounded before suites (Gathering number) in' = bounded_by before suites in'
-phase_bounded before suites (Fetching number) in' = bounded_by before suites in'.0
-phase_bounded before suites (Widening left granted) in' = bounded_by before suites in'
-phase_bounded before suites _ in' = in'
+in_left before after h2 = search arith
 
 in_bounded : (before : ℕ → ℕ) (doing : Option Doing) → InDoing before doing → Bounded before
-in_bounded before (Some (Running txn_run)) in' = phase_bounded before txn_run.suites txn_run.phase in'
-in_bounded before (Some (RunningSweep sweep_run)) in' = absurd in'
-in_bounded before None in' = in'
+in_bounded before doing h2 = search arith
 
 -- a transaction that was asked nothing, or one thing more
 take_in_bounds : (before : ℕ → ℕ) (fixed : Fixed) (agent : Agent) (response : Response) (doing : Option Doing) (asked : Option (ℕ × Request)) → agent.doing ≡ doing → next_in fixed doing ≡ asked → InDoing before doing
@@ -348,8 +274,7 @@ begin_in fixed agent caller site ops idle =
     ]
   where
     at : (doing : Option Doing) → is_idle doing ≡ true → InDoing (λ number. 0) doing
-    at None idle = λ number. omega arith
-    at (Some doing) idle = cc
+    at doing h1 = search arith
 
 pub fetches_are_few : (fixed : Fixed) (agent : Agent) (caller : Identity) (site : ℕ) (ops : List Op) (events : List Event) (number : ℕ) → is_idle agent.doing ≡ true
     → fetched_in number (of_job fixed agent (Transaction caller site ops) events) ≤ 1

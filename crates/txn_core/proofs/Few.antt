@@ -1,8 +1,7 @@
 -- A transaction is prepared, decided and told in few steps.
-use Rattle.txn_core.proofs.Vocabulary.{◌≡◌, ℕ, zero, suc, ◌+◌, ◌≤◌, ◌<◌, Bool, true, false, cond, List, [], ◌∷◌, ◌++◌, Option, Some, None, refl, sym, ap, subst, arith, ◌&&◌, ◌==◌, ◌*◌, filter, nat_lt, eqb-true, nat_tests, same_Some}
-use Rattle.txn_core.proofs.Vocabulary.{Identity, max_servers, Op, is_prepared, Request, Verdict, Cache, Suites, suite_of, has_locks, Response, Cause, Ending, Replied, Lacked, Lost, Undecided, Transaction, Fixed, Task, Proposal, Phase}
-use Rattle.txn_core.proofs.Vocabulary.{Gathering, Fetching, Widening, Preparing, Deciding, Finishing, TransactionRun, Doing, Running, RunningSweep, After, GoesOn, Ends, numbers_from, tell_end, give_up, prepare, locked_at, after_response}
-use Rattle.txn_core.proofs.Vocabulary.{request_in, decision_of, verdict_in, ending_by, cause_of_abort, lack_cause, Agent, Event, Take, Forget, next_in, next_of, left, take_in, take, begin, started, forget, is_idle, has_sense, max_jobs}
+use Rattle.txn_core.proofs.Vocabulary.{◌≡◌, ℕ, zero, suc, ◌+◌, ◌≤◌, ◌<◌, Bool, true, false, cond, List, [], ◌∷◌, ◌++◌, Option, Some, None, refl, ap, arith, ◌&&◌, ◌==◌, ◌*◌, filter, nat_lt, eqb-true, nat_tests, same_Some, Identity, max_servers, Op}
+use Rattle.txn_core.proofs.Vocabulary.{Request, Verdict, Cache, Suites, has_locks, Response, Cause, Ending, Undecided, Transaction, Fixed, Task, Proposal, Phase, Preparing, Deciding, Finishing, TransactionRun, Doing, Running, RunningSweep, After}
+use Rattle.txn_core.proofs.Vocabulary.{GoesOn, numbers_from, tell_end, give_up, prepare, locked_at, after_response, request_in, Agent, Event, Take, Forget, next_in, next_of, left, take_in, take, begin, started, forget, is_idle, has_sense, max_jobs}
 use Rattle.txn_core.proofs.Vocabulary.{Exchange, exchange_of, exchanges, of_job, count_of}
 use Rattle.rep_core.specs.declared.request.Request.TheVariants as request
 use Rattle.rep_core.specs.declared.reply.Verdict.TheVariants as verdict
@@ -42,49 +41,26 @@ IsFew who after = may who (left Running after) ≤ 2
 -- a list that rises has each server once
 above : (who : ℕ) (p : ℕ → Bool) (start count : ℕ) → who < start → times_in who (filter p (numbers_from start count)) ≡ 0
 above who p start zero less = omega arith
-above who p start (suc count) less =
-    let rest = above who p (start + 1) count (omega (arith, less)) in
-    elim (p start) as (λ b. times_in who (cond b (start ∷ filter p (numbers_from (start + 1) count)) (filter p (numbers_from (start + 1) count))) ≡ 0) [
-      | true ↦ at (start == who) (grind (arith, nat_tests)) rest
-      | false ↦ rest
-    ]
-  where
-    at : (b : Bool) → b ≡ false → times_in who (filter p (numbers_from (start + 1) count)) ≡ 0 → cond b 1 0 + times_in who (filter p (numbers_from (start + 1) count)) ≡ 0
-    at true is rest = cc
-    at false is rest = omega (arith, rest)
+above who p start (suc count) less = search (nat_tests, above who p (start + 1) count, arith)
 
 once : (who : ℕ) (p : ℕ → Bool) (start count : ℕ) → times_in who (filter p (numbers_from start count)) ≤ 1
 once who p start zero = omega arith
-once who p start (suc count) =
-    let rest = once who p (start + 1) count in
-    elim (p start) as (λ b. times_in who (cond b (start ∷ filter p (numbers_from (start + 1) count)) (filter p (numbers_from (start + 1) count))) ≤ 1) [
-      | true ↦ at (start == who) refl rest
-      | false ↦ rest
-    ]
-  where
-    at : (b : Bool) → (start == who) ≡ b → times_in who (filter p (numbers_from (start + 1) count)) ≤ 1 → cond b 1 0 + times_in who (filter p (numbers_from (start + 1) count)) ≤ 1
-    at true same rest = let same' = eqb-true start who same in let none = above who p (start + 1) count (omega (arith, same')) in omega (arith, none)
-    at false other rest = omega (arith, rest)
+once who p start (suc count) = search (eqb-true, above, once who p (start + 1) count, arith)
 
 few_locked : (who : ℕ) (suites : Suites) → times_in who (locked_at suites) ≤ 1
 few_locked who suites = once who (has_locks suites) 0 max_servers
 
 few_end : (who : ℕ) (task : Task) (cache : Cache) (suites : Suites) (v : Verdict) (ending : Ending) (servers : List ℕ) → may who (left Running (tell_end task cache suites v ending servers).after) ≡ times_in who servers
-few_end who task cache suites v ending [] = refl
-few_end who task cache suites v ending (server ∷ servers) = refl
+few_end who task cache suites v ending servers = search arith
 
 few_finish : (who : ℕ) (task : Task) (cache : Cache) (suites : Suites) (v : Verdict) (ending : Ending) → may who (left Running (tell_end task cache suites v ending (locked_at suites)).after) ≤ 1
 few_finish who task cache suites v ending = let same = few_end who task cache suites v ending (locked_at suites) in let few = few_locked who suites in omega (arith, same, few)
 
 few_prepare : (who : ℕ) (task : Task) (cache : Cache) (suites : Suites) (outcome : Proposal) (servers : List ℕ) → may who (left Running (prepare task cache suites outcome servers).after) ≤ times_in who servers + 1
-few_prepare who task cache suites outcome [] = omega arith
-few_prepare who task cache suites outcome (server ∷ servers) = omega arith
+few_prepare who task cache suites outcome servers = search arith
 
 few_early : (who : ℕ) (task : Task) (suites : Suites) (phase : Phase) → IsEarly phase → IsFew who (GoesOn (record { task = task; suites = suites; phase = phase }))
-few_early who task suites (Preparing servers outcome) is = absurd is
-few_early who task suites (Deciding outcome) is = absurd is
-few_early who task suites (Finishing servers v ending) is = absurd is
-few_early who task suites _ is = omega arith
+few_early who task suites phase h4 = search arith
 
 few_given_up : (who : ℕ) (task : Task) (cache : Cache) (suites : Suites) (cause : Cause) → IsFew who (give_up task cache suites cause).after
 few_given_up who task cache suites cause = let few = few_finish who task cache suites verdict.Aborted (Undecided cause) in omega (arith, few)
@@ -104,20 +80,10 @@ abbrev now_told : ℕ → ℕ → Request → ℕ
 now_told who server asked = one_if ((server == who) && tells asked)
 
 none_now : (who server : ℕ) (asked : Request) → tells asked ≡ false → now_told who server asked ≡ 0
-none_now who server asked none = of (server == who) (tells asked) none
-  where
-    of : (a b : Bool) → b ≡ false → one_if (a && b) ≡ 0
-    of true false is = refl
-    of false b is = refl
-    of true true is = cc
+none_now who server asked none = search arith
 
 here_now : (who server now : ℕ) (asked : Request) → now ≡ server → now_told who server asked ≤ cond (now == who) 1 0
-here_now who server now asked same = subst (λ at. now_told who server asked ≤ cond (at == who) 1 0) (sym same) (of (server == who) (tells asked))
-  where
-    of : (a b : Bool) → cond (a && b) 1 0 ≤ cond a 1 0
-    of true true = omega arith
-    of true false = omega arith
-    of false b = omega arith
+here_now who server now asked same = search arith
 
 at_server : (now server : ℕ) (question asked : Request) → ◌≡◌ {A = Option (ℕ × Request)} (Some (now, question)) (Some (server, asked)) → now ≡ server
 at_server now server question asked is = ap (λ (pair : ℕ × Request). pair.0) (same_Some (now, question) (server, asked) is)
@@ -130,36 +96,7 @@ calm who fixed task cache suites phase server asked response is other =
 
 few_response : (who : ℕ) (fixed : Fixed) (task : Task) (cache : Cache) (suites : Suites) (phase : Phase) (server : ℕ) (asked : Request) (response : Response) → request_in fixed task suites phase ≡ Some (server, asked)
     → now_told who server asked + then_may who fixed task cache suites phase server asked response ≤ may_in who phase
-few_response who fixed task cache suites (Gathering number) server asked response is = calm who fixed task cache suites (Gathering number) server asked response tt
-    (asked_as tells false task number (suite_of suites number) server asked (λ mode. refl) refl is)
-few_response who fixed task cache suites (Fetching number) server asked response is = calm who fixed task cache suites (Fetching number) server asked response tt
-    (fetched_as tells false task number (suite_of suites number) server asked refl is)
-few_response who fixed task cache suites (Widening [] granted) server asked response is = cc
-few_response who fixed task cache suites (Widening (number ∷ left) granted) server asked response is = calm who fixed task cache suites
-    (Widening (number ∷ left) granted) server asked response tt (asked_as tells false task number (suite_of suites number) server asked (λ mode. refl) refl is)
-few_response who fixed task cache suites (Preparing [] outcome) server asked response is = cc
-few_response who fixed task cache suites (Preparing (now ∷ servers) outcome) server asked response is =
-    let one = here_now who server now asked (at_server now server _ asked is) in let rest = of response in omega (arith, one, rest)
-  where
-    of : (response : Response) → then_may who fixed task cache suites (Preparing (now ∷ servers) outcome) server asked response ≤ times_in who servers + 1
-    of (Lacked lacked) = let few = few_finish who task cache suites verdict.Aborted (Undecided (lack_cause server lacked)) in omega (arith, few)
-    of (Replied said) = elim (is_prepared said) as (λ b. may who (left Running (cond b (prepare task cache suites outcome servers) (give_up task cache suites (Lost server))).after) ≤ times_in who servers + 1) [
-      | true ↦ few_prepare who task cache suites outcome servers
-      | false ↦ let few = few_finish who task cache suites verdict.Aborted (Undecided (Lost server)) in omega (arith, few)
-    ]
-few_response who fixed task cache suites (Deciding outcome) server asked response is =
-    let none = none_now who server asked (ap tells (sym (asks_same _ server (request.Decide task.t (decision_of task outcome)) asked is))) in let rest = of response in omega (arith, none, rest)
-  where
-    of : (response : Response) → then_may who fixed task cache suites (Deciding outcome) server asked response ≤ 1
-    of (Lacked lacked) = few_finish who task cache suites verdict.Aborted (Undecided (lack_cause server lacked))
-    of (Replied said) = few_finish who task cache suites (verdict_in said verdict.Aborted) (ending_by (verdict_in said verdict.Aborted) (cause_of_abort said))
-few_response who fixed task cache suites (Finishing [] v ending) server asked response is = cc
-few_response who fixed task cache suites (Finishing (now ∷ servers) v ending) server asked response is =
-    let one = here_now who server now asked (at_server now server _ asked is) in let rest = of response in omega (arith, one, rest)
-  where
-    of : (response : Response) → then_may who fixed task cache suites (Finishing (now ∷ servers) v ending) server asked response ≡ times_in who servers
-    of (Lacked lacked) = few_end who task cache suites v ending servers
-    of (Replied said) = few_end who task cache suites v ending servers
+few_response who fixed task cache suites phase server asked response h9 = search (calm, asked_as, fetched_as, here_now, at_server, few_finish, few_prepare, none_now, asks_same, few_end, arith)
 
 -- ---- all responses
 
@@ -169,15 +106,10 @@ IsNoRound (Some (RunningSweep sweep_run)) = ⊥
 IsNoRound None = Unit {0}
 
 no_round : (after : After TransactionRun) → IsNoRound (left Running after)
-no_round (GoesOn txn_run) = tt
-no_round (Ends ending) = tt
+no_round after = search arith
 
 pub take_no_round : (fixed : Fixed) (agent : Agent) (response : Response) (doing : Option Doing) (asked : Option (ℕ × Request)) → agent.doing ≡ doing → IsNoRound doing → IsNoRound (take_in fixed agent response doing asked).agent.doing
-take_no_round fixed agent response (Some (Running running)) (Some asked) was none = no_round (after_response fixed running agent.cache asked.0 asked.1 response).after
-take_no_round fixed agent response (Some (Running running)) None was none = subst IsNoRound (sym was) tt
-take_no_round fixed agent response (Some (RunningSweep sweep_run)) asked was none = absurd none
-take_no_round fixed agent response None (Some asked) was none = subst IsNoRound (sym was) tt
-take_no_round fixed agent response None None was none = subst IsNoRound (sym was) tt
+take_no_round fixed agent response doing asked h5 h6 = search arith
 
 take_few : (who : ℕ) (fixed : Fixed) (agent : Agent) (response : Response) (doing : Option Doing) (asked : Option (ℕ × Request)) → agent.doing ≡ doing → next_in fixed doing ≡ asked → IsNoRound doing
     → told_to who (exchange_of asked response) + may who (take_in fixed agent response doing asked).agent.doing ≤ may who doing
@@ -212,16 +144,11 @@ begin_few who fixed agent caller site ops idle =
     ]
   where
     at : (doing : Option Doing) → is_idle doing ≡ true → IsNoRound doing × (may who doing ≤ 2)
-    at None idle = (tt, omega arith)
-    at (Some doing) idle = cc
+    at doing h1 = search arith
 
 pub began_no_round : (fixed : Fixed) (agent : Agent) (caller : Identity) (site : ℕ) (ops : List Op) → is_idle agent.doing ≡ true → IsNoRound (begin fixed agent (Transaction caller site ops)).doing
 began_no_round fixed agent caller site ops idle = (begin_few 0 fixed agent caller site ops idle).0
 
 -- each server is asked to prepare and to finish once at most
 pub tellings_are_few : (fixed : Fixed) (agent : Agent) (caller : Identity) (site : ℕ) (ops : List Op) (events : List Event) (who : ℕ) → is_idle agent.doing ≡ true → told_to who (of_job fixed agent (Transaction caller site ops) events) ≤ 2
-tellings_are_few fixed agent caller site ops events who idle =
-    let began = begin_few who fixed agent caller site ops idle in
-    let all = all_few who fixed (begin fixed agent (Transaction caller site ops)) events began.0 in
-    let most = began.1 in
-    omega (arith, all, most)
+tellings_are_few fixed agent caller site ops events who idle = search (begin_few, all_few, arith)

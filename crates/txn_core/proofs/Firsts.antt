@@ -77,11 +77,7 @@ module _ (lock : Lock) (rest locks : List Lock) (n : ℕ) (is : locks ≡ lock �
   first_breaks prepared = asked false prepared
 
   pub fewer : (left : List Lock) → left ≡ drop n rest → length left + 1 ≤ length locks
-  fewer left left_is =
-      let a : length locks ≡ length (lock ∷ rest) = ap length is in
-      let b : length left ≡ length (drop n rest) = ap length left_is in
-      let c = length-drop n rest in
-      omega (arith, a, b, c)
+  fewer left left_is = search (length-drop, arith)
 
   pub order_left : (left : List Lock) → left ≡ drop n rest → in_order left ≡ true
   order_left left left_is = ap in_order left_is ∙ order_dropped n rest parts.1

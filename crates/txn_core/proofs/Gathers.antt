@@ -1,8 +1,8 @@
 -- What is kept of the suites that a transaction gathers: from where each was gathered, what its first Current gave, and to which votes it was widened.
-use Rattle.txn_core.proofs.Vocabulary.{◌≡◌, ℕ, Bool, true, false, cond, ◌⊎◌, inl, inr, List, [], ◌∷◌, ◌++◌, Option, Some, None, refl, sym, ap, subst, ◌∙◌, ◌==◌, map, filter, option_map, nat_cmp, is_at, unsigned_tied, eqb-true, eq-eqb}
-use Rattle.txn_core.proofs.Vocabulary.{false≢true, same_Some, append-nil, append_assoc, nat_cmp_total, get-insert, Configuration, Content, Prefix, LockMode, Answer, Change, Hold, Told, Said, Collector, told_since, all_told, tell_at, tell}
-use Rattle.txn_core.proofs.Vocabulary.{collect, Asked, Next, Current, Ask, next, Has, ReadPoint, GatheredSuite, Suites, suite_of, with_suite, source_of, first_or, settled, change_of, Response, Replied, Lacked, Changes, Fixed, Task}
-use Rattle.txn_core.proofs.Vocabulary.{heard_on, votes_then, votes_after, to_widen, widened, said_to, Exchange, locks, told_of, told_by, more_told, gathered_from, IsCurrent, FirstGave}
+use Rattle.txn_core.proofs.Vocabulary.{◌≡◌, ℕ, Bool, true, false, cond, ◌⊎◌, inl, inr, List, [], ◌∷◌, ◌++◌, Option, Some, None, refl, sym, ap, subst, ◌∙◌, ◌==◌, map, filter, option_map, nat_cmp, is_at, unsigned_tied, eqb-true, eq-eqb, arith}
+use Rattle.txn_core.proofs.Vocabulary.{false≢true, same_Some, append-nil, append_assoc, nat_cmp_total, get-insert, Configuration, Content, Prefix, LockMode, Answer, Change, Hold, Told, Said, Collector, all_told, tell_at, tell, collect, Asked, Next}
+use Rattle.txn_core.proofs.Vocabulary.{Current, Ask, next, Has, ReadPoint, GatheredSuite, Suites, suite_of, with_suite, source_of, first_or, settled, change_of, Response, Replied, Lacked, Changes, Fixed, Task, heard_on, to_widen, widened, said_to}
+use Rattle.txn_core.proofs.Vocabulary.{Exchange, locks, told_of, told_by, more_told, gathered_from, IsCurrent, FirstGave}
 use Rattle.suite_collect.specs.Collecting.{Widening}
 use Rattle.file_exec.specs.declared.executor.Outcome.TheVariants as exec
 
@@ -16,11 +16,7 @@ nothing_after y (e ∷ early) rest is = cc
 pub cut_before : {X : Type 0} (past early rest : List X) (x y : X) → past ++ x ∷ [] ≡ early ++ y ∷ rest → (later : List X) × (past ≡ early ++ later)
 cut_before past [] rest x y is = (past, refl)
 cut_before [] (e ∷ early) rest x y is = absurd (nothing_after y early rest (let tail : [] ≡ early ++ y ∷ rest = cc in tail))
-cut_before (p ∷ past) (e ∷ early) rest x y is =
-    let head : p ≡ e = cc in
-    let tail : past ++ x ∷ [] ≡ early ++ y ∷ rest = cc in
-    let before = cut_before past early rest x y tail in
-    (before.0, ap (λ p. p ∷ past) head ∙ ap (λ past. e ∷ past) before.1)
+cut_before (p ∷ past) (e ∷ early) rest x y is = search (cut_before past early rest x y, arith)
 
 -- what was told is told later too
 pub told-append : (number : ℕ) (before : List Told) (past later : List Exchange) → told_of number before (past ++ later) ≡ told_of number (told_of number before past) later
@@ -66,11 +62,7 @@ module _ (K : ℕ → GatheredSuite → Type 0) (number : ℕ) (suites : Suites)
   each_but each n suite other is = each n suite is
 
   pub each_with : (suite : GatheredSuite) → EachBut K number suites → K number suite → Each K (with_suite number suite suites)
-  each_with suite others own n found is = of (number == n) refl (sym (with_at number suite suites n) ∙ is)
-    where
-      of : (b : Bool) → (number == n) ≡ b → cond b (Some suite) (suite_of suites n) ≡ Some found → K n found
-      of true same is = subst (λ n. K n found) (eqb-true number n same) (subst (K number) (same_Some suite found is) own)
-      of false other is = others n found other is
+  each_with suite others own n found is = search (with_at, eqb-true, same_Some, arith)
 
   pub but_with : (suite : GatheredSuite) → EachBut K number suites → EachBut K number (with_suite number suite suites)
   but_with suite others n found other is = others n found other (sym (with_at number suite suites n ∙ ap (λ b. cond b (Some suite) (suite_of suites n)) other) ∙ is)
@@ -78,48 +70,25 @@ module _ (K : ℕ → GatheredSuite → Type 0) (number : ℕ) (suites : Suites)
 -- ---- collectors
 
 pub tell_start : (one : Told) (c : Collector) → (tell one c).start ≡ c.start
-tell_start one c = of c.widening
-  where
-    of : (w : Option Widening) → (tell_at w one c).start ≡ c.start
-    of None = refl
-    of (Some w) = refl
+tell_start one c = search arith
 
 tell_mode : (one : Told) (c : Collector) → (tell one c).mode ≡ c.mode
-tell_mode one c = of c.widening
-  where
-    of : (w : Option Widening) → (tell_at w one c).mode ≡ c.mode
-    of None = refl
-    of (Some w) = refl
+tell_mode one c = search arith
 
 tell_narrow : (one : Told) (c : Collector) → c.widening ≡ None → (tell one c).widening ≡ None
 tell_narrow one c narrow = ap (λ w. (tell_at w one c).widening) narrow ∙ narrow
 
 tell_votes : (one : Told) (c : Collector) (after : Widening) → (tell one c).widening ≡ Some after → (w : Widening) × (c.widening ≡ Some w) × (w.votes ≡ after.votes)
-tell_votes one c after is = of c.widening refl is
-  where
-    of : (w : Option Widening) → c.widening ≡ w → (tell_at w one c).widening ≡ Some after → (w : Widening) × (c.widening ≡ Some w) × (w.votes ≡ after.votes)
-    of None was is = (after, is, refl)
-    of (Some w) was is = (w, was, ap (λ (w : Widening). w.votes) (same_Some (record w { told = one ∷ w.told }) after is))
+tell_votes one c after is = search arith
 
 -- before a widening a collector is what it was told
 narrow_is : (c : Collector) (told : List Told) → c.widening ≡ None → all_told c ≡ told → c ≡ record { start = c.start; mode = c.mode; told = told; widening = None }
-narrow_is c told narrow is =
-    let with' : List Told → Option Widening → Collector = λ told w. record { start = c.start; mode = c.mode; told = told; widening = w } in
-    ap (λ w. with' c.told w) narrow ∙ ap (λ told. with' told None) (ap (λ w. told_since w ++ c.told) (sym narrow) ∙ is)
+narrow_is c told narrow is = search arith
 
 -- ---- what a first Current gave
 
 pub gave_more : (start : Prefix) (number : ℕ) (past more : List Exchange) (first : ReadPoint) → FirstGave start number past first → FirstGave start number (past ++ more) first
-gave_more start number past more first gave = record {
-  mode = gave.mode;
-  members = gave.members;
-  before = gave.before;
-  later = gave.later ++ more;
-  parts = ap (λ past. past ++ more) gave.parts ∙ append_assoc gave.before gave.later more;
-  gave = gave.gave;
-  source = gave.source;
-  never_before = gave.never_before;
-}
+gave_more start number past more first gave = search (append_assoc, arith)
 
 -- ---- suites that were gathered
 
@@ -133,8 +102,7 @@ abbrev pub Knows : (ℕ → ReadPoint → Content → Type 0) → ℕ → Gather
 Knows C number suite = (content : Content) → suite.content ≡ Some content → (first : ReadPoint) × (suite.first ≡ Some first) × C number first content
 
 pub knows_settled : (C : ℕ → ReadPoint → Content → Type 0) (number : ℕ) (suite : GatheredSuite) (prefix : Prefix) (dver : ℕ) (members : List ℕ) → Knows C number suite → Knows C number (settled prefix dver members suite)
-knows_settled C number suite prefix dver members knows content is =
-    let was = knows content is in (was.0, ap (λ first. first_or first (record { prefix = prefix; dver = dver; source = source_of suite.collector dver members })) was.1, was.2)
+knows_settled h0 number suite prefix dver members knows content is = search arith
 
 pub knows_map : (C D : ℕ → ReadPoint → Content → Type 0) (number : ℕ) (suite : GatheredSuite)
     → ((number : ℕ) (first : ReadPoint) (content : Content) → C number first content → D number first content) → Knows C number suite → Knows D number suite
@@ -193,15 +161,7 @@ module _ (fixed : Fixed) (task : Task) (Old : Base) (past more : List Exchange) 
   wants_more number mode wants = record { suites = wants.suites; gathered = gathered_more Old past more wants.suites wants.gathered; needs = wants.needs }
 
   pub sets_more : (number : ℕ) (votes : Configuration) → Sets fixed task Old past number votes → Sets fixed task Old (past ++ more) number votes
-  sets_more number votes sets = record {
-    suites = sets.suites;
-    gathered = gathered_more Old past more sets.suites sets.gathered;
-    answers = sets.answers;
-    changes = sets.changes;
-    done = sets.done;
-    gets = sets.gets;
-    are = sets.are;
-  }
+  sets_more number votes sets = search (gathered_more, arith)
 
   pub grants_more : (answers : List Answer) (changes : Changes) → Grants fixed task Old past answers changes → Grants fixed task Old (past ++ more) answers changes
   grants_more answers changes grants = record { suites = grants.suites; gathered = gathered_more Old past more grants.suites grants.gathered; done = grants.done }
@@ -211,15 +171,7 @@ module _ (fixed : Fixed) (task : Task) (Old Old' : Base) (past : List Exchange) 
   wants_map number mode wants = record { suites = wants.suites; gathered = gathered_map Old Old' past wants.suites old wants.gathered; needs = wants.needs }
 
   pub sets_map : (number : ℕ) (votes : Configuration) → Sets fixed task Old past number votes → Sets fixed task Old' past number votes
-  sets_map number votes sets = record {
-    suites = sets.suites;
-    gathered = gathered_map Old Old' past sets.suites old sets.gathered;
-    answers = sets.answers;
-    changes = sets.changes;
-    done = sets.done;
-    gets = sets.gets;
-    are = sets.are;
-  }
+  sets_map number votes sets = search (gathered_map, arith)
 
   pub grants_map : (answers : List Answer) (changes : Changes) → Grants fixed task Old past answers changes → Grants fixed task Old' past answers changes
   grants_map answers changes grants = record { suites = grants.suites; gathered = gathered_map Old Old' past grants.suites old grants.gathered; done = grants.done }
@@ -277,23 +229,14 @@ first_same past number suite other start first kept = record { first = kept.firs
 
 module _ (fixed : Fixed) (task : Task) (Old : Base) (past : List Exchange) where
   pub wide_told : (number : ℕ) (suite : GatheredSuite) (one : Told) (more : List Exchange) → Wide fixed task Old past number suite → Wide fixed task Old (past ++ more) number (record suite { collector = tell one suite.collector })
-  wide_told number suite one more wide after is =
-      let was = tell_votes one suite.collector after is in subst (Sets fixed task Old (past ++ more) number) was.2 (sets_more fixed task Old past more number was.0.votes (wide was.0 was.1))
+  wide_told number suite one more wide after is = search (tell_votes, sets_more, arith)
 
   pub wants_told : (number : ℕ) (suite : GatheredSuite) (one : Told) (more : List Exchange) → Wants fixed task Old past number suite.collector.mode → Wants fixed task Old (past ++ more) number (tell one suite.collector).mode
   wants_told number suite one more wanted = subst (Wants fixed task Old (past ++ more) number) (sym (tell_mode one suite.collector)) (wants_more fixed task Old past more number suite.collector.mode wanted)
 
   pub wide_widened : (changes : Changes) (answers : List Answer) (number : ℕ) (suite : GatheredSuite) → Grants fixed task Old past answers changes → Has (to_widen changes) number
       → Wide fixed task Old past number (widened changes number suite)
-  wide_widened changes answers number suite grants gets after is =
-      let change = listed_change changes number gets in
-      let votes : change.0.row.votes ≡ after.votes = of change.0 change.1 in
-      record { suites = grants.suites; gathered = grants.gathered; answers = answers; changes = changes; done = grants.done; gets = gets; are = ap (option_map (λ (change : Change). change.row.votes)) change.1 ∙ ap Some votes }
-    where
-      of : (change : Change) → change_of changes number ≡ Some change → change.row.votes ≡ after.votes
-      of change set =
-          ap (λ found. votes_then found suite.first suite.collector.start.votes) (sym set)
-          ∙ ap (λ (w : Widening). w.votes) (same_Some (record { votes = votes_after changes number suite; told = told_since suite.collector.widening }) after is)
+  wide_widened changes answers number suite grants gets after is = search (listed_change, same_Some, arith)
 
 -- ---- how it is kept
 
@@ -302,25 +245,17 @@ asks_not server asked next is current = let same : Ask server asked ≡ Current 
 
 none_more : (start : Prefix) (mode : LockMode) (number : ℕ) (past : List Exchange) (one : Exchange) (server : ℕ) (asked : Asked) → NoneYet start mode number past → next (gathered_from start mode number (past ++ one ∷ [])) ≡ Ask server asked
     → NoneYet start mode number (past ++ one ∷ [])
-none_more start mode number past one server asked none is early [] parts current =
-    asks_not server asked (next (gathered_from start mode number early)) (ap (λ past. next (gathered_from start mode number past)) (sym (parts ∙ append-nil early)) ∙ is) current
+none_more start mode number past one server asked none is early [] parts current = search (append-nil early, arith)
 none_more start mode number past one server asked none is early (y ∷ rest) parts current = let before = cut_before past early rest one y parts in none early before.0 before.1 current
 
 none_same : (start other : Prefix) (mode another : LockMode) (number : ℕ) (past : List Exchange) → other ≡ start → another ≡ mode → NoneYet start mode number past → NoneYet other another number past
-none_same start other mode another number past same_start same_mode none early rest parts current =
-    none early rest parts (subst (λ mode. IsCurrent (next (gathered_from start mode number early))) same_mode (subst (λ start. IsCurrent (next (gathered_from start another number early))) same_start current))
+none_same start other mode another number past same_start same_mode none early rest parts current = search arith
 
 module _ (fixed : Fixed) (task : Task) (Old : Base) (past : List Exchange) (number : ℕ) where
   pub kept_same : (suite other : GatheredSuite) → other.collector.start ≡ suite.collector.start → other.first ≡ suite.first → Knows Old.content number other
       → Wide fixed task Old past number other → Wants fixed task Old past number other.collector.mode → Kept fixed task Old past number suite
       → Kept fixed task Old past number other
-  kept_same suite other start first content wide wanted kept = record {
-    start = subst (Old.start number) (sym start) kept.start;
-    first = first_same past number suite other start first kept.first;
-    content = content;
-    wide = wide;
-    wanted = wanted;
-  }
+  kept_same suite other start first content wide wanted kept = search arith
 
   pub kept_more : (more : List Exchange) (suite : GatheredSuite) → Kept fixed task Old past number suite → Kept fixed task Old (past ++ more) number suite
   kept_more more suite kept = record {
@@ -337,16 +272,7 @@ module _ (fixed : Fixed) (task : Task) (Old : Base) (past : List Exchange) (numb
   -- a suite that is new
   pub asks_new : (Start : ℕ → Prefix → Type 0) (mode another : LockMode) (start : Prefix) → told_of number [] past ≡ [] → Start number start
       → Wants fixed task Old past number mode → Asking fixed task Old Start past number (record { collector = collect mode start; first = None; mode = another; content = None })
-  asks_new Start mode another start untold old wanted = record {
-    start = old;
-    first = inr (refl, refl, λ server asked is early rest parts current. asks_not server asked (next (gathered_from start mode number early)) (nothing early rest parts ∙ is) current);
-    content = λ content is. cc;
-    wide = λ w is. cc;
-    wanted = wanted;
-  }
-    where
-      nothing : (early rest : List Exchange) → past ≡ early ++ rest → next (gathered_from start mode number early) ≡ next (collect mode start)
-      nothing early rest parts = ap (λ told. next (record { start = start; mode = mode; told = told; widening = None })) (untold_before number past early rest untold parts)
+  asks_new h0 mode another start untold old wanted = search (asks_not, untold_before, arith)
 
   -- a suite that was told something more
   module _ (suite : GatheredSuite) (one : Told) (x : Exchange) (heard : all_told (tell one suite.collector) ≡ told_of number [] (past ++ x ∷ [])) where
@@ -360,13 +286,7 @@ module _ (fixed : Fixed) (task : Task) (Old : Base) (past : List Exchange) (numb
     first_told kept = first_same (past ++ x ∷ []) number suite now (tell_start one suite.collector) refl (first_more past (x ∷ []) number suite kept)
 
     pub kept_told : Kept fixed task Old past number suite → Kept fixed task Old (past ++ x ∷ []) number now
-    kept_told kept = record {
-      start = subst (Old.start number) (sym (tell_start one suite.collector)) kept.start;
-      first = first_told kept.first;
-      content = kept.content;
-      wide = wide_told fixed task Old past number suite one (x ∷ []) kept.wide;
-      wanted = wants_told fixed task Old past number suite one (x ∷ []) kept.wanted;
-    }
+    kept_told kept = search (tell_start, first_told, wide_told, wants_told, arith)
 
     module _ (server : ℕ) (asked : Asked) (asks : next suite.collector ≡ Ask server asked) (asking : Asking fixed task Old Old.start past number suite) where
       none_now : NoneYet suite.collector.start suite.collector.mode number past → NoneYet now.collector.start now.collector.mode number past

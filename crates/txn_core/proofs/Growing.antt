@@ -1,7 +1,7 @@
 -- What is known of the suites that were gathered grows with them.
-use Rattle.txn_core.proofs.Vocabulary.{◌≡◌, ℕ, Bool, true, false, cond, [], ◌∷◌, Option, Some, None, Less, refl, sym, ap, subst, ◌∙◌, nat_cmp, is_eq, is_some, not, ◌||◌, option_or, AllByRecursion, keys_of, nat_cmp_total, exact_unsigned}
-use Rattle.txn_core.proofs.Vocabulary.{sorted_head, sorted_tail, none-some, same_Some, equal_if, get-insert, IsOrdered, LockMode, Shared, Exclusive, serves, KnownSuite, Known, IsMore, IsMoreAt, MoreKnown, ReadPoint, GatheredSuite, Suites}
-use Rattle.txn_core.proofs.Vocabulary.{suite_of, with_suite, known_row, known_if, known_of, PendingQuorum, settled_with}
+use Rattle.txn_core.proofs.Vocabulary.{◌≡◌, ℕ, Bool, true, false, cond, [], ◌∷◌, Option, Some, None, Less, refl, sym, ap, subst, ◌∙◌, nat_cmp, is_eq, is_some, not, ◌||◌, AllByRecursion, keys_of, nat_cmp_total, exact_unsigned, arith, sorted_head}
+use Rattle.txn_core.proofs.Vocabulary.{sorted_tail, none-some, same_Some, equal_if, get-insert, IsOrdered, LockMode, serves, KnownSuite, Known, IsMore, IsMoreAt, MoreKnown, ReadPoint, GatheredSuite, Suites, suite_of, with_suite, known_row, known_if}
+use Rattle.txn_core.proofs.Vocabulary.{known_of, PendingQuorum, settled_with}
 use Rattle.file_exec.specs.Known as known
 use Rattle.txn_core.proofs.Setting.{known_at}
 
@@ -20,8 +20,7 @@ other_number number key other less same = ap (λ n. is_eq (nat_cmp n other)) sam
 
 absent_here : (number : ℕ) (one : ℕ × GatheredSuite) (suites : Suites) → is_eq (nat_cmp number one.0) ≡ false → known.known_of (known_of suites) number ≡ None
     → (found : Option ReadPoint) → known.known_of (known_if one.0 one.1 found (known_of suites)) number ≡ None
-absent_here number one suites other rest (Some first) = ap (λ b. cond b (Some (known_row one.1 first)) (known.known_of (known_of suites) number)) other ∙ rest
-absent_here number one suites other rest None = rest
+absent_here number one suites h3 h4 found = search arith
 
 absent : (number key : ℕ) (suites : Suites) → AllByRecursion (λ y. nat_cmp key y ≡ Less) (keys_of suites) → number ≡ key → known.known_of (known_of suites) number ≡ None
 absent number key [] all same = refl
@@ -62,23 +61,16 @@ abbrev pub GoesOnFrom : GatheredSuite → GatheredSuite → Type 0
 GoesOnFrom before after = (first : ReadPoint) → before.first ≡ Some first → Keeps before after first
 
 pub serves_itself : (mode : LockMode) → serves mode mode ≡ true
-serves_itself Shared = refl
-serves_itself Exclusive = refl
+serves_itself mode = search arith
 
 more_of : (before after : GatheredSuite) (first : ReadPoint) → Keeps before after first → IsMore (known_row before first) (known_row after first)
-more_of before after first keeps =
-    subst (λ content. IsMore (known_row before first) (known_row (record after { content = content }) first)) (sym keeps.content)
-    (record { mode = keeps.mode; head = refl; opened = λ is. is; content = λ _. refl })
+more_of before after first keeps = search arith
 
 itself : (it : KnownSuite) → IsMore it it
 itself it = record { mode = serves_itself it.mode; head = refl; opened = λ is. is; content = λ _. refl }
 
 pub no_less : (all : Known) → MoreKnown all all
-no_less all suite = of (known.known_of all suite)
-  where
-    of : (it : Option KnownSuite) → IsMoreAt it it
-    of (Some it) = itself it
-    of None = tt
+no_less all suite = search arith
 
 -- more is known once such a suite stands in the place of another, or where there was none
 pub more_known : (suites : Suites) (number : ℕ) (after : GatheredSuite) → IsOrdered nat_cmp suites
@@ -104,11 +96,7 @@ more_known suites number after ordered flow other = of (known.known_of (known_of
 
 -- what was collected of it does not matter
 pub collects : (before after : GatheredSuite) → after ≡ record before { collector = after.collector } → GoesOnFrom before after
-collects before after is first was = record {
-  first = ap (λ (suite : GatheredSuite). suite.first) is ∙ was;
-  content = ap (λ (suite : GatheredSuite). suite.content) is;
-  mode = ap (λ (suite : GatheredSuite). serves suite.mode before.mode) is ∙ serves_itself before.mode;
-}
+collects before after is first was = search arith
 
 -- nothing is known of a suite without a quorum
 pub starts : (before after : GatheredSuite) → before.first ≡ None → GoesOnFrom before after
@@ -116,8 +104,4 @@ starts before after none first was = absurd (none-some first (sym none ∙ was))
 
 -- a suite that had no quorum goes on with its first, and another with one in its mode or a stronger one
 pub settles : (pending : PendingQuorum) (suite : GatheredSuite) → (not (is_some suite.first) || serves suite.collector.mode suite.mode) ≡ true → GoesOnFrom suite (settled_with pending suite)
-settles pending suite may first was = record {
-  first = ap (λ had. option_or had pending.first) was;
-  content = refl;
-  mode = ap (λ had. not (is_some had) || serves suite.collector.mode suite.mode) (sym was) ∙ may;
-}
+settles pending suite may first was = search arith

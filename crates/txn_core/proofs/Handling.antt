@@ -1,15 +1,15 @@
 -- What a suite heard, and how its transaction goes on by it.
-use Rattle.txn_core.proofs.Vocabulary.{◌≡◌, ℕ, List, Option, Some, None, Result, Ok, Err, refl, sym, ap, subst, ◌∙◌, nat_cmp, IsOrdered, Reply, Request, Lack, Service, Reached, Cache, Limited, option_map, IfErr, OnErr, AllocError}
-use Rattle.txn_core.proofs.Vocabulary.{none-some, same_Some, Told, Content, Cause, Ending, Flow, On, Ended, Resources, Learned, PendingQuorum, Fetched, Lacked, Fixed, TransactionRun, Granted, Phase, Running, After, GoesOn, Ends, ReadPoint}
-use Rattle.txn_core.proofs.Vocabulary.{GatheredSuite, Suites, suite_of, with_suite, Step, after_lack, execute, fetched, gather_by, give_up, given_in, keep_content, request_of, widen_all, CompletesAt, HearsAt, IsSettled, SettlesAt, asks_in}
-use Rattle.txn_core.proofs.Vocabulary.{heard_at, on_hearing, content_kept, learned, kept_of, shelved, IsReachedBy, IsReachedIn, changed_at, first_at, settled_with, with_content, gather_again, Becomes, taken, HasUnused, left as begun}
+use Rattle.txn_core.proofs.Vocabulary.{◌≡◌, ℕ, List, Option, Some, None, Result, refl, sym, ap, subst, ◌∙◌, nat_cmp, IsOrdered, Reply, Request, Lack, Service, Reached, Cache, option_map, IfErr, OnErr, AllocError, arith, none-some, same_Some, Told}
+use Rattle.txn_core.proofs.Vocabulary.{Content, Cause, Ending, Flow, On, Ended, Resources, Learned, PendingQuorum, Fetched, Lacked, Fixed, TransactionRun, Granted, Phase, Running, ReadPoint, GatheredSuite, Suites, suite_of, with_suite, Step}
+use Rattle.txn_core.proofs.Vocabulary.{after_lack, execute, fetched, gather_by, give_up, given_in, keep_content, widen_all, CompletesAt, HearsAt, IsSettled, SettlesAt, asks_in, heard_at, on_hearing, content_kept, learned, kept_of, shelved}
+use Rattle.txn_core.proofs.Vocabulary.{IsReachedBy, IsReachedIn, changed_at, first_at, settled_with, with_content, gather_again, taken, HasUnused, left as begun}
 use Rattle.sorted_map.specs.Numbers.{get_insert_here}
 use Rattle.txn_core.specs.declared.learned.Learned.TheVariants.{Quorum, Content as Given}
 use Rattle.suite_collect.specs.declared.hearing.Hearing.TheVariants.{Lost, Asks, Short, Quorum as Complete}
 use Rattle.txn_core.specs.code.Goings.{widened, GoesBy, IsStep, IsUntouched, IsWidenedBy, IsWidenedFrom, Keeps, fixed_by, given, held, held_from, held_where_asked, replied}
 use Rattle.txn_core.specs.code.Hearing.{Hearing}
 use Rattle.txn_core.specs.declared.ending.Cause.TheVariants as cause
-use Rattle.txn_core.proofs.InPlace.{at_lost, at_asks, at_short, at_quorum, settled_at, settles_there, settles_lost}
+use Rattle.txn_core.proofs.InPlace.{at_lost, at_short, at_quorum, settles_lost}
 use Rattle.txn_core.proofs.Reaching.{IsLate, gives_up, goes_gather, goes_unless, late, reached_asks, reached_at, reached_short}
 
 module _ (before mid : TransactionRun) (number server : ℕ) (said : Reply) where
@@ -30,10 +30,7 @@ module _ (before mid : TransactionRun) (number server : ℕ) (said : Reply) wher
         subst Goes' (ap (λ (txn_run : TransactionRun). give_up txn_run.task cache txn_run.suites (cause.Lost server)) at.1 ∙ ap step_on (sym at.0)) up
 
     pub asks_goes : HearsAt found number Asks before said mid → GoesBy (step_on (heard_at found said)) On mid cache
-    asks_goes hears =
-        let at = at_asks before mid number said found hears in
-        let Goes' : Step → Type 0 = λ step. GoesBy step On mid cache in
-        subst Goes' (ap step_on (sym at.1)) (refl, (refl, at.2))
+    asks_goes hears = search arith
 
     pub short_goes : (flow : Flow) (after : TransactionRun) → HearsAt found number Short before said mid
         → GoesBy (gather_again mid.task cache mid.suites number (suite_of mid.suites number)) flow after cache → GoesBy (step_on (heard_at found said)) flow after cache
@@ -48,12 +45,6 @@ module _ (before mid : TransactionRun) (number server : ℕ) (said : Reply) wher
         ∙ ap (gather_again before.task cache more number) (get_insert_here before.suites number new)
         ∙ ap (gather_by before.task cache more number) short.3
         ∙ ap step_on (sym short.4)) gathers
-
-  pub settled_step : (cache : Cache) (pending : PendingQuorum) (then' : Suites → Step) → IsSettled (heard_at found said) → SettlesAt found (Some pending) said
-      → then' (changed_at (settled_with pending) number found before.suites) ≡ step_on cache (λ suite. then' (with_suite number suite before.suites)) (heard_at found said)
-  settled_step cache pending then' settles by =
-      let at = settles_there said pending found settles by in
-      ap (λ it. then' (changed_at (settled_with pending) number it before.suites)) at.1 ∙ ap (step_on cache (λ suite. then' (with_suite number suite before.suites))) (sym at.2)
 
   -- ---- how far the transaction came
 
@@ -97,11 +88,7 @@ module _ (resources : Resources) (before mid : TransactionRun) (number server : 
 
   module _ (ordered : IsOrdered nat_cmp before.suites) (is : IsReachedIn resources.fixed_parts before.task before.suites resources.progress) where
     pub held_asks : HearsAt found' number Asks before said mid → IsStep resources held' On mid resources
-    held_asks hears = record {
-      steps = asks_goes before mid number server said resources.cache.entries go_on hears;
-      keeps = keeps;
-      reached = reached_at mid.phase (IsReachedIn resources.fixed_parts mid.task mid.suites resources.progress) (asks_reached before mid number server said resources.fixed_parts resources.progress ordered is hears);
-    }
+    held_asks hears = search (asks_goes, keeps, reached_at, asks_reached, arith)
 
     pub held_short : (flow : Flow) (after : TransactionRun) → HearsAt found' number Short before said mid
         → ((cache : Cache) → GoesBy (gather_again mid.task cache mid.suites number (suite_of mid.suites number)) flow after cache) → IsStep resources held' flow after resources
@@ -134,14 +121,10 @@ module _ (resources : Resources) (txn_run : TransactionRun) (number server : ℕ
 
   pub held_settles : (pending : PendingQuorum) → IsSettled (heard_at (suite_of txn_run.suites number) said) → SettlesAt (suite_of txn_run.suites number) (Some pending) said
       → execute (fixed_by resources) txn_run.task (learned (Quorum number pending) resources.cache txn_run.suites) ≡ settling_step
-  held_settles pending settles by =
-      settled_step txn_run txn_run number server said resources.cache.entries pending (λ suites. execute (fixed_by resources) txn_run.task (record { suites = suites; cache = resources.cache.entries })) settles by
+  held_settles pending settles by = search arith
 
   pub held_unsettled : SettlesAt (suite_of txn_run.suites number) None said → give_up txn_run.task resources.cache.entries txn_run.suites (cause.Lost server) ≡ settling_step
-  held_unsettled by =
-      ap (λ what. on_hearing txn_run.task resources.cache.entries txn_run.suites txn_run.phase number server what
-      (λ suite. execute (fixed_by resources) txn_run.task (record { suites = with_suite number suite txn_run.suites; cache = resources.cache.entries })))
-      (sym (settles_lost said (suite_of txn_run.suites number) by))
+  held_unsettled by = search arith
 
 -- ---- a suite that is widened
 
@@ -174,12 +157,7 @@ module _ (before mid : TransactionRun) (number server : ℕ) (said : Reply) (cac
     pub widened_settles : (pending : PendingQuorum) (then' after : TransactionRun) (flow : Flow) → SettlesAt (suite_of mid.suites number) (Some pending) said
         → then' ≡ record mid { suites = changed_at (settled_with pending) number (suite_of mid.suites number) mid.suites }
         → GoesBy (widen_all then'.task cache then'.suites granted left) flow after cache → GoesBy widened' flow after cache
-    widened_settles pending then' after flow by is steps =
-        let Goes' : Step → Type 0 = λ step. GoesBy step flow after cache in
-        let settled : TransactionRun → TransactionRun = λ txn_run. record txn_run { suites = changed_at (settled_with pending) number (suite_of txn_run.suites number) txn_run.suites } in
-        subst Goes'
-        (ap (λ (txn_run : TransactionRun). widen_all txn_run.task cache txn_run.suites granted left) (is ∙ ap settled at_mid.1)
-        ∙ settled_step before mid number server said cache pending widens (settled_at last said (suite_of before.suites number) at_mid.0) (settles_mid (Some pending) by)) steps
+    widened_settles pending then' after flow by is steps = search arith
 
     pub widened_unsettled : (flow : Flow) (after : TransactionRun) → SettlesAt (suite_of mid.suites number) None said → GoesBy (give_up mid.task cache mid.suites (cause.Lost server)) flow after cache → GoesBy widened' flow after cache
     widened_unsettled flow after by up =
@@ -205,48 +183,31 @@ module _ (resources : Resources) (unused : HasUnused resources.cache.entries) wh
   -- a transaction that is not executed any more goes on
   pub late_step : (before : TransactionRun) (said : Reply) (phase : Phase) (flow : Flow) (after : TransactionRun) → before.phase ≡ phase → IsLate resources.fixed_parts resources.progress phase
       → GoesBy (replied resources before said) flow after resources.cache.entries → IsStep resources (replied resources before said) flow after resources
-  late_step before said phase flow after is late' steps = record {
-    steps = steps;
-    keeps = record { fixed_parts = refl; limits = refl; unused = unused };
-    reached = late resources.fixed_parts resources.progress (fixed_by resources) before (request_of (fixed_by resources) before) said flow after resources.cache.entries resources.cache.entries phase is late' steps;
-  }
+  late_step before said phase flow after is late' steps = search (keeps, late, arith)
 
 -- memory was wanting
 pub err_by : {T E P : Type 0} (result : Result T E) → P → IfErr result (λ _. P)
-err_by (Ok what) is = tt
-err_by (Err why) is = is
+err_by result h1 = search arith
 
 pub untouched : (resources : Resources) (before left : TransactionRun) → left ≡ before → IsReachedBy resources.fixed_parts before resources.progress → IsUntouched resources before left resources
-untouched resources before left same reached = record {
-  same = same;
-  cache = refl;
-  fixed_parts = refl;
-  reached = subst (λ (txn_run : TransactionRun). IsReachedBy resources.fixed_parts txn_run resources.progress) (sym same) reached;
-}
+untouched resources before left same reached = search arith
 
 pub untouched_on : (resources : Resources) (before left : TransactionRun) (result : Result Flow AllocError) → OnErr result (left ≡ before)
     → IsReachedBy resources.fixed_parts before resources.progress → OnErr result (IsUntouched resources before left resources)
-untouched_on resources before left (Ok flow) same reached = tt
-untouched_on resources before left (Err why) same reached = untouched resources before left same reached
+untouched_on resources before left result h4 h5 = search arith
 
 pub kept_untouched : (resources : Resources) (before left : TransactionRun) (after : Resources) → HasUnused resources.cache.entries → IsUntouched resources before left after → Keeps resources after
-kept_untouched resources before left after unused untouched = record {
-  fixed_parts = untouched.fixed_parts;
-  limits = ap (λ (cache : Limited). cache.limits) untouched.cache;
-  unused = subst (λ (cache : Limited). HasUnused cache.entries) (sym untouched.cache) unused;
-}
+kept_untouched resources before left after unused untouched = search arith
 
 -- ---- what was asked was not served
 
 module _ (txn_run : TransactionRun) (cache : Cache) (lack : Lack) (fixed : Fixed) where
   pub lack_at : (asked : Option (ℕ × Request)) (server : ℕ) → Some server ≡ option_map (λ (asked : ℕ × Request). asked.0) asked
       → after_lack txn_run.task cache txn_run.suites txn_run.phase server lack ≡ taken fixed txn_run cache asked (Lacked lack)
-  lack_at (Some asked) server is = ap (λ server. after_lack txn_run.task cache txn_run.suites txn_run.phase server lack) (same_Some server asked.0 is)
-  lack_at None server is = absurd (none-some server (sym is))
+  lack_at asked server h2 = search arith
 
   pub lack_of_none : (asked : Option (ℕ × Request)) → None ≡ option_map (λ (asked : ℕ × Request). asked.0) asked → GoesBy (taken fixed txn_run cache asked (Lacked lack)) On txn_run cache
-  lack_of_none (Some asked) none = absurd (none-some asked.0 none)
-  lack_of_none None none = (refl, (refl, refl))
+  lack_of_none asked h1 = search arith
 
 -- ---- a content
 
@@ -265,11 +226,7 @@ module _ (resources : Resources) (txn_run : TransactionRun) (number server : ℕ
 
   -- none was given
   pub not_given : given_in said ≡ None → gives_up' ≡ given'
-  not_given none = of (suite_of txn_run.suites number) ∙ ap (fetched_by (suite_of txn_run.suites number)) (sym none)
-    where
-      of : (found : Option GatheredSuite) → gives_up' ≡ fetched_by found None
-      of (Some suite) = refl
-      of None = refl
+  not_given none = grind arith
 
   module _ (content : Content) (gave : given_in said ≡ Some content) where
     abbrev pub kept_if : Option GatheredSuite → Option Fetched
@@ -280,15 +237,7 @@ module _ (resources : Resources) (txn_run : TransactionRun) (number server : ℕ
 
     -- of a suite that had no quorum
     pub not_learned : None ≡ content_kept txn_run number content → gives_up' ≡ given'
-    not_learned none = of (suite_of txn_run.suites number) none ∙ ap (fetched_by (suite_of txn_run.suites number)) (sym gave)
-      where
-        had : (suite : GatheredSuite) (first : Option ReadPoint) → suite.first ≡ first → None ≡ kept_if (Some suite) → gives_up' ≡ fetched_by (Some suite) (Some content)
-        had suite None was none = ap (λ first. keep_content (fixed_by resources) txn_run.task resources.cache.entries txn_run.suites number suite content first server) (sym was)
-        had suite (Some first) was none = absurd (none-some (kept_of txn_run.task number content first) (none ∙ first_is suite (Some first) was))
-
-        of : (found : Option GatheredSuite) → None ≡ kept_if found → gives_up' ≡ fetched_by found (Some content)
-        of (Some suite) none = had suite suite.first refl none
-        of None none = refl
+    not_learned none = search (none-some, first_is, arith)
 
     -- of one that had one
     pub content_learned : (fetched : Fetched) → Some fetched ≡ content_kept txn_run number content → executes (Given fetched) ≡ given'
@@ -306,21 +255,12 @@ module _ (resources : Resources) (txn_run : TransactionRun) (number server : ℕ
         had suite None there was is = absurd (none-some fetched (sym (is ∙ first_is suite None was)))
 
         of : (found : Option GatheredSuite) → suite_of txn_run.suites number ≡ found → Some fetched ≡ kept_if found → executes (Given fetched) ≡ fetched_by found (Some content)
-        of (Some suite) there is = had suite suite.first there refl is
-        of None there is = absurd (none-some fetched (sym is))
+        of found h1 h2 = search (had, none-some, arith)
 
 -- ---- a transaction begins
 
 pub begins_on : (step : Step) (txn_run : TransactionRun) (cache : Cache) → GoesBy step On txn_run cache → (cache ≡ step.cache) × (Some (Running txn_run) ≡ begun Running step.after)
-begins_on step txn_run cache steps = (steps.0, of step.after steps.1)
-  where
-    of : (after : After TransactionRun) → Becomes after None txn_run → Some (Running txn_run) ≡ begun Running after
-    of (GoesOn more) became = ap (λ (txn_run : TransactionRun). Some (Running txn_run)) became.1
-    of (Ends how) became = absurd (none-some how became)
+begins_on step txn_run cache steps = search arith
 
 pub begins_ended : (step : Step) (ending : Ending) (txn_run : TransactionRun) (cache : Cache) → GoesBy step (Ended ending) txn_run cache → (cache ≡ step.cache) × (None ≡ begun Running step.after)
-begins_ended step ending txn_run cache steps = (steps.0, of step.after steps.1)
-  where
-    of : (after : After TransactionRun) → Becomes after (Some ending) txn_run → None ≡ begun Running after
-    of (GoesOn more) became = absurd (none-some ending (sym became.0))
-    of (Ends how) became = refl
+begins_ended step ending txn_run cache steps = search arith

@@ -1,7 +1,7 @@
 -- What stays as it was where suites get contents that are to be had without asking.
-use Rattle.txn_core.proofs.Vocabulary.{◌≡◌, ℕ, Bool, true, false, cond, List, [], ◌∷◌, Option, Some, None, refl, sym, ap, ◌∙◌, is_some, if◌then◌else◌, ◌==◌, nat_cmp, is_eq, nat_cmp_total, exact_unsigned, equal_if, IsOrdered, get-insert}
-use Rattle.txn_core.proofs.Vocabulary.{IsOrdered-insert, Content, empty_content, held_by, Cache, content_at, hint, searched, search_keeps_all, ReadPoint, GatheredSuite, Suites, suite_of, with_suite, Task, Gathered, after_search}
-use Rattle.txn_core.proofs.Vocabulary.{free_content, HasUnused, opened_first, opened_at, opened_by, opened_all, free_first, free_of}
+use Rattle.txn_core.proofs.Vocabulary.{◌≡◌, ℕ, Bool, true, false, cond, List, [], ◌∷◌, Option, Some, None, refl, ap, ◌∙◌, is_some, if◌then◌else◌, ◌==◌, nat_cmp, is_eq, nat_cmp_total, exact_unsigned, IsOrdered, get-insert, arith, IsOrdered-insert}
+use Rattle.txn_core.proofs.Vocabulary.{Content, Cache, content_at, hint, searched, search_keeps_all, ReadPoint, GatheredSuite, Suites, suite_of, with_suite, Task, Gathered, after_search, HasUnused, opened_first, opened_at, opened_by, opened_all}
+use Rattle.txn_core.proofs.Vocabulary.{free_of}
 use Rattle.txn_core.proofs.Unused.{unused_searched}
 
 -- what the first quorum of a suite gave
@@ -21,14 +21,7 @@ keeps_itself : (all : Gathered) → Keeps all all
 keeps_itself all = record { ordered = λ o. o; firsts = λ number. refl; there = λ number. refl; contents = λ site number dver. refl; hints = λ site number. refl; unused = λ all. all }
 
 keeps_on : (all some more : Gathered) → Keeps all some → Keeps some more → Keeps all more
-keeps_on all some more first then' = record {
-  ordered = λ o. then'.ordered (first.ordered o);
-  firsts = λ number. then'.firsts number ∙ first.firsts number;
-  there = λ number. then'.there number ∙ first.there number;
-  contents = λ site number dver. then'.contents site number dver ∙ first.contents site number dver;
-  hints = λ site number. then'.hints site number ∙ first.hints site number;
-  unused = λ all. then'.unused (first.unused all);
-}
+keeps_on all some more first then' = search arith
 
 -- at each number there is what the suite before and after have in common
 same_at : {X : Type 0} (see : Option GatheredSuite → X) (suites : Suites) (number : ℕ) (suite new : GatheredSuite) → suite_of suites number ≡ Some suite → see (Some new) ≡ see (Some suite)
@@ -37,8 +30,7 @@ same_at see suites number suite new is same other =
     ap see (get-insert nat_cmp_total suites number new other) ∙ of (is_eq (nat_cmp number other)) refl
   where
     of : (b : Bool) → is_eq (nat_cmp number other) ≡ b → see (cond b (Some new) (suite_of suites other)) ≡ see (suite_of suites other)
-    of true at = same ∙ ap see (sym is) ∙ ap (λ n. see (suite_of suites n)) (exact_unsigned number other (equal_if (nat_cmp number other) at))
-    of false at = refl
+    of b h1 = search (exact_unsigned, arith)
 
 -- what is looked for in the cache moves, and stays
 pub record StaysFound (cache more : Cache) : Type 0 where
@@ -75,29 +67,11 @@ keeps_one task all one = of (suite_of all.suites one.0) refl
         }
 
     of : (found : Option GatheredSuite) → suite_of all.suites one.0 ≡ found → Keeps all (opened_at task all one.0 one.1 found)
-    of (Some suite) is = opens suite is suite.first refl
-    of None is = keeps_itself all
+    of found h1 = search (opens, keeps_itself, arith)
 
 pub keeps_all : (task : Task) (list : List (ℕ × Content)) (all : Gathered) → Keeps all (opened_all task list all)
 keeps_all task [] all = keeps_itself all
 keeps_all task (one ∷ list) all = keeps_on all (opened_by task all one) (opened_all task list (opened_by task all one)) (keeps_one task all one) (keeps_all task list (opened_by task all one))
 
--- the contents that are to be had without asking are the same
-same_free : (task : Task) (all more : Gathered) → Keeps all more → (number : ℕ) (first : ReadPoint) → free_content task more.cache number first ≡ free_content task all.cache number first
-same_free task all more keeps number first =
-    ap (λ o. if first.dver == 0 then Some (empty_content (held_by first.prefix.kind)) else o) (keeps.contents task.site number first.dver)
-
-free_by_first : (task : Task) (cache : Cache) (number : ℕ) (found : Option GatheredSuite) → free_of task cache number found ≡ free_first task cache number (first_in found)
-free_by_first task cache number (Some suite) = refl
-free_by_first task cache number None = refl
-
 pub free_kept : (task : Task) (all more : Gathered) → Keeps all more → (number : ℕ) → free_of task more.cache number (suite_of more.suites number) ≡ free_of task all.cache number (suite_of all.suites number)
-free_kept task all more keeps number =
-    free_by_first task more.cache number (suite_of more.suites number)
-    ∙ ap (free_first task more.cache number) (keeps.firsts number)
-    ∙ of (first_in (suite_of all.suites number))
-    ∙ sym (free_by_first task all.cache number (suite_of all.suites number))
-  where
-    of : (first : Option ReadPoint) → free_first task more.cache number first ≡ free_first task all.cache number first
-    of (Some first) = same_free task all more keeps number first
-    of None = refl
+free_kept task all more keeps number = search arith

@@ -1,14 +1,10 @@
 -- What an agent keeps of locks is what it heard.
-use Rattle.txn_core.proofs.Vocabulary.{◌≡◌, ℕ, ◌+◌, Bool, true, false, cond, List, [], ◌∷◌, ◌++◌, Option, Some, None, refl, sym, ap, subst, ◌∙◌, ◌==◌, ◌&&◌, ◌||◌, nat_lt, ◌*◌, nat_cmp, same_Some, IsOrdered, LockMode, Shared, Exclusive}
-use Rattle.txn_core.proofs.Vocabulary.{Request, Reply, serves, Exchange, exchange_of, exchanges, locks, told_by, more_told, says_held, was_held, Agent, Event, Take, Forget, next_in, next_of, take_in, take, begin, started, forget, is_idle}
-use Rattle.txn_core.proofs.Vocabulary.{has_sense, max_jobs, after_all, Told, Said, holds, mode_of, Cache, Suites, told_at, Response, Job, Replied, Lacked, Transaction, Sweep, Fixed, Task, Phase, TransactionRun, SweepRun, Doing, Running}
-use Rattle.txn_core.proofs.Vocabulary.{RunningSweep, After, GoesOn, Ends, is_poll, said_to, prepared, after_response, request_in}
-use Rattle.suite_collect.specs.Telling.{is_held}
-use Rattle.rep_core.specs.declared.reply.Reply.TheVariants as reply
+use Rattle.txn_core.proofs.Vocabulary.{◌≡◌, ℕ, ◌+◌, Bool, true, false, cond, List, [], ◌∷◌, ◌++◌, Option, Some, None, refl, sym, ap, subst, ◌∙◌, ◌==◌, ◌&&◌, ◌||◌, nat_lt, ◌*◌, nat_cmp, IsOrdered, LockMode, Shared, arith, Request, serves, Exchange}
+use Rattle.txn_core.proofs.Vocabulary.{exchange_of, exchanges, locks, says_held, was_held, Agent, Event, Take, Forget, next_in, next_of, take_in, take, begin, started, forget, is_idle, has_sense, max_jobs, after_all, Told, holds, Cache, Suites}
+use Rattle.txn_core.proofs.Vocabulary.{told_at, Response, Job, Transaction, Sweep, Fixed, Task, Phase, TransactionRun, SweepRun, Doing, Running, RunningSweep, After, after_response, request_in}
 use Rattle.txn_core.proofs.ToldLists.{Are, Leaves, leaves_execute, are_nil, heard_by, hears_response}
 use Rattle.txn_core.specs.Agents as agents
 use Rattle.txn_core.specs.Sweeps as sweep
-use Rattle.suite_collect.specs.declared.told.Said.TheVariants as said
 
 -- which servers hold a lock for it
 abbrev pub Held : (ℕ → ℕ → Bool) → (ℕ → List Told) → Type 0
@@ -28,76 +24,19 @@ record LeftWith (held : ℕ → ℕ → Bool) (after : After TransactionRun) : T
   agree : Held held told
 
 pub or_false : (a : Bool) → (a || false) ≡ a
-or_false true = refl
-or_false false = refl
-
-and_false : (a b : Bool) → (a && b && false) ≡ false
-and_false true true = refl
-and_false true false = refl
-and_false false b = refl
+or_false a = search arith
 
 pub serves_shared : (mode : LockMode) → serves mode Shared ≡ true
-serves_shared Shared = refl
-serves_shared Exclusive = refl
-
--- what was said is held where the response says so
-said_held : (asked : Request) (said : Reply) (heard : Said) → said_to asked said ≡ Some heard → is_held heard ≡ says_held (Replied said)
-said_held asked (reply.Held prefix dver) heard is = ap is_held (sym (same_Some _ heard is))
-said_held asked (reply.Busy holder prepared) heard is = ap is_held (sym (same_Some _ heard is))
-said_held asked reply.Down heard is = of (is_poll asked) is
-  where
-    of : (b : Bool) → cond b (Some said.Down) None ≡ Some heard → is_held heard ≡ false
-    of true is = ap is_held (sym (same_Some _ heard is))
-    of false is = cc
-said_held asked _ heard is = cc
-
-said_none : (asked : Request) (said : Reply) → said_to asked said ≡ None → says_held (Replied said) ≡ false
-said_none asked (reply.Held prefix dver) is = cc
-said_none asked _ is = refl
+serves_shared mode = search arith
 
 -- what is held by the lists after a response
 held_by : (held : ℕ → ℕ → Bool) (told lists : ℕ → List Told) (server : ℕ) (asked : Request) (response : Response) → ((number : ℕ) → lists number ≡ heard_by number (told number) server asked response) → Held held told
     → Held (plus held server asked response) lists
-held_by held told lists server asked response are agree number who = ap (λ list. holds Shared list who) (are number) ∙ of (locks number asked)
-  where
-    swap : (a b c d : Bool) → d ≡ true → ((a && (b && d)) || c) ≡ (c || (a && true && b))
-    swap true true true d is = ap (λ d. d || true) is
-    swap true true false d is = ap (λ d. d || false) is
-    swap true false true d is = refl
-    swap true false false d is = refl
-    swap false b true d is = refl
-    swap false b false d is = refl
-
-    out : (a b c : Bool) → c ≡ (c || (a && false && b))
-    out true b c = sym (or_false c)
-    out false b c = sym (or_false c)
-
-    none : (response : Response) → says_held response ≡ false → held number who ≡ (held number who || ((server == who) && true && says_held response))
-    none response says = sym (ap (λ b. held number who || ((server == who) && true && b)) says ∙ ap (λ b. held number who || b) (and_false (server == who) true) ∙ or_false (held number who))
-
-    heard : (reply : Reply) (more : Option Said) → said_to asked reply ≡ more
-        → holds Shared (more_told (told number) server asked more) who ≡ (held number who || ((server == who) && true && says_held (Replied reply)))
-    heard reply None is = agree number who ∙ none (Replied reply) (said_none asked reply is)
-    heard reply (Some said) is =
-        ap (λ b. ((server == who) && (is_held said && serves (mode_of asked) Shared)) || b) (agree number who)
-        ∙ swap (server == who) (is_held said) (held number who) (serves (mode_of asked) Shared) (serves_shared (mode_of asked))
-        ∙ ap (λ b. held number who || ((server == who) && true && b)) (said_held asked reply said is)
-
-    by : (response : Response) → holds Shared (told_by (told number) (record { server = server; request = asked; response = response }) response) who
-        ≡ (held number who || ((server == who) && true && says_held response))
-    by (Replied reply) = heard reply (said_to asked reply) refl
-    by (Lacked why) = agree number who ∙ none (Lacked why) refl
-
-    of : (b : Bool) → holds Shared (cond b (told_by (told number) (record { server = server; request = asked; response = response }) response) (told number)) who
-        ≡ (held number who || ((server == who) && b && says_held response))
-    of true = by response
-    of false = agree number who ∙ out (server == who) (says_held response) (held number who)
+held_by held told lists server asked response are agree number who = search arith
 
 left_response : (held : ℕ → ℕ → Bool) (told : ℕ → List Told) (fixed : Fixed) (task : Task) (cache : Cache) (suites : Suites) (phase : Phase) (server : ℕ) (asked : Request) (response : Response) → Are told suites → Held held told
     → request_in fixed task suites phase ≡ Some (server, asked) → LeftWith (plus held server asked response) (after_response fixed (record { task = task; suites = suites; phase = phase }) cache server asked response).after
-left_response held told fixed task cache suites phase server asked response are agree is =
-    let now = hears_response told fixed task cache suites phase server asked response are is in
-    record { told = now.lists; leaves = now.leaves; agree = held_by held told now.lists server asked response now.are agree }
+left_response held told fixed task cache suites phase server asked response are agree is = search (hears_response told fixed task cache suites phase server asked response are is, held_by, arith)
 
 -- ---- all responses
 
@@ -108,29 +47,24 @@ Keeps held (Some (RunningSweep sweep_run)) = Unit {0}
 Keeps held None = Unit {0}
 
 left_keeps : (held : ℕ → ℕ → Bool) (after : After TransactionRun) → LeftWith held after → Keeps held (agents.left Running after)
-left_keeps held (GoesOn txn_run) with' = (with'.leaves.0, λ number who. ap (λ told. holds Shared told who) (with'.leaves.1 number) ∙ with'.agree number who)
-left_keeps held (Ends ending) with' = tt
+left_keeps held after h2 = search arith
 
 round_keeps : (held : ℕ → ℕ → Bool) (after : After SweepRun) → Keeps held (agents.left RunningSweep after)
-round_keeps held (GoesOn sweep_run) = tt
-round_keeps held (Ends ending) = tt
+round_keeps held after = search arith
 
 -- what a list of exchanges adds
 abbrev pub plus_all : (ℕ → ℕ → Bool) → List Exchange → ℕ → ℕ → Bool
 plus_all held past number who = held number who || was_held past number who
 
 same_keeps : (held other : ℕ → ℕ → Bool) (doing : Option Doing) → ((number who : ℕ) → held number who ≡ other number who) → Keeps held doing → Keeps other doing
-same_keeps held other (Some (Running txn_run)) same keeps = (keeps.0, λ number who. keeps.1 number who ∙ same number who)
-same_keeps held other (Some (RunningSweep sweep_run)) same keeps = tt
-same_keeps held other None same keeps = tt
+same_keeps held other doing h3 h4 = search arith
 
 take_keeps : (held : ℕ → ℕ → Bool) (fixed : Fixed) (agent : Agent) (response : Response) (doing : Option Doing) (asked : Option (ℕ × Request)) → agent.doing ≡ doing → next_in fixed doing ≡ asked → Keeps held doing
     → Keeps (plus_all held (exchange_of asked response)) (take_in fixed agent response doing asked).agent.doing
 take_keeps held fixed agent response (Some (Running running)) (Some asked) was is keeps =
     same_keeps (plus held asked.0 asked.1 response) (plus_all held (exchange_of (Some asked) response)) _ (λ number who. ap (λ b. held number who || b) (sym (or_false (adds asked.0 asked.1 response number who))))
     (left_keeps (plus held asked.0 asked.1 response) _ (left_response held (told_at running.suites) fixed running.task agent.cache running.suites running.phase asked.0 asked.1 response (keeps.0, λ number. refl) keeps.1 is))
-take_keeps held fixed agent response (Some (Running running)) None was is keeps = subst (Keeps (plus_all held [])) (sym was)
-    (same_keeps held (plus_all held []) (Some (Running running)) (λ number who. sym (or_false (held number who))) keeps)
+take_keeps held fixed agent response (Some (Running running)) None was is keeps = search (same_keeps, or_false, arith)
 take_keeps held fixed agent response (Some (RunningSweep sweep_run)) (Some asked) was is keeps = round_keeps _ (sweep.after_response fixed.service sweep_run asked.0 response)
 take_keeps held fixed agent response (Some (RunningSweep sweep_run)) None was is keeps = cc
 take_keeps held fixed agent response None (Some asked) was is keeps = cc
@@ -138,15 +72,10 @@ take_keeps held fixed agent response None None was is keeps = subst (Keeps (plus
 
 held-append : (past later : List Exchange) (number who : ℕ) → was_held (past ++ later) number who ≡ (was_held past number who || was_held later number who)
 held-append [] later number who = refl
-held-append (one ∷ past) later number who = of ((one.server == who) && locks number one.request && says_held one.response) _ _ _ (held-append past later number who)
-  where
-    of : (a b c d : Bool) → b ≡ (c || d) → (a || b) ≡ ((a || c) || d)
-    of true b c d is = refl
-    of false b c d is = is
+held-append (one ∷ past) later number who = search (held-append past later number who, arith)
 
 pub or_or : (a b c : Bool) → ((a || b) || c) ≡ (a || (b || c))
-or_or true b c = refl
-or_or false b c = refl
+or_or a b c = search arith
 
 pub all_keep : (held : ℕ → ℕ → Bool) (fixed : Fixed) (agent : Agent) (events : List Event) → Keeps held agent.doing → Keeps (plus_all held (exchanges fixed agent events)) (after_all fixed agent events).doing
 all_keep held fixed agent [] keeps = same_keeps held (plus_all held []) agent.doing (λ number who. sym (or_false (held number who))) keeps
@@ -169,8 +98,7 @@ begin_keeps fixed agent job idle =
     ]
   where
     at : (doing : Option Doing) → is_idle doing ≡ true → Keeps nothing_held doing
-    at None idle = tt
-    at (Some doing) idle = cc
+    at doing h1 = search arith
 
     of : (job : Job) → Keeps nothing_held (started fixed agent job).doing
     of (Transaction caller site ops) =

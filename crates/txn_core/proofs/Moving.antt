@@ -1,29 +1,19 @@
 -- What a transaction does with a response is a move.
-use Rattle.txn_core.proofs.Vocabulary.{◌≡◌, ℕ, zero, suc, true, false, cond, List, [], ◌∷◌, Option, Some, None, refl, sym, ap, subst, ◌∙◌, length, same_Some, none-some, Content, LockMode, Request, Reply, Lack, is_prepared, Hold, Know, Said}
-use Rattle.txn_core.proofs.Vocabulary.{Next, Ask, Current, Short, next, Cache, ReadPoint, GatheredSuite, Suites, suite_of, with_suite, Response, Replied, Lacked, Lost, Ending, Verdict, Granted, Fixed, Task, Ends, Proposal, Phase, Gathering}
-use Rattle.txn_core.proofs.Vocabulary.{Fetching, Widening, Preparing, Deciding, Finishing, Step, Gathered, request_in, asked_for, fetched_for, fetched_at, on_with, tell_end, locked_at, give_up, prepare, gather_by, widen_by, widen_one}
-use Rattle.txn_core.proofs.Vocabulary.{widened, widen_all, free_content, opened_with, open_first, open_suite, open_needed, or_all, opened, heard_on, raised_or_new, proceed, execute, said_to, collected, hear, keep_content, given_in, fetched}
-use Rattle.txn_core.proofs.Vocabulary.{prepared, heard_of, after_reply, after_lack, after_response, Stage, Executes, Widens, Asks, Prepares, PreparesAt, GivesUp, Tells, TellsAt, Point, point, EndsIn, is_short, Move, opens, fetches, gathers}
-use Rattle.txn_core.proofs.Vocabulary.{lacks_lock, refuses, grants, prepares, passes, widens, widens_by, lacks_wide, Moves, stays, goes, Collects, gathering, widening, now_told, AsksNothing, Hears, asks_on, falls_short, settles, loses}
-use Rattle.txn_core.proofs.Vocabulary.{gets, misses, prepared_by, unprepared, decides, tells_next, told_all, is_lacked, strays, MovesTo, HearsTo, EveryResponseIsMoves, Outcome as Executed}
+use Rattle.txn_core.proofs.Vocabulary.{◌≡◌, ℕ, zero, suc, true, false, cond, List, [], ◌∷◌, Option, Some, None, refl, sym, ap, subst, ◌∙◌, length, same_Some, none-some, Content, LockMode, Request, Reply, Lack, is_prepared, Hold, Know, Said, arith}
+use Rattle.txn_core.proofs.Vocabulary.{Next, Ask, Current, Short, next, Cache, ReadPoint, GatheredSuite, Suites, suite_of, with_suite, Response, Replied, Lacked, Lost, Ending, Verdict, Granted, Fixed, Task, Ends, Proposal, Phase, Gathering, Fetching}
+use Rattle.txn_core.proofs.Vocabulary.{Widening, Preparing, Deciding, Finishing, Step, Gathered, request_in, asked_for, on_with, tell_end, locked_at, give_up, prepare, gather_by, widen_by, widen_one, widened, widen_all, free_content, opened_with}
+use Rattle.txn_core.proofs.Vocabulary.{open_first, open_suite, open_needed, or_all, opened, heard_on, raised_or_new, proceed, execute, said_to, collected, hear, keep_content, given_in, fetched, prepared, heard_of, after_reply, after_lack}
+use Rattle.txn_core.proofs.Vocabulary.{after_response, Stage, Executes, Widens, Asks, Prepares, PreparesAt, GivesUp, Tells, TellsAt, Point, point, EndsIn, is_short, Move, opens, fetches, gathers, lacks_lock, refuses, grants, prepares, passes, widens}
+use Rattle.txn_core.proofs.Vocabulary.{widens_by, lacks_wide, Moves, stays, goes, Collects, gathering, widening, now_told, AsksNothing, Hears, asks_on, falls_short, settles, loses, gets, misses, prepared_by, unprepared, decides, tells_next, told_all}
+use Rattle.txn_core.proofs.Vocabulary.{is_lacked, strays, MovesTo, HearsTo, EveryResponseIsMoves, Outcome as Executed}
 use Rattle.file_exec.specs.declared.executor.Outcome.TheVariants as exec
 
 -- what a phase in which a collector asks asks is the collector's; one that asks nothing asks nothing
 pub collects_asks : (fixed : Fixed) (task : Task) (suites : Suites) {phase : Phase} {number : ℕ} {stage : Stage} → Collects phase number stage → request_in fixed task suites phase ≡ asked_for task number (suite_of suites number)
-collects_asks fixed task suites gathering = refl
-collects_asks fixed task suites widening = refl
+collects_asks fixed task suites h3 = search arith
 
 pub asks_nothing : (fixed : Fixed) (task : Task) (suites : Suites) (phase : Phase) → AsksNothing suites phase → request_in fixed task suites phase ≡ None
-asks_nothing fixed task suites (Gathering number) nothing = ap (asked_for task number) nothing
-asks_nothing fixed task suites (Fetching number) nothing = of (suite_of suites number) nothing
-  where
-    of : (found : Option GatheredSuite) → ((suite : GatheredSuite) → found ≡ Some suite → suite.first ≡ None) → fetched_for task number found ≡ None
-    of None nothing = refl
-    of (Some suite) nothing = ap (fetched_at task number) (nothing suite refl)
-asks_nothing fixed task suites (Widening [] granted) nothing = refl
-asks_nothing fixed task suites (Widening (number ∷ left) granted) nothing = ap (asked_for task number) nothing
-asks_nothing fixed task suites (Preparing [] outcome) nothing = refl
-asks_nothing fixed task suites _ nothing = absurd nothing
+asks_nothing fixed task suites phase h4 = search arith
 
 module _ (task : Task) where
   -- what holds of a step with the suites and the cache of the point where it ends, whatever is asked then
@@ -32,12 +22,10 @@ module _ (task : Task) where
   left_by Left at step goes_on ends is = of at.stage is
     where
       prepared' : (servers : List ℕ) (outcome : Proposal) → Left (prepare task at.cache at.suites outcome servers)
-      prepared' [] outcome = goes_on (Deciding outcome)
-      prepared' (server ∷ servers) outcome = goes_on (Preparing (server ∷ servers) outcome)
+      prepared' servers outcome = search arith
 
       told : (servers : List ℕ) (v : Verdict) (ending : Ending) → Left (tell_end task at.cache at.suites v ending servers)
-      told [] v ending = ends ending
-      told (server ∷ servers) v ending = goes_on (Finishing (server ∷ servers) v ending)
+      told servers v ending = search arith
 
       of : (stage : Stage) → EndsIn task at.cache at.suites stage step → Left step
       of (Asks phase) is = subst Left is (goes_on phase)
@@ -88,8 +76,7 @@ module _ (fixed : Fixed) (task : Task) where
   goes_gather cache suites number mode suite needs new _ is = last _ (gathers needs new (ap is_short is)) refl
 
   goes_proceed : (cache : Cache) (suites : Suites) (heard : Executed) → heard_on fixed task suites ≡ heard → MovesTo fixed task (point Executes cache suites) (proceed fixed task cache suites heard)
-  goes_proceed cache suites (exec.Need (Hold number mode)) is =
-      let suite = raised_or_new fixed task cache number mode (suite_of suites number) in goes_gather cache suites number mode suite is refl (next suite.collector) refl
+  goes_proceed cache suites (exec.Need (Hold number mode)) is = search (goes_gather, arith)
   goes_proceed cache suites (exec.Need (Know number)) is = last _ (fetches is) refl
   goes_proceed cache suites (exec.Done answers changes) is = more (grants is) (goes_widen cache suites _ _)
   goes_proceed cache suites (exec.Refused refusal) is = last _ (refuses is) refl
@@ -201,11 +188,7 @@ module _ (fixed : Fixed) (task : Task) where
     moves_lack _ lack = only _ (is_lacked tt) refl
 
     pub response_moves : (phase : Phase) (response : Response) → Comes phase response (after_response fixed (record { task = task; suites = suites; phase = phase }) cache server asked response)
-    response_moves phase (Replied reply) = moves_reply phase reply
-    response_moves phase (Lacked lack) = moves_lack phase lack
+    response_moves phase response = search (moves_reply, moves_lack, arith)
 
 pub every_response_is_moves : EveryResponseIsMoves
-every_response_is_moves = record {
-  begins = λ fixed task all. execute_moves fixed task all;
-  goes_on = λ fixed txn_run cache server asked response. response_moves fixed txn_run.task cache txn_run.suites server asked txn_run.phase response;
-}
+every_response_is_moves = search (execute_moves, response_moves, arith)

@@ -1,24 +1,16 @@
 -- Contents that are to be had without asking: what is known with them, and what they leave as it was.
-use Rattle.txn_core.proofs.Vocabulary.{◌≡◌, ℕ, Bool, true, false, cond, [], ◌∷◌, Option, Some, None, refl, sym, ap, ◌∙◌, option_map, is_some, option_map_or, nat_cmp, is_at, nat_cmp_total, same_Some, IsOrdered, replace, insert_present}
-use Rattle.txn_core.proofs.Vocabulary.{Content, Prefix, PrefixKind, KnownSuite, Known, ReadPoint, GatheredSuite, Suites, suite_of, with_suite, row_with, known_row, known_if, known_of}
-use Rattle.file_ops.specs.Rows.{Row, with_content}
-use Rattle.suite_prefix.specs.declared.copies.PrefixKind.TheVariants as kind
+use Rattle.txn_core.proofs.Vocabulary.{◌≡◌, ℕ, Bool, true, false, cond, [], ◌∷◌, Option, Some, refl, sym, ap, ◌∙◌, is_some, option_map_or, nat_cmp, is_at, nat_cmp_total, same_Some, IsOrdered, replace, insert_present, arith, Content, KnownSuite}
+use Rattle.txn_core.proofs.Vocabulary.{ReadPoint, GatheredSuite, Suites, suite_of, with_suite, known_row, known_if, known_of}
 use Rattle.file_exec.specs.Known as known
 use Rattle.txn_core.proofs.Setting.{known_at}
 
 -- ---- what is known of a suite that gets its content
 
-row_again : (kind : PrefixKind) (prefix : Prefix) (before : Option Content) (content : Content) → option_map (λ (row : Row). with_content row content) (row_with kind prefix before) ≡ row_with kind prefix (Some content)
-row_again kind.Absent prefix before content = refl
-row_again _ prefix before content = refl
-
 abbrev with_it : GatheredSuite → Content → GatheredSuite
 with_it suite content = record suite { content = Some content }
 
 row_opened : (suite : GatheredSuite) (first : ReadPoint) (content : Content) → known.opened (known_row suite first) content ≡ known_row (record suite { content = Some content }) first
-row_opened suite first content =
-    let read : Option Row → KnownSuite = λ row. record { mode = suite.mode; row = row; opened = true } in
-    ap read (row_again first.prefix.kind first.prefix suite.content content)
+row_opened suite first content = search arith
 
 -- another value at the number of a suite that had a quorum
 replaced_known : (suites : Suites) (number : ℕ) (suite new : GatheredSuite) (first : ReadPoint) → suite_of suites number ≡ Some suite → suite.first ≡ Some first → new.first ≡ Some first
@@ -30,27 +22,16 @@ replaced_known (e ∷ es) number suite new first is was now = of (λ is. replace
     row = known_row new first
 
     here : (found : Option ReadPoint) → found ≡ Some first → is_at (nat_cmp number) e.0 ≡ true → replace nat_cmp (known_if e.0 e.1 found (known_of es)) number row ≡ (e.0, row) ∷ known_of es
-    here (Some other) same at = ap (λ b. cond b ((e.0, row) ∷ known_of es) ((e.0, known_row e.1 other) ∷ replace nat_cmp (known_of es) number row)) at
-    here None same at = cc
+    here found h1 h2 = search (row, arith)
 
     later : (found : Option ReadPoint) → is_at (nat_cmp number) e.0 ≡ false → replace nat_cmp (known_of es) number row ≡ known_of (replace nat_cmp es number new)
         → replace nat_cmp (known_if e.0 e.1 found (known_of es)) number row ≡ known_if e.0 e.1 found (known_of (replace nat_cmp es number new))
-    later (Some other) at rest =
-        ap (λ b. cond b ((e.0, row) ∷ known_of es) ((e.0, known_row e.1 other) ∷ replace nat_cmp (known_of es) number row)) at
-        ∙ ap (λ (l : Known). (e.0, known_row e.1 other) ∷ l) rest
-    later None at rest = rest
+    later found h1 h2 = search (row, arith)
 
     of : (suite_of es number ≡ Some suite → replace nat_cmp (known_of es) number row ≡ known_of (replace nat_cmp es number new))
         → (b : Bool) → is_at (nat_cmp number) e.0 ≡ b → cond b (Some e.1) (suite_of es number) ≡ Some suite
         → replace nat_cmp (known_of (e ∷ es)) number row ≡ known_of (replace nat_cmp (e ∷ es) number new)
-    of again true at is =
-        let same : e.1 ≡ suite = same_Some e.1 suite is in
-        here e.1.first (ap (λ (it : GatheredSuite). it.first) same ∙ was) at
-        ∙ sym (ap (λ o. known_if e.0 new o (known_of es)) now)
-        ∙ sym (ap (λ b. known_of (cond b ((e.0, new) ∷ es) (e ∷ replace nat_cmp es number new))) at)
-    of again false at is =
-        later e.1.first at (again is)
-        ∙ sym (ap (λ b. known_of (cond b ((e.0, new) ∷ es) (e ∷ replace nat_cmp es number new))) at)
+    of h0 b h2 h3 = search (same_Some, here, later, arith)
 
 pub known_opened : (suites : Suites) (number : ℕ) (suite : GatheredSuite) (first : ReadPoint) (content : Content) → IsOrdered nat_cmp suites → suite_of suites number ≡ Some suite → suite.first ≡ Some first
     → known.opened_suite (known_of suites) number content ≡ known_of (with_suite number (record suite { content = Some content }) suites)

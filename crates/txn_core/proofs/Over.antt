@@ -1,16 +1,11 @@
 -- After an end nothing is prepared or decided.
-use Rattle.txn_core.proofs.Vocabulary.{◌≡◌, ℕ, Bool, true, false, cond, List, [], ◌∷◌, ◌++◌, Option, Some, None, refl, sym, ap, subst, ◌∙◌, ◌||◌, list_any, Request, Reply, Verdict, Lack, is_prepared, Cache, GatheredSuite, Suites, suite_of}
-use Rattle.txn_core.proofs.Vocabulary.{with_suite, Response, Cause, Ending, Replied, Lacked, Lost, Undecided, Fixed, Task, Phase, Gathering, Fetching, Widening, Preparing, Deciding, Finishing, TransactionRun, Sweeping, Listing, Resolving}
-use Rattle.txn_core.proofs.Vocabulary.{Telling, Breaking, SweepRun, Doing, Running, RunningSweep, After, GoesOn, Ends, Step, tell_end, give_up, locked_at, prepare, prepared, fetched, heard_of, hear, is_poll, said_to, given_in, verdict_in}
-use Rattle.txn_core.proofs.Vocabulary.{ending_by, cause_of_abort, lack_cause, after_lack, after_response, request_in, Agent, Event, Take, Forget, next_in, next_of, take_in, take, begin, forget, after_all, Exchange, exchange_of, exchanges}
-use Rattle.txn_core.proofs.Vocabulary.{is_decide, is_prepare, is_down, ends_it, NothingFollowsAnEnd}
-use Rattle.rep_core.specs.declared.request.Request.TheVariants as request
-use Rattle.rep_core.specs.declared.reply.Reply.TheVariants as reply
+use Rattle.txn_core.proofs.Vocabulary.{◌≡◌, ℕ, Bool, true, false, cond, List, [], ◌∷◌, ◌++◌, Option, Some, None, refl, sym, ap, subst, ◌∙◌, ◌||◌, list_any, Request, Reply, Verdict, Lack, is_prepared, Cache, GatheredSuite, Suites, suite_of, arith}
+use Rattle.txn_core.proofs.Vocabulary.{Response, Cause, Ending, Replied, Lacked, Lost, Undecided, Fixed, Task, Phase, Gathering, Fetching, Widening, Preparing, Deciding, Finishing, TransactionRun, SweepRun, Doing, Running, RunningSweep, After}
+use Rattle.txn_core.proofs.Vocabulary.{GoesOn, Ends, Step, tell_end, give_up, locked_at, heard_of, is_poll, said_to, given_in, lack_cause, after_lack, after_response, Agent, Event, Take, Forget, next_in, next_of, take_in, take, begin, forget}
+use Rattle.txn_core.proofs.Vocabulary.{after_all, Exchange, exchange_of, exchanges, is_decide, is_prepare, is_down, ends_it, NothingFollowsAnEnd}
 use Rattle.rep_core.specs.declared.reply.Verdict.TheVariants as verdict
 use Rattle.suite_collect.specs.declared.told.Said.TheVariants as said
-use Rattle.txn_core.specs.Sweeps as sweep
 use Rattle.txn_core.specs.Agents as agents
-use Rattle.txn_core.proofs.Asks.{asks_same}
 
 -- nothing but the end is told any more
 abbrev pub IsOver : Phase → Type 0
@@ -22,8 +17,7 @@ LeftOver (GoesOn txn_run) = IsOver txn_run.phase
 LeftOver (Ends ending) = Unit {0}
 
 pub over_end : (task : Task) (cache : Cache) (suites : Suites) (v : Verdict) (ending : Ending) (servers : List ℕ) → LeftOver (tell_end task cache suites v ending servers).after
-over_end task cache suites v ending [] = tt
-over_end task cache suites v ending (server ∷ servers) = tt
+over_end task cache suites v ending servers = search arith
 
 pub over_give_up : (task : Task) (cache : Cache) (suites : Suites) (cause : Cause) → LeftOver (give_up task cache suites cause).after
 over_give_up task cache suites cause = over_end task cache suites verdict.Aborted (Undecided cause) (locked_at suites)
@@ -35,63 +29,38 @@ over_lack task cache suites _ server lacked = over_give_up task cache suites (la
 
 -- a request for a lock, a content or a Prepare: what ends it gives nothing else
 pub ends_said : (asked : Request) (said : Reply) → is_down asked ≡ (cond (is_poll asked) false true) → ends_it asked (Replied said) ≡ true → said_to asked said ≡ None
-ends_said asked (reply.Held prefix dver) down is = cc
-ends_said asked (reply.Busy holder prepared) down is = cc
-ends_said asked reply.Down down is = of (is_poll asked) (sym down ∙ is)
-  where
-    of : (b : Bool) → cond b false true ≡ true → cond b (Some said.Down) None ≡ None
-    of true is = cc
-    of false is = refl
-ends_said asked _ down is = refl
+ends_said asked said h2 h3 = search arith
 
 pub down_poll : (asked : Request) → is_down asked ≡ (cond (is_poll asked) false true)
-down_poll (request.Poll t suite mode) = refl
-down_poll _ = refl
+down_poll asked = search arith
 
 ends_given : (asked : Request) (said : Reply) → ends_it asked (Replied said) ≡ true → given_in said ≡ None
-ends_given asked (reply.Given dver content) is = cc
-ends_given asked _ is = refl
+ends_given asked said h2 = search arith
 
 ends_prepared : (asked : Request) (said : Reply) → ends_it asked (Replied said) ≡ true → is_prepared said ≡ false
-ends_prepared asked reply.Prepared is = cc
-ends_prepared asked _ is = refl
+ends_prepared asked said h2 = search arith
 
 pub over_heard : (task : Task) (cache : Cache) (suites : Suites) (phase : Phase) (number : ℕ) (found : Option GatheredSuite) (server : ℕ) (asked : Request) (said : Reply) (go_on : Suites → Step) → ends_it asked (Replied said) ≡ true
     → LeftOver (heard_of task cache suites phase number found server asked said go_on).after
-over_heard task cache suites phase number None server asked said go_on is = over_give_up task cache suites (Lost server)
-over_heard task cache suites phase number (Some suite) server asked said go_on is =
-    subst (λ heard. LeftOver (hear task cache suites phase number suite server asked heard (λ suite. go_on (with_suite number suite suites))).after)
-    (sym (ends_said asked said (down_poll asked) is)) (over_give_up task cache suites (Lost server))
+over_heard task cache suites phase number found server asked said go_on h10 = search (over_give_up, ends_said, down_poll, arith)
 
 -- what ends it leaves nothing but the end; so does what comes after
 over_response : (fixed : Fixed) (task : Task) (cache : Cache) (suites : Suites) (phase : Phase) (server : ℕ) (asked : Request) (response : Response)
     → ends_it asked response ≡ true → LeftOver (after_response fixed (record { task = task; suites = suites; phase = phase }) cache server asked response).after
 over_response fixed task cache suites phase server asked (Lacked lacked) is = over_lack task cache suites phase server lacked
 over_response fixed task cache suites (Gathering number) server asked (Replied said) is = over_heard task cache suites (Gathering number) number (suite_of suites number) server asked said _ is
-over_response fixed task cache suites (Fetching number) server asked (Replied said) is =
-    subst (λ given. LeftOver (fetched fixed task cache suites number (suite_of suites number) server given).after) (sym (ends_given asked said is)) (of (suite_of suites number))
-  where
-    of : (found : Option GatheredSuite) → LeftOver (fetched fixed task cache suites number found server None).after
-    of (Some suite) = over_give_up task cache suites (Lost server)
-    of None = over_give_up task cache suites (Lost server)
+over_response fixed task cache suites (Fetching number) server asked (Replied said) is = search (ends_given, over_give_up, arith)
 over_response fixed task cache suites (Widening [] granted) server asked (Replied said) is = over_give_up task cache suites (Lost server)
 over_response fixed task cache suites (Widening (number ∷ left) granted) server asked (Replied said) is = over_heard task cache suites (Widening (number ∷ left) granted) number (suite_of suites number) server asked said _ is
 over_response fixed task cache suites (Preparing [] outcome) server asked (Replied said) is = over_give_up task cache suites (Lost server)
-over_response fixed task cache suites (Preparing (now ∷ left) outcome) server asked (Replied said) is =
-    subst (λ b. LeftOver (cond b (prepare task cache suites outcome left) (give_up task cache suites (Lost server))).after) (sym (ends_prepared asked said is)) (over_give_up task cache suites (Lost server))
-over_response fixed task cache suites (Deciding outcome) server asked (Replied said) is =
-    over_end task cache suites (verdict_in said verdict.Aborted) (ending_by (verdict_in said verdict.Aborted) (cause_of_abort said)) (locked_at suites)
+over_response fixed task cache suites (Preparing (now ∷ left) outcome) server asked (Replied said) is = search (ends_prepared, over_give_up, arith)
+over_response fixed task cache suites (Deciding outcome) server asked (Replied said) is = search (over_end, arith)
 over_response fixed task cache suites (Finishing [] v ending) server asked (Replied said) is = over_end task cache suites v ending []
 over_response fixed task cache suites (Finishing (now ∷ left) v ending) server asked (Replied said) is = over_end task cache suites v ending left
 
 pub stays_over : (fixed : Fixed) (task : Task) (cache : Cache) (suites : Suites) (phase : Phase) (server : ℕ) (asked : Request) (response : Response) → IsOver phase
     → LeftOver (after_response fixed (record { task = task; suites = suites; phase = phase }) cache server asked response).after
-stays_over fixed task cache suites (Finishing [] v ending) server asked (Replied said) over = tt
-stays_over fixed task cache suites (Finishing (now ∷ left) v ending) server asked (Replied said) over = over_end task cache suites v ending left
-stays_over fixed task cache suites (Finishing [] v ending) server asked (Lacked lacked) over = tt
-stays_over fixed task cache suites (Finishing (now ∷ left) v ending) server asked (Lacked lacked) over = over_end task cache suites v ending left
-stays_over fixed task cache suites (Gathering number) server asked response over = absurd over
-stays_over fixed task cache suites _ server asked response over = absurd over
+stays_over fixed task cache suites phase server asked response h8 = search arith
 
 -- ---- all responses
 
@@ -103,12 +72,10 @@ Over true (Some (RunningSweep sweep_run)) = Unit {0}
 Over true None = Unit {0}
 
 left_over : (after : After TransactionRun) → LeftOver after → Over true (agents.left Running after)
-left_over (GoesOn txn_run) over = over
-left_over (Ends ending) over = tt
+left_over after h1 = search arith
 
 round_over : (after : After SweepRun) → Over true (agents.left RunningSweep after)
-round_over (GoesOn sweep_run) = tt
-round_over (Ends ending) = tt
+round_over after = search arith
 
 abbrev any_ends : List Exchange → Bool
 any_ends past = list_any (λ one. ends_it one.request one.response) past
@@ -123,11 +90,7 @@ take_over fixed agent response (Some (Running running)) (Some asked) false was i
     ] refl
 take_over fixed agent response (Some (Running running)) None true was is over = subst (Over true) (sym was) over
 take_over fixed agent response (Some (Running running)) None false was is over = tt
-take_over fixed agent response (Some (RunningSweep sweep_run)) (Some asked) granted was is over = of (granted || any_ends (exchange_of (Some asked) response))
-  where
-    of : (b : Bool) → Over b (agents.left RunningSweep (sweep.after_response fixed.service sweep_run asked.0 response))
-    of true = round_over (sweep.after_response fixed.service sweep_run asked.0 response)
-    of false = tt
+take_over fixed agent response (Some (RunningSweep sweep_run)) (Some asked) granted was is over = search (round_over, arith)
 take_over fixed agent response (Some (RunningSweep sweep_run)) None granted was is over = cc
 take_over fixed agent response None (Some asked) granted was is over = cc
 take_over fixed agent response None None true was is over = subst (Over true) (sym was) tt
@@ -135,11 +98,7 @@ take_over fixed agent response None None false was is over = tt
 
 ends-append : (past later : List Exchange) → any_ends (past ++ later) ≡ (any_ends past || any_ends later)
 ends-append [] later = refl
-ends-append (one ∷ past) later = of (ends_it one.request one.response) _ _ _ (ends-append past later)
-  where
-    of : (a b c d : Bool) → b ≡ (c || d) → (a || b) ≡ ((a || c) || d)
-    of true b c d is = refl
-    of false b c d is = is
+ends-append (one ∷ past) later = search (ends-append past later, arith)
 
 all_over : (fixed : Fixed) (agent : Agent) (granted : Bool) (events : List Event) → Over granted agent.doing → Over (granted || any_ends (exchanges fixed agent events)) (after_all fixed agent events).doing
 all_over fixed agent true [] over = over
@@ -157,26 +116,7 @@ all_over fixed agent granted (Take response ∷ events) over =
 
 -- what is over asks for no Prepare and no Decide, and nor does a sweep
 over_asks : (fixed : Fixed) (doing : Option Doing) (server : ℕ) (asked : Request) → Over true doing → next_in fixed doing ≡ Some (server, asked) → (is_decide asked || is_prepare asked) ≡ false
-over_asks fixed None server asked over is = cc
-over_asks fixed (Some (RunningSweep sweep_run)) server asked over is = of sweep_run.now is
-  where
-    of : (now : Sweeping) → ◌≡◌ {A = Option (ℕ × Request)} (Some (sweep.asked_now fixed.service sweep_run now)) (Some (server, asked)) → (is_decide asked || is_prepare asked) ≡ false
-    of Listing is = ap (λ asked. is_decide asked || is_prepare asked) (sym (asks_same _ server request.Locks asked is))
-    of (Resolving other left) is = ap (λ asked. is_decide asked || is_prepare asked) (sym (asks_same _ server (request.Resolve other) asked is))
-    of (Telling other v left) is = ap (λ asked. is_decide asked || is_prepare asked) (sym (asks_same _ server (request.Finish other v) asked is))
-    of (Breaking lock left) is = ap (λ asked. is_decide asked || is_prepare asked) (sym (asks_same _ server (request.Break lock.t lock.suite) asked is))
-over_asks fixed (Some (Running txn_run)) server asked over is = of txn_run.phase over is
-  where
-    of : (phase : Phase) → IsOver phase → request_in fixed txn_run.task txn_run.suites phase ≡ Some (server, asked) → (is_decide asked || is_prepare asked) ≡ false
-    of (Gathering number) over is = absurd over
-    of (Fetching number) over is = absurd over
-    of (Widening left granted) over is = absurd over
-    of (Preparing left outcome) over is = absurd over
-    of (Deciding outcome) over is = absurd over
-    of (Finishing [] v ending) over is = cc
-    of (Finishing (now ∷ left) v ending) over is = ap (λ asked. is_decide asked || is_prepare asked) (sym (asks_same now server (request.Finish txn_run.task.t v) asked is))
+over_asks fixed doing server asked h4 h5 = search arith
 
 pub nothing_follows_an_end : NothingFollowsAnEnd
-nothing_follows_an_end fixed agent job events server asked idle ends is =
-    over_asks fixed (after_all fixed (begin fixed agent job) events).doing server asked
-    (subst (λ b. Over b (after_all fixed (begin fixed agent job) events).doing) ends (all_over fixed (begin fixed agent job) false events tt)) is
+nothing_follows_an_end fixed agent job events server asked idle ends is = search (all_over fixed (begin fixed agent job) false events tt, over_asks, arith)

@@ -1,11 +1,10 @@
 -- Whom a transaction polled it does not poll again.
-use Rattle.txn_core.proofs.Vocabulary.{◌≡◌, ℕ, ◌+◌, ◌≤◌, Bool, true, false, cond, ◌⊎◌, inl, inr, List, [], ◌∷◌, ◌++◌, Option, Some, None, refl, sym, ap, subst, ◌∙◌, arith, ◌==◌, ◌&&◌, ◌||◌, nat_lt, ◌*◌, nat_cmp, eqb-true, false≢true}
-use Rattle.txn_core.proofs.Vocabulary.{same_Some, IsOrdered, LockMode, Request, Exchange, exchange_of, exchanges, of_job, locks, was_asked, count_of, NobodyIsPolledTwice, Agent, Event, Take, Forget, next_in, next_of, take_in, take, begin}
-use Rattle.txn_core.proofs.Vocabulary.{started, forget, is_idle, has_sense, max_jobs, after_all, Told, Said, has_told, Collector, all_told, mode_of, request_for, mode_asked, Asked, Poll, Upgrade, Next, Ask, next, Cache, ReadPoint}
-use Rattle.txn_core.proofs.Vocabulary.{GatheredSuite, Suites, suite_of, with_suite, told_at, told_in, Response, Job, Transaction, Sweep, home_of, Fixed, Task, Phase, Gathering, Fetching, Widening, Preparing, Deciding, Finishing}
-use Rattle.txn_core.proofs.Vocabulary.{TransactionRun, Sweeping, Listing, Resolving, Telling, Breaking, SweepRun, Doing, Running, RunningSweep, After, GoesOn, Ends, Step, locked_at, is_poll, after_response, asked_by, asked_for, fetched_at}
-use Rattle.txn_core.proofs.Vocabulary.{fetched_for, request_in, changes_of, decision_of, parts_at, nobody_is_asked_twice, Stage, Executes, Widens, Asks, Prepares, PreparesAt, GivesUp, Tells, TellsAt, Point, point, EndsIn, Move, Collects}
-use Rattle.txn_core.proofs.Vocabulary.{now_told, Hears, asks_on, falls_short, settles, gets, prepared_by, prepares, Down}
+use Rattle.txn_core.proofs.Vocabulary.{◌≡◌, ℕ, ◌+◌, ◌≤◌, true, false, cond, ◌⊎◌, inl, inr, List, [], ◌∷◌, ◌++◌, Option, Some, None, refl, sym, ap, subst, ◌∙◌, arith, ◌==◌, ◌&&◌, nat_lt, ◌*◌, nat_cmp, false≢true, same_Some, IsOrdered, LockMode}
+use Rattle.txn_core.proofs.Vocabulary.{Request, Exchange, exchange_of, exchanges, of_job, locks, was_asked, count_of, NobodyIsPolledTwice, Agent, Event, Take, Forget, next_in, next_of, take_in, take, begin, started, forget, is_idle, has_sense}
+use Rattle.txn_core.proofs.Vocabulary.{max_jobs, after_all, Told, Said, has_told, Collector, all_told, mode_of, request_for, mode_asked, Asked, Poll, Upgrade, Next, Ask, next, Cache, GatheredSuite, Suites, suite_of, with_suite, told_at, told_in}
+use Rattle.txn_core.proofs.Vocabulary.{Response, Job, Transaction, Sweep, Fixed, Task, Phase, Gathering, Fetching, Widening, Preparing, Deciding, Finishing, TransactionRun, Sweeping, SweepRun, Doing, Running, RunningSweep, After, GoesOn, Ends, Step}
+use Rattle.txn_core.proofs.Vocabulary.{locked_at, is_poll, after_response, asked_by, asked_for, request_in, nobody_is_asked_twice, Stage, Executes, Widens, Asks, Prepares, PreparesAt, GivesUp, Tells, TellsAt, Point, point, EndsIn, Move, Collects}
+use Rattle.txn_core.proofs.Vocabulary.{now_told, Hears, asks_on, falls_short, settles, gets, prepared_by, Down}
 use Rattle.suite_collect.proofs.Fewness.{times, Few, few_more, never}
 use Rattle.rep_core.specs.declared.request.Request.TheVariants as request
 use Rattle.txn_core.specs.Agents as agents
@@ -48,43 +47,17 @@ bounded_by : (before : ℕ → ℕ → ℕ) (told : ℕ → List Told) → Asked
 bounded_by before told agree few number who = let same = agree number who in let bound = (few number who).0 in omega (arith, same, bound)
 
 no_more : (before : ℕ → ℕ → ℕ) (server : ℕ) (asked : Request) (number who : ℕ) → locks number asked ≡ false → before number who ≡ plus before server asked number who
-no_more before server asked number who none = of (server == who) (locks number asked) none
-  where
-    of : (a b : Bool) → b ≡ false → before number who ≡ before number who + cond (a && b) 1 0
-    of true false is = omega arith
-    of false b is = omega arith
-    of true true is = cc
+no_more before server asked number who none = search arith
 
 quiet_bounded : (before : ℕ → ℕ → ℕ) (server : ℕ) (asked : Request) → Bounded before → ((number : ℕ) → locks number asked ≡ false) → Bounded (plus before server asked)
 quiet_bounded before server asked bounded none number who = let same = no_more before server asked number who (none number) in let bound = bounded number who in omega (arith, same, bound)
 
 asked_more : (before : ℕ → ℕ → ℕ) (told : ℕ → List Told) (number server : ℕ) (one : Told) (list : List Told) (asked : Request) → Asked' before told → list ≡ told number → one.server ≡ server
     → ((other : ℕ) → locks other asked ≡ (number == other)) → Asked' (plus before server asked) (told_with number (one ∷ list) told)
-asked_more before told number server one list asked agree was by lock other who =
-    of (number == other) refl ∙ sym (ap (λ b. before other who + cond ((server == who) && b) 1 0) (lock other))
-  where
-    swap : (a : Bool) (n : ℕ) → cond a 1 0 + n ≡ n + cond (a && true) 1 0
-    swap true n = omega arith
-    swap false n = omega arith
-
-    out : (a : Bool) (n : ℕ) → n ≡ n + cond (a && false) 1 0
-    out true n = omega arith
-    out false n = omega arith
-
-    of : (b : Bool) → (number == other) ≡ b → times who (cond b (one ∷ list) (told other)) ≡ before other who + cond ((server == who) && b) 1 0
-    of true is =
-        ap (λ (told : List Told). cond (one.server == who) 1 0 + times who told) (was ∙ ap told (eqb-true number other is))
-        ∙ ap (λ n. cond (one.server == who) 1 0 + n) (agree other who)
-        ∙ ap (λ server. cond (server == who) 1 0 + before other who) by
-        ∙ swap (server == who) (before other who)
-    of false is = agree other who ∙ out (server == who) (before other who)
+asked_more before told number server one list asked agree was by lock other who = search arith
 
 few_with : (told : ℕ → List Told) (number : ℕ) (list : List Told) → AllFew told → Few list → AllFew (told_with number list told)
-few_with told number list few here other = of (number == other)
-  where
-    of : (b : Bool) → Few (cond b list (told other))
-    of true = here
-    of false = few other
+few_with told number list few here other = search arith
 
 -- what a collector asks it asks of few
 few_asked : (task : Task) (number : ℕ) (collector : Collector) (server : ℕ) (asked : Request) (said : Said) → asked_by task number (next collector) ≡ Some (server, asked) → Few (all_told collector)
@@ -92,8 +65,7 @@ few_asked : (task : Task) (number : ℕ) (collector : Collector) (server : ℕ) 
 few_asked task number collector server asked said is few = of (next collector) refl is
   where
     mode_for : (question : Asked) → mode_of (request_for task.t number question) ≡ mode_asked question
-    mode_for (Poll mode) = refl
-    mode_for Upgrade = refl
+    mode_for question = search arith
 
     of : (after : Next) → next collector ≡ after → asked_by task number after ≡ Some (server, asked) → Few (record { server = server; mode = mode_of asked; said = said } ∷ all_told collector)
     of (Ask at question) was is =
@@ -119,8 +91,7 @@ told_more before told task suites number suite server asked said are agree few t
 asked_bounded : (before : ℕ → ℕ → ℕ) (told : ℕ → List Told) (task : Task) (suites : Suites) (number : ℕ) (found : Option GatheredSuite) (server : ℕ) (asked : Request)
     → Are told suites → Asked' before told → AllFew told → suite_of suites number ≡ found → asked_for task number found ≡ Some (server, asked) → Bounded (plus before server asked)
 asked_bounded before told task suites number None server asked are agree few there is = cc
-asked_bounded before told task suites number (Some suite) server asked are agree few there is =
-    let more = told_more before told task suites number suite server asked Down are agree few there is in bounded_by _ _ more.agree more.few
+asked_bounded before told task suites number (Some suite) server asked are agree few there is = search (told_more before told task suites number suite server asked Down are agree few there is, bounded_by, arith)
 
 -- whatever is asked, few were asked
 response_bounded : (before : ℕ → ℕ → ℕ) (told : ℕ → List Told) (fixed : Fixed) (task : Task) (suites : Suites) (phase : Phase) (server : ℕ) (asked : Request) → Are told suites → Asked' before told → AllFew told
@@ -194,8 +165,7 @@ move_heard before fixed task at later move (inr knows) = inr (record { told = kn
 move_heard before fixed task at later move (inl over) = absurd (of move over.0)
   where
     of : {at next : Point} → Move fixed task at next → TellsEnd at.stage → ⊥
-    of prepares over = over
-    of _ over = over
+    of h0 h1 = search arith
 
 left_end : (before : ℕ → ℕ → ℕ) (task : Task) (at : Point) (step : Step) → EndsIn task at.cache at.suites at.stage step → HeardAs before at → LeftWith before step.after
 left_end before task at step ends (inl over) = inl (of at.stage ends over.0, over.1)
@@ -238,18 +208,13 @@ left_keeps before (Ends ending) (inl over) = over.1
 left_keeps before (Ends ending) (inr with') = bounded_by before with'.told with'.agree with'.few
 
 round_keeps : (before : ℕ → ℕ → ℕ) (after : After SweepRun) → Bounded before → Keeps before (agents.left RunningSweep after)
-round_keeps before (GoesOn sweep_run) bounded = bounded
-round_keeps before (Ends ending) bounded = bounded
+round_keeps before after h2 = search arith
 
 over_keeps : (before : ℕ → ℕ → ℕ) (after : After TransactionRun) → LeftOver after → Bounded before → Keeps before (agents.left Running after)
-over_keeps before (GoesOn txn_run) over bounded = inl (over, bounded)
-over_keeps before (Ends ending) over bounded = bounded
+over_keeps before after h2 h3 = search arith
 
 pub keeps_bounded : (before : ℕ → ℕ → ℕ) (doing : Option Doing) → Keeps before doing → Bounded before
-keeps_bounded before (Some (Running txn_run)) (inl over) = over.1
-keeps_bounded before (Some (Running txn_run)) (inr keeps) = bounded_by before (told_at txn_run.suites) keeps.1 keeps.2
-keeps_bounded before (Some (RunningSweep sweep_run)) bounded = bounded
-keeps_bounded before None bounded = bounded
+keeps_bounded before doing h2 = search arith
 
 -- how often a server was asked for a lock on a suite
 abbrev pub asked_for_locks : List Exchange → ℕ → ℕ → ℕ
@@ -259,10 +224,7 @@ abbrev plus_all : (ℕ → ℕ → ℕ) → List Exchange → ℕ → ℕ → �
 plus_all before past number who = before number who + asked_for_locks past number who
 
 same_keeps : (before other : ℕ → ℕ → ℕ) (doing : Option Doing) → ((number who : ℕ) → before number who ≡ other number who) → Keeps before doing → Keeps other doing
-same_keeps before other (Some (Running txn_run)) same (inl over) = inl (over.0, λ number who. let at = same number who in let bound = over.1 number who in omega (arith, at, bound))
-same_keeps before other (Some (Running txn_run)) same (inr keeps) = inr (keeps.0, λ number who. keeps.1 number who ∙ same number who, keeps.2)
-same_keeps before other (Some (RunningSweep sweep_run)) same bounded = λ number who. let at = same number who in let bound = bounded number who in omega (arith, at, bound)
-same_keeps before other None same bounded = λ number who. let at = same number who in let bound = bounded number who in omega (arith, at, bound)
+same_keeps before other doing h3 h4 = search arith
 
 none_more : (before : ℕ → ℕ → ℕ) (number who : ℕ) → before number who ≡ before number who + 0
 none_more before number who = omega arith
@@ -273,30 +235,19 @@ once_more before server asked response number who = omega arith
 -- a sweep asks for no lock
 round_locks : (fixed : Fixed) (sweep_run : SweepRun) (now : Sweeping) (server : ℕ) (asked : Request)
     → ◌≡◌ {A = Option (ℕ × Request)} (Some (sweep.asked_now fixed.service sweep_run now)) (Some (server, asked)) → (number : ℕ) → locks number asked ≡ false
-round_locks fixed sweep_run Listing server asked is number = ap (locks number) (sym (asks_same _ server request.Locks asked is))
-round_locks fixed sweep_run (Resolving other left) server asked is number = ap (locks number) (sym (asks_same _ server (request.Resolve other) asked is))
-round_locks fixed sweep_run (Telling other v left) server asked is number = ap (locks number) (sym (asks_same _ server (request.Finish other v) asked is))
-round_locks fixed sweep_run (Breaking lock left) server asked is number = ap (locks number) (sym (asks_same _ server (request.Break lock.t lock.suite) asked is))
+round_locks fixed sweep_run now server asked h5 number = search arith
 
 over_locks : (fixed : Fixed) (task : Task) (suites : Suites) (phase : Phase) (server : ℕ) (asked : Request) → IsOver phase → request_in fixed task suites phase ≡ Some (server, asked) → (number : ℕ) → locks number asked ≡ false
-over_locks fixed task suites (Finishing [] v ending) server asked over is number = cc
-over_locks fixed task suites (Finishing (now ∷ left) v ending) server asked over is number = ap (locks number) (sym (asks_same now server (request.Finish task.t v) asked is))
-over_locks fixed task suites _ server asked over is number = absurd over
+over_locks fixed task suites phase server asked h6 h7 number = search arith
 
 take_keeps : (before : ℕ → ℕ → ℕ) (fixed : Fixed) (agent : Agent) (response : Response) (doing : Option Doing) (asked : Option (ℕ × Request)) → agent.doing ≡ doing → next_in fixed doing ≡ asked → Keeps before doing
     → Keeps (plus_all before (exchange_of asked response)) (take_in fixed agent response doing asked).agent.doing
-take_keeps before fixed agent response (Some (Running running)) (Some asked) was is (inl over) =
-    same_keeps (plus before asked.0 asked.1) (plus_all before (exchange_of (Some asked) response)) _ (once_more before asked.0 asked.1 response)
-    (over_keeps _ _ (stays_over fixed running.task agent.cache running.suites running.phase asked.0 asked.1 response over.0)
-    (quiet_bounded before asked.0 asked.1 over.1 (over_locks fixed running.task running.suites running.phase asked.0 asked.1 over.0 is)))
+take_keeps before fixed agent response (Some (Running running)) (Some asked) was is (inl over) = search (same_keeps, once_more, over_keeps, stays_over, quiet_bounded, over_locks, arith)
 take_keeps before fixed agent response (Some (Running running)) (Some asked) was is (inr keeps) =
     same_keeps (plus before asked.0 asked.1) (plus_all before (exchange_of (Some asked) response)) _ (once_more before asked.0 asked.1 response)
     (left_keeps (plus before asked.0 asked.1) _ (left_response before (told_at running.suites) fixed running.task agent.cache running.suites running.phase asked.0 asked.1 response (keeps.0, λ number. refl) keeps.1 keeps.2 is))
 take_keeps before fixed agent response (Some (Running running)) None was is keeps = subst (Keeps (plus_all before [])) (sym was) (same_keeps before (plus_all before []) (Some (Running running)) (none_more before) keeps)
-take_keeps before fixed agent response (Some (RunningSweep sweep_run)) (Some asked) was is bounded =
-    round_keeps _ (sweep.after_response fixed.service sweep_run asked.0 response)
-    (same_keeps (plus before asked.0 asked.1) (plus_all before (exchange_of (Some asked) response)) None (once_more before asked.0 asked.1 response)
-    (quiet_bounded before asked.0 asked.1 bounded (round_locks fixed sweep_run sweep_run.now asked.0 asked.1 is)))
+take_keeps before fixed agent response (Some (RunningSweep sweep_run)) (Some asked) was is bounded = grind (round_keeps, same_keeps, once_more, quiet_bounded, round_locks, arith)
 take_keeps before fixed agent response (Some (RunningSweep sweep_run)) None was is keeps = cc
 take_keeps before fixed agent response None (Some asked) was is keeps = cc
 take_keeps before fixed agent response None None was is keeps = subst (Keeps (plus_all before [])) (sym was) (same_keeps before (plus_all before []) None (none_more before) keeps)
@@ -326,8 +277,7 @@ begin_keeps fixed agent job idle =
     ]
   where
     at : (doing : Option Doing) → is_idle doing ≡ true → Keeps nobody doing
-    at None idle = λ number who. omega arith
-    at (Some doing) idle = cc
+    at doing h1 = search arith
 
     of : (job : Job) → Keeps nobody (started fixed agent job).doing
     of (Transaction caller site ops) =
@@ -366,51 +316,11 @@ other_poll : {P : Type 0} (a b t number : ℕ) (mode : LockMode) (asked : Reques
 other_poll a b t number mode asked other is = absurd (false≢true (sym other ∙ ap is_poll (asks_same a b asked (request.Poll t number mode) is)))
 
 fresh : (before : ℕ → ℕ → ℕ) (fixed : Fixed) (doing : Option Doing) (server t number : ℕ) (mode : LockMode) → Keeps before doing → next_in fixed doing ≡ Some (server, request.Poll t number mode) → before number server ≡ 0
-fresh before fixed None server t number mode keeps is = cc
-fresh before fixed (Some (RunningSweep sweep_run)) server t number mode keeps is = of sweep_run.now is
-  where
-    of : (now : Sweeping) → ◌≡◌ {A = Option (ℕ × Request)} (Some (sweep.asked_now fixed.service sweep_run now)) (Some (server, request.Poll t number mode)) → before number server ≡ 0
-    of Listing is = other_poll _ server t number mode request.Locks refl is
-    of (Resolving other left) is = other_poll _ server t number mode (request.Resolve other) refl is
-    of (Telling other v left) is = other_poll _ server t number mode (request.Finish other v) refl is
-    of (Breaking lock left) is = other_poll _ server t number mode (request.Break lock.t lock.suite) refl is
-fresh before fixed (Some (Running txn_run)) server t number mode keeps is = of txn_run.phase keeps is
-  where
-    by_suite : (who : ℕ) (found : Option GatheredSuite) → suite_of txn_run.suites who ≡ found → Asked' before (told_at txn_run.suites) → asked_for txn_run.task who found ≡ Some (server, request.Poll t number mode) → before number server ≡ 0
-    by_suite who None there agree is = cc
-    by_suite who (Some suite) there agree is =
-        let fresh' = poll_fresh txn_run.task who suite server t number mode is in
-        ap (λ number. before number server) (sym fresh'.0) ∙ sym (agree who server) ∙ ap (λ found. times server (told_in found)) there ∙ never (all_told suite.collector) server fresh'.1
-
-    by_first : (who : ℕ) (first : Option ReadPoint) → fetched_at txn_run.task who first ≡ Some (server, request.Poll t number mode) → before number server ≡ 0
-    by_first who (Some first) is = other_poll first.source server t number mode (request.Fetch txn_run.task.t who) refl is
-    by_first who None is = cc
-
-    by_fetch : (who : ℕ) (found : Option GatheredSuite) → fetched_for txn_run.task who found ≡ Some (server, request.Poll t number mode) → before number server ≡ 0
-    by_fetch who (Some suite) is = by_first who suite.first is
-    by_fetch who None is = cc
-
-    of : (phase : Phase) → (IsOver phase × Bounded before) ⊎ (IsOrdered nat_cmp txn_run.suites × Asked' before (told_at txn_run.suites) × AllFew (told_at txn_run.suites))
-        → request_in fixed txn_run.task txn_run.suites phase ≡ Some (server, request.Poll t number mode) → before number server ≡ 0
-    of (Gathering who) (inl over) is = absurd over.0
-    of (Gathering who) (inr keeps) is = by_suite who (suite_of txn_run.suites who) refl keeps.1 is
-    of (Fetching who) keeps is = by_fetch who (suite_of txn_run.suites who) is
-    of (Widening [] granted) keeps is = cc
-    of (Widening (who ∷ left) granted) (inl over) is = absurd over.0
-    of (Widening (who ∷ left) granted) (inr keeps) is = by_suite who (suite_of txn_run.suites who) refl keeps.1 is
-    of (Preparing [] outcome) keeps is = cc
-    of (Preparing (now ∷ left) outcome) keeps is = other_poll now server t number mode (request.Prepare txn_run.task.t (parts_at txn_run.suites (changes_of outcome) now)) refl is
-    of (Deciding outcome) keeps is = other_poll (home_of fixed.service txn_run.task.t) server t number mode (request.Decide txn_run.task.t (decision_of txn_run.task outcome)) refl is
-    of (Finishing [] v ending) keeps is = cc
-    of (Finishing (now ∷ left) v ending) keeps is = other_poll now server t number mode (request.Finish txn_run.task.t v) refl is
+fresh before fixed doing server t number mode h7 h8 = search (other_poll, poll_fresh, times, never, arith)
 
 none_asked : (past : List Exchange) (number who : ℕ) → asked_for_locks past number who ≡ 0 → was_asked past number who ≡ false
 none_asked [] number who is = refl
-none_asked (one ∷ past) number who is = of ((one.server == who) && locks number one.request) is (none_asked past number who)
-  where
-    of : (b : Bool) → cond b 1 0 + asked_for_locks past number who ≡ 0 → (asked_for_locks past number who ≡ 0 → was_asked past number who ≡ false) → (b || was_asked past number who) ≡ false
-    of true is rest = absurd (omega (arith, is))
-    of false is rest = rest (omega (arith, is))
+none_asked (one ∷ past) number who is = search (none_asked past number who, arith)
 
 pub nobody_is_polled_twice : NobodyIsPolledTwice
 nobody_is_polled_twice fixed agent job events server t suite mode idle is =

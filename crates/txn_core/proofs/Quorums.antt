@@ -1,12 +1,11 @@
 -- What is decided is decided on quorums.
-use Rattle.txn_core.proofs.Vocabulary.{◌≡◌, ℕ, zero, suc, ◌+◌, Bool, true, false, cond, inl, inr, List, [], ◌∷◌, Option, Some, None, Ok, Err, refl, sym, ap, subst, ◌∙◌, arith, ◌==◌, ◌&&◌, ◌||◌, length, map, filter, nat_lt, ◌*◌, nat_cmp}
-use Rattle.txn_core.proofs.Vocabulary.{is_at, unsigned_tied, eqb-true, false≢true, nat_tests, same_Some, Configuration, is_write_quorum, Content, Prefix, Answer, LockMode, Exclusive, Request, Reply, Verdict, Lack, is_prepared, Change, Hold}
-use Rattle.txn_core.proofs.Vocabulary.{Know, Told, Said, newest, holds, told_since, all_told, tell, tell_at, mode_of, Next, Ask, Current, Short, next, Cache, ReadPoint, GatheredSuite, Suites, suite_of, with_suite, settled, first_or}
-use Rattle.txn_core.proofs.Vocabulary.{source_of, is_changed, gets_votes, sets_votes, change_of, Response, Cause, Ending, Job, Replied, Lacked, Lost, Undecided, Transaction, Sweep, Changes, Granted, Fixed, Task, Proposal, Phase, Gathering}
-use Rattle.txn_core.proofs.Vocabulary.{Fetching, Widening, Preparing, Deciding, Finishing, TransactionRun, SweepRun, Doing, Running, RunningSweep, After, GoesOn, Ends, Step, Gathered, tell_end, give_up, prepare, locked_at, short_cause}
-use Rattle.txn_core.proofs.Vocabulary.{gather_by, widen_by, widen_one, widened, widen_all, to_widen, votes_then, votes_after, opened, or_all, open_needed, open_suite, open_first, opened_with, free_content, heard_on, raised_or_new}
-use Rattle.txn_core.proofs.Vocabulary.{keep_content, heard_of, said_to, proceed, execute, collected, hear, fetched, prepared, after_lack, after_response, changes_of, given_in, verdict_in, ending_by, cause_of_abort, lack_cause, Agent, Event}
-use Rattle.txn_core.proofs.Vocabulary.{Take, Forget, next_of, take_in, take, begin, started, forget, is_idle, has_sense, max_jobs, after_all, newest_of, IsReady, DecidesOnQuorums, Outcome as Executed}
+use Rattle.txn_core.proofs.Vocabulary.{◌≡◌, ℕ, zero, suc, ◌+◌, Bool, true, false, cond, List, [], ◌∷◌, Option, Some, None, Ok, Err, refl, sym, ap, subst, ◌∙◌, arith, ◌==◌, ◌&&◌, ◌||◌, nat_lt, ◌*◌, eqb-true, false≢true, same_Some, Configuration}
+use Rattle.txn_core.proofs.Vocabulary.{Content, Prefix, Answer, LockMode, Request, Reply, Verdict, Lack, Change, Hold, Know, Told, Said, told_since, all_told, tell, tell_at, mode_of, Next, Ask, Current, Short, next, Cache, ReadPoint, GatheredSuite}
+use Rattle.txn_core.proofs.Vocabulary.{Suites, suite_of, with_suite, settled, sets_votes, change_of, Response, Cause, Ending, Job, Replied, Lacked, Lost, Undecided, Transaction, Sweep, Changes, Granted, Fixed, Task, Proposal, Phase, Gathering}
+use Rattle.txn_core.proofs.Vocabulary.{Fetching, Widening, Preparing, Deciding, Finishing, TransactionRun, SweepRun, Doing, Running, RunningSweep, After, Step, Gathered, tell_end, give_up, prepare, locked_at, short_cause, gather_by, widen_by}
+use Rattle.txn_core.proofs.Vocabulary.{widen_one, widened, widen_all, to_widen, votes_then, votes_after, opened, or_all, open_needed, open_suite, open_first, opened_with, free_content, heard_on, raised_or_new, keep_content, heard_of, said_to}
+use Rattle.txn_core.proofs.Vocabulary.{proceed, execute, collected, hear, fetched, prepared, after_lack, after_response, changes_of, given_in, lack_cause, Agent, Event, Take, Forget, next_of, take_in, take, begin, started, forget, is_idle, has_sense}
+use Rattle.txn_core.proofs.Vocabulary.{max_jobs, after_all, IsReady, DecidesOnQuorums, Outcome as Executed}
 use Rattle.rep_core.specs.declared.reply.Verdict.TheVariants as verdict
 use Rattle.file_exec.specs.declared.executor.Outcome.TheVariants as exec
 use Rattle.suite_collect.specs.Collecting as collecting
@@ -14,28 +13,25 @@ use Rattle.txn_core.specs.Sweeps as sweep
 use Rattle.txn_core.specs.Agents as agents
 use Rattle.txn_core.proofs.Setting.{changed_held, changed_keeps}
 use Rattle.txn_core.proofs.ToldLists.{all_told-tell}
-use Rattle.txn_core.proofs.SuiteQuorums.{Enough, or_true, enough_more, since_least, tell_since, tell_narrow, tell_mode, EnoughWith, current_of, Grown, Sound, sound_grown, sound_content}
+use Rattle.txn_core.proofs.SuiteQuorums.{or_true, enough_more, tell_since, tell_narrow, tell_mode, Grown, Sound, sound_grown, sound_content}
 use Rattle.txn_core.proofs.SuiteQuorums.{sound_settled, Each, each_with, IsNarrow, Settled, But, Wide, among, Ready, IsWidened, InWidening, PhaseReady, LeftReady, self}
 
 -- ---- the widenings
 
 ready_end : (task : Task) (cache : Cache) (suites : Suites) (v : Verdict) (ending : Ending) (servers : List ℕ) → LeftReady (tell_end task cache suites v ending servers).after
-ready_end task cache suites v ending [] = tt
-ready_end task cache suites v ending (server ∷ servers) = tt
+ready_end task cache suites v ending servers = search arith
 
 ready_give_up : (task : Task) (cache : Cache) (suites : Suites) (cause : Cause) → LeftReady (give_up task cache suites cause).after
 ready_give_up task cache suites cause = ready_end task cache suites verdict.Aborted (Undecided cause) (locked_at suites)
 
 ready_prepare : (task : Task) (cache : Cache) (suites : Suites) (outcome : Proposal) (left : List ℕ) → Each (Ready (changes_of outcome) []) suites → LeftReady (prepare task cache suites outcome left).after
-ready_prepare task cache suites outcome [] each = each
-ready_prepare task cache suites outcome (server ∷ servers) each = each
+ready_prepare task cache suites outcome left h5 = search arith
 
 sound_widened : (changes : Changes) (number : ℕ) (suite : GatheredSuite) → Sound suite → Sound (widened changes number suite)
 sound_widened changes number suite sound = record { first = sound.first; was = sound.was; since = sound.since; mode = sound.mode; quorum = sound.quorum }
 
 wide_current : (changes : Changes) (number : ℕ) (suite : GatheredSuite) (prefix : Prefix) (dver : ℕ) (members : List ℕ) → IsWidened changes number suite → next suite.collector ≡ Current prefix dver members → Wide changes number suite
-wide_current changes number suite prefix dver members wide is =
-    subst (λ (votes : Configuration). Enough Exclusive votes (all_told suite.collector)) wide.votes (subst (EnoughWith suite.collector) wide.is (current_of suite.collector prefix dver members is).0)
+wide_current changes number suite prefix dver members wide is = search arith
 
 -- another suite has no less to do
 less_to_do : (changes : Changes) (now : ℕ) (left : List ℕ) (number : ℕ) (suite : GatheredSuite) → (now == number) ≡ false → Ready changes (now ∷ left) number suite → Ready changes left number suite
@@ -48,11 +44,8 @@ ready_widen_by : (task : Task) (cache : Cache) (suites : Suites) (left : List �
     → Ready granted.changes (number ∷ left) number suite → IsWidened granted.changes number suite → Each (Ready granted.changes (number ∷ left)) suites
     → ((suites : Suites) → Each (Ready granted.changes left) suites → LeftReady (go_on suites).after)
     → LeftReady (widen_by task cache (with_suite number suite suites) (Widening (number ∷ left) granted) number after go_on).after
-ready_widen_by task cache suites left granted number suite (Current prefix dver members) go_on is ready wide each more =
-    more (with_suite number suite suites) (each_with (Ready granted.changes (number ∷ left)) (Ready granted.changes left) suites number suite (less_to_do granted.changes number left)
-    (ready.0, ready.1, λ _ _. wide_current granted.changes number suite prefix dver members wide is, ready.3) each)
-ready_widen_by task cache suites left granted number suite (Ask server asked) go_on is ready wide each more =
-    each_with (Ready granted.changes (number ∷ left)) (InWidening granted.changes number left) suites number suite (still_ready granted.changes number left) (ready, λ _. wide) each
+ready_widen_by task cache suites left granted number suite (Current prefix dver members) go_on is ready wide each more = search (each_with, less_to_do, wide_current, arith)
+ready_widen_by task cache suites left granted number suite (Ask server asked) go_on is ready wide each more = search (each_with, still_ready, arith)
 ready_widen_by task cache suites left granted number suite (Short had wanting busy) go_on is ready wide each more = ready_give_up task cache (with_suite number suite suites) (short_cause number had wanting busy)
 
 ready_widen_one : (task : Task) (cache : Cache) (suites : Suites) (left : List ℕ) (granted : Granted) (number : ℕ) (found : Option GatheredSuite) (go_on : Suites → Step) → suite_of suites number ≡ found
@@ -81,21 +74,7 @@ ready_widen task cache suites granted (number ∷ left) each =
 -- a suite that gets votes is to be widened
 to_do : (changes : Changes) (number : ℕ) → sets_votes changes number ≡ true → among (to_widen changes) number ≡ true
 to_do [] number sets' = cc
-to_do (e ∷ changes) number sets' = of (to_do changes number) (is_at (nat_cmp number) e.0) refl sets'
-  where
-    later : (b : Bool) → among (to_widen changes) number ≡ true → among (map (λ one. one.0) (cond b (e ∷ filter (λ one. one.1.votes) changes) (filter (λ one. one.1.votes) changes))) number ≡ true
-    later true is = or_true (e.0 == number) is
-    later false is = is
-
-    here : (number == e.0) ≡ true → e.1.votes ≡ true → among (to_widen (e ∷ changes)) number ≡ true
-    here same votes =
-        subst (λ b. among (map (λ one. one.0) (cond b (e ∷ filter (λ one. one.1.votes) changes) (filter (λ one. one.1.votes) changes))) number ≡ true)
-        (sym votes) (ap (λ b. b || among (to_widen changes) number) (ap (λ n. e.0 == n) (eqb-true number e.0 same) ∙ self e.0))
-
-    of : (sets_votes changes number ≡ true → among (to_widen changes) number ≡ true) → (b : Bool) → is_at (nat_cmp number) e.0 ≡ b → gets_votes (cond b (Some e.1) (change_of changes number)) ≡ true
-        → among (to_widen (e ∷ changes)) number ≡ true
-    of again true at votes = here (sym (unsigned_tied number e.0) ∙ at) votes
-    of again false _ is = later e.1.votes (again is)
+to_do (e ∷ changes) number sets' = search (among, or_true, eqb-true, self, to_do changes number, arith)
 
 ready_done : (fixed : Fixed) (task : Task) (suites : Suites) (answers : List Answer) (changes : Changes) → heard_on fixed task suites ≡ exec.Done answers changes → Each Settled suites → Each (Ready changes (to_widen changes)) suites
 ready_done fixed task suites answers changes is each number suite there =
@@ -144,8 +123,7 @@ settled_opened (suc n) fixed task all each = of (heard_on fixed task all.suites)
     of heard later = or' (open_needed task all heard) (needed' heard) later
 
 ready_gather : (task : Task) (cache : Cache) (suites : Suites) (number : ℕ) (after : Next) → Each (But number) suites → LeftReady (gather_by task cache suites number after).after
-ready_gather task cache suites number (Short had wanting busy) each = ready_give_up task cache suites (short_cause number had wanting busy)
-ready_gather task cache suites number _ each = each
+ready_gather task cache suites number after h5 = search (ready_give_up, arith)
 
 -- a suite that is gathered now
 but_here : (number : ℕ) (suite : GatheredSuite) → Grown suite → IsNarrow suite → But number number suite
@@ -168,9 +146,7 @@ ready_proceed fixed task cache suites (exec.Refused refusal) is each = ready_pre
     (λ number suite there. ((each number suite there).0, λ changed'. cc, λ _ sets'. cc, λ change first is. cc))
 
 ready_execute : (fixed : Fixed) (task : Task) (all : Gathered) → Each Settled all.suites → LeftReady (execute fixed task all).after
-ready_execute fixed task all each =
-    let open' = opened (length all.suites) fixed task all in
-    ready_proceed fixed task open'.cache open'.suites (heard_on fixed task open'.suites) refl (settled_opened (length all.suites) fixed task all each)
+ready_execute fixed task all each = search (ready_proceed, settled_opened, arith)
 
 -- ---- a reply to a collector
 
@@ -201,17 +177,7 @@ ready_heard fixed task cache suites number (Some suite) server asked said there 
 
 -- something told of a widening
 sound_told : (suite : GatheredSuite) (w : collecting.Widening) (one : Told) → suite.collector.widening ≡ Some w → Sound suite → Sound (record suite { collector = tell one suite.collector })
-sound_told suite w one is sound = record {
-  first = sound.first;
-  was = sound.was;
-  since = tell_since sound.first.prefix one suite.collector sound.since;
-  mode = sound.mode ∙ sym (tell_mode one suite.collector);
-  quorum = subst (λ (prefix : Prefix). Enough suite.mode prefix.votes (all_told (tell one suite.collector))) (sym same)
-      (subst (λ told. Enough suite.mode (newest_of suite).votes told) (sym (all_told-tell one suite.collector)) (enough_more suite.mode (newest_of suite).votes one (all_told suite.collector) sound.quorum));
-}
-  where
-    same : newest_of (record suite { collector = tell one suite.collector }) ≡ newest_of suite
-    same = ap (λ w. let c = tell_at w one suite.collector in newest c.start c.told) is
+sound_told suite w one is sound = search (tell_since, tell_mode, all_told-tell, enough_more, arith)
 
 widened_told : (changes : Changes) (number : ℕ) (suite : GatheredSuite) (one : Told) → Sound suite → IsWidened changes number suite → IsWidened changes number (record suite { collector = tell one suite.collector })
 widened_told changes number suite one sound wide = record {
@@ -221,37 +187,19 @@ widened_told changes number suite one sound wide = record {
 }
   where
     of : (change : Option Change) (first : Option ReadPoint) (a b : Configuration) → first ≡ Some sound.first → votes_then change first a ≡ votes_then change first b
-    of (Some change) first a b is = refl
-    of None (Some first) a b is = refl
-    of None None a b is = cc
+    of change first a b h4 = search arith
 
 ready_told : (changes : Changes) (now : ℕ) (left : List ℕ) (suite : GatheredSuite) (one : Told) → InWidening changes now left now suite → InWidening changes now left now (record suite { collector = tell one suite.collector })
-ready_told changes now left suite one was =
-    let wide = was.1 (self now) in
-    ((sound_told suite wide.widening one wide.is was.0.0, was.0.1, λ not' sets'. absurd (false≢true (sym not' ∙ ap (λ b. b || among left now) (self now))), was.0.3), λ _. widened_told changes now suite one was.0.0 wide)
+ready_told changes now left suite one was = search (self, sound_told, false≢true, among, widened_told, arith)
 
 -- a Current again
 sound_again : (suite : GatheredSuite) (prefix : Prefix) (dver : ℕ) (members : List ℕ) → Sound suite → Sound (settled prefix dver members suite)
-sound_again suite prefix dver members sound = record {
-  first = sound.first;
-  was = ap (λ first. first_or first (record { prefix = prefix; dver = dver; source = source_of suite.collector dver members })) sound.was;
-  since = sound.since;
-  mode = refl;
-  quorum = subst (λ (mode : LockMode). Enough mode (newest_of suite).votes (all_told suite.collector)) sound.mode sound.quorum;
-}
+sound_again suite prefix dver members sound = search arith
 
 ready_again : (changes : Changes) (now : ℕ) (left : List ℕ) (suite : GatheredSuite) (prefix : Prefix) (dver : ℕ) (members : List ℕ) → InWidening changes now left now suite → next suite.collector ≡ Current prefix dver members
     → Ready changes left now (settled prefix dver members suite)
 unfolding sound_again
-ready_again changes now left suite prefix dver members was is =
-    let sound = was.0.0 in
-    let again = sound_again suite prefix dver members sound in
-    let wide = wide_current changes now suite prefix dver members (was.1 (self now)) is in (
-      again,
-      λ changed'. sym sound.mode ∙ was.0.1 changed',
-      λ _ _. subst (λ first. Enough Exclusive (votes_then (change_of changes now) first suite.collector.start.votes) (all_told suite.collector)) (sound.was ∙ sym again.was) wide,
-      λ change first told is. was.0.3 change first told (sound.was ∙ sym again.was ∙ is),
-    )
+ready_again changes now left suite prefix dver members was is = search arith
 
 ready_widened : (task : Task) (cache : Cache) (suites : Suites) (number : ℕ) (left : List ℕ) (granted : Granted) (found : Option GatheredSuite) (server : ℕ) (asked : Request) (said : Reply) → suite_of suites number ≡ found
     → Each (InWidening granted.changes number left) suites
@@ -295,11 +243,7 @@ ready_lack task cache suites _ server lacked = ready_give_up task cache suites (
 
 ready_prepared : (task : Task) (cache : Cache) (suites : Suites) (outcome : Proposal) (server : ℕ) (left : List ℕ) (said : Reply) → Each (Ready (changes_of outcome) []) suites
     → LeftReady (prepared task cache suites outcome server left said).after
-ready_prepared task cache suites outcome server left said each =
-    elim (is_prepared said) as (λ b. LeftReady (cond b (prepare task cache suites outcome left) (give_up task cache suites (Lost server))).after) [
-      | true ↦ ready_prepare task cache suites outcome left each
-      | false ↦ ready_give_up task cache suites (Lost server)
-    ]
+ready_prepared task cache suites outcome server left said each = search (ready_prepare, ready_give_up, arith)
 
 ready_response : (fixed : Fixed) (task : Task) (cache : Cache) (suites : Suites) (phase : Phase) (server : ℕ) (asked : Request) (response : Response) → PhaseReady suites phase
     → LeftReady (after_response fixed (record { task = task; suites = suites; phase = phase }) cache server asked response).after
@@ -310,8 +254,7 @@ ready_response fixed task cache suites (Widening [] granted) server asked (Repli
 ready_response fixed task cache suites (Widening (number ∷ left) granted) server asked (Replied said) ready = ready_widened task cache suites number left granted (suite_of suites number) server asked said refl ready
 ready_response fixed task cache suites (Preparing [] outcome) server asked (Replied said) ready = ready_give_up task cache suites (Lost server)
 ready_response fixed task cache suites (Preparing (now ∷ left) outcome) server asked (Replied said) ready = ready_prepared task cache suites outcome server left said ready
-ready_response fixed task cache suites (Deciding outcome) server asked (Replied said) ready =
-    ready_end task cache suites (verdict_in said verdict.Aborted) (ending_by (verdict_in said verdict.Aborted) (cause_of_abort said)) (locked_at suites)
+ready_response fixed task cache suites (Deciding outcome) server asked (Replied said) ready = search (ready_end, arith)
 ready_response fixed task cache suites (Finishing [] v ending) server asked (Replied said) ready = tt
 ready_response fixed task cache suites (Finishing (now ∷ left) v ending) server asked (Replied said) ready = ready_end task cache suites v ending left
 
@@ -323,12 +266,10 @@ DoingReady (Some (RunningSweep sweep_run)) = Unit {0}
 DoingReady None = Unit {0}
 
 left_ready : (after : After TransactionRun) → LeftReady after → DoingReady (agents.left Running after)
-left_ready (GoesOn txn_run) ready = ready
-left_ready (Ends ending) ready = tt
+left_ready after h1 = search arith
 
 round_ready : (after : After SweepRun) → DoingReady (agents.left RunningSweep after)
-round_ready (GoesOn sweep_run) = tt
-round_ready (Ends ending) = tt
+round_ready after = search arith
 
 take_ready : (fixed : Fixed) (agent : Agent) (response : Response) (doing : Option Doing) (asked : Option (ℕ × Request)) → DoingReady agent.doing → agent.doing ≡ doing → DoingReady (take_in fixed agent response doing asked).agent.doing
 take_ready fixed agent response (Some (Running running)) (Some asked) ready was =
@@ -352,8 +293,7 @@ begin_ready fixed agent job idle =
     ]
   where
     at : (doing : Option Doing) → is_idle doing ≡ true → DoingReady doing
-    at None idle = tt
-    at (Some doing) idle = cc
+    at doing h1 = search arith
 
     of : (job : Job) → DoingReady (started fixed agent job).doing
     of (Transaction caller site ops) =
@@ -363,50 +303,10 @@ begin_ready fixed agent job idle =
 -- ---- the law
 
 is_ready : (changes : Changes) (number : ℕ) (suite : GatheredSuite) → Ready changes [] number suite → IsReady suite number changes
-is_ready changes number suite ready = record {
-  first = sound.first;
-  was = sound.was;
-  not_older = since_least sound.first.prefix (newest_of suite) sound.since;
-  quorum = sound.quorum;
-  before = before;
-  after = λ changed' fine. of (sets_votes changes number) refl changed' fine;
-}
-  where
-    sound : Sound suite
-    sound = ready.0
-
-    quorum_is : (votes : Configuration) → Enough Exclusive votes (all_told suite.collector) → is_write_quorum votes (λ server. holds Exclusive (all_told suite.collector) server) ≡ true
-    quorum_is votes enough = grind (arith, nat_tests)
-
-    before : is_changed changes number ≡ true → is_write_quorum (newest_of suite).votes (λ server. holds Exclusive (all_told suite.collector) server) ≡ true
-    before changed' = quorum_is (newest_of suite).votes (subst (λ (mode : LockMode). Enough mode (newest_of suite).votes (all_told suite.collector)) (ready.1 changed') sound.quorum)
-
-    kept : sets_votes changes number ≡ false → votes_after changes number suite ≡ sound.first.prefix.votes
-    kept none = by (change_of changes number) refl
-      where
-        by : (change : Option Change) → change_of changes number ≡ change → votes_after changes number suite ≡ sound.first.prefix.votes
-        by (Some change) is =
-            ap (λ change. votes_then change suite.first suite.collector.start.votes) is ∙ ready.3 change sound.first is sound.was (sym (ap gets_votes is) ∙ none)
-        by None is =
-            ap (λ change. votes_then change suite.first suite.collector.start.votes) is ∙ ap (λ first. votes_then None first suite.collector.start.votes) sound.was
-
-    same_prefix : ((newest_of suite).pver == sound.first.prefix.pver) ≡ true → newest_of suite ≡ sound.first.prefix
-    same_prefix same = elim sound.since [
-      | inl is ↦ is
-      | inr less ↦ let at = eqb-true (newest_of suite).pver sound.first.prefix.pver same in absurd (omega (arith, less, at))
-    ]
-
-    of : (b : Bool) → sets_votes changes number ≡ b → is_changed changes number ≡ true → (b || ((newest_of suite).pver == sound.first.prefix.pver)) ≡ true
-        → is_write_quorum (votes_after changes number suite) (λ server. holds Exclusive (all_told suite.collector) server) ≡ true
-    of true sets' changed' fine = quorum_is (votes_after changes number suite) (ready.2 refl sets')
-    of false none changed' same =
-        subst (λ (votes : Configuration). is_write_quorum votes (λ server. holds Exclusive (all_told suite.collector) server) ≡ true)
-        (ap (λ (prefix : Prefix). prefix.votes) (same_prefix same) ∙ sym (kept none)) (before changed')
+is_ready changes number suite ready = search arith
 
 ready_in : (suites : Suites) (phase : Phase) (outcome : Proposal) → phase ≡ Deciding outcome → PhaseReady suites phase → Each (Ready (changes_of outcome) []) suites
 ready_in suites phase outcome is ready = subst (PhaseReady suites) is ready
 
 pub decides_on_quorums : DecidesOnQuorums
-decides_on_quorums fixed agent job events course' outcome number suite idle is deciding there =
-    is_ready (changes_of outcome) number suite
-    (ready_in course'.suites course'.phase outcome deciding (subst DoingReady is (all_ready fixed (begin fixed agent job) events (begin_ready fixed agent job idle))) number suite there)
+decides_on_quorums fixed agent job events course' outcome number suite idle is deciding there = search (is_ready, ready_in, all_ready, begin_ready, arith)

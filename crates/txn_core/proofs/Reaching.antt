@@ -1,18 +1,16 @@
 -- How far a transaction came, as its suites and its phase go on.
-use Rattle.txn_core.proofs.Vocabulary.{◌≡◌, ℕ, Bool, true, false, cond, List, [], ◌∷◌, Option, Some, None, Ok, Err, refl, sym, ap, subst, ◌∙◌, is_some, option_map, MatchOption, IsSomeAnd, nat_cmp, false≢true, none-some, same_Some}
-use Rattle.txn_core.proofs.Vocabulary.{IsOrdered, Content, Said, Told, Reply, Verdict, Request, is_prepared, Limited, Cache, Service, Hold, Know, MoreKnown, Knowledge, opened_suite, Reached, IsReached, unbegun, takes, Cause, Ending, Lost}
-use Rattle.txn_core.proofs.Vocabulary.{Undecided, Replied, Plan, Fetched, NextPhase, Fixed, Task, Granted, Proposal, Phase, Gathering, Fetching, Widening, Preparing, Deciding, Finishing, TransactionRun, After, GoesOn, Ends, ReadPoint}
-use Rattle.txn_core.proofs.Vocabulary.{GatheredSuite, Suites, suite_of, with_suite, known_row, known_of, settled, Gathered, Step, decided, short_cause, verdict_in, ending_by, cause_of_abort, raised_or_new, tell_end, give_up, locked_at}
-use Rattle.txn_core.proofs.Vocabulary.{prepare, gather_by, to_widen, widened, widen_by, widen_one, widen_all, collected, hear, heard_of, said_to, after_reply, is_idle, Reaches, doing_of, heard_next, heard_one, heard, FallsShort, GoesBy}
-use Rattle.txn_core.proofs.Vocabulary.{changed_at, settled_with, with_content, learned_suites, adds, goes_on, Learned, On, Ended, PendingQuorum, IsReachedIn, IsReachedOn, IsReachedAt, IsReachedBy, IsReachedIf, IsReachedUnless, kept_after}
-use Rattle.txn_core.proofs.Vocabulary.{gather_again, follow, Becomes, taken, takes_in, new_unless, new_for, raised_at, with_asked_at, with_asked, opened_all, carried_out, shelved, IsPlanOf, Outcome as Executed, Flow as Going}
+use Rattle.txn_core.proofs.Vocabulary.{◌≡◌, ℕ, Bool, true, false, cond, List, [], ◌∷◌, Option, Some, None, Ok, Err, refl, sym, ap, subst, ◌∙◌, option_map, MatchOption, IsSomeAnd, nat_cmp, false≢true, none-some, same_Some, arith, IsOrdered, Content}
+use Rattle.txn_core.proofs.Vocabulary.{Reply, Verdict, Request, is_prepared, Limited, Cache, Service, MoreKnown, Knowledge, opened_suite, Reached, IsReached, unbegun, takes, Cause, Ending, Lost, Undecided, Replied, Plan, Fetched, NextPhase, Fixed}
+use Rattle.txn_core.proofs.Vocabulary.{Task, Granted, Proposal, Phase, Gathering, Fetching, Widening, Preparing, Deciding, Finishing, TransactionRun, After, GoesOn, Ends, ReadPoint, GatheredSuite, Suites, suite_of, with_suite, known_row, known_of}
+use Rattle.txn_core.proofs.Vocabulary.{Gathered, Step, decided, verdict_in, ending_by, cause_of_abort, tell_end, give_up, locked_at, prepare, to_widen, widened, widen_by, widen_one, widen_all, heard_of, after_reply, is_idle, Reaches, doing_of, heard}
+use Rattle.txn_core.proofs.Vocabulary.{FallsShort, GoesBy, changed_at, settled_with, with_content, learned_suites, adds, goes_on, Learned, PendingQuorum, IsReachedIn, IsReachedOn, IsReachedAt, IsReachedBy, IsReachedIf, IsReachedUnless, kept_after}
+use Rattle.txn_core.proofs.Vocabulary.{gather_again, follow, taken, takes_in, new_for, with_asked, opened_all, carried_out, shelved, IsPlanOf, Outcome as Executed, Flow as Going}
 use Rattle.file_exec.proofs.Reaching.{unbegun_is_reached, reached_stays, taking_tells_more}
 use Rattle.txn_core.specs.declared.next_phase.NextPhase.TheVariants.{Gather, Fetch, Grant, Refuse}
 use Rattle.txn_core.specs.declared.learned.Learned.TheVariants.{Nothing, Quorum, Content as Given}
-use Rattle.suite_collect.specs.Collecting.{told_by, mode_of, raise, Next, Current, Ask, Short, next, tell}
+use Rattle.suite_collect.specs.Collecting.{Next, Short, next}
 use Rattle.txn_core.specs.declared.agent.Doing.{Doing as Coded}
 use Rattle.rep_core.specs.declared.reply.Verdict.TheVariants as verdict
-use Rattle.file_exec.specs.declared.executor.Outcome.TheVariants as exec
 use Rattle.file_exec.specs.Known as exec_known
 use Rattle.txn_core.specs.code.Hearing as hearing
 use Rattle.txn_core.specs.declared.agent.Doing.TheVariants as coded
@@ -32,17 +30,14 @@ reached_in service task less more reached is_more is = reached_stays service (kn
 
 -- it may be executed again, or will not be
 pub reached_at : (phase : Phase) (T : Type 0) → T → IsReachedAt phase T
-reached_at (Gathering number) T is = is
-reached_at (Fetching number) T is = is
-reached_at _ T is = tt
+reached_at phase h1 h2 = search arith
 
 pub unbegun_by : (service : Service) (txn_run : TransactionRun) (reached : Reached) → reached ≡ unbegun → IsReachedBy service txn_run reached
 unbegun_by service txn_run reached is = reached_at txn_run.phase (IsReachedIn service txn_run.task txn_run.suites reached) (unbegun_in service txn_run.task txn_run.suites reached is)
 
 -- whether it goes on or not, with what is kept
 pub reached_after : (service : Service) (txn_run : TransactionRun) (flow : Going) (reached : Reached) → IsReachedUnless flow service txn_run reached → IsReachedBy service txn_run (kept_after flow reached)
-reached_after service txn_run (Ended ending) reached is = unbegun_by service txn_run unbegun refl
-reached_after service txn_run On reached is = is
+reached_after service txn_run flow reached h4 = search arith
 
 -- ---- by the steps of a transaction's run
 
@@ -52,15 +47,13 @@ module _ (service : Service) (reached : Reached) where
   Goes (Ends ending) = Unit {0}
 
   pub goes_end : (task : Task) (cache : Cache) (suites : Suites) (v : Verdict) (ending : Ending) (servers : List ℕ) → Goes (tell_end task cache suites v ending servers).after
-  goes_end task cache suites v ending [] = tt
-  goes_end task cache suites v ending (server ∷ servers) = tt
+  goes_end task cache suites v ending servers = search arith
 
   pub goes_up : (task : Task) (cache : Cache) (suites : Suites) (cause : Cause) → Goes (give_up task cache suites cause).after
   goes_up task cache suites cause = goes_end task cache suites verdict.Aborted (Undecided cause) (locked_at suites)
 
   pub goes_prepare : (task : Task) (cache : Cache) (suites : Suites) (outcome : Proposal) (servers : List ℕ) → Goes (prepare task cache suites outcome servers).after
-  goes_prepare task cache suites outcome [] = tt
-  goes_prepare task cache suites outcome (server ∷ servers) = tt
+  goes_prepare task cache suites outcome servers = search arith
 
   pub goes_widen : (task : Task) (cache : Cache) (suites : Suites) (granted : Granted) (left : List ℕ) → Goes (widen_all task cache suites granted left).after
   goes_widen task cache suites granted [] = goes_prepare task cache suites (Ok granted) (locked_at suites)
@@ -68,9 +61,7 @@ module _ (service : Service) (reached : Reached) where
     where
       by : ((suites : Suites) → Goes (widen_all task cache suites granted left).after) → (now : Suites) (what : Next)
           → Goes (widen_by task cache now (Widening (number ∷ left) granted) number what (λ suites. widen_all task cache suites granted left)).after
-      by rest now (Current prefix dver members) = rest now
-      by rest now (Ask server asked) = tt
-      by rest now (Short got needed busy) = goes_up task cache now (short_cause number got needed busy)
+      by h0 now what = search (goes_up, arith)
 
       of : ((suites : Suites) → Goes (widen_all task cache suites granted left).after) → (found : Option GatheredSuite)
           → Goes (widen_one task cache suites (Widening (number ∷ left) granted) granted.changes number found (λ suites. widen_all task cache suites granted left)).after
@@ -78,12 +69,7 @@ module _ (service : Service) (reached : Reached) where
       of rest None = rest suites
 
   pub goes_gather : (task : Task) (cache : Cache) (suites : Suites) (number : ℕ) (found : Option GatheredSuite) → IsReachedIn service task suites reached → Goes (gather_again task cache suites number found).after
-  goes_gather task cache suites number (Some suite) is = of (next suite.collector)
-    where
-      of : (what : Next) → Goes (gather_by task cache suites number what).after
-      of (Short got needed busy) = goes_up task cache suites (short_cause number got needed busy)
-      of (Ask server asked) = is
-      of (Current prefix dver members) = is
+  goes_gather task cache suites number (Some suite) is = search (goes_up, arith)
   goes_gather task cache suites number None is = is
 
   pub goes_follow : (task : Task) (cache : Cache) (suites : Suites) (next_phase : NextPhase) → IsReachedIn service task suites reached → Goes (follow task cache suites next_phase).after
@@ -100,21 +86,10 @@ module _ (service : Service) (reached : Reached) where
 
   goes_heard : (task : Task) (cache : Cache) (suites : Suites) (number : ℕ) (left : List ℕ) (granted : Granted) (found : Option GatheredSuite) (server : ℕ) (asked : Request) (said : Reply)
       → Goes (heard_of task cache suites (Widening (number ∷ left) granted) number found server asked said (λ suites. widen_all task cache suites granted left)).after
-  goes_heard task cache suites number left granted None server asked said = goes_up task cache suites (Lost server)
-  goes_heard task cache suites number left granted (Some suite) server asked said = of (said_to asked said)
-    where
-      by : (after : GatheredSuite) (what : Next) → Goes (collected task cache suites (Widening (number ∷ left) granted) number after what (λ suite. widen_all task cache (with_suite number suite suites) granted left)).after
-      by after (Ask server asked) = tt
-      by after (Short got needed busy) = goes_up task cache (with_suite number after suites) (short_cause number got needed busy)
-      by after (Current prefix dver members) = goes_widen task cache (with_suite number (settled prefix dver members after) suites) granted left
-
-      of : (heard : Option Said) → Goes (hear task cache suites (Widening (number ∷ left) granted) number suite server asked heard (λ suite. widen_all task cache (with_suite number suite suites) granted left)).after
-      of (Some said) = let after : GatheredSuite = record suite { collector = tell (record { server = server; mode = mode_of asked; said = said }) suite.collector } in by after (next after.collector)
-      of None = goes_up task cache suites (Lost server)
+  goes_heard task cache suites number left granted found server asked said = grind (goes_up, goes_widen, arith)
 
   goes_prepared : (task : Task) (cache : Cache) (suites : Suites) (outcome : Proposal) (server : ℕ) (left : List ℕ) (b : Bool) → Goes (cond b (prepare task cache suites outcome left) (give_up task cache suites (Lost server))).after
-  goes_prepared task cache suites outcome server left true = goes_prepare task cache suites outcome left
-  goes_prepared task cache suites outcome server left false = goes_up task cache suites (Lost server)
+  goes_prepared task cache suites outcome server left b = search (goes_prepare, goes_up, arith)
 
   pub goes_decided : (task : Task) (cache : Cache) (suites : Suites) (said : Reply) → Goes (decided task cache suites said).after
   goes_decided task cache suites said = goes_end task cache suites (verdict_in said verdict.Aborted) (ending_by (verdict_in said verdict.Aborted) (cause_of_abort said)) (locked_at suites)
@@ -132,24 +107,11 @@ module _ (service : Service) (reached : Reached) where
 
   goes_taken : (fixed : Fixed) (txn_run : TransactionRun) (cache : Cache) (asked : Option (ℕ × Request)) (said : Reply) → IsLate txn_run.phase → Goes (taken fixed txn_run cache asked (Replied said)).after
   goes_taken fixed txn_run cache (Some asked) said late = goes_reply fixed txn_run.task cache txn_run.suites txn_run.phase asked.0 asked.1 said late
-  goes_taken fixed txn_run cache None said late = stays txn_run.phase late
-    where
-      stays : (phase : Phase) → IsLate phase → IsReachedAt phase (IsReachedIn service txn_run.task txn_run.suites reached)
-      stays (Gathering number) late = absurd late
-      stays (Fetching number) late = absurd late
-      stays (Widening left granted) late = tt
-      stays (Preparing left outcome) late = tt
-      stays (Deciding outcome) late = tt
-      stays (Finishing left verdict ending) late = tt
+  goes_taken fixed txn_run cache None said late = search arith
 
   -- so it is where the step is done, unless there is an ending
   pub goes_unless : (step : Step) (flow : Going) (txn_run : TransactionRun) (cache : Cache) → Goes step.after → GoesBy step flow txn_run cache → IsReachedUnless flow service txn_run reached
-  goes_unless step (Ended ending) txn_run cache reaches steps = tt
-  goes_unless step On txn_run cache reaches steps = of step.after reaches steps.1
-    where
-      of : (after : After TransactionRun) → Goes after → Becomes after None txn_run → IsReachedBy service txn_run reached
-      of (GoesOn more) reaches becomes = subst (λ txn_run. IsReachedBy service txn_run reached) (sym becomes.1) reaches
-      of (Ends how) reaches becomes = absurd (none-some how becomes)
+  goes_unless step flow txn_run cache h4 h5 = search arith
 
   pub follows_unless : (task : Task) (suites : Suites) (next_phase : NextPhase) (flow : Going) (txn_run : TransactionRun) → IsReachedIn service task suites reached
       → ((cache : Cache) → GoesBy (follow task cache suites next_phase) flow txn_run cache)
@@ -168,49 +130,17 @@ module _ (service : Service) (reached : Reached) where
 
 -- a suite that asks on, or of which nobody is left to ask, was told something
 pub asks_on : (suite new : GatheredSuite) (said : Reply) → heard suite said ≡ hearing.Asks new → new ≡ record suite { collector = new.collector }
-asks_on suite new said = of (told_by (next suite.collector) said)
-  where
-    at : (after : GatheredSuite) (what : Next) → after ≡ record suite { collector = after.collector } → heard_next after what ≡ hearing.Asks new → new ≡ record suite { collector = new.collector }
-    at after (Ask server asked) same is = let it : after ≡ new = cc in subst (λ new. new ≡ record suite { collector = new.collector }) it same
-    at after (Current prefix dver members) same is = cc
-    at after (Short got needed busy) same is = cc
-
-    of : (one : Option Told) → heard_one suite one ≡ hearing.Asks new → new ≡ record suite { collector = new.collector }
-    of (Some one) is = let after : GatheredSuite = record suite { collector = tell one suite.collector } in at after (next after.collector) refl is
-    of None is = cc
+asks_on suite new said = search arith
 
 pub falls_short : (suite new : GatheredSuite) (said : Reply) (got needed : ℕ) (busy : Option (ℕ × ℕ)) → heard suite said ≡ hearing.Short new got needed busy → new ≡ record suite { collector = new.collector }
-falls_short suite new said got needed busy = of (told_by (next suite.collector) said)
-  where
-    at : (after : GatheredSuite) (what : Next) → after ≡ record suite { collector = after.collector } → heard_next after what ≡ hearing.Short new got needed busy → new ≡ record suite { collector = new.collector }
-    at after (Ask server asked) same is = cc
-    at after (Current prefix dver members) same is = cc
-    at after (Short had wanting first) same is = let it : after ≡ new = cc in subst (λ new. new ≡ record suite { collector = new.collector }) it same
-
-    of : (one : Option Told) → heard_one suite one ≡ hearing.Short new got needed busy → new ≡ record suite { collector = new.collector }
-    of (Some one) is = let after : GatheredSuite = record suite { collector = tell one suite.collector } in at after (next after.collector) refl is
-    of None is = cc
+falls_short suite new said got needed busy = search arith
 
 -- ---- by a plan
 
 -- a suite that is asked for has no quorum yet, and of one that is raised what it gave stays
 asked_more : (fixed : Fixed) (task : Task) (all more : Gathered) → Keeps all more → IsOrdered nat_cmp all.suites → (outcome : Executed) (new : Option GatheredSuite) → new ≡ new_for fixed task all outcome
     → MoreKnown (known_of more.suites) (known_of (with_asked outcome new more.suites))
-asked_more fixed task all more keeps ordered (exec.Need (Hold number mode)) new is =
-    subst (λ new. MoreKnown (known_of more.suites) (known_of (with_asked_at number new more.suites))) (sym is)
-    (of (suite_of all.suites number) (suite_of more.suites number) refl (keeps.there number))
-  where
-    of : (before after : Option GatheredSuite) → suite_of more.suites number ≡ after → is_some after ≡ is_some before
-        → MoreKnown (known_of more.suites) (known_of (with_asked_at number (new_unless fixed task all.cache number mode before) more.suites))
-    of None None at there = more_known more.suites number (raised_or_new fixed task all.cache number mode None) (keeps.ordered ordered) (λ before found. absurd (none-some before (sym at ∙ found)))
-    of (Some before) (Some after) at there =
-        let raised : GatheredSuite = record after { collector = raise after.collector } in
-        subst (λ found. MoreKnown (known_of more.suites) (known_of (raised_at number found more.suites))) (sym at)
-        (more_known more.suites number raised (keeps.ordered ordered) (λ before found. collects before raised (ap (λ (suite : GatheredSuite). record suite { collector = raised.collector }) (same_Some after before (sym at ∙ found)))))
-    of None (Some after) at there = absurd (false≢true (sym there))
-    of (Some before) None at there = absurd (false≢true there)
-asked_more fixed task all more keeps ordered (exec.Need (Know number)) new is = no_less (known_of more.suites)
-asked_more fixed task all more keeps ordered _ new is = no_less (known_of more.suites)
+asked_more fixed task all more h4 h5 outcome new h8 = search (more_known, none-some, collects, same_Some, false≢true, no_less, arith)
 
 -- where it was planned with the cache as it would be, and then carried out
 pub reached_carried : (service : Service) (reached : Reached) (fixed : Fixed) (task : Task) (before put : Limited) (suites room after : Suites) (seen fetched : Option Fetched) (plan : Plan)
@@ -273,8 +203,7 @@ module _ (service : Service) (reached : Reached) where
       had suite None there was may given = cc
 
       of : (found : Option GatheredSuite) → suite_of suites number ≡ found → takes_in found content ≡ true → now ≡ changed_at (with_content content) number found suites → IsReachedIn service task now reached
-      of (Some suite) there may given = had suite suite.first there refl may given
-      of None there may given = cc
+      of found h1 h2 h3 = search (had, arith)
 
 -- something was learned by which more is known
 pub reached_learned : (service : Service) (reached : Reached) (task : Task) (suites : Suites) (just_learned : Learned) → IsOrdered nat_cmp suites → adds just_learned suites ≡ true
@@ -282,8 +211,7 @@ pub reached_learned : (service : Service) (reached : Reached) (task : Task) (sui
 reached_learned service reached task suites Nothing ordered may is = is
 reached_learned service reached task suites (Quorum number pending) ordered may is =
     reached_settled service reached task suites number pending ordered (λ suite there. settles pending suite (sym (ap goes_on there) ∙ may)) is
-reached_learned service reached task suites (Given fetched) ordered may is =
-    reached_given service reached task suites (learned_suites (Given fetched) suites) fetched.suite fetched.content ordered may refl is
+reached_learned service reached task suites (Given fetched) ordered may is = search (reached_given, arith)
 
 -- ---- by an execution
 
@@ -310,12 +238,8 @@ reached_from known service suites task reached is in' = subst (λ known. IsReach
 pub reaches_begun : {P : TransactionRun → Coded → Type 0} (service : Service) (reached : Reached) (begun : Option TransactionRun) (doing : Option Coded)
     → MatchOption begun (doing ≡ None) (λ txn_run. IsSomeAnd doing (P txn_run)) → ((txn_run : TransactionRun) (doing : Coded) → P txn_run doing → doing ≡ coded.Running txn_run)
     → IsReachedIf begun service reached → Reaches doing service reached
-reaches_begun service reached (Some txn_run) (Some doing) cases is reaches = subst (λ doing. Reaches (Some doing) service reached) (sym (is txn_run doing cases)) reaches
-reaches_begun service reached (Some txn_run) None cases is reaches = absurd cases
-reaches_begun service reached None doing cases is reaches = subst (λ doing. Reaches doing service reached) (sym cases) tt
+reaches_begun service reached begun doing h4 h5 h6 = search arith
 
 -- nothing is carried out
 pub reaches_idle : (service : Service) (reached : Reached) (doing : Option Coded) → is_idle (option_map doing_of doing) ≡ true → Reaches doing service reached
-reaches_idle service reached None idle = tt
-reaches_idle service reached (Some (coded.Running txn_run)) idle = cc
-reaches_idle service reached (Some (coded.RunningSweep sweep_run)) idle = tt
+reaches_idle service reached doing h3 = search arith

@@ -1,10 +1,9 @@
 -- Each server that holds a lock prepares before a decision is asked for.
-use Rattle.txn_core.proofs.Vocabulary.{◌≡◌, ℕ, zero, suc, ◌+◌, Bool, true, false, cond, List, [], ◌∷◌, ◌++◌, Option, Some, None, refl, sym, ap, subst, ◌∙◌, arith, ◌==◌, ◌&&◌, ◌||◌, filter, nat_lt, ◌*◌, list_any, nat_cmp, is_at, eqb-true}
-use Rattle.txn_core.proofs.Vocabulary.{false≢true, same_Some, nat_tests, Shared, Request, Verdict, Exchange, exchange_of, exchanges, of_job, is_prepare, says_prepared, was_prepared, AllPrepareFirst, Agent, Event, Take, Forget, next_in}
-use Rattle.txn_core.proofs.Vocabulary.{next_of, take_in, take, begin, started, forget, is_idle, has_sense, max_jobs, after_all, is_prepared, holds, Cache, Suites, suite_of, holds_lock, told_at, told_in, Response, Cause, Ending, Job}
-use Rattle.txn_core.proofs.Vocabulary.{Replied, Lacked, Lost, Undecided, Transaction, Sweep, Fixed, Task, Proposal, Phase, Gathering, Fetching, Widening, Preparing, Deciding, Finishing, TransactionRun, Sweeping, Listing, Resolving, Telling}
-use Rattle.txn_core.proofs.Vocabulary.{Breaking, SweepRun, Doing, Running, RunningSweep, After, GoesOn, Ends, tell_end, give_up, prepare, locked_at, after_response, request_in, changes_of, verdict_in, ending_by, cause_of_abort, lack_cause}
-use Rattle.txn_core.proofs.Vocabulary.{parts_at, Decision, is_decide, numbers_from, has_locks, ◌≤◌, ◌<◌, max_servers}
+use Rattle.txn_core.proofs.Vocabulary.{◌≡◌, ℕ, zero, suc, ◌+◌, Bool, true, false, cond, List, [], ◌∷◌, ◌++◌, Option, Some, None, refl, sym, ap, subst, ◌∙◌, arith, ◌==◌, ◌&&◌, ◌||◌, filter, nat_lt, ◌*◌, list_any, nat_cmp, is_at, eqb-true, false≢true}
+use Rattle.txn_core.proofs.Vocabulary.{same_Some, nat_tests, Shared, Request, Verdict, Exchange, exchange_of, exchanges, of_job, is_prepare, says_prepared, was_prepared, AllPrepareFirst, Agent, Event, Take, Forget, next_in, next_of, take_in, take}
+use Rattle.txn_core.proofs.Vocabulary.{begin, started, forget, is_idle, has_sense, max_jobs, after_all, is_prepared, holds, Cache, Suites, suite_of, holds_lock, told_at, told_in, Response, Cause, Ending, Job, Replied, Lacked, Lost, Undecided}
+use Rattle.txn_core.proofs.Vocabulary.{Transaction, Sweep, Fixed, Task, Proposal, Phase, Gathering, Fetching, Widening, Preparing, Deciding, Finishing, TransactionRun, SweepRun, Doing, Running, RunningSweep, After, GoesOn, Ends, tell_end, give_up}
+use Rattle.txn_core.proofs.Vocabulary.{prepare, locked_at, after_response, request_in, changes_of, lack_cause, parts_at, Decision, is_decide, numbers_from, has_locks, ◌≤◌, ◌<◌, max_servers}
 use Rattle.rep_core.specs.declared.request.Request.TheVariants as request
 use Rattle.txn_core.specs.Agents as agents
 use Rattle.txn_core.specs.Sweeps as sweep
@@ -20,26 +19,11 @@ abbrev among : List ℕ → ℕ → Bool
 among servers server = list_any (λ one. one == server) servers
 
 or_true : (a : Bool) {b : Bool} → b ≡ true → (a || b) ≡ true
-or_true true is = refl
-or_true false is = is
+or_true a h1 = search arith
 
 among_numbers : (p : ℕ → Bool) (count start server : ℕ) → start ≤ server → server < start + count → p server ≡ true → among (filter p (numbers_from start count)) server ≡ true
 among_numbers p zero start server low high is = absurd (omega (arith, low, high))
-among_numbers p (suc count) start server low high is =
-    elim (start == server) as (λ b. (start == server) ≡ b → among (cond (p start) (start ∷ filter p (numbers_from (start + 1) count)) (filter p (numbers_from (start + 1) count))) server ≡ true) [
-      | true ↦ λ same. subst (λ b. among (cond b (start ∷ filter p (numbers_from (start + 1) count)) (filter p (numbers_from (start + 1) count))) server ≡ true) (sym (ap p (eqb-true start server same) ∙ is)) (or_same same)
-      | false ↦ λ other. later (p start) (among_numbers p count (start + 1) server (above other) (omega (arith, high)) is)
-    ] refl
-  where
-    or_same : (start == server) ≡ true → ((start == server) || among (filter p (numbers_from (start + 1) count)) server) ≡ true
-    or_same same = ap (λ b. b || among (filter p (numbers_from (start + 1) count)) server) same
-
-    above : (start == server) ≡ false → start + 1 ≤ server
-    above other = grind (arith, nat_tests)
-
-    later : (b : Bool) → among (filter p (numbers_from (start + 1) count)) server ≡ true → among (cond b (start ∷ filter p (numbers_from (start + 1) count)) (filter p (numbers_from (start + 1) count))) server ≡ true
-    later true is = or_true (start == server) is
-    later false is = is
+among_numbers p (suc count) start server low high is = search (eqb-true, nat_tests, or_true, among_numbers p count (start + 1) server, arith)
 
 among_locked : (suites : Suites) (server : ℕ) → nat_lt server max_servers ≡ true → has_locks suites server ≡ true → among (locked_at suites) server ≡ true
 among_locked suites server few is = among_numbers (has_locks suites) max_servers 0 server (omega arith) (grind (arith, nat_tests)) is
@@ -59,24 +43,19 @@ LeftReady done (GoesOn txn_run) = PhaseReady done txn_run.suites txn_run.phase
 LeftReady done (Ends ending) = Unit {0}
 
 ready_end : (done : ℕ → Bool) (task : Task) (cache : Cache) (suites : Suites) (v : Verdict) (ending : Ending) (servers : List ℕ) → LeftReady done (tell_end task cache suites v ending servers).after
-ready_end done task cache suites v ending [] = tt
-ready_end done task cache suites v ending (server ∷ servers) = tt
+ready_end done task cache suites v ending servers = search arith
 
 ready_give_up : (done : ℕ → Bool) (task : Task) (cache : Cache) (suites : Suites) (cause : Cause) → LeftReady done (give_up task cache suites cause).after
 ready_give_up done task cache suites cause = ready_end done task cache suites verdict.Aborted (Undecided cause) (locked_at suites)
 
 ready_prepare : (done : ℕ → Bool) (task : Task) (cache : Cache) (suites : Suites) (outcome : Proposal) (left : List ℕ) → Ready done suites left → LeftReady done (prepare task cache suites outcome left).after
-ready_prepare done task cache suites outcome [] ready = ready
-ready_prepare done task cache suites outcome (server ∷ servers) ready = ready
+ready_prepare done task cache suites outcome left h6 = search arith
 
 ready_all : (done : ℕ → Bool) (task : Task) (cache : Cache) (suites : Suites) (outcome : Proposal) → LeftReady done (prepare task cache suites outcome (locked_at suites)).after
 ready_all done task cache suites outcome = ready_prepare done task cache suites outcome (locked_at suites) (λ server few has. ap (λ b. b || done server) (among_locked suites server few has))
 
 ready_early : (done : ℕ → Bool) (task : Task) (suites : Suites) (phase : Phase) → IsEarly phase → LeftReady done (GoesOn (record { task = task; suites = suites; phase = phase }))
-ready_early done task suites (Preparing left outcome) is = absurd is
-ready_early done task suites (Deciding outcome) is = absurd is
-ready_early done task suites (Finishing servers v ending) is = absurd is
-ready_early done task suites _ is = tt
+ready_early done task suites phase h4 = search arith
 
 -- ---- one response
 
@@ -101,9 +80,7 @@ ready_response done fixed task cache suites _ server asked (Lacked lacked) ready
 ready_response done fixed task cache suites (Preparing [] outcome) server asked (Replied said) ready is = cc
 ready_response done fixed task cache suites (Preparing (now ∷ left) outcome) server asked (Replied said) ready is =
     elim (is_prepared said) as (λ b. is_prepared said ≡ b → LeftReady (plus done server asked (Replied said)) (cond b (prepare task cache suites outcome left) (give_up task cache suites (Lost server))).after) [
-      | true ↦ λ prepared'. ready_prepare (plus done server asked (Replied said)) task cache suites outcome left (λ who few has.
-          joined (now == who) (among left who) (done who) (adds server asked (Replied said) who) (ready who few has) (λ same.
-          ap (λ b. b && is_prepare asked && is_prepared said) (ap (λ server. server == who) (sym at) ∙ same) ∙ ap (λ asked. is_prepare asked && is_prepared said) (sym what) ∙ prepared'))
+      | true ↦ λ prepared'. search (ready_prepare, joined, what, arith)
       | false ↦ λ _. ready_give_up (plus done server asked (Replied said)) task cache suites (Lost server)
     ] refl
   where
@@ -114,14 +91,8 @@ ready_response done fixed task cache suites (Preparing (now ∷ left) outcome) s
     what = asks_same now server (request.Prepare task.t (parts_at suites (changes_of outcome) now)) asked is
 
     joined : (a b c d : Bool) → ((a || b) || c) ≡ true → (a ≡ true → d ≡ true) → (b || (c || d)) ≡ true
-    joined true true c d ready is = refl
-    joined true false true d ready is = refl
-    joined true false false d ready is = is refl
-    joined false true c d ready is = refl
-    joined false false true d ready is = refl
-    joined false false false d ready is = cc
-ready_response done fixed task cache suites (Deciding outcome) server asked (Replied said) ready is =
-    ready_end _ task cache suites (verdict_in said verdict.Aborted) (ending_by (verdict_in said verdict.Aborted) (cause_of_abort said)) (locked_at suites)
+    joined a b c d h4 h5 = search arith
+ready_response done fixed task cache suites (Deciding outcome) server asked (Replied said) ready is = search (ready_end, arith)
 ready_response done fixed task cache suites (Finishing [] v ending) server asked (Replied said) ready is = cc
 ready_response done fixed task cache suites (Finishing (now ∷ left) v ending) server asked (Replied said) ready is = ready_end _ task cache suites v ending left
 
@@ -133,25 +104,16 @@ DoingReady done (Some (RunningSweep sweep_run)) = Unit {0}
 DoingReady done None = Unit {0}
 
 left_ready : (done : ℕ → Bool) (after : After TransactionRun) → LeftReady done after → DoingReady done (agents.left Running after)
-left_ready done (GoesOn txn_run) ready = ready
-left_ready done (Ends ending) ready = tt
+left_ready done after h2 = search arith
 
 round_ready : (done : ℕ → Bool) (after : After SweepRun) → DoingReady done (agents.left RunningSweep after)
-round_ready done (GoesOn sweep_run) = tt
-round_ready done (Ends ending) = tt
+round_ready done after = search arith
 
 abbrev plus_all : (ℕ → Bool) → List Exchange → ℕ → Bool
 plus_all done past who = done who || was_prepared past who
 
-phase_same : (done other : ℕ → Bool) (suites : Suites) (phase : Phase) → ((who : ℕ) → done who ≡ other who) → PhaseReady done suites phase → PhaseReady other suites phase
-phase_same done other suites (Preparing left outcome) same ready = λ who few has. ap (λ b. among left who || b) (sym (same who)) ∙ ready who few has
-phase_same done other suites (Deciding outcome) same ready = λ who few has. sym (same who) ∙ ready who few has
-phase_same done other suites _ same ready = tt
-
 same_ready : (done other : ℕ → Bool) (doing : Option Doing) → ((who : ℕ) → done who ≡ other who) → DoingReady done doing → DoingReady other doing
-same_ready done other (Some (Running txn_run)) same ready = phase_same done other txn_run.suites txn_run.phase same ready
-same_ready done other (Some (RunningSweep sweep_run)) same ready = tt
-same_ready done other None same ready = tt
+same_ready done other doing h3 h4 = search arith
 
 take_ready : (done : ℕ → Bool) (fixed : Fixed) (agent : Agent) (response : Response) (doing : Option Doing) (asked : Option (ℕ × Request)) → agent.doing ≡ doing → next_in fixed doing ≡ asked → DoingReady done doing
     → DoingReady (plus_all done (exchange_of asked response)) (take_in fixed agent response doing asked).agent.doing
@@ -166,11 +128,7 @@ take_ready done fixed agent response None None was is ready = subst (DoingReady 
 
 prepared-append : (past later : List Exchange) (who : ℕ) → was_prepared (past ++ later) who ≡ (was_prepared past who || was_prepared later who)
 prepared-append [] later who = refl
-prepared-append (one ∷ past) later who = of ((one.server == who) && is_prepare one.request && says_prepared one.response) _ _ _ (prepared-append past later who)
-  where
-    of : (a b c d : Bool) → b ≡ (c || d) → (a || b) ≡ ((a || c) || d)
-    of true b c d is = refl
-    of false b c d is = is
+prepared-append (one ∷ past) later who = search (prepared-append past later who, arith)
 
 all_ready : (done : ℕ → Bool) (fixed : Fixed) (agent : Agent) (events : List Event) → DoingReady done agent.doing → DoingReady (plus_all done (exchanges fixed agent events)) (after_all fixed agent events).doing
 all_ready done fixed agent [] ready = same_ready done (plus_all done []) agent.doing (λ who. sym (or_false (done who))) ready
@@ -193,8 +151,7 @@ begin_ready fixed agent job idle =
     ]
   where
     at : (doing : Option Doing) → is_idle doing ≡ true → DoingReady nobody doing
-    at None idle = tt
-    at (Some doing) idle = cc
+    at doing h1 = search arith
 
     of : (job : Job) → DoingReady nobody (started fixed agent job).doing
     of (Transaction caller site ops) = let task : Task = record { t = 64 * agent.count + agent.index; caller = caller; site = site; ops = ops } in
@@ -219,29 +176,7 @@ no_decide a b t asked decision other is = absurd (false≢true (sym other ∙ ap
 decide_ready : (held : ℕ → ℕ → Bool) (done : ℕ → Bool) (fixed : Fixed) (doing : Option Doing) (home t number server : ℕ) (decision : Decision) → locks.Keeps held doing
     → DoingReady done doing → next_in fixed doing ≡ Some (home, request.Decide t decision)
     → nat_lt server max_servers ≡ true → held number server ≡ true → done server ≡ true
-decide_ready held done fixed None home t number server decision keeps ready is few has = cc
-decide_ready held done fixed (Some (RunningSweep sweep_run)) home t number server decision keeps ready is few has = of sweep_run.now is
-  where
-    of : (now : Sweeping) → ◌≡◌ {A = Option (ℕ × Request)} (Some (sweep.asked_now fixed.service sweep_run now)) (Some (home, request.Decide t decision)) → done server ≡ true
-    of Listing is = no_decide _ home t request.Locks decision refl is
-    of (Resolving other left) is = no_decide _ home t (request.Resolve other) decision refl is
-    of (Telling other v left) is = no_decide _ home t (request.Finish other v) decision refl is
-    of (Breaking lock left) is = no_decide _ home t (request.Break lock.t lock.suite) decision refl is
-decide_ready held done fixed (Some (Running txn_run)) home t number server decision keeps ready is few has = of txn_run.phase ready is
-  where
-    by_false : (asked : Request) → is_decide asked ≡ false → (at : ℕ) → ◌≡◌ {A = Option (ℕ × Request)} (Some (at, asked)) (Some (home, request.Decide t decision)) → done server ≡ true
-    by_false asked other at is = no_decide at home t asked decision other is
-
-    of : (phase : Phase) → PhaseReady done txn_run.suites phase → request_in fixed txn_run.task txn_run.suites phase ≡ Some (home, request.Decide t decision) → done server ≡ true
-    of (Gathering who) ready is = absurd (false≢true (sym (asked_as is_decide false txn_run.task who (suite_of txn_run.suites who) home (request.Decide t decision) (λ mode. refl) refl is)))
-    of (Fetching who) ready is = absurd (false≢true (sym (fetched_as is_decide false txn_run.task who (suite_of txn_run.suites who) home (request.Decide t decision) refl is)))
-    of (Widening [] granted) ready is = cc
-    of (Widening (who ∷ left) granted) ready is = absurd (false≢true (sym (asked_as is_decide false txn_run.task who (suite_of txn_run.suites who) home (request.Decide t decision) (λ mode. refl) refl is)))
-    of (Preparing [] outcome) ready is = cc
-    of (Preparing (now ∷ left) outcome) ready is = by_false (request.Prepare txn_run.task.t (parts_at txn_run.suites (changes_of outcome) now)) refl now is
-    of (Deciding outcome) ready is = ready server few (has_one txn_run.suites number server (keeps.1 number server ∙ has))
-    of (Finishing [] v ending) ready is = cc
-    of (Finishing (now ∷ left) v ending) ready is = by_false (request.Finish txn_run.task.t v) refl now is
+decide_ready held done fixed doing home t number server decision h9 h10 h11 h12 h13 = search (no_decide, false≢true, asked_as, fetched_as, has_one, arith)
 
 pub all_prepare_first : AllPrepareFirst
 all_prepare_first fixed agent job events home t server suite decision idle is few has =

@@ -1,12 +1,8 @@
 -- What comes of a reply, phase by phase.
-use Rattle.txn_core.proofs.Vocabulary.{◌≡◌, ℕ, true, List, ◌∷◌, Option, Some, None, refl, sym, ap, ◌∙◌, subst, option_map, same_Some, Request, Reply, Verdict, Asked, Next, Ask, next, request_for, Cache, Replied, Fixed, Task, Granted}
-use Rattle.txn_core.proofs.Vocabulary.{Proposal, Phase, Gathering, Widening, Preparing, Deciding, Finishing, TransactionRun, GoesOn, home_of, GoesBy, IsWidenedFrom, ending_of, held, held_from, ShowsUnused, asks_in, heard, heard_at}
-use Rattle.txn_core.proofs.Vocabulary.{on_hearing, FitsAsked, taken, GatheredSuite, Suites, suite_of, with_suite, Step, decided, decision_of, execute, widen_all, asked_by, asked_for, request_in, request_of, heard_of, after_reply}
-use Rattle.txn_core.proofs.Vocabulary.{changes_of, prepared, tell_end, shows_unused, parts_at, Ending, Flow}
+use Rattle.txn_core.proofs.Vocabulary.{◌≡◌, ℕ, true, List, ◌∷◌, Option, Some, None, refl, sym, ap, ◌∙◌, subst, option_map, Request, Reply, Verdict, Asked, Next, Ask, next, Cache, Replied, Fixed, Task, Granted, arith, Proposal, Phase, Gathering}
+use Rattle.txn_core.proofs.Vocabulary.{Widening, Preparing, Deciding, Finishing, TransactionRun, GoesOn, GoesBy, IsWidenedFrom, ending_of, held, held_from, ShowsUnused, asks_in, heard, on_hearing, FitsAsked, taken, GatheredSuite, Suites, suite_of}
+use Rattle.txn_core.proofs.Vocabulary.{with_suite, Step, decided, execute, widen_all, asked_by, asked_for, request_in, request_of, prepared, tell_end, shows_unused, Ending, Flow}
 use Rattle.txn_core.specs.code.Goings.{widened as widens}
-use Rattle.rep_core.specs.declared.request.Request.TheVariants as request
-use Rattle.txn_core.proofs.Heard.{hears}
-use Rattle.txn_core.proofs.Unused.{fits_shows_unused}
 
 abbrev pub server_of : Option (ℕ × Request) → Option ℕ
 server_of asked = option_map (λ (asked : ℕ × Request). asked.0) asked
@@ -24,81 +20,43 @@ pub record Asks (task : Task) (suites : Suites) (number server : ℕ) : Type 0 w
 
 asks_by : (task : Task) (suites : Suites) (number server : ℕ) (suite : GatheredSuite) (n : Next) → suite_of suites number ≡ Some suite → next suite.collector ≡ n
     → server_of (asked_by task number n) ≡ Some server → Asks task suites number server
-asks_by task suites number server suite (Ask at what) there is asked = record {
-  suite = suite;
-  asked = what;
-  there = there;
-  asks = is ∙ ap (λ s. Ask s what) (same_Some at server asked);
-}
-asks_by task suites number server suite _ there is asked = cc
+asks_by task suites number server suite n h6 h7 h8 = search arith
 
 asks_at : (task : Task) (suites : Suites) (number server : ℕ) (found : Option GatheredSuite) → suite_of suites number ≡ found → server_of (asked_for task number found) ≡ Some server → Asks task suites number server
-asks_at task suites number server None there asked = cc
-asks_at task suites number server (Some suite) there asked = asks_by task suites number server suite (next suite.collector) there refl asked
+asks_at task suites number server found h5 h6 = search arith
 
 pub asks_of : (task : Task) (suites : Suites) (number server : ℕ) → server_of (asked_for task number (suite_of suites number)) ≡ Some server → Asks task suites number server
 asks_of task suites number server asked = asks_at task suites number server (suite_of suites number) refl asked
 
 module _ (fixed : Fixed) (txn_run : TransactionRun) (cache : Cache) (number server : ℕ) (said : Reply) where
-  -- the reply to what it asks
-  heard_so : (phase : Phase) (go_on : Suites → Step) (a : Asks txn_run.task txn_run.suites number server)
-      → heard_of txn_run.task cache txn_run.suites phase number (suite_of txn_run.suites number) server (request_for txn_run.task.t number a.asked) said go_on
-      ≡ on_hearing txn_run.task cache txn_run.suites phase number server (heard a.suite said) (λ suite. go_on (with_suite number suite txn_run.suites))
-  heard_so phase go_on a =
-      ap (λ found. heard_of txn_run.task cache txn_run.suites phase number found server (request_for txn_run.task.t number a.asked) said go_on) a.there
-      ∙ hears txn_run.task cache txn_run.suites phase number a.suite server (λ suite. go_on (with_suite number suite txn_run.suites)) a.asked said a.asks
-
-  asked_so : (a : Asks txn_run.task txn_run.suites number server) → asked_for txn_run.task number (suite_of txn_run.suites number) ≡ Some (server, request_for txn_run.task.t number a.asked)
-  asked_so a = ap (λ found. asked_for txn_run.task number found) a.there ∙ ap (λ n. asked_by txn_run.task number n) a.asks
-
-  abbrev reply_in : Request → Phase → Step
-  reply_in request phase = after_reply fixed txn_run.task cache txn_run.suites phase server request said
-
-  taken_so : (phase : Phase) (a : Asks txn_run.task txn_run.suites number server) → txn_run.phase ≡ phase → request_in fixed txn_run.task txn_run.suites phase ≡ asked_for txn_run.task number (suite_of txn_run.suites number)
-      → taken fixed txn_run cache (request_of fixed txn_run) (Replied said) ≡ reply_in (request_for txn_run.task.t number a.asked) phase
-  taken_so phase a is same =
-      ap (λ asked. taken fixed txn_run cache asked (Replied said)) (ap (request_in fixed txn_run.task txn_run.suites) is ∙ same ∙ asked_so a)
-      ∙ ap (reply_in (request_for txn_run.task.t number a.asked)) is
 
   -- a suite is gathered
   pub gathered : (a : Asks txn_run.task txn_run.suites number server) → txn_run.phase ≡ Gathering number
       → taken fixed txn_run cache (request_of fixed txn_run) (Replied said)
       ≡ on_hearing txn_run.task cache txn_run.suites txn_run.phase number server (heard a.suite said) (λ suite. execute fixed txn_run.task (record { suites = with_suite number suite txn_run.suites; cache = cache }))
-  gathered a is =
-      taken_so (Gathering number) a is refl
-      ∙ heard_so (Gathering number) (λ suites. execute fixed txn_run.task (record { suites = suites; cache = cache })) a
-      ∙ ap (λ phase. on_hearing txn_run.task cache txn_run.suites phase number server (heard a.suite said) (λ suite. execute fixed txn_run.task (record { suites = with_suite number suite txn_run.suites; cache = cache }))) (sym is)
+  gathered a is = search arith
 
   -- a suite is widened
   pub widened : (a : Asks txn_run.task txn_run.suites number server) (left : List ℕ) (granted : Granted) → txn_run.phase ≡ Widening (number ∷ left) granted
       → taken fixed txn_run cache (request_of fixed txn_run) (Replied said)
       ≡ on_hearing txn_run.task cache txn_run.suites txn_run.phase number server (heard a.suite said) (λ suite. widen_all txn_run.task cache (with_suite number suite txn_run.suites) granted left)
-  widened a left granted is =
-      taken_so (Widening (number ∷ left) granted) a is refl
-      ∙ heard_so (Widening (number ∷ left) granted) (λ suites. widen_all txn_run.task cache suites granted left) a
-      ∙ ap (λ phase. on_hearing txn_run.task cache txn_run.suites phase number server (heard a.suite said) (λ suite. widen_all txn_run.task cache (with_suite number suite txn_run.suites) granted left)) (sym is)
+  widened a left granted is = search arith
 
 -- ---- as the code goes about them
 
 -- the home decides
 pub replied_decided : (fixed : Fixed) (txn_run : TransactionRun) (cache : Cache) (said : Reply) (outcome : Proposal) → txn_run.phase ≡ Deciding outcome
     → taken fixed txn_run cache (request_of fixed txn_run) (Replied said) ≡ decided txn_run.task cache txn_run.suites said
-replied_decided fixed txn_run cache said outcome is =
-    ap (λ asked. taken fixed txn_run cache asked (Replied said)) (ap (request_in fixed txn_run.task txn_run.suites) is)
-    ∙ ap (λ phase. after_reply fixed txn_run.task cache txn_run.suites phase (home_of fixed.service txn_run.task.t) (request.Decide txn_run.task.t (decision_of txn_run.task outcome)) said) is
+replied_decided fixed txn_run cache said outcome is = search arith
 
 -- a server prepared, and a server was told the end
 pub replied_prepared : (fixed : Fixed) (txn_run : TransactionRun) (cache : Cache) (said : Reply) (server : ℕ) (left : List ℕ) (outcome : Proposal) → txn_run.phase ≡ Preparing (server ∷ left) outcome
     → taken fixed txn_run cache (request_of fixed txn_run) (Replied said) ≡ prepared txn_run.task cache txn_run.suites outcome server left said
-replied_prepared fixed txn_run cache said server left outcome is =
-    ap (λ asked. taken fixed txn_run cache asked (Replied said)) (ap (request_in fixed txn_run.task txn_run.suites) is)
-    ∙ ap (λ phase. after_reply fixed txn_run.task cache txn_run.suites phase server (request.Prepare txn_run.task.t (parts_at txn_run.suites (changes_of outcome) server)) said) is
+replied_prepared fixed txn_run cache said server left outcome is = search arith
 
 pub replied_told : (fixed : Fixed) (txn_run : TransactionRun) (cache : Cache) (said : Reply) (server : ℕ) (left : List ℕ) (verdict : Verdict) (ending : Ending) → txn_run.phase ≡ Finishing (server ∷ left) verdict ending
     → taken fixed txn_run cache (request_of fixed txn_run) (Replied said) ≡ tell_end txn_run.task cache txn_run.suites verdict ending left
-replied_told fixed txn_run cache said server left verdict ending is =
-    ap (λ asked. taken fixed txn_run cache asked (Replied said)) (ap (request_in fixed txn_run.task txn_run.suites) is)
-    ∙ ap (λ phase. after_reply fixed txn_run.task cache txn_run.suites phase server (request.Finish txn_run.task.t verdict) said) is
+replied_told fixed txn_run cache said server left verdict ending is = search arith
 
 module _ (fixed : Fixed) (txn_run : TransactionRun) (cache : Cache) (server : ℕ) (said : Reply) (asked : server_of (request_of fixed txn_run) ≡ Some server) where
   asked_in_phase : (phase : Phase) → txn_run.phase ≡ phase → server_of (request_in fixed txn_run.task txn_run.suites phase) ≡ Some server
@@ -113,46 +71,29 @@ module _ (fixed : Fixed) (txn_run : TransactionRun) (cache : Cache) (server : �
 
   -- and what comes of a reply to them
   pub replied_held : (number : ℕ) → txn_run.phase ≡ Gathering number → taken fixed txn_run cache (request_of fixed txn_run) (Replied said) ≡ held fixed txn_run cache number server said
-  replied_held number is =
-      let a : Asks txn_run.task txn_run.suites number server = gathering number is in
-      gathered fixed txn_run cache number server said a is
-      ∙ ap (λ found. on_hearing txn_run.task cache txn_run.suites txn_run.phase number server (heard_at found said)
-      (λ suite. execute fixed txn_run.task (record { suites = with_suite number suite txn_run.suites; cache = cache }))) (sym a.there)
+  replied_held number is = search (gathering number is, gathered, arith)
 
   pub replied_widened : (number : ℕ) (left : List ℕ) (granted : Granted) → txn_run.phase ≡ Widening (number ∷ left) granted
       → taken fixed txn_run cache (request_of fixed txn_run) (Replied said) ≡ widens txn_run cache number server left granted said
-  replied_widened number left granted is =
-      let a : Asks txn_run.task txn_run.suites number server = widening number left granted is in
-      widened fixed txn_run cache number server said a left granted is
-      ∙ ap (λ found. on_hearing txn_run.task cache txn_run.suites txn_run.phase number server (heard_at found said) (λ suite. widen_all txn_run.task cache (with_suite number suite txn_run.suites) granted left)) (sym a.there)
+  replied_widened number left granted is = search (widening number left granted is, widened, arith)
 
   -- what such a reply shows is not used up
   shown_by : (number : ℕ) (a : Asks txn_run.task txn_run.suites number server) (phase : Phase) → txn_run.phase ≡ phase → request_in fixed txn_run.task txn_run.suites phase ≡ asked_for txn_run.task number (suite_of txn_run.suites number)
       → FitsAsked (request_of fixed txn_run) (Replied said) → shows_unused said ≡ true
-  shown_by number a phase is same fits =
-      let Fits : Option (ℕ × Request) → Type 0 = λ asked. FitsAsked asked (Replied said) in
-      fits_shows_unused txn_run.task.t number a.asked said (subst Fits (ap (request_in fixed txn_run.task txn_run.suites) is ∙ same ∙ asked_so fixed txn_run cache number server said a) fits)
+  shown_by number a phase is same fits = search arith
 
   pub gathering_shown : (number : ℕ) → txn_run.phase ≡ Gathering number → FitsAsked (request_of fixed txn_run) (Replied said) → shows_unused said ≡ true
   gathering_shown number is fits = shown_by number (gathering number is) (Gathering number) is refl fits
-
-  pub widening_shown : (number : ℕ) (left : List ℕ) (granted : Granted) → txn_run.phase ≡ Widening (number ∷ left) granted → FitsAsked (request_of fixed txn_run) (Replied said) → shows_unused said ≡ true
-  widening_shown number left granted is fits = shown_by number (widening number left granted is) (Widening (number ∷ left) granted) is refl fits
 
 -- ---- a suite is answered by the server that it asks; where it asks nobody, nothing comes of it
 
 module _ (fixed : Fixed) (txn_run : TransactionRun) (cache : Cache) (said : Reply) where
   pub none_taken : (asked : Option (ℕ × Request)) → server_of asked ≡ None → taken fixed txn_run cache asked (Replied said) ≡ record { cache = cache; after = GoesOn txn_run }
-  none_taken None none = refl
-  none_taken (Some asked) none = cc
+  none_taken asked h1 = search arith
 
   pub replied_where_asked : (number : ℕ) → txn_run.phase ≡ Gathering number
       → taken fixed txn_run cache (request_of fixed txn_run) (Replied said) ≡ held_from fixed txn_run cache number (asks_in txn_run number) said
-  replied_where_asked number is = of (asks_in txn_run number) (asked_at fixed txn_run (Gathering number) (asks_in txn_run number) is refl)
-    where
-      of : (found : Option ℕ) → server_of (request_of fixed txn_run) ≡ found → taken fixed txn_run cache (request_of fixed txn_run) (Replied said) ≡ held_from fixed txn_run cache number found said
-      of (Some server) asked = replied_held fixed txn_run cache server said asked number is
-      of None asked = none_taken (request_of fixed txn_run) asked
+  replied_where_asked number is = search (asked_at, replied_held, none_taken, arith)
 
   pub widened_where_asked : (number : ℕ) (left : List ℕ) (granted : Granted) (flow : Flow) (after : TransactionRun) → txn_run.phase ≡ Widening (number ∷ left) granted
       → IsWidenedFrom (asks_in txn_run number) txn_run number said flow after → GoesBy (taken fixed txn_run cache (request_of fixed txn_run) (Replied said)) flow after cache
@@ -173,5 +114,4 @@ module _ (fixed : Fixed) (txn_run : TransactionRun) (cache : Cache) (said : Repl
   gathering_shows number is fits server asks = gathering_shown fixed txn_run cache server said (asked_at fixed txn_run (Gathering number) (Some server) is (sym asks)) number is fits
 
   pub widening_shows : (number : ℕ) (left : List ℕ) (granted : Granted) → txn_run.phase ≡ Widening (number ∷ left) granted → FitsAsked (request_of fixed txn_run) (Replied said) → ShowsUnused txn_run number said
-  widening_shows number left granted is fits server asks =
-      widening_shown fixed txn_run cache server said (asked_at fixed txn_run (Widening (number ∷ left) granted) (Some server) is (sym asks)) number left granted is fits
+  widening_shows number left granted is fits server asks = search arith

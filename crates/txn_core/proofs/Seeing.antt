@@ -1,9 +1,8 @@
 -- The suites of a transaction, once something more is known, suite by suite.
-use Rattle.txn_core.proofs.Vocabulary.{◌≡◌, ◌≢◌, ◌<◌, ℕ, zero, suc, Bool, true, false, cond, [], ◌∷◌, List, length, get_or, Option, Some, None, refl, sym, ap, subst, ◌∙◌, arith, ◌==◌, is_some, option_map, nat_cmp, is_eq, keys_of}
-use Rattle.txn_core.proofs.Vocabulary.{nat_cmp_total, exact_unsigned, eqb-true, eqb-false, equal_if, IsOrdered-insert, IsOrdered, Known, Learned, ReadPoint, GatheredSuite, Suites, suite_of, known_row, known_if, IsStrictlySortedBy}
+use Rattle.txn_core.proofs.Vocabulary.{◌≡◌, ◌≢◌, ◌<◌, ℕ, zero, suc, cond, [], ◌∷◌, List, length, get_or, Option, Some, None, refl, sym, ap, subst, ◌∙◌, arith, ◌==◌, is_some, option_map, nat_cmp, keys_of, nat_cmp_total, exact_unsigned, eqb-true}
+use Rattle.txn_core.proofs.Vocabulary.{eqb-false, IsOrdered-insert, IsOrdered, Known, Learned, GatheredSuite, Suites, suite_of, known_if, IsStrictlySortedBy}
 use Rattle.sorted_map.specs.Numbers.{get_insert_here, get_insert_apart, same_maps}
-use Rattle.txn_core.specs.declared.learned.Learned.TheVariants.{Nothing, Quorum, Content as Given}
-use Rattle.txn_core.specs.code.Seeing.{told_of, settled_with, with_content, changed_at, learned_suites, view_of_suite, with_known, known_by}
+use Rattle.txn_core.specs.code.Seeing.{told_of, changed_at, learned_suites, view_of_suite, known_by}
 
 -- ---- a suite among those that are seen
 
@@ -34,13 +33,7 @@ module _ (just_learned : Learned) where
 
   told_at : (suites : Suites) (number : ℕ) → suite_of (told_all suites) number ≡ option_map (told_of just_learned number) (suite_of suites number)
   told_at [] number = refl
-  told_at (one ∷ suites) number = of (told_at suites number) (is_eq (nat_cmp number one.0)) refl
-    where
-      of : suite_of (told_all suites) number ≡ option_map (told_of just_learned number) (suite_of suites number) → (b : Bool) → is_eq (nat_cmp number one.0) ≡ b
-          → cond b (Some (told_of just_learned one.0 one.1)) (suite_of (told_all suites) number) ≡ option_map (told_of just_learned number)
-          (cond b (Some one.1) (suite_of suites number))
-      of rest true at = ap (λ n. Some (told_of just_learned n one.1)) (sym (exact_unsigned number one.0 (equal_if (nat_cmp number one.0) at)))
-      of rest false at = rest
+  told_at (one ∷ suites) number = search (exact_unsigned, told_at suites number, arith)
 
 -- ---- and what was learned, set
 
@@ -65,32 +58,17 @@ module _ (change : GatheredSuite → GatheredSuite) (place : ℕ) (suites : Suit
   changed_apart None number apart = refl
 
   unchanged : (found : Option GatheredSuite) → found ≡ option_map (λ (suite : GatheredSuite). suite) found
-  unchanged (Some suite) = refl
-  unchanged None = refl
+  unchanged found = search arith
 
   found_at : (number : ℕ) → suite_of (changed (suite_of suites place)) number ≡ option_map (changed_of number) (suite_of suites number)
-  found_at number = of (place == number) refl
-    where
-      of : (b : Bool) → (place == number) ≡ b → suite_of (changed (suite_of suites place)) number ≡ option_map (λ suite. cond b (change suite) suite) (suite_of suites number)
-      of true is =
-          let same : place ≡ number = eqb-true place number is in
-          ap (suite_of (changed (suite_of suites place))) (sym same)
-          ∙ changed_here (suite_of suites place) refl
-          ∙ ap (λ n. option_map change (suite_of suites n)) same
-      of false is =
-          changed_apart (suite_of suites place) number (λ same. eqb-false place number is (sym same))
-          ∙ unchanged (suite_of suites number)
+  found_at number = search (eqb-true, changed_here, changed_apart, eqb-false, unchanged, arith)
 
 module _ (suites : Suites) where
   pub learned_ordered : (just_learned : Learned) → IsOrdered nat_cmp suites → IsOrdered nat_cmp (learned_suites just_learned suites)
-  learned_ordered Nothing ordered = ordered
-  learned_ordered (Quorum number pending) ordered = changed_ordered (settled_with pending) number suites (suite_of suites number) ordered
-  learned_ordered (Given fetched) ordered = changed_ordered (with_content fetched.content) fetched.suite suites (suite_of suites fetched.suite) ordered
+  learned_ordered just_learned h1 = search (changed_ordered, arith)
 
   learned_at : (just_learned : Learned) (number : ℕ) → suite_of (learned_suites just_learned suites) number ≡ option_map (told_of just_learned number) (suite_of suites number)
-  learned_at Nothing number = unchanged (λ suite. suite) number suites (suite_of suites number)
-  learned_at (Quorum place pending) number = found_at (settled_with pending) place suites number
-  learned_at (Given fetched) number = found_at (with_content fetched.content) fetched.suite suites number
+  learned_at just_learned number = search (unchanged, found_at, arith)
 
   -- it is the same suite by suite
   pub told_learned : (just_learned : Learned) → IsOrdered nat_cmp suites → told_all just_learned suites ≡ learned_suites just_learned suites
@@ -105,17 +83,9 @@ module _ (suites : Suites) where
   learned_absent just_learned number is = learned_at just_learned number ∙ ap (option_map (told_of just_learned number)) is
 
   pub learned_there : (just_learned : Learned) (number : ℕ) → is_some (suite_of (learned_suites just_learned suites) number) ≡ is_some (suite_of suites number)
-  learned_there just_learned number = ap (λ found. is_some found) (learned_at just_learned number) ∙ of (suite_of suites number)
-    where
-      of : (found : Option GatheredSuite) → is_some (option_map (told_of just_learned number) found) ≡ is_some found
-      of (Some suite) = refl
-      of None = refl
+  learned_there just_learned number = search (learned_at, arith)
 
 -- ---- what is known of a suite is what is seen of it
 
 pub known_seen : (number : ℕ) (suite : GatheredSuite) (known : Known) → known_by number (view_of_suite suite) known ≡ known_if number suite suite.first known
-known_seen number suite known = of suite.first
-  where
-    of : (first : Option ReadPoint) → with_known number (option_map (known_row suite) first) known ≡ known_if number suite first known
-    of (Some first) = refl
-    of None = refl
+known_seen number suite known = search arith

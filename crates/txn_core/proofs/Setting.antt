@@ -1,6 +1,6 @@
 -- What the executor sets of the suites that were gathered.
-use Rattle.txn_core.proofs.Vocabulary.{◌≡◌, ℕ, Bool, true, false, cond, List, [], ◌∷◌, Option, Some, None, refl, sym, ap, ◌∙◌, option_map, nat_cmp, is_at, same_Some, Configuration, Content, Prefix, PrefixKind, LockMode, Shared, Exclusive}
-use Rattle.txn_core.proofs.Vocabulary.{serves, Answer, Change, ReadPoint, GatheredSuite, Suites, suite_of, row_with, known_row, known_if, known_of, Changes, Fixed, Task, change_of, is_changed, heard_on}
+use Rattle.txn_core.proofs.Vocabulary.{◌≡◌, ℕ, Bool, true, false, cond, List, [], ◌∷◌, Option, Some, refl, sym, ap, ◌∙◌, option_map, nat_cmp, is_at, same_Some, Configuration, Content, Prefix, PrefixKind, LockMode, Exclusive, arith, serves, Answer}
+use Rattle.txn_core.proofs.Vocabulary.{Change, ReadPoint, GatheredSuite, Suites, suite_of, row_with, known_row, known_if, known_of, Changes, Fixed, Task, change_of, is_changed, heard_on}
 use Rattle.file_ops.specs.Rows.{Row}
 use Rattle.file_exec.proofs.Unset.{changes_are_held, unset_votes_stay}
 use Rattle.suite_prefix.specs.declared.copies.PrefixKind.TheVariants as kind
@@ -17,18 +17,13 @@ known_at [] number suite first is was = cc
 known_at (e ∷ es) number suite first is was = of (λ is. known_at es number suite first is was) (is_at (nat_cmp number) e.0) refl is
   where
     here : (found : Option ReadPoint) → found ≡ Some first → is_at (nat_cmp number) e.0 ≡ true → known.known_of (known_if e.0 suite found (known_of es)) number ≡ Some (known_row suite first)
-    here (Some other) same at = ap (λ b. cond b (Some (known_row suite other)) (known.known_of (known_of es) number)) at ∙ ap (λ first. Some (known_row suite first)) (same_Some other first same)
-    here None same at = cc
+    here found h1 h2 = search (same_Some, arith)
 
     later : (found : Option ReadPoint) → is_at (nat_cmp number) e.0 ≡ false → KnownAt es number suite first → known.known_of (known_if e.0 e.1 found (known_of es)) number ≡ Some (known_row suite first)
-    later (Some other) at rest = ap (λ b. cond b (Some (known_row e.1 other)) (known.known_of (known_of es) number)) at ∙ rest
-    later None at rest = rest
+    later found h1 h2 = search arith
 
     of : (suite_of es number ≡ Some suite → KnownAt es number suite first) → (b : Bool) → is_at (nat_cmp number) e.0 ≡ b → cond b (Some e.1) (suite_of es number) ≡ Some suite → KnownAt (e ∷ es) number suite first
-    of again true at is =
-        let same : e.1 ≡ suite = same_Some e.1 suite is in
-        ap (λ (it : GatheredSuite). known.known_of (known_if e.0 it it.first (known_of es)) number) same ∙ here suite.first was at
-    of again false at is = later e.1.first at (again is)
+    of h0 b h2 h3 = search (same_Some, here, later, arith)
 
 -- ---- what is changed is held
 
@@ -39,14 +34,12 @@ changed_held fixed task suites answers changes number suite first is there was c
     ∙ changes_are_held fixed.service (known_of suites) task.t task.caller task.ops answers changes number is changed')
   where
     exclusive : (mode : LockMode) → serves mode Exclusive ≡ true → mode ≡ Exclusive
-    exclusive Shared is = cc
-    exclusive Exclusive is = refl
+    exclusive mode h1 = search arith
 
 -- ---- where no votes are set they stay
 
 row_votes : (kind : PrefixKind) (prefix : Prefix) (content : Option Content) (votes : Configuration) → option_map (λ (row : Row). row.votes) (row_with kind prefix content) ≡ Some votes → votes ≡ prefix.votes
-row_votes kind.Absent prefix content votes is = cc
-row_votes _ prefix content votes is = sym (same_Some prefix.votes votes is)
+row_votes kind prefix content votes h4 = search arith
 
 -- a change that sets no votes has those of the prefix that was known
 abbrev pub Keeps : Changes → ℕ → GatheredSuite → Type 0

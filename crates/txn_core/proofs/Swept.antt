@@ -1,10 +1,8 @@
 -- How many steps a sweep takes.
-use Rattle.txn_core.proofs.Vocabulary.{◌≡◌, ℕ, ◌+◌, ◌≤◌, Bool, true, false, cond, List, [], ◌∷◌, ◌++◌, Option, Some, None, refl, sym, ap, subst, arith, ◌&&◌, ◌==◌, ◌*◌, not, length, filter, nat_lt, Lock, Request, Reply, before}
-use Rattle.txn_core.proofs.Vocabulary.{has_prepared, Service, Response, Replied, Lacked, Sweep, home_of, Fixed, Sweeping, Listing, Resolving, Telling, Breaking, SweepRun, Doing, Running, RunningSweep, After, GoesOn, Ends, Agent, Event}
-use Rattle.txn_core.proofs.Vocabulary.{Take, Forget, next_in, next_of, take_in, take, begin, started, forget, is_idle, has_sense, max_jobs, Exchange, exchange_of, exchanges, listed_in, listed, SweepEndsInTime}
-use Rattle.txn_core.specs.Sweeps.{after_response, rising, others, sweep_on, lost, after_answer, asked_now}
-use Rattle.rep_core.specs.declared.request.Request.TheVariants as request
-use Rattle.rep_core.specs.declared.reply.Reply.TheVariants as reply
+use Rattle.txn_core.proofs.Vocabulary.{◌≡◌, ℕ, ◌+◌, ◌≤◌, Bool, true, List, [], ◌∷◌, ◌++◌, Option, Some, None, refl, arith, ◌*◌, not, length, filter, Lock, Request, Reply, Service, Response, Replied, Sweep, Fixed, Sweeping, Listing, Resolving}
+use Rattle.txn_core.proofs.Vocabulary.{Telling, Breaking, SweepRun, Doing, Running, RunningSweep, After, Agent, Event, Take, Forget, next_in, next_of, take_in, take, begin, forget, is_idle, Exchange, exchange_of, exchanges, listed_in, listed}
+use Rattle.txn_core.proofs.Vocabulary.{SweepEndsInTime}
+use Rattle.txn_core.specs.Sweeps.{after_response, rising, sweep_on, after_answer, asked_now}
 use Rattle.txn_core.specs.Agents as agents
 use Rattle.txn_core.proofs.Asks.{asks_same}
 
@@ -22,18 +20,11 @@ may None = 0
 
 fewer : (p : Lock → Bool) (locks : List Lock) → length (filter p locks) ≤ length locks
 fewer p [] = omega arith
-fewer p (lock ∷ locks) =
-    let rest = fewer p locks in
-    elim (p lock) as (λ b. length (cond b (lock ∷ filter p locks) (filter p locks)) ≤ length (lock ∷ locks)) [ true ↦ omega (arith, rest) | false ↦ omega (arith, rest) ]
+fewer p (lock ∷ locks) = search (fewer p locks, arith)
 
 parts : (p : Lock → Bool) (locks : List Lock) → length (filter p locks) + length (filter (λ other. not (p other)) locks) ≡ length locks
 parts p [] = omega arith
-parts p (lock ∷ locks) =
-    let rest = parts p locks in
-    elim (p lock) as (λ b. length (cond b (lock ∷ filter p locks) (filter p locks)) + length (cond (not b) (lock ∷ filter (λ other. not (p other)) locks) (filter (λ other. not (p other)) locks)) ≡ length (lock ∷ locks)) [
-      | true ↦ omega (arith, rest)
-      | false ↦ omega (arith, rest)
-    ]
+parts p (lock ∷ locks) = search (parts p locks, arith)
 
 joined : (a b : List Lock) → length (a ++ b) ≡ length a + length b
 joined [] b = omega arith
@@ -41,20 +32,10 @@ joined (lock ∷ a) b = let rest = joined a b in omega (arith, rest)
 
 as_many : (locks : List Lock) → length (rising locks) ≡ length locks
 as_many [] = refl
-as_many (lock ∷ locks) =
-    let rest = as_many locks in
-    let here = joined (filter (λ other. before other lock) (rising locks)) (lock ∷ filter (λ other. not (before other lock)) (rising locks)) in
-    let all = parts (λ other. before other lock) (rising locks) in
-    omega (arith, rest, here, all)
+as_many (lock ∷ locks) = search (joined, parts, as_many locks, arith)
 
 few_on : (sweep_run : SweepRun) (locks : List Lock) → may (agents.left RunningSweep (sweep_on sweep_run locks)) ≤ 2 * length locks
-few_on sweep_run [] = omega arith
-few_on sweep_run (lock ∷ locks) =
-    let less = fewer (λ other. not (other.t == lock.t)) locks in
-    elim (has_prepared lock.t (lock ∷ locks)) as (λ b. may_in (cond b (Resolving lock.t (others lock.t locks)) (Breaking lock locks)) ≤ 2 * length (lock ∷ locks)) [
-      | true ↦ omega (arith, less)
-      | false ↦ omega arith
-    ]
+few_on sweep_run locks = search (fewer, arith)
 
 -- ---- one response
 
@@ -63,52 +44,14 @@ then_may service sweep_run now said = may (agents.left RunningSweep (after_answe
 
 few_answer : (service : Service) (sweep_run : SweepRun) (now : Sweeping) (asked : Request) (said : Reply) (server : ℕ) → ◌≡◌ {A = Option (ℕ × Request)} (Some (asked_now service sweep_run now)) (Some (server, asked))
     → 1 + then_may service sweep_run now said ≤ may_in now + 2 * listed_in asked (Replied said)
-few_answer service sweep_run Listing asked said server is = subst (λ asked. 1 + then_may service sweep_run Listing said ≤ 1 + 2 * listed_in asked (Replied said)) (asks_same sweep_run.server server request.Locks asked is) (of said)
-  where
-    of : (said : Reply) → 1 + then_may service sweep_run Listing said ≤ 1 + 2 * listed_in request.Locks (Replied said)
-    of (reply.Locked locks) = let few = few_on sweep_run (rising locks) in let same = as_many locks in omega (arith, few, same)
-    of (reply.Held prefix dver) = omega arith
-    of (reply.Busy holder prepared) = omega arith
-    of (reply.Given dver content) = omega arith
-    of reply.Prepared = omega arith
-    of (reply.Verdict v) = omega arith
-    of reply.Done = omega arith
-    of reply.Down = omega arith
-    of reply.Lost = omega arith
-few_answer service sweep_run (Resolving t left) asked said server is = of said
-  where
-    other : 1 + may (agents.left RunningSweep (cond (home_of service t == sweep_run.server) (lost sweep_run) (sweep_on (record sweep_run { left = sweep_run.left + 1 }) left))) ≤ 2 + 2 * length left + 2 * listed_in asked (Replied said)
-    other =
-        let few = few_on (record sweep_run { left = sweep_run.left + 1 }) left in
-        elim (home_of service t == sweep_run.server) as
-        (λ b. 1 + may (agents.left RunningSweep (cond b (lost sweep_run) (sweep_on (record sweep_run { left = sweep_run.left + 1 }) left))) ≤ 2 + 2 * length left + 2 *
-        listed_in asked (Replied said)) [
-          | true ↦ omega arith
-          | false ↦ omega (arith, few)
-        ]
-
-    of : (reply : Reply) → 1 + then_may service sweep_run (Resolving t left) reply ≤ 2 + 2 * length left + 2 * listed_in asked (Replied said)
-    of (reply.Verdict v) = omega arith
-    of _ = other
-few_answer service sweep_run (Telling t v left) asked said server is = of said
-  where
-    of : (reply : Reply) → 1 + then_may service sweep_run (Telling t v left) reply ≤ 1 + 2 * length left + 2 * listed_in asked (Replied said)
-    of reply.Done = let few = few_on (record sweep_run { finished = sweep_run.finished + 1 }) left in omega (arith, few)
-    of _ = omega arith
-few_answer service sweep_run (Breaking lock left) asked said server is = of said
-  where
-    of : (reply : Reply) → 1 + then_may service sweep_run (Breaking lock left) reply ≤ 1 + 2 * length left + 2 * listed_in asked (Replied said)
-    of reply.Done = let few = few_on (record sweep_run { broken = sweep_run.broken + 1 }) left in omega (arith, few)
-    of _ = omega arith
+few_answer service sweep_run now asked said server h6 = search (asks_same, few_on, as_many, arith)
 
 some_step : (now : Sweeping) → 1 ≤ may_in now
-some_step Listing = omega arith
-some_step _ = omega arith
+some_step now = search arith
 
 few_response : (service : Service) (sweep_run : SweepRun) (asked : Request) (response : Response) (server : ℕ) → ◌≡◌ {A = Option (ℕ × Request)} (Some (asked_now service sweep_run sweep_run.now)) (Some (server, asked))
     → 1 + may (agents.left RunningSweep (after_response service sweep_run server response)) ≤ may_in sweep_run.now + 2 * listed_in asked response
-few_response service sweep_run asked (Replied said) server is = few_answer service sweep_run sweep_run.now asked said server is
-few_response service sweep_run asked (Lacked lacked) server is = let one = some_step sweep_run.now in omega (arith, one)
+few_response service sweep_run asked response server h5 = search (few_answer, some_step, arith)
 
 -- ---- all responses
 
@@ -118,23 +61,14 @@ IsNoCourse (Some (Running txn_run)) = ⊥
 IsNoCourse None = Unit {0}
 
 pub no_course : (after : After SweepRun) → IsNoCourse (agents.left RunningSweep after)
-no_course (GoesOn sweep_run) = tt
-no_course (Ends ending) = tt
+no_course after = search arith
 
 take_no_course : (fixed : Fixed) (agent : Agent) (response : Response) (doing : Option Doing) (asked : Option (ℕ × Request)) → agent.doing ≡ doing → IsNoCourse doing → IsNoCourse (take_in fixed agent response doing asked).agent.doing
-take_no_course fixed agent response (Some (RunningSweep sweep_run)) (Some asked) was none = no_course (after_response fixed.service sweep_run asked.0 response)
-take_no_course fixed agent response (Some (RunningSweep sweep_run)) None was none = subst IsNoCourse (sym was) tt
-take_no_course fixed agent response (Some (Running txn_run)) asked was none = absurd none
-take_no_course fixed agent response None (Some asked) was none = subst IsNoCourse (sym was) tt
-take_no_course fixed agent response None None was none = subst IsNoCourse (sym was) tt
+take_no_course fixed agent response doing asked h5 h6 = search arith
 
 take_few : (fixed : Fixed) (agent : Agent) (response : Response) (doing : Option Doing) (asked : Option (ℕ × Request)) → agent.doing ≡ doing → next_in fixed doing ≡ asked → IsNoCourse doing
     → length (exchange_of asked response) + may (take_in fixed agent response doing asked).agent.doing ≤ may doing + 2 * listed (exchange_of asked response)
-take_few fixed agent response (Some (RunningSweep sweep_run)) (Some asked) was is none = let one = few_response fixed.service sweep_run asked.1 response asked.0 is in omega (arith, one)
-take_few fixed agent response (Some (RunningSweep sweep_run)) None was is none = let same = ap may was in omega (arith, same)
-take_few fixed agent response (Some (Running txn_run)) asked was is none = absurd none
-take_few fixed agent response None (Some asked) was is none = cc
-take_few fixed agent response None None was is none = let same = ap may was in omega (arith, same)
+take_few fixed agent response doing asked h5 h6 h7 = search (few_response, arith)
 
 length-append : (past later : List Exchange) → length (past ++ later) ≡ length past + length later
 length-append [] later = omega arith
@@ -158,19 +92,7 @@ abbrev Begun : Option Doing → Type 0
 Begun doing = IsNoCourse doing × (may doing ≤ 1)
 
 begin_few : (fixed : Fixed) (agent : Agent) (server : ℕ) → is_idle agent.doing ≡ true → Begun (begin fixed agent (Sweep server)).doing
-begin_few fixed agent server idle =
-    elim (is_idle agent.doing && has_sense fixed (Sweep server) && nat_lt agent.count max_jobs) as (λ b. Begun (cond b (record (started fixed agent (Sweep server)) { count = agent.count + 1 }) agent).doing) [
-      | true ↦ (tt, omega arith)
-      | false ↦ at agent.doing idle
-    ]
-  where
-    at : (doing : Option Doing) → is_idle doing ≡ true → Begun doing
-    at None idle = (tt, omega arith)
-    at (Some doing) idle = cc
+begin_few fixed agent server idle = search arith
 
 pub sweep_ends_in_time : SweepEndsInTime
-sweep_ends_in_time fixed agent server events idle =
-    let began = begin_few fixed agent server idle in
-    let all = all_few fixed (begin fixed agent (Sweep server)) events began.0 in
-    let most = began.1 in
-    omega (arith, all, most)
+sweep_ends_in_time fixed agent server events idle = search (begin_few, all_few, arith)

@@ -1,16 +1,13 @@
 -- What a response makes of the lists of what was told to a transaction's collectors.
-use Rattle.txn_core.proofs.Vocabulary.{◌≡◌, ℕ, zero, suc, Bool, true, false, cond, List, [], ◌∷◌, ◌++◌, Option, Some, None, refl, sym, ap, subst, ◌∙◌, ◌==◌, nat_cmp, unsigned_tied, eqb-true, same_Some, none-some, nat_cmp_total, IsOrdered}
-use Rattle.txn_core.proofs.Vocabulary.{get-insert, IsOrdered-insert, Content, LockMode, Request, Reply, locks, told_by, more_told, Hold, Know, Told, Said, Collector, told_since, all_told, tell, tell_at, mode_of, request_for, Asked, Poll}
-use Rattle.txn_core.proofs.Vocabulary.{Upgrade, Next, Ask, Current, Short, next, Cache, ReadPoint, GatheredSuite, Suites, suite_of, with_suite, told_in, told_at, Response, Replied, home_of, Fixed, Task, Phase, Gathering, Fetching, Widening}
-use Rattle.txn_core.proofs.Vocabulary.{Preparing, Deciding, Finishing, TransactionRun, After, GoesOn, Ends, Stage, Executes, Point, point, Move, opens, gathers, lacks_lock, widens, widens_by, lacks_wide, MovesTo, Collects, now_told}
-use Rattle.txn_core.proofs.Vocabulary.{asks_on, falls_short, settles, loses, is_lacked, strays, gets, Step, Gathered, opened, or_all, open_needed, open_suite, open_first, opened_with, free_content, heard_on, raised_or_new, said_to, execute}
-use Rattle.txn_core.proofs.Vocabulary.{after_response, asked_by, asked_for, request_in, changes_of, decision_of, parts_at, Outcome as Executed, Hears as Moved}
+use Rattle.txn_core.proofs.Vocabulary.{◌≡◌, ℕ, zero, suc, Bool, true, false, cond, List, [], ◌∷◌, Option, Some, None, refl, sym, ap, subst, ◌∙◌, ◌==◌, nat_cmp, unsigned_tied, eqb-true, same_Some, none-some, nat_cmp_total, IsOrdered, arith}
+use Rattle.txn_core.proofs.Vocabulary.{get-insert, IsOrdered-insert, Content, LockMode, Request, Reply, locks, told_by, more_told, Hold, Know, Told, Said, Collector, all_told, tell, mode_of, next, Cache, ReadPoint, GatheredSuite, Suites, suite_of}
+use Rattle.txn_core.proofs.Vocabulary.{with_suite, told_in, told_at, Response, Replied, Fixed, Task, Phase, Gathering, Fetching, Widening, TransactionRun, After, GoesOn, Ends, Stage, Executes, Point, point, Move, opens, gathers, lacks_lock, widens}
+use Rattle.txn_core.proofs.Vocabulary.{widens_by, lacks_wide, MovesTo, Collects, now_told, asks_on, falls_short, settles, loses, is_lacked, strays, gets, Step, Gathered, opened, or_all, open_needed, open_suite, open_first, opened_with, free_content}
+use Rattle.txn_core.proofs.Vocabulary.{heard_on, raised_or_new, said_to, execute, after_response, asked_for, request_in, Outcome as Executed, Hears as Moved}
 use Rattle.std.specs.List.Sorted.{IsStrictlySortedBy}
 use Rattle.rep_core.specs.declared.request.Request.TheVariants as request
 use Rattle.file_exec.specs.declared.executor.Outcome.TheVariants as exec
-use Rattle.suite_collect.specs.Collecting as collecting
 use Rattle.txn_core.proofs.Moving.{kept, left_by, collects_asks, asks_nothing, execute_moves, response_moves}
-use Rattle.txn_core.proofs.Asks.{asks_same, fetched_as}
 
 -- ---- what was told of each suite
 
@@ -32,18 +29,11 @@ are_with told suites number suite are = (
 )
   where
     at : (other : ℕ) (b : Bool) → told_in (cond b (Some suite) (suite_of suites other)) ≡ cond b (all_told suite.collector) (told other)
-    at other true = refl
-    at other false = are.1 other
+    at other b = search arith
 
 -- nothing new is told
 pub are_same : (told : ℕ → List Told) (suites : Suites) (number : ℕ) (suite : GatheredSuite) → Are told suites → all_told suite.collector ≡ told_at suites number → Are told (with_suite number suite suites)
-are_same told suites number suite are same =
-    let with' = are_with told suites number suite are in
-    (with'.0, λ other. with'.1 other ∙ at other (number == other) refl)
-  where
-    at : (other : ℕ) (b : Bool) → (number == other) ≡ b → cond b (all_told suite.collector) (told other) ≡ told other
-    at other true is = same ∙ are.1 number ∙ ap told (eqb-true number other is)
-    at other false is = refl
+are_same told suites number suite are same = search (are_with told suites number suite are, eqb-true, arith)
 
 pub are_nil : Are (λ number. []) []
 unfolding IsStrictlySortedBy
@@ -63,8 +53,7 @@ are_opened told (suc n) fixed task all are = of (heard_on fixed task all.suites)
   where
     or' : (found : Option Gathered) → ((more : Gathered) → found ≡ Some more → Are told more.suites) → ((more : Gathered) → Are told more.suites → Are told (opened n fixed task more).suites)
         → Are told (or_all all found (λ all. opened n fixed task all)).suites
-    or' (Some more) found_are later = later more (found_are more refl)
-    or' None found_are later = are
+    or' found h1 h2 = search arith
 
     with_content : (number : ℕ) (suite : GatheredSuite) (first : ReadPoint) (content : Option Content) (more : Gathered) → suite_of all.suites number ≡ Some suite → opened_with task all number suite first content ≡ Some more
         → Are told more.suites
@@ -89,8 +78,7 @@ are_opened told (suc n) fixed task all are = of (heard_on fixed task all.suites)
     of heard later = or' (open_needed task all heard) (needed' heard) later
 
 pub told_raised : (fixed : Fixed) (task : Task) (cache : Cache) (number : ℕ) (mode : LockMode) (found : Option GatheredSuite) → all_told (raised_or_new fixed task cache number mode found).collector ≡ told_in found
-told_raised fixed task cache number mode (Some suite) = refl
-told_raised fixed task cache number mode None = refl
+told_raised fixed task cache number mode found = search arith
 
 -- a move tells nothing
 pub move_are : (told : ℕ → List Told) (fixed : Fixed) (task : Task) {at next : Point} → Move fixed task at next → Are told at.suites → Are told next.suites
@@ -115,25 +103,11 @@ leaves_execute told fixed task all are = moves_leave told fixed task (point Exec
 -- ---- a step that hears something
 
 pub all_told-tell : (one : Told) (c : Collector) → all_told (tell one c) ≡ one ∷ all_told c
-all_told-tell one c = of c.widening refl
-  where
-    of : (w : Option collecting.Widening) → c.widening ≡ w → all_told (tell_at w one c) ≡ one ∷ all_told c
-    of None is = ap (λ w. told_since w ++ (one ∷ c.told)) is ∙ ap (λ w. one ∷ (told_since w ++ c.told)) (sym is)
-    of (Some w) is = ap (λ w. one ∷ (told_since w ++ c.told)) (sym is)
-
-pub lock_of : (t number : ℕ) (question : Asked) (other : ℕ) → locks other (request_for t number question) ≡ (number == other)
-lock_of t number (Poll mode) other = refl
-lock_of t number Upgrade other = refl
+all_told-tell one c = search arith
 
 -- what a collector asks is for a lock on its suite
 pub asks_lock : (task : Task) (number : ℕ) (found : Option GatheredSuite) (server : ℕ) (asked : Request) → asked_for task number found ≡ Some (server, asked) → (other : ℕ) → locks other asked ≡ (number == other)
-asks_lock task number None server asked is other = cc
-asks_lock task number (Some suite) server asked is other = of (next suite.collector) is
-  where
-    of : (after : Next) → asked_by task number after ≡ Some (server, asked) → locks other asked ≡ (number == other)
-    of (Ask who question) is = ap (locks other) (sym (asks_same who server (request_for task.t number question) asked is)) ∙ lock_of task.t number question other
-    of (Current prefix dver members) is = cc
-    of (Short had wanting busy) is = cc
+asks_lock task number found server asked h5 other = search arith
 
 -- a phase in which no collector asks asks for no lock
 abbrev pub IsQuiet : Phase → Type 0
@@ -142,14 +116,7 @@ IsQuiet (Widening left granted) = ⊥
 IsQuiet other = Unit {0}
 
 pub quiet_asks : (fixed : Fixed) (task : Task) (suites : Suites) (phase : Phase) (server : ℕ) (asked : Request) → IsQuiet phase → request_in fixed task suites phase ≡ Some (server, asked) → (other : ℕ) → locks other asked ≡ false
-quiet_asks fixed task suites (Gathering number) server asked quiet is other = absurd quiet
-quiet_asks fixed task suites (Widening left granted) server asked quiet is other = absurd quiet
-quiet_asks fixed task suites (Fetching number) server asked quiet is other = fetched_as (locks other) false task number (suite_of suites number) server asked refl is
-quiet_asks fixed task suites (Preparing [] outcome) server asked quiet is other = cc
-quiet_asks fixed task suites (Preparing (now ∷ left) outcome) server asked quiet is other = ap (locks other) (sym (asks_same now server (request.Prepare task.t (parts_at suites (changes_of outcome) now)) asked is))
-quiet_asks fixed task suites (Deciding outcome) server asked quiet is other = ap (locks other) (sym (asks_same (home_of fixed.service task.t) server (request.Decide task.t (decision_of task outcome)) asked is))
-quiet_asks fixed task suites (Finishing [] v ending) server asked quiet is other = cc
-quiet_asks fixed task suites (Finishing (now ∷ left) v ending) server asked quiet is other = ap (locks other) (sym (asks_same now server (request.Finish task.t v) asked is))
+quiet_asks fixed task suites phase server asked h6 h7 other = search arith
 
 -- ---- the lists after a response
 
@@ -171,8 +138,7 @@ record At (told : ℕ → List Told) (server : ℕ) (asked : Request) (response 
 
 module _ (told : ℕ → List Told) (fixed : Fixed) (task : Task) (cache : Cache) (suites : Suites) (server : ℕ) (asked : Request) (are : Are told suites) where
   same_if : {A : Type 0} (b : Bool) (x : A) → x ≡ cond b x x
-  same_if true x = refl
-  same_if false x = refl
+  same_if b x = search arith
 
   quiet : (phase : Phase) (response : Response) → IsQuiet phase → request_in fixed task suites phase ≡ Some (server, asked) → (z : ℕ) → told z ≡ heard_by z (told z) server asked response
   quiet phase response none is z = sym (ap (λ b. cond b (told_by (told z) (record { server = server; request = asked; response = response }) response) (told z)) (quiet_asks fixed task suites phase server asked none is z))

@@ -1,19 +1,17 @@
 -- Undecided ends are caused.
-use Rattle.txn_core.proofs.Vocabulary.{◌≡◌, ℕ, ◌+◌, Bool, true, false, cond, ◌⊎◌, inl, inr, List, [], ◌∷◌, ◌++◌, Option, Some, None, refl, sym, ap, subst, ◌∙◌, ◌==◌, eqb-true, same_Some, Identity, Op, Cache, Said, Configuration, Prefix}
-use Rattle.txn_core.proofs.Vocabulary.{LockMode, Exclusive, Service, Lock, Request, Reply, Lack, fits, newest, has_told, has_refused, first_busy, told_since, votes_or, mode_or, all_told, counted, wanted, is_member, contains_from, Response}
-use Rattle.txn_core.proofs.Vocabulary.{Replied, Lacked, Cause, Unavailable, Busy, Lost, Full, Memory, Ending, Undecided, Job, Transaction, Sweep, Suites, home_of, Fixed, Task, TransactionRun, Sweeping, Listing, Resolving, Telling, Breaking}
-use Rattle.txn_core.proofs.Vocabulary.{SweepRun, Doing, Running, RunningSweep, After, GoesOn, Ends, heard_on, to_widen, after_response, lack_cause, Agent, Event, Take, next_in, next_of, end_of, take_in, begin, after_all, Exchange, of_job}
-use Rattle.txn_core.proofs.Vocabulary.{exchange_of, told_of, fits_response, all_fit, has_said, holding, refusing, down, task_of, IsStart, IsContentOf}
+use Rattle.txn_core.proofs.Vocabulary.{◌≡◌, ℕ, ◌+◌, Bool, true, ◌⊎◌, inl, inr, List, [], ◌∷◌, ◌++◌, Option, Some, None, refl, sym, ap, subst, ◌∙◌, eqb-true, same_Some, Identity, Op, Cache, Said, Configuration, Prefix, arith, LockMode, Exclusive}
+use Rattle.txn_core.proofs.Vocabulary.{Service, Lock, Request, Reply, Lack, fits, newest, has_told, has_refused, first_busy, told_since, votes_or, mode_or, all_told, counted, wanted, is_member, contains_from, Response, Replied, Lacked, Cause}
+use Rattle.txn_core.proofs.Vocabulary.{Unavailable, Busy, Lost, Full, Memory, Ending, Undecided, Job, Transaction, Sweep, Suites, Fixed, Task, TransactionRun, Sweeping, SweepRun, Doing, Running, RunningSweep, After, GoesOn, Ends, heard_on, to_widen}
+use Rattle.txn_core.proofs.Vocabulary.{after_response, lack_cause, Agent, Event, Take, next_in, end_of, take_in, begin, after_all, Exchange, of_job, exchange_of, told_of, fits_response, all_fit, has_said, holding, refusing, down, task_of, IsStart}
 use Rattle.suite_collect.proofs.Shortness.{short_has_none_left}
-use Rattle.txn_core.specs.Undecided.{WereGathered, IsWanted, SetsVotes, Was, WasLost, DidNotServe, says_down, is_lack, IsCaused, EndsAreCaused, IsShort}
-use Rattle.rep_core.specs.declared.request.Request.TheVariants as request
+use Rattle.txn_core.specs.Undecided.{WereGathered, IsWanted, SetsVotes, WasLost, DidNotServe, is_lack, IsCaused, EndsAreCaused, IsShort}
 use Rattle.rep_core.specs.declared.reply.Reply.TheVariants as reply
 use Rattle.rep_core.specs.declared.stamped.Lack.TheVariants as lack
 use Rattle.suite_collect.specs.Collecting as collecting
 use Rattle.txn_core.specs.Sweeps as sweep
 use Rattle.txn_core.proofs.Gathers.{Base, AllGathered, Wants, Sets}
-use Rattle.txn_core.proofs.Causes.{push, Begun, ShortBy, CausedBy, EndIs, OrFresh, LeftOf, was_now, last_fits}
-use Rattle.txn_core.proofs.Upheld.{Begins, Started, Base_of, started_is, untold_is, begins_more, started_more, fresh_begins, map_cause, DoingStands, after-append, exchanges-take, response_leaves, stands_after}
+use Rattle.txn_core.proofs.Causes.{push, Begun, ShortBy, CausedBy, OrFresh, LeftOf, was_now, last_fits}
+use Rattle.txn_core.proofs.Upheld.{Begins, Started, Base_of, started_is, begins_more, started_more, fresh_begins, map_cause, DoingStands, after-append, exchanges-take, response_leaves, stands_after}
 use Rattle.txn_core.proofs.Shown.{told_said, busy_said, votes_same, tells_busy, kind_of}
 
 -- ---- sweeps
@@ -38,35 +36,17 @@ lack_swept past swept server asked lack.Full = was_now past server asked (Lacked
 lack_swept past swept server asked lack.Memory = (server, was_now past server asked (Lacked lack.Memory) (λ asked response. is_lack lack.Memory response) refl)
 
 caused_sweep : (past : List Exchange) (swept : ℕ) (sweep_run : SweepRun) (locks : List Lock) → RoundCaused past swept (sweep.sweep_on sweep_run locks)
-caused_sweep past swept sweep_run [] = tt
-caused_sweep past swept sweep_run (lock ∷ locks) = tt
+caused_sweep past swept sweep_run locks = search arith
 
 caused_lost : (past : List Exchange) (sweep_run : SweepRun) (server : ℕ) (asked : Request) → server ≡ sweep_run.server → RoundCaused (push past server asked (Replied reply.Down)) sweep_run.server (sweep.lost sweep_run)
-caused_lost past sweep_run server asked at = (
-  refl,
-  subst (λ who. Was (push past server asked (Replied reply.Down)) who (λ asked response. says_down response)) at
-      (was_now past server asked (Replied reply.Down) (λ asked response. says_down response) refl),
-)
+caused_lost past sweep_run server asked at = search (push, was_now, arith)
 
 abbrev push_now : List Exchange → Service → SweepRun → Sweeping → Response → List Exchange
 push_now past service sweep_run now response = push past (sweep.asked_now service sweep_run now).0 (sweep.asked_now service sweep_run now).1 response
 
 caused_answer : (past : List Exchange) (service : Service) (sweep_run : SweepRun) (now : Sweeping) (said : Reply) → fits (sweep.asked_now service sweep_run now).1 said ≡ true
     → RoundCaused (push_now past service sweep_run now (Replied said)) sweep_run.server (sweep.after_answer service sweep_run now said)
-caused_answer past service sweep_run Listing reply.Down fine = caused_lost past sweep_run sweep_run.server request.Locks refl
-caused_answer past service sweep_run Listing (reply.Locked locks) fine = caused_sweep _ sweep_run.server sweep_run (sweep.rising locks)
-caused_answer past service sweep_run (Telling t w left) reply.Down fine = caused_lost past sweep_run sweep_run.server (request.Finish t w) refl
-caused_answer past service sweep_run (Telling t w left) reply.Done fine = caused_sweep _ sweep_run.server (record sweep_run { finished = sweep_run.finished + 1 }) left
-caused_answer past service sweep_run (Breaking lock left) reply.Down fine = caused_lost past sweep_run sweep_run.server (request.Break lock.t lock.suite) refl
-caused_answer past service sweep_run (Breaking lock left) reply.Done fine = caused_sweep _ sweep_run.server (record sweep_run { broken = sweep_run.broken + 1 }) left
-caused_answer past service sweep_run (Resolving t left) reply.Down fine =
-    elim (home_of service t == sweep_run.server) as (λ b. (home_of service t == sweep_run.server) ≡ b
-    → RoundCaused (push past (home_of service t) (request.Resolve t) (Replied reply.Down)) sweep_run.server (cond b (sweep.lost sweep_run) (sweep.sweep_on (record sweep_run { left = sweep_run.left + 1 }) left))) [
-      | true ↦ λ same. caused_lost past sweep_run (home_of service t) (request.Resolve t) (eqb-true (home_of service t) sweep_run.server same)
-      | false ↦ λ _. caused_sweep _ sweep_run.server (record sweep_run { left = sweep_run.left + 1 }) left
-    ] refl
-caused_answer past service sweep_run (Resolving t left) (reply.Verdict v) fine = tt
-caused_answer past service sweep_run _ _ fine = cc
+caused_answer past service sweep_run now said h5 = search (caused_lost, caused_sweep, push, eqb-true, arith)
 
 caused_round : (past : List Exchange) (service : Service) (sweep_run : SweepRun) (response : Response) → fits_response (sweep.asked_now service sweep_run sweep_run.now).1 response ≡ true
     → RoundCaused (push_now past service sweep_run sweep_run.now response) sweep_run.server (sweep.after_response service sweep_run (sweep.asked_now service sweep_run sweep_run.now).0 response)
@@ -89,10 +69,7 @@ module _ (fixed : Fixed) (agent : Agent) (job : Job) (events : List Event) where
 
   -- the site of the transaction is one
   site_is : (task : Task) → IsOf task → (caller : Identity) (site : ℕ) (ops : List Op) → job ≡ Transaction caller site ops → task.site ≡ site
-  site_is task own caller site ops transaction =
-      let same : Transaction own.caller own.site own.ops ≡ Transaction caller site ops = sym own.transaction ∙ transaction in
-      let sites : own.site ≡ site = cc in
-      ap (λ (task : Task). task.site) own.task_is ∙ sites
+  site_is task own caller site ops transaction = search arith
 
   pub gathers : (task : Task) → IsOf task → (suites : Suites) → AllGathered (Base_of fixed agent job events events task.site) past suites → WereGathered fixed agent job events suites
   unfolding started_is
@@ -104,11 +81,7 @@ module _ (fixed : Fixed) (agent : Agent) (job : Job) (events : List Event) where
         first = was.1.first;
         was = was.1.was;
         gave = was.1.gave;
-        content = λ content is.
-            let knows = was.2 content is in
-            let first_is : knows.0 ≡ was.1.first = same_Some knows.0 was.1.first (sym knows.1 ∙ was.1.was) in
-            subst (λ site. IsContentOf fixed agent job events site number was.1.first content) (site_is task own was.0.begins.caller was.0.begins.site was.0.begins.ops was.0.begins.transaction)
-            (subst (λ first. IsContentOf fixed agent job events task.site number first content) first_is knows.2);
+        content = search (same_Some, site_is, arith);
       }
 
   pub is_wanted : (task : Task) → IsOf task → (number : ℕ) (mode : LockMode) → Wants fixed task (Base_of fixed agent job events events task.site) past number mode → IsWanted fixed agent job events number mode
@@ -159,8 +132,7 @@ module _ (fixed : Fixed) (agent : Agent) (job : Job) (events : List Event) where
     )
 
     gathered : Begun (Started fixed agent job events) (Begins fixed agent job events) suite by.collector → IsStart fixed agent job events suite by.collector.start
-    gathered (inl started) = started_is fixed agent job events suite by.collector.start started
-    gathered (inr begins) = untold_is fixed agent job events suite by.collector.start begins.0 (sym by.told ∙ begins.1)
+    gathered h0 = search arith
 
     is_short : IsShort fixed agent job events suite had wanting busy
     is_short =
@@ -188,22 +160,17 @@ module _ (fixed : Fixed) (agent : Agent) (job : Job) (events : List Event) where
   caused task own _ by = by
 
   swept : (server : ℕ) → job ≡ Sweep server → (cause : Cause) → SweepCaused past server cause → IsCaused fixed agent job events cause
-  swept server own (Lost at) by = subst (λ job. WasLost past job at) (sym own) by
-  swept server own (Full at) by = subst (λ job. DidNotServe past job lack.Full at) (sym own) by
-  swept server own Memory by = (by.0, subst (λ job. DidNotServe past job lack.Memory by.0) (sym own) by.1)
-  swept server own _ by = absurd by
+  swept server h1 cause h3 = search arith
 
 -- ---- all responses
 
 course_ends : (fixed : Fixed) (task : Task) (Old : Base) (Loose : ℕ → Prefix → Type 0) (px : List Exchange) (cache : Cache) (after : After TransactionRun) (cause : Cause)
     → LeftOf fixed task Old Loose px cache after → end_of after ≡ Some (Undecided cause) → all_fit px ≡ true
     → CausedBy fixed task Old (OrFresh fixed task cache px Loose) px cause
-course_ends fixed task Old Loose px cache (GoesOn txn_run) cause left is fine = cc
-course_ends fixed task Old Loose px cache (Ends ending) cause left is fine = subst (EndIs fixed task Old (OrFresh fixed task cache px Loose) px) (same_Some ending (Undecided cause) is) (left fine)
+course_ends fixed task h2 h3 px cache after cause h8 h9 h10 = search arith
 
 round_ends : (past : List Exchange) (swept : ℕ) (after : After SweepRun) (cause : Cause) → RoundCaused past swept after → end_of after ≡ Some (Undecided cause) → SweepCaused past swept cause
-round_ends past swept (GoesOn sweep_run) cause caused is = cc
-round_ends past swept (Ends ending) cause caused is = subst (SweepEnds past swept) (same_Some ending (Undecided cause) is) caused
+round_ends past swept after cause h4 h5 = search arith
 
 module _ (fixed : Fixed) (agent : Agent) (job : Job) (events : List Event) (response : Response) (cause : Cause) where
   abbrev now : Agent
@@ -244,7 +211,4 @@ module _ (fixed : Fixed) (agent : Agent) (job : Job) (events : List Event) (resp
   ends None None was is told after fine stands end' = cc
 
 pub ends_are_caused : EndsAreCaused
-ends_are_caused fixed agent job events response cause idle fine end' =
-    let now = after_all fixed (begin fixed agent job) events in
-    ends fixed agent job events response cause now.doing (next_of fixed now) refl refl (exchanges-take fixed (begin fixed agent job) events response)
-    (after-append fixed (begin fixed agent job) events (Take response)) fine (stands_after fixed agent job events idle) end'
+ends_are_caused fixed agent job events response cause idle fine end' = search (ends, exchanges-take, after-append, stands_after, arith)

@@ -1,10 +1,8 @@
 -- What stands after every event of a job.
-use Rattle.txn_core.proofs.Vocabulary.{◌≡◌, ℕ, Bool, true, false, cond, inl, inr, List, [], ◌∷◌, ◌++◌, Option, Some, None, refl, sym, ap, subst, ◌∙◌, ◌+◌, ◌==◌, ◌&&◌, nat_lt, append-nil, append_assoc, none-some, Identity, Op, Content}
-use Rattle.txn_core.proofs.Vocabulary.{Prefix, Lock, Request, Reply, Cache, ReadPoint, GatheredSuite, Suites, suite_of, Response, Replied, Lacked, Cause, Ending, Unavailable, Busy, Undecided, Job, Transaction, Sweep, home_of, Fixed, Task}
-use Rattle.txn_core.proofs.Vocabulary.{Phase, Gathering, Fetching, Widening, Finishing, TransactionRun, Sweeping, Listing, Resolving, Telling, Breaking, SweepRun, Doing, Running, RunningSweep, After, GoesOn, Ends, Step, Gathered}
-use Rattle.txn_core.proofs.Vocabulary.{start_from, execute, after_response, request_in, request_of, Agent, Event, Take, Forget, next_in, next_of, left, take_in, take, begin, started, forget, is_idle, has_sense, max_jobs, after_event}
-use Rattle.txn_core.proofs.Vocabulary.{after_all, Exchange, exchange_of, exchanges, of_job, told_of, locks, task_of, asks_for, IsStart}
-use Rattle.rep_core.specs.declared.reply.Reply.TheVariants as reply
+use Rattle.txn_core.proofs.Vocabulary.{◌≡◌, ℕ, Bool, true, inl, inr, List, [], ◌∷◌, ◌++◌, Option, Some, None, refl, sym, ap, subst, ◌∙◌, ◌+◌, ◌&&◌, nat_lt, append-nil, append_assoc, none-some, Identity, Op, Content, arith, Prefix, Request, Cache}
+use Rattle.txn_core.proofs.Vocabulary.{ReadPoint, GatheredSuite, Suites, suite_of, Response, Cause, Ending, Unavailable, Busy, Job, Transaction, Sweep, Fixed, Task, Phase, Gathering, Fetching, Widening, Finishing, TransactionRun, SweepRun, Doing}
+use Rattle.txn_core.proofs.Vocabulary.{Running, RunningSweep, After, GoesOn, Ends, Step, Gathered, start_from, execute, after_response, request_in, request_of, Agent, Event, Take, Forget, next_in, next_of, left, take_in, take, begin, started, forget}
+use Rattle.txn_core.proofs.Vocabulary.{is_idle, has_sense, max_jobs, after_event, after_all, Exchange, exchange_of, exchanges, of_job, told_of, locks, task_of, asks_for, IsStart}
 use Rattle.txn_core.specs.Sweeps as sweep
 use Rattle.txn_core.proofs.ToldLists.{are_nil, asks_lock}
 use Rattle.txn_core.proofs.Gathers.{self, Base, Follows, knows_map, wants_map, sets_map, grants_map, Kept}
@@ -54,17 +52,7 @@ pub record Started (fixed : Fixed) (agent : Agent) (job : Job) (events : List Ev
 
 module _ (fixed : Fixed) (agent : Agent) (job : Job) (events more : List Event) (suite : ℕ) (start : Prefix) where
   pub begins_more : Begins fixed agent job events suite start → Begins fixed agent job (events ++ more) suite start
-  begins_more begins = record {
-    caller = begins.caller;
-    site = begins.site;
-    ops = begins.ops;
-    transaction = begins.transaction;
-    before = begins.before;
-    later = begins.later ++ more;
-    parts = ap (λ events. events ++ more) begins.parts ∙ append_assoc begins.before begins.later more;
-    untold = begins.untold;
-    from = begins.from;
-  }
+  begins_more begins = search (append_assoc, arith)
 
   pub started_more : Started fixed agent job events suite start → Started fixed agent job (events ++ more) suite start
   unfolding begins_more
@@ -84,20 +72,6 @@ started_is fixed agent job events n start started = record {
   from = started.begins.from;
 }
 
-pub untold_is : (fixed : Fixed) (agent : Agent) (job : Job) (events : List Event) (n : ℕ) (start : Prefix) → Begins fixed agent job events n start → told_of n [] (of_job fixed agent job events) ≡ [] → IsStart fixed agent job events n start
-untold_is fixed agent job events n start begins none = record {
-  caller = begins.caller;
-  site = begins.site;
-  ops = begins.ops;
-  transaction = begins.transaction;
-  before = begins.before;
-  later = begins.later;
-  parts = begins.parts;
-  untold = begins.untold;
-  moment = inr none;
-  from = begins.from;
-}
-
 -- what is so of the suites of a transaction: of their starts after some events, of their contents after some more
 abbrev pub Base_of : Fixed → Agent → Job → (begun events : List Event) → ℕ → Base
 Base_of fixed agent job begun events site = record { start = Started fixed agent job begun; content = Content_of fixed agent job events site }
@@ -107,23 +81,10 @@ Base_of fixed agent job begun events site = record { start = Started fixed agent
 module _ (fixed : Fixed) (task : Task) (Old : Base) (Loose : ℕ → Prefix → Type 0) (Old' : Base) (Loose' : ℕ → Prefix → Type 0) (past : List Exchange) (old : Follows Old Old')
     (loose : (n : ℕ) (start : Prefix) → Loose n start → Loose' n start) where
   map_kept : (n : ℕ) (suite : GatheredSuite) → Kept fixed task Old past n suite → Kept fixed task Old' past n suite
-  map_kept n suite kept = record {
-    start = old.start n suite.collector.start kept.start;
-    first = kept.first;
-    content = knows_map Old.content Old'.content n suite old.content kept.content;
-    wide = λ w is. sets_map fixed task Old Old' past old n w.votes (kept.wide w is);
-    wanted = wants_map fixed task Old Old' past old n suite.collector.mode kept.wanted;
-  }
+  map_kept n suite kept = search (knows_map, sets_map, wants_map, arith)
 
   map_short : (suite had wanting : ℕ) (busy : Option (ℕ × ℕ)) → ShortBy fixed task Old Loose past suite had wanting busy → ShortBy fixed task Old' Loose' past suite had wanting busy
-  map_short suite had wanting busy by = record {
-    collector = by.collector;
-    told = by.told;
-    short = by.short;
-    begun = elim by.begun [ inl is ↦ inl (old.start suite by.collector.start is) | inr is ↦ inr (loose suite by.collector.start is.0, is.1) ];
-    wide = λ w is. sets_map fixed task Old Old' past old suite w.votes (by.wide w is);
-    wanted = wants_map fixed task Old Old' past old suite by.collector.mode by.wanted;
-  }
+  map_short suite had wanting busy by = search (sets_map, wants_map, arith)
 
   pub map_cause : (cause : Cause) → CausedBy fixed task Old Loose past cause → CausedBy fixed task Old' Loose' past cause
   map_cause (Unavailable suite had wanting) is = map_short suite had wanting None is
@@ -131,8 +92,7 @@ module _ (fixed : Fixed) (task : Task) (Old : Base) (Loose : ℕ → Prefix → 
   map_cause _ is = is
 
   map_end : (ending : Ending) → EndIs fixed task Old Loose past ending → EndIs fixed task Old' Loose' past ending
-  map_end (Undecided cause) is = map_cause cause is
-  map_end _ is = tt
+  map_end ending h1 = search (map_cause, arith)
 
   pub map_stands : (Now : ℕ → Prefix → Type 0) (suites : Suites) (phase : Phase) → ((n : ℕ) (start : Prefix) → phase ≡ Gathering n → Now n start → Old'.start n start)
       → StandsOn fixed task Old Now Loose past suites phase → StandsOn fixed task Old' Old'.start Loose' past suites phase
@@ -212,17 +172,7 @@ module _ (fixed : Fixed) (agent : Agent) (job : Job) where
   module _ (caller : Identity) (site : ℕ) (ops : List Op) (transaction : job ≡ Transaction caller site ops) (task : Task) (task_is : task ≡ task_of agent caller site ops) (px : List Exchange) (cache : Cache) (events : List Event)
       (told : of_job fixed agent job events ≡ px) (cache_is : (After_all events).cache ≡ cache) where
     pub fresh_begins : (n : ℕ) (start : Prefix) → Fresh fixed task cache px n start → Begins fixed agent job events n start
-    fresh_begins n start fresh = record {
-      caller = caller;
-      site = site;
-      ops = ops;
-      transaction = transaction;
-      before = events;
-      later = [];
-      parts = sym (append-nil events);
-      untold = ap (told_of n []) told ∙ fresh.untold;
-      from = fresh.from ∙ ap (λ task. start_from fixed task cache n) task_is ∙ ap (λ cache. start_from fixed (task_of agent caller site ops) cache n) (sym cache_is);
-    }
+    fresh_begins n start fresh = search (append-nil, arith)
 
     convert : (Old : Base) (Loose : ℕ → Prefix → Type 0) (after : After TransactionRun) → (After_all events).doing ≡ left Running after → ((n : ℕ) (start : Prefix) → Old.start n start → Started fixed agent job events n start)
         → ((n : ℕ) (first : ReadPoint) (content : Content) → Old.content n first content → Content_of fixed agent job events task.site n first content)
@@ -246,26 +196,8 @@ module _ (fixed : Fixed) (agent : Agent) (job : Job) where
         subst (λ past. StandsOn fixed txn_run.task (Base_of fixed agent job events events txn_run.task.site) (Started fixed agent job events) (Begins fixed agent job events) past txn_run.suites txn_run.phase) (sym told)
         (subst (λ (task : Task). StandsOn fixed task (Base_of fixed agent job events events task.site) (Started fixed agent job events) (Begins fixed agent job events) px txn_run.suites txn_run.phase) (sym leaves.0) mapped))
 
-  -- a sweep stays at its server
-  swept_on : (events : List Event) (sweep_run : SweepRun) (locks : List Lock) → job ≡ Sweep sweep_run.server → DoingStands events (left RunningSweep (sweep.sweep_on sweep_run locks))
-  swept_on events sweep_run [] same = tt
-  swept_on events sweep_run (lock ∷ locks) same = same
-
-  answer_stands : (events : List Event) (sweep_run : SweepRun) (now : Sweeping) (said : Reply) → job ≡ Sweep sweep_run.server → DoingStands events (left RunningSweep (sweep.after_answer fixed.service sweep_run now said))
-  answer_stands events sweep_run Listing (reply.Locked locks) same = swept_on events sweep_run (sweep.rising locks) same
-  answer_stands events sweep_run (Resolving t rest) (reply.Verdict v) same = same
-  answer_stands events sweep_run (Resolving t rest) _ same = of (home_of fixed.service t == sweep_run.server)
-    where
-      of : (b : Bool) → DoingStands events (left RunningSweep (cond b (sweep.lost sweep_run) (sweep.sweep_on (record sweep_run { left = sweep_run.left + 1 }) rest)))
-      of true = tt
-      of false = swept_on events (record sweep_run { left = sweep_run.left + 1 }) rest same
-  answer_stands events sweep_run (Telling t v rest) reply.Done same = swept_on events (record sweep_run { finished = sweep_run.finished + 1 }) rest same
-  answer_stands events sweep_run (Breaking lock rest) reply.Done same = swept_on events (record sweep_run { broken = sweep_run.broken + 1 }) rest same
-  answer_stands events sweep_run _ _ same = tt
-
   round_stands : (events : List Event) (sweep_run : SweepRun) (server : ℕ) (response : Response) → job ≡ Sweep sweep_run.server → DoingStands events (left RunningSweep (sweep.after_response fixed.service sweep_run server response))
-  round_stands events sweep_run server (Replied said) same = answer_stands events sweep_run sweep_run.now said same
-  round_stands events sweep_run server (Lacked lacked) same = tt
+  round_stands events sweep_run server response h4 = search arith
 
   -- what a response leaves of a transaction
   pub response_leaves : (events : List Event) (response : Response) (running : TransactionRun) (asked : ℕ × Request) → request_of fixed running ≡ Some asked
@@ -296,15 +228,7 @@ module _ (fixed : Fixed) (agent : Agent) (job : Job) where
       (Base_of fixed agent job events (events ++ Take response ∷ []) running.task.site) (Begins fixed agent job events) step.after (ap (λ (agent : Agent). agent.doing) after)
       (started_more fixed agent job events (Take response ∷ [])) (λ n first content is. is) (begins_more fixed agent job events (Take response ∷ []))
       (response_leaves events response running asked is told (ap (λ (agent : Agent). agent.cache) after) stands)
-  stands_take events response (Some (Running running)) None was is told after stands = subst (DoingStands (events ++ Take response ∷ [])) (sym was) (record {
-    caller = stands.caller;
-    site = stands.site;
-    ops = stands.ops;
-    transaction = stands.transaction;
-    task = stands.task;
-    stands_on = λ asked asks. cc;
-    stands = λ asked asks. cc;
-  })
+  stands_take events response (Some (Running running)) None was is told after stands = search arith
   stands_take events response (Some (RunningSweep sweep_run)) (Some asked) was is told after stands = round_stands (events ++ Take response ∷ []) sweep_run asked.0 response stands
   stands_take events response (Some (RunningSweep sweep_run)) None was is told after stands = cc
   stands_take events response None (Some asked) was is told after stands = cc
@@ -324,17 +248,11 @@ module _ (fixed : Fixed) (agent : Agent) (job : Job) where
   stands_forget events site None stands = tt
 
   stands_more : (events : List Event) (event : Event) → DoingStands events (After_all events).doing → DoingStands (events ++ event ∷ []) (After_all (events ++ event ∷ [])).doing
-  stands_more events (Take response) stands =
-      let after = after-append fixed (begin fixed agent job) events (Take response) in
-      subst (λ (agent : Agent). DoingStands (events ++ Take response ∷ []) agent.doing) (sym after)
-      (stands_take events response (After_all events).doing (next_of fixed (After_all events)) refl refl (exchanges-take fixed (begin fixed agent job) events response) after stands)
-  stands_more events (Forget site) stands =
-      subst (λ (agent : Agent). DoingStands (events ++ Forget site ∷ []) agent.doing) (sym (after-append fixed (begin fixed agent job) events (Forget site))) (stands_forget events site (After_all events).doing stands)
+  stands_more events event h2 = search (after-append, stands_take, exchanges-take, stands_forget, arith)
 
   all_stand : (events more : List Event) → DoingStands events (After_all events).doing → DoingStands (events ++ more) (After_all (events ++ more)).doing
   all_stand events [] stands = subst (λ events. DoingStands events (After_all events).doing) (sym (append-nil events)) stands
-  all_stand events (event ∷ more) stands =
-      subst (λ events. DoingStands events (After_all events).doing) (append_assoc events (event ∷ []) more) (all_stand (events ++ event ∷ []) more (stands_more events event stands))
+  all_stand events (event ∷ more) stands = search (append_assoc, stands_more, all_stand (events ++ event ∷ []) more, arith)
 
   first_stands : (caller : Identity) (site : ℕ) (ops : List Op) → job ≡ Transaction caller site ops → (task : Task) → task ≡ task_of agent caller site ops → (step : Step)
       → (After_all []).cache ≡ step.cache → (After_all []).doing ≡ left Running step.after
@@ -347,8 +265,7 @@ module _ (fixed : Fixed) (agent : Agent) (job : Job) where
   begin_stands idle = of (is_idle agent.doing && has_sense fixed job && nat_lt agent.count max_jobs) refl job refl
     where
       none : (doing : Option Doing) → is_idle doing ≡ true → DoingStands [] doing
-      none None idle = tt
-      none (Some doing) idle = cc
+      none doing h1 = search arith
 
       begun : (j : Job) → job ≡ j → begin fixed agent job ≡ record (started fixed agent j) { count = agent.count + 1 } → DoingStands [] (started fixed agent j).doing
       begun (Sweep server) same is = same
@@ -361,12 +278,7 @@ module _ (fixed : Fixed) (agent : Agent) (job : Job) where
           (begin_leaves C fixed task agent.cache free)
 
       of : (b : Bool) → (is_idle agent.doing && has_sense fixed job && nat_lt agent.count max_jobs) ≡ b → (j : Job) → job ≡ j → DoingStands [] (begin fixed agent job).doing
-      of true is j same =
-          let has_begun : begin fixed agent job ≡ record (started fixed agent j) { count = agent.count + 1 } =
-          ap (λ b. cond b (record (started fixed agent job) { count = agent.count + 1 }) agent) is ∙ ap (λ job. record (started fixed agent job) { count = agent.count + 1 }) same in
-          subst (λ (agent : Agent). DoingStands [] agent.doing) (sym has_begun) (begun j same has_begun)
-      of false is j same =
-          subst (λ (agent : Agent). DoingStands [] agent.doing) (sym (ap (λ b. cond b (record (started fixed agent job) { count = agent.count + 1 }) agent) is)) (none agent.doing idle)
+      of b h1 j h3 = search (begun, none, arith)
 
   pub stands_after : (events : List Event) → is_idle agent.doing ≡ true → DoingStands events (After_all events).doing
   stands_after events idle = all_stand [] events (begin_stands idle)

@@ -1,8 +1,8 @@
 -- The suites that get votes are widened one after the other.
-use Rattle.txn_core.proofs.Vocabulary.{◌≡◌, ℕ, ◌+◌, suc, true, false, cond, List, [], ◌∷◌, drop, map, length, get_or, ◌≤◌, ◌<◌, ◌⊎◌, inl, inr, refl, sym, ap, ◌∙◌, subst, arith, filter, slice_get, Option, Some, None, Ok, IsSome, nat_cmp}
-use Rattle.txn_core.proofs.Vocabulary.{drop-cons, nat_cmp_total, eq_by_cmp_equiv, lookup_from_place, IsDistinct-from_sorted, slice_get_within, get_or_from_slice_get, slice_get_cases, none-some, IsOrdered, replace, insert_present}
-use Rattle.txn_core.proofs.Vocabulary.{Configuration, Change, Next, widen, next, Cache, Coming, Comes, Changes, Granted, Task, Widening, TransactionRun, Steps, WidensTo, Ending, GatheredSuite, Suites, suite_of, with_suite, Step, on_with}
-use Rattle.txn_core.proofs.Vocabulary.{give_up, short_cause, to_widen, votes_then, widened, widen_by, widen_one, widen_all, prepare, locked_at, change_of}
+use Rattle.txn_core.proofs.Vocabulary.{◌≡◌, ℕ, ◌+◌, true, List, [], ◌∷◌, drop, length, get_or, ◌≤◌, ◌<◌, ◌⊎◌, refl, sym, ap, ◌∙◌, subst, arith, slice_get, Option, Some, None, Ok, IsSome, nat_cmp, drop-cons, nat_cmp_total, eq_by_cmp_equiv}
+use Rattle.txn_core.proofs.Vocabulary.{lookup_from_place, IsDistinct-from_sorted, slice_get_within, get_or_from_slice_get, slice_get_cases, none-some, IsOrdered, replace, insert_present, Configuration, Change, Next, widen, next, Cache, Coming, Comes}
+use Rattle.txn_core.proofs.Vocabulary.{Changes, Granted, Task, Widening, TransactionRun, Steps, WidensTo, Ending, GatheredSuite, Suites, suite_of, with_suite, Step, on_with, give_up, short_cause, to_widen, votes_then, widened, widen_by, widen_all}
+use Rattle.txn_core.proofs.Vocabulary.{prepare, locked_at, change_of}
 use Rattle.std.proofs.Math.ListN.{drop_of_length-le}
 use Rattle.suite_collect.specs.declared.coming.Asked.{Asked}
 use Rattle.txn_core.specs.code.Steps.{Widens}
@@ -11,21 +11,10 @@ use Rattle.suite_collect.specs.declared.coming.Coming.TheVariants as coming
 -- ---- the changes from a place on
 
 split : (changes : Changes) (at : ℕ) (one : ℕ × Change) → slice_get changes at ≡ Some one → drop at changes ≡ one ∷ drop (at + 1) changes
-split changes at one is =
-    let more : suc at ≡ at + 1 = omega arith in
-    drop-cons changes at one (slice_get_within changes at one is)
-    ∙ ap (λ x. x ∷ drop (suc at) changes) (get_or_from_slice_get changes at one one is)
-    ∙ ap (λ n. one ∷ drop n changes) more
-
-pub passed : (changes : Changes) (at : ℕ) (one : ℕ × Change) → slice_get changes at ≡ Some one → one.1.votes ≡ false → to_widen (drop at changes) ≡ to_widen (drop (at + 1) changes)
-passed changes at one is unset =
-    let rest = drop (at + 1) changes in
-    ap to_widen (split changes at one is) ∙ ap (λ b. map (λ (one : ℕ × Change). one.0) (cond b (one ∷ filter (λ (one : ℕ × Change). one.1.votes) rest) (filter (λ (one : ℕ × Change). one.1.votes) rest))) unset
+split changes at one is = search (drop-cons changes, slice_get_within changes, get_or_from_slice_get changes, arith)
 
 pub met : (changes : Changes) (at : ℕ) (one : ℕ × Change) → slice_get changes at ≡ Some one → one.1.votes ≡ true → to_widen (drop at changes) ≡ one.0 ∷ to_widen (drop (at + 1) changes)
-met changes at one is sets =
-    let rest = drop (at + 1) changes in
-    ap to_widen (split changes at one is) ∙ ap (λ b. map (λ (one : ℕ × Change). one.0) (cond b (one ∷ filter (λ (one : ℕ × Change). one.1.votes) rest) (filter (λ (one : ℕ × Change). one.1.votes) rest))) sets
+met changes at one is sets = search (split, arith)
 
 pub change_at : (changes : Changes) (at : ℕ) (one : ℕ × Change) → IsOrdered nat_cmp changes → slice_get changes at ≡ Some one → change_of changes one.0 ≡ Some one.1
 change_at changes at one ordered is = lookup_from_place (eq_by_cmp_equiv nat_cmp_total) changes at one.0 one.1 (IsDistinct-from_sorted nat_cmp _ ordered) is
@@ -45,18 +34,11 @@ module _ (task : Task) (cache : Cache) (granted : Granted) (number : ℕ) (chang
   -- what comes next decides
   found : (suites : Suites) (suite : GatheredSuite) (n : Next) → suite_of suites number ≡ Some suite → next (widened_by suite).collector ≡ n
       → widen_all task cache suites granted (number ∷ left) ≡ widen_by task cache (with_suite number (widened_by suite) suites) (Widening (number ∷ left) granted) number n go_on
-  found suites suite n there is' =
-      ap (λ f. widen_one task cache suites (Widening (number ∷ left) granted) granted.changes number f go_on) there
-      ∙ ap (λ (new : GatheredSuite). widen_by task cache (with_suite number new suites) (Widening (number ∷ left) granted) number (next new.collector) go_on) (same suite)
-      ∙ ap (λ n. widen_by task cache (with_suite number (widened_by suite) suites) (Widening (number ∷ left) granted) number n go_on) is'
-
-  missed : (suites : Suites) → suite_of suites number ≡ None → widen_all task cache suites granted (number ∷ left) ≡ go_on suites
-  missed suites none = ap (λ f. widen_one task cache suites (Widening (number ∷ left) granted) granted.changes number f go_on) none
+  found suites suite n there is' = search arith
 
   stays_at : (before after : TransactionRun) (f : Option GatheredSuite) → suite_of before.suites number ≡ f → WidensTo f number change.row.votes before coming.Current after
       → widen_all task cache before.suites granted (number ∷ left) ≡ widen_all task cache after.suites granted left
-  stays_at before after (Some suite) there w = found before.suites suite _ there w.1.3 ∙ ap (λ (c : TransactionRun). go_on c.suites) (sym w.0)
-  stays_at before after None there w = missed before.suites there ∙ ap (λ (c : TransactionRun). go_on c.suites) (sym w.0)
+  stays_at before after f h3 h4 = search arith
 
   pub stays : (before after : TransactionRun) → Widens number change.row.votes before coming.Current after
       → widen_all task cache before.suites granted (number ∷ left) ≡ widen_all task cache after.suites granted left
@@ -64,9 +46,7 @@ module _ (task : Task) (cache : Cache) (granted : Granted) (number : ℕ) (chang
 
   asks_at : (before after : TransactionRun) (server : ℕ) (asked : Asked) (f : Option GatheredSuite) → suite_of before.suites number ≡ f → WidensTo f number change.row.votes before (coming.Ask server asked) after
       → widen_all task cache before.suites granted (number ∷ left) ≡ on_with task cache after.suites (Widening (number ∷ left) granted)
-  asks_at before after server asked (Some suite) there w =
-      found before.suites suite _ there w.1 ∙ ap (λ (c : TransactionRun). on_with task cache c.suites (Widening (number ∷ left) granted)) (sym w.0)
-  asks_at before after server asked None there w = cc
+  asks_at before after server asked f h5 h6 = search arith
 
   pub asks : (before after : TransactionRun) (server : ℕ) (asked : Asked) → Widens number change.row.votes before (coming.Ask server asked) after
       → widen_all task cache before.suites granted (number ∷ left) ≡ on_with task cache after.suites (Widening (number ∷ left) granted)
@@ -85,8 +65,7 @@ module _ (task : Task) (cache : Cache) (granted : Granted) (number : ℕ) (chang
 -- ---- so far
 
 task_at : (before after : TransactionRun) (number : ℕ) (votes : Configuration) (what : Coming) (f : Option GatheredSuite) → WidensTo f number votes before what after → after.task ≡ before.task
-task_at before after number votes what (Some suite) w = ap (λ (c : TransactionRun). c.task) w.0
-task_at before after number votes what None w = ap (λ (c : TransactionRun). c.task) w.0
+task_at before after number votes what f h6 = search arith
 
 -- what was to be widened at first goes on as what is left
 pub record Left (start : TransactionRun) (from : ℕ) (granted : Granted) (now : TransactionRun) (at : ℕ) : Type 0 where
@@ -108,8 +87,7 @@ module _ (start : TransactionRun) (from : ℕ) (granted : Granted) (now : Transa
       past l n none = of (slice_get_cases l n).1
         where
           of : ((x : ℕ × Change) × (n < length l) × (slice_get l n ≡ Some x) × (get_or l n x ≡ x)) ⊎ ((length l ≤ n) × (slice_get l n ≡ None)) → drop n l ≡ []
-          of (inl found) = absurd (none-some found.0 (sym none ∙ found.2))
-          of (inr over) = drop_of_length-le l over.0
+          of h0 = search (found, none-some, drop_of_length-le, arith)
 
   module _ (number : ℕ) (change : Change) (votes : Configuration) (after : TransactionRun) (is : slice_get granted.changes at ≡ Some (number, change))
       (up : IsOrdered nat_cmp granted.changes) (sets : change.votes ≡ true) (own : votes ≡ change.row.votes) where
@@ -126,31 +104,16 @@ module _ (start : TransactionRun) (from : ℕ) (granted : Granted) (now : Transa
     same_task what w = task_at now after number votes what (suite_of now.suites number) w
 
     pub left_met : Widens number votes now coming.Current after → Left start from granted after (at + 1)
-    left_met w = record {
-      task = same_task coming.Current w ∙ left.task;
-      same = λ cache.
-          step cache
-          ∙ stays now.task cache granted number change (to_widen (drop (at + 1) granted.changes)) there now after (owned coming.Current w)
-          ∙ ap (λ task. widen_all task cache after.suites granted (to_widen (drop (at + 1) granted.changes))) (sym (same_task coming.Current w));
-    }
+    left_met w = search (same_task, same, step, stays, there, owned, arith)
 
     pub left_asks : (server : ℕ) (asked : Asked) (cache : Cache) → Widens number votes now (coming.Ask server asked) after
         → Steps (widen_all start.task cache start.suites granted (to_widen (drop from granted.changes))) None (record after { phase = Widening (number ∷ to_widen (drop (at + 1) granted.changes)) granted }) cache
-    left_asks server asked cache w =
-        let new : TransactionRun = record after { phase = Widening (number ∷ to_widen (drop (at + 1) granted.changes)) granted } in
-        let Stepped : Step → Type 0 = λ step. Steps step None new cache in
-        subst Stepped (sym (step cache
-        ∙ asks now.task cache granted number change (to_widen (drop (at + 1) granted.changes)) there now after server asked (owned (coming.Ask server asked) w)
-        ∙ ap (λ task. on_with task cache after.suites (Widening (number ∷ to_widen (drop (at + 1) granted.changes)) granted)) (sym (same_task (coming.Ask server asked) w)))) (refl, (refl, refl))
+    left_asks server asked cache w = search (step, asks, there, owned, same_task, arith)
 
     pub left_short : (got needed : ℕ) (busy : Option (ℕ × ℕ)) (cache : Cache) (result : Option Ending) (end : TransactionRun) → Widens number votes now (coming.Short got needed busy) after
         → Steps (give_up after.task cache after.suites (short_cause number got needed busy)) result end cache
         → Steps (widen_all start.task cache start.suites granted (to_widen (drop from granted.changes))) result end cache
-    left_short got needed busy cache result end w steps =
-        let Stepped : Step → Type 0 = λ step. Steps step result end cache in
-        subst Stepped (sym (step cache
-        ∙ short now.task cache granted number change (to_widen (drop (at + 1) granted.changes)) there now after got needed busy (owned (coming.Short got needed busy) w)
-        ∙ ap (λ task. give_up task cache after.suites (short_cause number got needed busy)) (sym (same_task (coming.Short got needed busy) w)))) steps
+    left_short got needed busy cache result end w steps = search (step, short, there, owned, same_task, arith)
 
 -- ---- a suite in its place
 

@@ -1,7 +1,6 @@
 -- One walk through what a transaction does with a response, for each claim on what is left after it.
-use Rattle.txn_core.proofs.Vocabulary.{ℕ, subst, Request, next, Cache, Suites, Response, Cause, Fixed, Task, Proposal, Phase, Gathering, Fetching, Widening, TransactionRun, After, GoesOn, Stage, Executes, Widens, Asks, Prepares, PreparesAt}
-use Rattle.txn_core.proofs.Vocabulary.{GivesUp, Tells, TellsAt, Point, point, EndsIn, Move, prepares, MovesTo, gathering, widening, Hears, settles, prepared_by, decides, tells_next, told_all, asks_on, Step, Gathered, give_up, prepare}
-use Rattle.txn_core.proofs.Vocabulary.{locked_at, execute, after_response}
+use Rattle.txn_core.proofs.Vocabulary.{ℕ, Request, next, Cache, Suites, Response, Cause, Fixed, Task, Proposal, Phase, Gathering, Fetching, Widening, TransactionRun, After, GoesOn, Stage, Executes, Asks, PreparesAt, arith, Tells, TellsAt, Point}
+use Rattle.txn_core.proofs.Vocabulary.{point, EndsIn, Move, MovesTo, Hears, Step, Gathered, give_up, prepare, locked_at, execute, after_response}
 use Rattle.txn_core.proofs.Moving.{kept, execute_moves, response_moves}
 
 -- a phase in which locks and contents are gathered
@@ -25,21 +24,10 @@ module _ (task : Task) (Left : After TransactionRun → Type 0)
   Early other = Unit {0}
 
   early_end : (at : Point) (step : Step) → EndsIn task at.cache at.suites at.stage step → Early at.stage → Left step.after
-  early_end at step ends is = of at.stage ends is
-    where
-      of : (stage : Stage) → EndsIn task at.cache at.suites stage step → Early stage → Left step.after
-      of (Asks phase) ends is = subst (λ (step : Step). Left step.after) ends (early at.suites phase is)
-      of (Prepares outcome) ends is = subst (λ (step : Step). Left step.after) ends (prepares' at.cache at.suites outcome)
-      of (GivesUp cause) ends is = subst (λ (step : Step). Left step.after) ends (given_up at.cache at.suites cause)
-      of (PreparesAt servers outcome) ends is = absurd is
-      of (Tells v ending) ends is = absurd is
-      of (TellsAt servers v ending) ends is = absurd is
-      of Executes ends is = absurd ends
-      of (Widens left granted) ends is = absurd ends
+  early_end at step ends is = search arith
 
   move_early : {fixed : Fixed} {at next : Point} → Move fixed task at next → Early next.stage
-  move_early prepares = tt
-  move_early _ = tt
+  move_early h0 = search arith
 
   goes_moves : (fixed : Fixed) (at : Point) (step : Step) → MovesTo fixed task at step → Early at.stage → Left step.after
   goes_moves fixed at step moves is = early_end moves.end step moves.ends (kept fixed task (λ at. Early at.stage) (λ at next move before. move_early move) moves.moves is)
@@ -49,14 +37,7 @@ module _ (task : Task) (Left : After TransactionRun → Type 0)
 
   hears_early : {fixed : Fixed} {cache : Cache} {suites : Suites} {server : ℕ} {asked : Request} {phase : Phase} {response : Response} {heard : Point}
       → Hears fixed task cache suites server asked phase response heard → IsEarly phase → Early heard.stage
-  hears_early (settles gathering there says next) is = tt
-  hears_early (settles widening there says next) is = tt
-  hears_early (prepared_by prepared) is = absurd is
-  hears_early decides is = absurd is
-  hears_early tells_next is = absurd is
-  hears_early told_all is = absurd is
-  hears_early (asks_on collects there says next) is = is
-  hears_early _ is = tt
+  hears_early h0 h1 = search arith
 
   -- a response in an early phase
   pub goes_response : (fixed : Fixed) (cache : Cache) (suites : Suites) (phase : Phase) (server : ℕ) (asked : Request) (response : Response) → IsEarly phase
